@@ -1,0 +1,5 @@
+use Rattle.street_base.proofs.Weaving.{weaving-keeps}
+use Rattle.street_base.proofs.laws.keeps_both.Goals as goal
+
+pub returns : goal.returns
+returns c = weaving-keeps

@@ -1,0 +1,145 @@
+-- Commands of the machine: what is refused, and else what is done and answered (this profile).
+use Rattle.std.specs.Prelude.{ℕ, ◌+◌, ◌==◌, nat_lt, nat_le, List, [], ◌∷◌, ◌++◌, length, map, filter_map, replicate, find, position, Bool, false, Option, Some, None, is_some, unwrap_or, option_map, option_and_then, slice_get, slice_index_or, if◌then◌else◌}
+use Rattle.std.specs.Option.{option_map_or, option_or}
+use Rattle.street_base.specs.declared.net.LinkSpec.{LinkSpec}
+use Rattle.street_base.specs.declared.net.NetSpec.{NetSpec}
+use Rattle.street_base.specs.declared.command.Command.{Command}
+use Rattle.street_base.specs.declared.command.Command.TheVariants.{Load, Enter, Advance, Vehicle as AskVehicle}
+use Rattle.street_base.specs.declared.command.Refusal.{Refusal}
+use Rattle.street_base.specs.declared.command.Refusal.TheVariants.{NotLoaded, AlreadyLoaded, BadNetwork, NoLane, BadRange, BadPlan, NoVehicle, TooMany, BadCount, ClockEnd}
+use Rattle.street_base.specs.declared.command.Reply.{Reply}
+use Rattle.street_base.specs.declared.command.Reply.TheVariants.{Loaded, Entered, Clock, Vehicle as TellVehicle, Refused}
+use Rattle.street_base.specs.declared.command.Whereabouts.{Whereabouts}
+use Rattle.street_base.specs.declared.command.Whereabouts.TheVariants.{Cell, Buffer, Waiting as Waits, Ended}
+use Rattle.street_base.specs.declared.command.End.{End}
+use Rattle.street_base.specs.Network.{Place, is_place, link_of, link_at, places}
+use Rattle.street_base.specs.Faults.{Fault, network_fault, plan_fault}
+use Rattle.street_base.specs.Vehicle.{Vehicle, remaining_plan}
+use Rattle.street_base.specs.Lane.{vehicle_at}
+use Rattle.street_base.specs.State.{Waiting, LaneState, Traffic, State, lane_at, each_lane}
+use Rattle.street_base.specs.Step.{steps}
+
+-- ---- refusals
+
+-- the first refusal whose test holds
+abbrev pub first_of : List (Bool × Refusal) → Option Refusal
+first_of [] = None
+first_of (r ∷ rs) = if r.0 then Some r.1 else first_of rs
+
+abbrev pub bad_network : Option Fault → Option Refusal
+bad_network None = None
+bad_network (Some fault) = Some (BadNetwork fault.part fault.at)
+
+-- the links of a plan of identifiers, by their positions
+abbrev pub plan_links : NetSpec → List ℕ → List ℕ
+plan_links net plan = filter_map (link_of net) plan
+
+-- where a vehicle with this plan enters
+abbrev pub entry_of : NetSpec → List ℕ → ℕ → Place
+entry_of net plan lane = record { link = slice_index_or (plan_links net plan) 0 0; lane = lane }
+
+-- the refusals of each command, in their order
+abbrev pub refusal : State → Command → Option Refusal
+refusal None (Load net) = bad_network (network_fault net)
+refusal (Some m) (Load net) = Some AlreadyLoaded
+refusal None (Enter plan lane depart) = Some NotLoaded
+refusal (Some m) (Enter plan lane depart) = first_of (
+    (nat_le 1000000 (length m.ends), TooMany)
+    ∷ (is_some (plan_fault m.network plan), BadPlan (unwrap_or (plan_fault m.network plan) 0))
+    ∷ (nat_le (link_at m.network (entry_of m.network plan lane).link).lanes lane, NoLane)
+    ∷ (nat_lt 1000000000 depart, BadRange)
+    ∷ [])
+refusal None (Advance n) = Some NotLoaded
+refusal (Some m) (Advance n) = first_of ((nat_lt 10000 n, BadCount) ∷ (nat_lt 1000000000 (m.clock + n), ClockEnd) ∷ [])
+refusal None (AskVehicle car) = Some NotLoaded
+refusal (Some m) (AskVehicle car) = first_of ((nat_le (length m.ends) car, NoVehicle) ∷ [])
+
+-- ---- what is done
+
+-- a lane of a link with nobody on it
+abbrev pub empty_lane : ℕ → LaneState
+empty_lane size = record { track = record { cells = replicate size None; closed = replicate size false }; queue = []; waiting = [] }
+
+abbrev pub empty_lanes : LinkSpec → List LaneState
+empty_lanes link = replicate link.lanes (empty_lane link.length)
+
+-- the network with no vehicle
+unfoldable pub loaded : NetSpec → Traffic
+loaded net = record {
+  network = net;
+  clock = net.start;
+  lanes = map empty_lanes net.links;
+  signals = map (λ node. None) net.nodes;
+  detectors = [];
+  ends = [];
+}
+
+-- the vehicle that is admitted next
+abbrev pub admitted : Traffic → List ℕ → Vehicle
+admitted m plan = record { number = length m.ends; speed = 0; plan = plan_links m.network plan; position = 0 }
+
+abbrev pub with_waiting : Waiting → LaneState → LaneState
+with_waiting w lane = record lane { waiting = lane.waiting ++ w ∷ [] }
+
+-- one more vehicle waits on the lane where it enters
+unfoldable pub entered : Traffic → List ℕ → ℕ → ℕ → Traffic
+entered m plan lane depart = record m {
+  lanes = each_lane (λ place on. if is_place place (entry_of m.network plan lane) then with_waiting (record { vehicle = admitted m plan; depart = depart }) on else on) m.lanes;
+  ends = m.ends ++ None ∷ [];
+}
+
+-- what a command that is not refused leaves
+abbrev pub done : State → Command → State
+done None (Load net) = Some (loaded net)
+done (Some m) (Enter plan lane depart) = Some (entered m plan lane depart)
+done (Some m) (Advance n) = Some (steps n m)
+done m c = m
+
+-- ---- what is answered
+
+-- the identifiers of a vehicle's remaining plan
+abbrev pub remaining_ids : NetSpec → Vehicle → List ℕ
+remaining_ids net v = map (λ link. (link_at net link).id) (remaining_plan v)
+
+module _ (net : NetSpec) (place : Place) (car : ℕ) where
+  abbrev pub told_cell : ℕ → Vehicle → Whereabouts
+  told_cell x v = Cell (link_at net place.link).id place.lane x v.speed (remaining_ids net v)
+
+  abbrev pub is_number : Option Vehicle → Bool
+  is_number o = option_map_or (λ v. v.number == car) o false
+
+  -- the vehicle in a cell of this lane, in its buffer, and among those who wait
+  abbrev pub seen_in_cells : LaneState → Option Whereabouts
+  seen_in_cells lane = option_and_then (λ x. option_map (told_cell x) (vehicle_at lane.track.cells x)) (position is_number lane.track.cells)
+
+  abbrev pub seen_in_buffer : LaneState → Option Whereabouts
+  seen_in_buffer lane = option_map (λ q. Buffer (link_at net place.link).id place.lane q.ready q.vehicle.speed (remaining_ids net q.vehicle)) (find (λ q. q.vehicle.number == car) lane.queue)
+
+  abbrev pub seen_waiting : LaneState → Option Whereabouts
+  seen_waiting lane = option_map (λ w. Waits (link_at net place.link).id place.lane w.depart (remaining_ids net w.vehicle)) (find (λ w. w.vehicle.number == car) lane.waiting)
+
+  unfoldable pub seen_in : LaneState → Option Whereabouts
+  seen_in lane = option_or (seen_in_cells lane) (option_or (seen_in_buffer lane) (seen_waiting lane))
+
+-- how a vehicle ended, if it did
+abbrev pub end_of : Traffic → ℕ → Option End
+end_of m car = slice_index_or m.ends car None
+
+-- where a vehicle is that has not ended: the first lane on which it stands
+unfoldable pub seen : Traffic → ℕ → Option Whereabouts
+seen m car = slice_get (filter_map (λ place. seen_in m.network place car (lane_at m place)) (places m.network)) 0
+
+abbrev pub whereabouts : Traffic → ℕ → Option Whereabouts
+whereabouts m car = option_or (option_map (λ end. Ended end) (end_of m car)) (seen m car)
+
+-- the census rules out that a number given stands nowhere
+abbrev pub told : Traffic → ℕ → Reply
+told m car = option_map_or (λ found. TellVehicle car found) (whereabouts m car) (Refused NoVehicle)
+
+-- what a command that is not refused answers
+abbrev pub answered : State → Command → Reply
+answered m (Load net) = Loaded (length net.links) (length net.nodes) (length net.turns)
+answered (Some m) (Enter plan lane depart) = Entered (length m.ends)
+answered (Some m) (Advance n) = Clock (m.clock + n)
+answered (Some m) (AskVehicle car) = told m car
+answered None c = Refused NotLoaded

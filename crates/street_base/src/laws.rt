@@ -1,0 +1,48 @@
+//! Laws of the definitions.
+ghost use Rattle.std.specs.Prelude.{◌≡◌, ◌<◌, ◌≤◌, ℕ, [], List, Bool, false, length, slice_index_or};
+ghost use Rattle.street_base.specs.Lane.{Cells, Track};
+ghost use Rattle.street_base.specs.Network.{Place};
+ghost use Rattle.street_base.specs.Draw.{draw};
+ghost use Rattle.street_base.specs.State.{Traffic, LaneState, lane_at};
+ghost use Rattle.street_base.specs.LaneChange.{Weave};
+ghost use Rattle.street_base.specs.Motion.{Drive};
+ghost use Rattle.street_base.specs.Apart.{KeepsApart, KeepsEach, KeepsBoth};
+ghost use Rattle.street_base.specs.Release.{released};
+ghost use Rattle.street_base.specs.Step.{changed, drive_on, steps};
+ghost use Rattle.street_base.specs.Census.{IsSound};
+
+/// Motion loses no vehicle and makes none.
+pub fn keeps_each()
+    ensures { (drive : Drive) (cells : Cells) (closed : List Bool) → KeepsEach drive cells closed }
+{}
+
+/// Motion brings no two vehicles to one cell, and lets at most one leave, whatever lane it is.
+pub fn keeps_apart()
+    ensures { (drive : Drive) (cells : Cells) (closed : List Bool) → KeepsApart drive cells closed }
+{}
+
+/// Lane changes lose no vehicle and make none.
+pub fn keeps_both()
+    ensures { (weave : Weave) (a b : Track) → KeepsBoth weave a b }
+{}
+
+/// With all buffers empty nothing is released.
+pub fn releases_nothing()
+    ensures { (m : Traffic) → ((place : Place) → (lane_at m place).queue ≡ []) → released m ≡ m }
+{}
+
+/// On links of one lane nobody changes.
+pub fn changes_nothing()
+    ensures { (m : Traffic) → ((link : ℕ) (d : List LaneState) → link < length m.lanes → length (slice_index_or m.lanes link d) ≤ 1) → changed m ≡ m }
+{}
+
+/// A draw is below 1000, and with dawdle 0 nobody dawdles.
+pub fn draws_little()
+    ensures below { (seed number place : ℕ) → draw seed number place < 1000 }
+    ensures never { (m : Traffic) (place : Place) (number : ℕ) → m.network.dawdle ≡ 0 → (drive_on m place).dawdles number ≡ false }
+{}
+
+/// Whatever steps are made, each number given stands in one place or has ended, once, and no other stands anywhere.
+pub fn keeps_everyone()
+    ensures { (n : ℕ) (m : Traffic) → IsSound m → IsSound (steps n m) }
+{}

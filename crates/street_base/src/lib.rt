@@ -1,0 +1,24 @@
+//! The names, commands, replies and refusals of the simulator, and, in `specs/`, the definitions of the cell machine that
+//! every answer is proved against.
+//!
+//! The rules are told in words in `docs/MACHINE.md`, each beside the name of its definition. Laws of the definitions are
+//! public functions with empty bodies.
+#![tactic(auto)]
+
+mod car;
+mod command;
+mod laws;
+mod listing;
+mod names;
+mod net;
+mod refusals;
+
+pub use car::{Car, Plan};
+pub use command::{Command, End, Outcome, Part, Refusal, Reply, Starved, Whereabouts};
+pub use laws::{
+    changes_nothing, draws_little, keeps_apart, keeps_both, keeps_each, keeps_everyone,
+    releases_nothing,
+};
+pub use listing::Listing;
+pub use names::{CarNo, CellNo, LaneNo, LinkIx, NodeIx, Speed, Step};
+pub use net::{LinkSpec, NetSpec, NodeSpec, TurnSpec};

@@ -1,0 +1,89 @@
+//! Names of places, and the quantities that the rules reckon with.
+//!
+//! Nodes and links have identifiers (any number of 32 bits, as loaded) and positions (0, 1, 2, .. in the order of the
+//! load). A position is a type of its own, so that neither is taken for the other. Quantities are plain numbers.
+
+use std::marker::Model;
+
+/// A lane of a link: 0, or 1 on a link of two lanes.
+pub type LaneNo = u64;
+
+/// A cell of a lane, from 0, where vehicles enter, to the link's length less 1. A cell is 7.5 m long.
+pub type CellNo = u64;
+
+/// Cells a step, 0 to 5.
+pub type Speed = u64;
+
+/// A time in steps of 1 s. The clock is at most 1,000,000,000; a ready step may lie up to 60 past it.
+pub type Step = u64;
+
+/// The number of a vehicle: 0, 1, 2, .. in the order of admission, never used again.
+pub type CarNo = u64;
+
+/// The position of a node in the load.
+#[derive(Clone, Copy)]
+pub struct NodeIx {
+    position: usize,
+}
+
+/// The position of a link in the load.
+#[derive(Clone, Copy)]
+pub struct LinkIx {
+    position: usize,
+}
+
+impl Model for NodeIx {
+    ghost use Rattle.std.specs.Prelude.{ℕ};
+
+    ghost Value = { ℕ };
+
+    ghost view = { λ a. a.position };
+
+    ghost inverse = { λ n. record { position = n } };
+}
+
+impl Model for LinkIx {
+    ghost use Rattle.std.specs.Prelude.{ℕ};
+
+    ghost Value = { ℕ };
+
+    ghost view = { λ a. a.position };
+
+    ghost inverse = { λ n. record { position = n } };
+}
+
+impl NodeIx {
+    ghost use Rattle.std.specs.Prelude.{◌≡◌};
+
+    /// The node at a position.
+    pub fn new(position: usize) -> Self
+        ensures { result ≡ position }
+    {
+        NodeIx { position }
+    }
+
+    /// The position.
+    pub fn position(self) -> usize
+        ensures { result ≡ self }
+    {
+        self.position
+    }
+}
+
+impl LinkIx {
+    ghost use Rattle.std.specs.Prelude.{◌≡◌};
+
+    /// The link at a position.
+    pub fn new(position: usize) -> Self
+        ensures { result ≡ position }
+    {
+        LinkIx { position }
+    }
+
+    /// The position.
+    pub fn position(self) -> usize
+        ensures { result ≡ self }
+    {
+        self.position
+    }
+}
