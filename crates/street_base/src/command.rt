@@ -3,6 +3,7 @@
 use crate::listing::Listing;
 use crate::names::{CarNo, CellNo, LaneNo, Speed, Step};
 use crate::net::NetSpec;
+use std::alloc::{AllocError, AllocFailed};
 
 /// One command. Numbers may be out of their ranges: the engine refuses them by name.
 #[derive(Drop)]
@@ -191,3 +192,15 @@ pub enum Outcome {
 /// Memory was wanting.
 #[derive(Clone, Copy, Debug, PartialEq, Eq)]
 pub struct Starved;
+
+impl From<AllocError> for Starved {
+    fn from(_error: AllocError) -> Starved {
+        Starved
+    }
+}
+
+impl<T: Drop> From<AllocFailed<T>> for Starved {
+    fn from(_error: AllocFailed<T>) -> Starved {
+        Starved
+    }
+}
