@@ -105,7 +105,7 @@ map-enumerated : {A B : Type 0} (g : A → B) (f : ℕ → A → A) (n : ℕ) (x
 map-enumerated g f n [] h = refl
 map-enumerated {A} {B} g f n (x ∷ xs) h = ap (λ (y : B). y ∷ map g (map (λ e. f e.0 e.1) (enumerate_from (n + 1) xs))) (h n x) ∙ ap (λ (ys : List B). g x ∷ ys) (map-enumerated g f (n + 1) xs h)
 
-each_lane-sizes : (f : Place → LaneState → LaneState) (links : List (List LaneState)) → ((place : Place) (lane : LaneState) → length (f place lane).track.cells ≡ length lane.track.cells) → sizes (each_lane f links) ≡ sizes links
+pub each_lane-sizes : (f : Place → LaneState → LaneState) (links : List (List LaneState)) → ((place : Place) (lane : LaneState) → length (f place lane).track.cells ≡ length lane.track.cells) → sizes (each_lane f links) ≡ sizes links
 each_lane-sizes f links h =
     map-enumerated (λ lanes. map (λ (lane : LaneState). length lane.track.cells) lanes) (λ i lanes. map (λ on. f (record { link = i; lane = on.0 }) on.1) (enumerate_from 0 lanes)) 0 links
     (λ i lanes. map-enumerated (λ (lane : LaneState). length lane.track.cells) (λ k lane. f (record { link = i; lane = k }) lane) 0 lanes (λ k lane. h (record { link = i; lane = k }) lane))

@@ -35,3 +35,8 @@ pub mod Departing
 pub mod Arriving
 pub mod Forming
 pub mod Whole
+pub mod FirstBad
+pub mod Listed
+pub mod Loaded
+pub mod Entered
+pub mod Runs

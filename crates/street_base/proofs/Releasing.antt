@@ -80,7 +80,7 @@ sum-point all once q among h =
       | inr e ↦ rw e (omega arith)
     ]
 
-find-holds : {A : Type 0} (test : A → Bool) (xs : List A) (x : A) → find test xs ≡ Some x → test x ≡ true
+pub find-holds : {A : Type 0} (test : A → Bool) (xs : List A) (x : A) → find test xs ≡ Some x → test x ≡ true
 find-holds test [] x e = cc
 find-holds test (y ∷ xs) x e = elim (cases_Bool (test y)) as (λ _. test x ≡ true) [
   | inl t ↦ (let h : Some y ≡ Some x = sym (cond-true _ _ _ t) ∙ e in let same : y ≡ x = cc in ap test (sym same) ∙ t)
@@ -120,7 +120,7 @@ module _ (m : Traffic) (number : ℕ) (once : Once (places m.network))
   entry-weight limit None = refl
   entry-weight limit (Some q) = refl
 
-  is_place-swap : (p q : Place) → is_place p q ≡ is_place q p
+  pub is_place-swap : (p q : Place) → is_place p q ≡ is_place q p
   is_place-swap p q = elim (cases_Bool (is_place p q)) as (λ _. is_place p q ≡ is_place q p) [
     | inl e ↦ (let same = is_place-same p q e in rw same refl)
     | inr e ↦ elim (cases_Bool (is_place q p)) as (λ _. is_place p q ≡ is_place q p) [

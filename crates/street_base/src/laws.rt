@@ -1,15 +1,19 @@
 //! Laws of the definitions.
-ghost use Rattle.std.specs.Prelude.{◌≡◌, ◌<◌, ◌≤◌, ℕ, [], List, Bool, false, length, slice_index_or};
+ghost use Rattle.std.specs.Prelude.{◌≡◌, ◌<◌, ◌≤◌, ℕ, [], List, Bool, false, None, length, slice_index_or};
+ghost use Rattle.street_base.specs.declared.command.Command.{Command};
+ghost use Rattle.street_base.specs.declared.command.Reply.{Reply};
+ghost use Rattle.street_base.specs.declared.command.Outcome.{Outcome};
 ghost use Rattle.street_base.specs.Lane.{Cells, Track};
 ghost use Rattle.street_base.specs.Network.{Place};
 ghost use Rattle.street_base.specs.Draw.{draw};
-ghost use Rattle.street_base.specs.State.{Traffic, LaneState, lane_at};
+ghost use Rattle.street_base.specs.State.{Traffic, LaneState, State, lane_at};
 ghost use Rattle.street_base.specs.LaneChange.{Weave};
 ghost use Rattle.street_base.specs.Motion.{Drive};
 ghost use Rattle.street_base.specs.Apart.{KeepsApart, KeepsEach, KeepsBoth};
 ghost use Rattle.street_base.specs.Release.{released};
 ghost use Rattle.street_base.specs.Step.{changed, drive_on, steps};
-ghost use Rattle.street_base.specs.Census.{IsSound};
+ghost use Rattle.street_base.specs.Census.{IsSound, IsSoundState};
+ghost use Rattle.street_base.specs.Run.{Runs};
 
 /// Motion loses no vehicle and makes none.
 pub fn keeps_each()
@@ -45,4 +49,9 @@ pub fn draws_little()
 /// Whatever steps are made, each number given stands in one place or has ended, once, and no other stands anywhere.
 pub fn keeps_everyone()
     ensures { (n : ℕ) (m : Traffic) → IsSound m → IsSound (steps n m) }
+{}
+
+/// Whatever commands are given from nothing loaded, with whatever outcomes, each number given stands in one place or has ended, once, and no other stands anywhere.
+pub fn census_holds()
+    ensures { (commands : List Command) (answers : List (Reply × Outcome)) (state : State) → Runs None commands answers state → IsSoundState state }
 {}
