@@ -40,3 +40,4 @@ pub mod Listed
 pub mod Loaded
 pub mod Entered
 pub mod Runs
+pub mod Refused

@@ -1,8 +1,11 @@
 //! Laws of the definitions.
-ghost use Rattle.std.specs.Prelude.{◌≡◌, ◌<◌, ◌≤◌, ℕ, [], List, Bool, false, None, length, slice_index_or};
+ghost use Rattle.std.specs.Prelude.{◌≡◌, ◌<◌, ◌≤◌, ◌⊎◌, ℕ, [], List, Bool, false, Some, None, length, slice_index_or};
 ghost use Rattle.street_base.specs.declared.command.Command.{Command};
+ghost use Rattle.street_base.specs.declared.command.Refusal.{Refusal};
 ghost use Rattle.street_base.specs.declared.command.Reply.{Reply};
+ghost use Rattle.street_base.specs.declared.command.Reply.TheVariants.{Refused};
 ghost use Rattle.street_base.specs.declared.command.Outcome.{Outcome};
+ghost use Rattle.street_base.specs.declared.command.Outcome.TheVariants.{Whole, Starved};
 ghost use Rattle.street_base.specs.Lane.{Cells, Track};
 ghost use Rattle.street_base.specs.Network.{Place};
 ghost use Rattle.street_base.specs.Draw.{draw};
@@ -13,6 +16,8 @@ ghost use Rattle.street_base.specs.Apart.{KeepsApart, KeepsEach, KeepsBoth};
 ghost use Rattle.street_base.specs.Release.{released};
 ghost use Rattle.street_base.specs.Step.{changed, drive_on, steps};
 ghost use Rattle.street_base.specs.Census.{IsSound, IsSoundState};
+ghost use Rattle.street_base.specs.Machine.{refusal};
+ghost use Rattle.street_base.specs.Outcomes.{is_network_fault, Answers};
 ghost use Rattle.street_base.specs.Run.{Runs};
 
 /// Motion loses no vehicle and makes none.
@@ -54,4 +59,12 @@ pub fn keeps_everyone()
 /// Whatever commands are given from nothing loaded, with whatever outcomes, each number given stands in one place or has ended, once, and no other stands anywhere.
 pub fn census_holds()
     ensures { (commands : List Command) (answers : List (Reply × Outcome)) (state : State) → Runs None commands answers state → IsSoundState state }
+{}
+
+/// A refused command changes nothing, whatever its outcome, and done whole it is answered by its refusal. No other outcome is
+/// allowed, but that a load with a fault may be starved.
+pub fn refused_changes_nothing()
+    ensures unchanged { (old : State) (c : Command) (r : Refusal) → refusal old c ≡ Some r → (reply : Reply) (outcome : Outcome) (new : State) → Answers old c reply outcome new → new ≡ old }
+    ensures named { (old : State) (c : Command) (r : Refusal) → refusal old c ≡ Some r → (reply : Reply) (new : State) → Answers old c reply Whole new → reply ≡ Refused r }
+    ensures whole { (old : State) (c : Command) (r : Refusal) → refusal old c ≡ Some r → (reply : Reply) (outcome : Outcome) (new : State) → Answers old c reply outcome new → (outcome ≡ Whole) ⊎ ((outcome ≡ Starved) × is_network_fault (Some r)) }
 {}

@@ -17,7 +17,7 @@ pub use car::{Car, Plan};
 pub use command::{Command, End, Outcome, Part, Refusal, Reply, Starved, Whereabouts};
 pub use laws::{
     census_holds, changes_nothing, draws_little, keeps_apart, keeps_both, keeps_each,
-    keeps_everyone, releases_nothing,
+    keeps_everyone, refused_changes_nothing, releases_nothing,
 };
 pub use listing::Listing;
 pub use names::{CarNo, CellNo, LaneNo, LinkIx, NodeIx, Speed, Step};
