@@ -41,3 +41,4 @@ pub mod Loaded
 pub mod Entered
 pub mod Runs
 pub mod Refused
+pub mod Told

@@ -3,7 +3,8 @@ ghost use Rattle.std.specs.Prelude.{◌≡◌, ◌<◌, ◌≤◌, ◌⊎◌, �
 ghost use Rattle.street_base.specs.declared.command.Command.{Command};
 ghost use Rattle.street_base.specs.declared.command.Refusal.{Refusal};
 ghost use Rattle.street_base.specs.declared.command.Reply.{Reply};
-ghost use Rattle.street_base.specs.declared.command.Reply.TheVariants.{Refused};
+ghost use Rattle.street_base.specs.declared.command.Reply.TheVariants.{Refused, Vehicle as TellVehicle};
+ghost use Rattle.street_base.specs.declared.command.Whereabouts.{Whereabouts};
 ghost use Rattle.street_base.specs.declared.command.Outcome.{Outcome};
 ghost use Rattle.street_base.specs.declared.command.Outcome.TheVariants.{Whole, Starved};
 ghost use Rattle.street_base.specs.Lane.{Cells, Track};
@@ -16,7 +17,7 @@ ghost use Rattle.street_base.specs.Apart.{KeepsApart, KeepsEach, KeepsBoth};
 ghost use Rattle.street_base.specs.Release.{released};
 ghost use Rattle.street_base.specs.Step.{changed, drive_on, steps};
 ghost use Rattle.street_base.specs.Census.{IsSound, IsSoundState};
-ghost use Rattle.street_base.specs.Machine.{refusal};
+ghost use Rattle.street_base.specs.Machine.{refusal, told};
 ghost use Rattle.street_base.specs.Outcomes.{is_network_fault, Answers};
 ghost use Rattle.street_base.specs.Run.{Runs};
 
@@ -67,4 +68,9 @@ pub fn refused_changes_nothing()
     ensures unchanged { (old : State) (c : Command) (r : Refusal) → refusal old c ≡ Some r → (reply : Reply) (outcome : Outcome) (new : State) → Answers old c reply outcome new → new ≡ old }
     ensures named { (old : State) (c : Command) (r : Refusal) → refusal old c ≡ Some r → (reply : Reply) (new : State) → Answers old c reply Whole new → reply ≡ Refused r }
     ensures whole { (old : State) (c : Command) (r : Refusal) → refusal old c ≡ Some r → (reply : Reply) (outcome : Outcome) (new : State) → Answers old c reply outcome new → (outcome ≡ Whole) ⊎ ((outcome ≡ Starved) × is_network_fault (Some r)) }
+{}
+
+/// Of each vehicle admitted it is told where it is.
+pub fn everyone_is_told()
+    ensures { (m : Traffic) (car : ℕ) → IsSound m → car < length m.ends → (w : Whereabouts) × (told m car ≡ TellVehicle car w) }
 {}

@@ -16,8 +16,8 @@ mod refusals;
 pub use car::{Car, Plan};
 pub use command::{Command, End, Outcome, Part, Refusal, Reply, Starved, Whereabouts};
 pub use laws::{
-    census_holds, changes_nothing, draws_little, keeps_apart, keeps_both, keeps_each,
-    keeps_everyone, refused_changes_nothing, releases_nothing,
+    census_holds, changes_nothing, draws_little, everyone_is_told, keeps_apart, keeps_both,
+    keeps_each, keeps_everyone, refused_changes_nothing, releases_nothing,
 };
 pub use listing::Listing;
 pub use names::{CarNo, CellNo, LaneNo, LinkIx, NodeIx, Speed, Step};
