@@ -51,8 +51,8 @@ given-push number count = elim (cases_lt number count) as (λ _. one_if (nat_lt 
 module _ (m : Traffic) (formed : IsFormed m) (entry : Place) (within : entry.lane < (link_at m.network entry.link).lanes) (w : Waiting) (number : ℕ) where
   here : (place : Place) (lane : LaneState) → in_lane number (joined entry w place lane) ≡ in_lane number lane + (if is_place entry place then weight number (Some w.vehicle) else 0)
   here place lane = elim (cases_Bool (is_place entry place)) as (λ _. in_lane number (joined entry w place lane) ≡ in_lane number lane + (if is_place entry place then weight number (Some w.vehicle) else 0)) [
-    | inl e ↦ rw (is_place-swap m number (places-once m.network) formed.turns place entry, e) (omega (arith, sum_by-append (λ (u : Waiting). weight number (Some u.vehicle)) lane.waiting (w ∷ [])))
-    | inr e ↦ rw (is_place-swap m number (places-once m.network) formed.turns place entry, e) (omega arith)
+    | inl e ↦ rw (is_place-swap place entry, e) (omega (arith, sum_by-append (λ (u : Waiting). weight number (Some u.vehicle)) lane.waiting (w ∷ [])))
+    | inr e ↦ rw (is_place-swap place entry, e) (omega arith)
   ]
 
   -- the numbers on the lanes, and the one who waits

@@ -2,7 +2,7 @@
 use Rattle.std.proofs.Common.{◌≡◌, ℕ, ◌+◌, ◌<◌, Bool, true, false, List, [], ◌∷◌, length, get_or, refl, sym, ◌∙◌, ap, arith, inl, inr}
 use Rattle.std.specs.Prelude.{Option, Some, None, drop, slice_get, option_map, ◌||◌, if◌then◌else◌}
 use Rattle.std.specs.List.{sum_by, list_any}
-use Rattle.std.proofs.lemmas.Bool.{cases_Bool}
+use Rattle.std.proofs.lemmas.Bool.{cases_Bool, or_right}
 use Rattle.std.proofs.lemmas.List.Sums.{sum_by-cons, sum_by-set}
 use Rattle.street_base.specs.Network.{Place, is_place, places}
 use Rattle.street_base.specs.Vehicle.{Vehicle}
@@ -16,15 +16,11 @@ use Rattle.street_base.proofs.Releasing.{Once, is_place-refl, going, as_many, su
 use Rattle.street_base.proofs.Idle.{each_lane-same}
 use Rattle.street_base.proofs.Tables.{HasShape, over_lanes-places, in_lanes-each}
 
-or-true : (b : Bool) → (b || true) ≡ true
-or-true true = refl
-or-true false = refl
-
 pub sums-among : (f g : Place → ℕ) (xs : List Place) → ((x : Place) → list_any (is_place x) xs ≡ true → f x ≡ g x) → sum_by f xs ≡ sum_by g xs
 sums-among f g [] h = refl
 sums-among f g (x ∷ xs) h =
     let first : f x ≡ g x = h x (ap (λ (b : Bool). b || list_any (is_place x) xs) (is_place-refl x)) in
-    let rest = sums-among f g xs (λ y among. h y (ap (λ (b : Bool). is_place y x || b) among ∙ or-true (is_place y x))) in
+    let rest = sums-among f g xs (λ y among. h y (or_right (is_place y x) _ among)) in
     omega (arith, sum_by-cons f x xs, sum_by-cons g x xs, first, rest)
 
 pub in_lanes-places : (m : Traffic) → HasShape m → (number : ℕ) → in_lanes number m.lanes ≡ sum_by (λ p. in_lane number (lane_at m p)) (places m.network)

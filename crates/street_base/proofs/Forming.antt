@@ -1,10 +1,11 @@
 -- The lanes and cells of a state stay those of its network.
-use Rattle.std.proofs.Common.{◌≡◌, ℕ, zero, suc, ◌+◌, ◌<◌, Bool, true, false, List, [], ◌∷◌, ◌++◌, length, map, get_or, replicate, refl, sym, subst, ◌∙◌, ap, arith, inl, inr}
-use Rattle.std.specs.Prelude.{Option, Some, None, ◌&&◌, ◌||◌, ◌==◌, ◌⊎◌, flat_map, slice_get, nat_le}
+use Rattle.std.proofs.Common.{◌≡◌, ℕ, zero, suc, ◌+◌, ◌<◌, Bool, true, List, [], ◌∷◌, ◌++◌, length, map, get_or, replicate, refl, sym, subst, ◌∙◌, ap, arith, inl, inr}
+use Rattle.std.specs.Prelude.{Option, Some, None, ◌==◌, ◌⊎◌, flat_map, slice_get, nat_le}
 use Rattle.std.specs.Option.{option_map_or}
 use Rattle.std.specs.List.{list_any, enumerate_from, range_with_len}
-use Rattle.std.proofs.lemmas.Bool.{cases_Bool, eqb-true}
-use Rattle.std.proofs.lemmas.List.{length-set}
+use Rattle.std.proofs.lemmas.Bool.{cases_Bool, eqb-true, and_parts, or_cases}
+use Rattle.std.proofs.lemmas.List.{length-set, length-replicate, get_or-replicate}
+use Rattle.std.proofs.lemmas.List.Folds.{list_any-append}
 use Rattle.std.proofs.lemmas.List.FromFn.{length-map-range_with_len}
 use Rattle.std.proofs.Math.ListN.{length-map, get_or-map}
 use Rattle.street_base.specs.declared.net.NetSpec.{NetSpec}
@@ -29,48 +30,20 @@ row-sizes m formed link =
     ∙ ap (λ xs. get_or xs link []) formed.lanes
     ∙ get_or-map (λ (l : LinkSpec). replicate l.lanes l.length) m.network.links link (record { id = 0; from = 0; to = 0; lanes = 0; length = 0; limit = 0 })
 
-length-replicate : {A : Type 0} (n : ℕ) (x : A) → length (replicate n x) ≡ n
-length-replicate zero x = refl
-length-replicate (suc n) x = omega (arith, length-replicate n x)
-
-get-replicate : (n k c : ℕ) → k < n → get_or (replicate n c) k 0 ≡ c
-get-replicate zero k c h = absurd (omega arith)
-get-replicate (suc n) zero c h = refl
-get-replicate (suc n) (suc k) c h = get-replicate n k c (omega arith)
-
 pub shape-of : (m : Traffic) → IsFormed m → HasShape m
 shape-of m formed = record {
   links = sym (length-map m.lanes (λ lanes. map (λ (lane : LaneState). length lane.track.cells) lanes)) ∙ ap length formed.lanes ∙ length-map m.network.links (λ (l : LinkSpec). replicate l.lanes l.length);
   lanes = λ link. sym (length-map (get_or m.lanes link []) (λ (lane : LaneState). length lane.track.cells)) ∙ ap length (row-sizes m formed link) ∙ length-replicate (link_at m.network link).lanes (link_at m.network link).length;
 }
 
-and-both : (a b : Bool) → (a && b) ≡ true → (a ≡ true) × (b ≡ true)
-and-both true b e = (refl, e)
-and-both false b e = cc
-
-or-either : (a b : Bool) → (a || b) ≡ true → (a ≡ true) ⊎ (b ≡ true)
-or-either true b e = inl refl
-or-either false b e = inr e
-
 any-append : (test : Place → Bool) (xs ys : List Place) → list_any test (xs ++ ys) ≡ true → (list_any test xs ≡ true) ⊎ (list_any test ys ≡ true)
-any-append test [] ys e = inr e
-any-append test (x ∷ xs) ys e = elim (or-either (test x) (list_any test (xs ++ ys)) e) as (λ _. (list_any test (x ∷ xs) ≡ true) ⊎ (list_any test ys ≡ true)) [
-  | inl here ↦ inl (ap (λ (b : Bool). b || list_any test xs) here)
-  | inr on ↦ elim (any-append test xs ys on) as (λ _. (list_any test (x ∷ xs) ≡ true) ⊎ (list_any test ys ≡ true)) [
-    | inl left ↦ inl (ap (λ (b : Bool). test x || b) left ∙ or-true (test x))
-    | inr right ↦ inr right
-  ]
-]
-  where
-    or-true : (b : Bool) → (b || true) ≡ true
-    or-true true = refl
-    or-true false = refl
+any-append test xs ys e = or_cases (list_any test xs) (list_any test ys) (sym (list_any-append test xs ys) ∙ e)
 
 row-inside : (q : Place) (i a n : ℕ) → list_any (is_place q) (map (λ k. record { link = i; lane = k }) (range_with_len a n)) ≡ true → (q.link ≡ i) × (q.lane < a + n)
 row-inside q i a zero e = cc
-row-inside q i a (suc n) e = elim (or-either (is_place q (record { link = i; lane = a })) (list_any (is_place q) (map (λ k. record { link = i; lane = k }) (range_with_len (a + 1) n))) e) as (λ _. (q.link ≡ i) × (q.lane < a + suc n)) [
+row-inside q i a (suc n) e = elim (or_cases (is_place q (record { link = i; lane = a })) (list_any (is_place q) (map (λ k. record { link = i; lane = k }) (range_with_len (a + 1) n))) e) as (λ _. (q.link ≡ i) × (q.lane < a + suc n)) [
   | inl here ↦ (
-      let both = and-both (q.link == i) (q.lane == a) here in
+      let both = and_parts (q.link == i) (q.lane == a) here in
       let lane : q.lane ≡ a = eqb-true _ _ both.1 in
       (eqb-true _ _ both.0, omega arith))
   | inr on ↦ (let rest = row-inside q i (a + 1) n on in let le = rest.1 in (rest.0, omega arith))
@@ -96,7 +69,7 @@ long-of m formed place among =
     let size : length (lane_at m place).track.cells ≡ (link_at m.network place.link).length =
     sym (get_or-map (λ (lane : LaneState). length lane.track.cells) (get_or m.lanes place.link []) place.lane no_lane)
     ∙ ap (λ xs. get_or xs place.lane 0) (row-sizes m formed place.link)
-    ∙ get-replicate (link_at m.network place.link).lanes place.lane (link_at m.network place.link).length inside.1 in
+    ∙ get_or-replicate (link_at m.network place.link).lanes place.lane (link_at m.network place.link).length 0 inside.1 in
     omega arith
 
 -- ---- the phases keep it

@@ -1,16 +1,14 @@
 -- Each lane of a network is listed once.
 use Rattle.std.proofs.Common.{◌≡◌, ℕ, zero, suc, ◌+◌, ◌<◌, ◌≤◌, Bool, true, false, List, [], ◌∷◌, length, map, refl, ap, arith, inl, inr}
-use Rattle.std.specs.Prelude.{◌==◌, if◌then◌else◌}
+use Rattle.std.specs.Prelude.{◌==◌}
 use Rattle.std.specs.List.{sum_by, list_any, range_with_len}
 use Rattle.std.proofs.lemmas.Bool.{cases_Bool, cases_eq, ne_eqb}
 use Rattle.std.proofs.lemmas.List.Sums.{sum_by-cons}
 use Rattle.street_base.specs.declared.net.NetSpec.{NetSpec}
 use Rattle.street_base.specs.Network.{Place, is_place, link_at, places}
+use Rattle.street_base.specs.Census.{one_if}
 use Rattle.street_base.proofs.Releasing.{Once, sums-same, sums-zero}
 use Rattle.street_base.proofs.Tables.{sums-map, sums-flat}
-
-abbrev one_if : Bool → ℕ
-one_if b = if b then 1 else 0
 
 one_if-le : (b : Bool) → one_if b ≤ 1
 one_if-le true = omega arith

@@ -17,7 +17,7 @@ pub option_map-some : {A B : Type 0} (f : A → B) (o : Option A) (y : B) → op
 option_map-some f None y e = cc
 option_map-some f (Some x) y e = (x, refl, cc)
 
-holds-some : {A : Type 0} (test : A → Bool) (o : Option A) → option_map_or test o false ≡ true → (x : A) × (o ≡ Some x) × (test x ≡ true)
+pub holds-some : {A : Type 0} (test : A → Bool) (o : Option A) → option_map_or test o false ≡ true → (x : A) × (o ≡ Some x) × (test x ≡ true)
 holds-some test None e = absurd (false≢true e)
 holds-some test (Some x) e = (x, refl, e)
 

@@ -1,7 +1,8 @@
 -- Sums over all lanes of a state.
-use Rattle.std.proofs.Common.{◌≡◌, ℕ, zero, suc, ◌+◌, ◌<◌, List, [], ◌∷◌, length, map, get_or, refl, sym, ◌∙◌, ap, arith, add-zero}
+use Rattle.std.proofs.Common.{◌≡◌, ℕ, suc, ◌+◌, ◌<◌, List, [], ◌∷◌, length, map, get_or, refl, sym, ◌∙◌, ap, arith, add-zero}
 use Rattle.std.specs.Prelude.{flat_map}
 use Rattle.std.specs.List.{sum_by, enumerate_from, range_with_len}
+use Rattle.std.proofs.lemmas.List.{get_or_default}
 use Rattle.std.proofs.lemmas.List.Sums.{sum_by-cons, sum_by-append}
 use Rattle.street_base.specs.Network.{Place, link_at, places}
 use Rattle.street_base.specs.State.{Traffic, LaneState, no_lane, lane_at, each_lane}
@@ -41,7 +42,7 @@ over_lanes h links = sum_by (λ at. sum_by (λ on. h (record { link = at.0; lane
 
 pub over_lanes-places : (m : Traffic) → HasShape m → (h : Place → LaneState → ℕ) → over_lanes h m.lanes ≡ sum_by (λ p. h p (lane_at m p)) (places m.network)
 over_lanes-places m shape h =
-    sums-enumerated (λ i lanes. sum_by (λ on. h (record { link = i; lane = on.0 }) on.1) (enumerate_from 0 lanes)) (λ i. get_or m.lanes i []) 0 m.lanes (λ k d l. ap (λ j. get_or m.lanes j []) (from_zero k) ∙ default m.lanes k [] d l)
+    sums-enumerated (λ i lanes. sum_by (λ on. h (record { link = i; lane = on.0 }) on.1) (enumerate_from 0 lanes)) (λ i. get_or m.lanes i []) 0 m.lanes (λ k d l. ap (λ j. get_or m.lanes j []) (from_zero k) ∙ get_or_default m.lanes k [] d l)
     ∙ sums-same (λ i. sum_by (λ on. h (record { link = i; lane = on.0 }) on.1) (enumerate_from 0 (get_or m.lanes i []))) (λ i. sum_by (λ k. h (record { link = i; lane = k }) (lane_at m (record { link = i; lane = k }))) (range_with_len 0 (link_at m.network i).lanes)) (range_with_len 0 (length m.lanes)) row
     ∙ ap (λ n. sum_by (λ i. sum_by (λ k. h (record { link = i; lane = k }) (lane_at m (record { link = i; lane = k }))) (range_with_len 0 (link_at m.network i).lanes)) (range_with_len 0 n)) shape.links
     ∙ sums-same (λ i. sum_by (λ k. h (record { link = i; lane = k }) (lane_at m (record { link = i; lane = k }))) (range_with_len 0 (link_at m.network i).lanes)) (λ i. sum_by (λ p. h p (lane_at m p)) (map (λ k. record { link = i; lane = k }) (range_with_len 0 (link_at m.network i).lanes))) (range_with_len 0 (length m.network.links)) (λ i. sym (sums-map (λ p. h p (lane_at m p)) (λ k. record { link = i; lane = k }) (range_with_len 0 (link_at m.network i).lanes)))
@@ -50,14 +51,9 @@ over_lanes-places m shape h =
     from_zero : (k : ℕ) → 0 + k ≡ k
     from_zero k = omega arith
 
-    default : {A : Type 0} (xs : List A) (k : ℕ) (d e : A) → k < length xs → get_or xs k d ≡ get_or xs k e
-    default [] k d e l = absurd (omega arith)
-    default (x ∷ xs) zero d e l = refl
-    default (x ∷ xs) (suc k) d e l = default xs k d e (omega arith)
-
     row : (i : ℕ) → sum_by (λ on. h (record { link = i; lane = on.0 }) on.1) (enumerate_from 0 (get_or m.lanes i [])) ≡ sum_by (λ k. h (record { link = i; lane = k }) (lane_at m (record { link = i; lane = k }))) (range_with_len 0 (link_at m.network i).lanes)
     row i =
-        sums-enumerated (λ k lane. h (record { link = i; lane = k }) lane) (λ k. lane_at m (record { link = i; lane = k })) 0 (get_or m.lanes i []) (λ k d l. ap (λ j. get_or (get_or m.lanes i []) j no_lane) (from_zero k) ∙ default (get_or m.lanes i []) k no_lane d l)
+        sums-enumerated (λ k lane. h (record { link = i; lane = k }) lane) (λ k. lane_at m (record { link = i; lane = k })) 0 (get_or m.lanes i []) (λ k d l. ap (λ j. get_or (get_or m.lanes i []) j no_lane) (from_zero k) ∙ get_or_default (get_or m.lanes i []) k no_lane d l)
         ∙ ap (λ n. sum_by (λ k. h (record { link = i; lane = k }) (lane_at m (record { link = i; lane = k }))) (range_with_len 0 n)) (shape.lanes i)
 
 -- of the lanes changed by f

@@ -19,7 +19,7 @@ use Rattle.street_base.specs.State.{Traffic, Queued, Waiting, LaneState, lane_at
 use Rattle.street_base.specs.Machine.{told_cell, is_number, seen_in_cells, seen_in_buffer, seen_waiting, seen_in, end_of, seen, whereabouts, told}
 use Rattle.street_base.specs.Apart.{weight}
 use Rattle.street_base.specs.Census.{in_lane, in_lanes, has_ended, one_if, IsSound}
-use Rattle.street_base.proofs.Weaving.{holds-some}
+use Rattle.street_base.proofs.Overtaking.{holds-some}
 use Rattle.street_base.proofs.Entering.{in_lanes-places}
 use Rattle.street_base.proofs.Forming.{shape-of}
 

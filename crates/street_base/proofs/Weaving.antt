@@ -1,35 +1,27 @@
 -- Lane changes lose no vehicle and make none.
-use Rattle.std.proofs.Common.{◌≡◌, ℕ, zero, suc, ◌+◌, Bool, true, false, length, map, refl, ap, arith, inl, inr, add-one}
+use Rattle.std.proofs.Common.{◌≡◌, ℕ, zero, suc, ◌+◌, true, false, length, map, refl, ap, arith, inl, inr, add-one}
 use Rattle.std.specs.Prelude.{Option, Some, None, ◌&&◌, not, is_some}
-use Rattle.std.specs.Option.{option_map_or}
 use Rattle.std.specs.List.{range_with_len, sum_by}
-use Rattle.std.proofs.lemmas.Bool.{cases_Bool}
+use Rattle.std.proofs.lemmas.Bool.{cases_Bool, and_parts}
 use Rattle.std.proofs.lemmas.List.FromFn.{fill_by_all, sum_by-map-range_with_len_more}
 use Rattle.street_base.specs.Vehicle.{Vehicle}
 use Rattle.street_base.specs.Lane.{Cells, Track, vehicle_at, is_free, is_closed}
 use Rattle.street_base.specs.LaneChange.{Weave, wishes, is_safe, changes, settled, woven}
 use Rattle.street_base.specs.Apart.{weight, KeepsBoth}
-
-and-left : (a b : Bool) → (a && b) ≡ true → a ≡ true
-and-left true b e = refl
-and-left false b e = e
+use Rattle.street_base.proofs.Overtaking.{holds-some}
 
 none-from-not : (o : Option Vehicle) → not (is_some o) ≡ true → o ≡ None
 none-from-not None e = refl
 none-from-not (Some v) e = cc
 
 pub free-empty : (track : Track) (x : ℕ) → is_free track x ≡ true → vehicle_at track.cells x ≡ None
-free-empty track x e = none-from-not (vehicle_at track.cells x) (and-left _ (not (is_closed track.closed x)) e)
-
-pub holds-some : {A : Type 0} (test : A → Bool) (o : Option A) → option_map_or test o false ≡ true → (x : A) × (o ≡ Some x) × (test x ≡ true)
-holds-some test None e = cc
-holds-some test (Some x) e = (x, refl, e)
+free-empty track x e = none-from-not (vehicle_at track.cells x) (and_parts _ (not (is_closed track.closed x)) e).0
 
 pub changes-to_free : (weave : Weave) (lane : ℕ) (own other : Track) (x : ℕ) → changes weave lane own other x ≡ true → vehicle_at other.cells x ≡ None
 unfolding changes
 changes-to_free weave lane own other x e =
     let h = holds-some (λ (v : Vehicle). is_free other x && wishes weave lane own other x v && is_safe weave lane own other x v && weave.may_change v.number) (vehicle_at own.cells x) e in
-    free-empty other x (and-left _ _ (and-left _ _ (and-left _ _ h.2)))
+    free-empty other x (and_parts _ _ (and_parts _ _ (and_parts _ _ h.2).0).0).0
 
 pub changes-empty : (weave : Weave) (lane : ℕ) (own other : Track) (x : ℕ) → vehicle_at own.cells x ≡ None → changes weave lane own other x ≡ false
 unfolding changes

@@ -1,6 +1,7 @@
 -- A step keeps each number in one place.
 use Rattle.std.proofs.Common.{◌≡◌, ℕ, zero, suc, ◌+◌, ◌<◌, List, [], ◌∷◌, length, map, get_or, replicate, refl, sym, subst, ◌∙◌, ap, arith}
 use Rattle.std.specs.List.{sum_by, enumerate_from}
+use Rattle.std.proofs.lemmas.List.{get_or_default}
 use Rattle.std.proofs.lemmas.List.Sums.{sum_by-cons}
 use Rattle.street_base.specs.Network.{places, link_at}
 use Rattle.street_base.specs.State.{Traffic, LaneState, lane_at, each_lane}
@@ -45,16 +46,11 @@ woven_lanes-keeps number weave (a ∷ b ∷ []) even =
     omega (arith, both, sum_by-cons (in_lane number) new_a (new_b ∷ []), sum_by-cons (in_lane number) new_b [], sum_by-cons (in_lane number) a (b ∷ []), sum_by-cons (in_lane number) b [])
 woven_lanes-keeps number weave (a ∷ b ∷ c ∷ lanes) even = refl
 
-default : {A : Type 0} (xs : List A) (k : ℕ) (d e : A) → k < length xs → get_or xs k d ≡ get_or xs k e
-default [] k d e l = absurd (omega arith)
-default (x ∷ xs) zero d e l = refl
-default (x ∷ xs) (suc k) d e l = default xs k d e (omega arith)
-
 changed-whole : (m : Traffic) → IsFormed m → IsWhole m → IsWhole (changed m)
 unfolding changed
 changed-whole m formed whole number =
     ap (λ n. n + has_ended number m.ends) (sums-enumerated-each IsEven (λ lanes. sum_by (in_lane number) lanes) (λ i lanes. woven_lanes (weave_on m i) lanes) 0 m.lanes
-    (λ k d l. subst IsEven (default m.lanes k [] d l) ((link_at m.network k).lanes, (link_at m.network k).length, row-sizes m formed k))
+    (λ k d l. subst IsEven (get_or_default m.lanes k [] d l) ((link_at m.network k).lanes, (link_at m.network k).length, row-sizes m formed k))
     (λ i lanes even. woven_lanes-keeps number (weave_on m i) lanes even))
     ∙ whole number
 
