@@ -23,13 +23,13 @@ pub type CarNo = u64;
 /// The position of a node in the load.
 #[derive(Clone, Copy)]
 pub struct NodeIx {
-    position: usize,
+    node: usize,
 }
 
 /// The position of a link in the load.
 #[derive(Clone, Copy)]
 pub struct LinkIx {
-    position: usize,
+    link: usize,
 }
 
 impl Model for NodeIx {
@@ -37,9 +37,9 @@ impl Model for NodeIx {
 
     ghost Value = { ℕ };
 
-    ghost view = { λ a. a.position };
+    ghost view = { λ a. a.node };
 
-    ghost inverse = { λ n. record { position = n } };
+    ghost inverse = { λ n. record { node = n } };
 }
 
 impl Model for LinkIx {
@@ -47,9 +47,9 @@ impl Model for LinkIx {
 
     ghost Value = { ℕ };
 
-    ghost view = { λ a. a.position };
+    ghost view = { λ a. a.link };
 
-    ghost inverse = { λ n. record { position = n } };
+    ghost inverse = { λ n. record { link = n } };
 }
 
 impl NodeIx {
@@ -59,14 +59,14 @@ impl NodeIx {
     pub fn new(position: usize) -> Self
         ensures { result ≡ position }
     {
-        NodeIx { position }
+        NodeIx { node: position }
     }
 
     /// The position.
     pub fn position(self) -> usize
         ensures { result ≡ self }
     {
-        self.position
+        self.node
     }
 }
 
@@ -77,13 +77,13 @@ impl LinkIx {
     pub fn new(position: usize) -> Self
         ensures { result ≡ position }
     {
-        LinkIx { position }
+        LinkIx { link: position }
     }
 
     /// The position.
     pub fn position(self) -> usize
         ensures { result ≡ self }
     {
-        self.position
+        self.link
     }
 }
