@@ -27,6 +27,13 @@ pub mod Row17
 pub mod Row19
 pub mod Row23
 pub mod Row24
+pub mod BoundChange
+pub mod BoundZone
+pub mod BoundClosed
+pub mod BoundEntry
+pub mod Drawn
+pub mod Commands
+pub mod Faulty
 pub mod Releasing
 pub mod Tables
 pub mod Entering
