@@ -3,7 +3,7 @@ use Rattle.street_base.proofs.Unfolded.{machine_computed}
 use Rattle.std.proofs.Common.{◌≡◌, ℕ, List, [], ◌∷◌, refl}
 use Rattle.street_base.specs.declared.net.LinkSpec.{LinkSpec}
 use Rattle.street_base.specs.declared.net.TurnSpec.{TurnSpec}
-use Rattle.street_base.specs.State.{Traffic, LaneState, Waiting}
+use Rattle.street_base.specs.State.{Traffic, Waiting}
 use Rattle.street_base.specs.Step.{steps}
 use Rattle.street_base.proofs.Worked.{node, link, turn_of, net_of, waits, lane_with, lane_queueing, at_start, Shown, empty, has, holds, shown}
 

@@ -1,12 +1,12 @@
 -- Worked rows: commands from nothing loaded, what is refused, and what is answered.
 use Rattle.street_base.proofs.Unfolded.{machine_computed}
 use Rattle.std.proofs.Common.{◌≡◌, ℕ, List, [], ◌∷◌, refl}
-use Rattle.std.specs.Prelude.{Option, Some, None}
+use Rattle.std.specs.Prelude.{None}
 use Rattle.street_base.specs.declared.net.NetSpec.{NetSpec}
 use Rattle.street_base.specs.declared.command.Command.{Command}
 use Rattle.street_base.specs.declared.command.Command.TheVariants.{Load, Enter, Advance, Vehicle as AskVehicle}
-use Rattle.street_base.specs.declared.command.Refusal.TheVariants.{NotLoaded, AlreadyLoaded, BadNetwork, NoLane, BadRange, BadPlan, NoVehicle, TooMany, BadCount, ClockEnd}
-use Rattle.street_base.specs.declared.command.Part.TheVariants.{Nodes, Links, Turns, Values}
+use Rattle.street_base.specs.declared.command.Refusal.TheVariants.{NotLoaded, AlreadyLoaded, BadNetwork, NoLane, BadRange, BadPlan, NoVehicle, BadCount, ClockEnd}
+use Rattle.street_base.specs.declared.command.Part.TheVariants.{Values}
 use Rattle.street_base.specs.declared.command.Reply.{Reply}
 use Rattle.street_base.specs.declared.command.Reply.TheVariants.{Loaded, Entered, Clock, Vehicle as TellVehicle, Refused}
 use Rattle.street_base.specs.declared.command.Whereabouts.TheVariants.{Cell, Waiting as Waits, Ended}

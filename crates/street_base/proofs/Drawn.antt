@@ -1,6 +1,6 @@
 -- Worked rows: draws, checked with other implementations of ChaCha20, and what they decide.
 use Rattle.street_base.proofs.Unfolded.{machine_computed}
-use Rattle.std.proofs.Common.{◌≡◌, ℕ, List, [], ◌∷◌, map, refl}
+use Rattle.std.proofs.Common.{◌≡◌, ℕ, [], ◌∷◌, map, refl}
 use Rattle.street_base.specs.declared.net.NetSpec.{NetSpec}
 use Rattle.street_base.specs.Draw.{draw, lane_draw, dawdle_draw}
 use Rattle.street_base.specs.State.{Traffic}
