@@ -32,18 +32,24 @@ pub stops_before : shown (steps 1 (road 9 9 ((6, 0, 4) ∷ []))) ≡ lane ((8, 0
 unfolding machine_computed
 stops_before = refl
 
+-- two links of 10 cells, and a closed cell of the first, on which a vehicle waits
+abbrev waiting : ℕ → Traffic
+waiting closed = with_marks true (place_of 0 0) closed closed
+    (at_start two_links ((lane_with 10 (waits 0 (0 ∷ []) 0 ∷ []) ∷ []) ∷ (lane_with 10 [] ∷ []) ∷ []) 1)
+
 -- nobody departs onto a closed cell 0; a closed cell 1 stops who departed
-pub no_departure : shown (steps 3 (with_marks true (place_of 0 0) 0 0 (at_start two_links ((lane_with 10 (waits 0 (0 ∷ []) 0 ∷ []) ∷ []) ∷ (lane_with 10 [] ∷ []) ∷ []) 1))) ≡ (has [] [] (0 ∷ []) ∷ []) ∷ (empty ∷ []) ∷ []
+pub no_departure : shown (steps 3 (waiting 0)) ≡ (has [] [] (0 ∷ []) ∷ []) ∷ (empty ∷ []) ∷ []
 unfolding machine_computed
 no_departure = refl
 
-pub departs_before_closed : shown (steps 3 (with_marks true (place_of 0 0) 1 1 (at_start two_links ((lane_with 10 (waits 0 (0 ∷ []) 0 ∷ []) ∷ []) ∷ (lane_with 10 [] ∷ []) ∷ []) 1))) ≡ (holds ((0, 0, 0) ∷ []) ∷ []) ∷ (empty ∷ []) ∷ []
+pub departs_before_closed : shown (steps 3 (waiting 1)) ≡ (holds ((0, 0, 0) ∷ []) ∷ []) ∷ (empty ∷ []) ∷ []
 unfolding machine_computed
 departs_before_closed = refl
 
 -- vehicle 0 may go on from the first link's buffer, and vehicle 1 may depart on the second link: neither enters there
 abbrev shut : Traffic
-shut = with_marks true (place_of 1 0) 0 2 (at_start two_links ((lane_queueing 10 (0 ∷ 1 ∷ []) ((0, 4, 0) ∷ []) ∷ []) ∷ (lane_with 10 (waits 1 (1 ∷ []) 0 ∷ []) ∷ []) ∷ []) 2)
+shut = with_marks true (place_of 1 0) 0 2
+    (at_start two_links ((lane_queueing 10 (0 ∷ 1 ∷ []) ((0, 4, 0) ∷ []) ∷ []) ∷ (lane_with 10 (waits 1 (1 ∷ []) 0 ∷ []) ∷ []) ∷ []) 2)
 
 pub no_entry : shown (steps 2 shut) ≡ (has [] ((0, 4, 0) ∷ []) [] ∷ []) ∷ (has [] [] (1 ∷ []) ∷ []) ∷ []
 unfolding machine_computed

@@ -5,7 +5,7 @@ use Rattle.street_base.specs.declared.net.LinkSpec.{LinkSpec}
 use Rattle.street_base.specs.declared.net.TurnSpec.{TurnSpec}
 use Rattle.street_base.specs.State.{Traffic, Waiting}
 use Rattle.street_base.specs.Step.{steps}
-use Rattle.street_base.proofs.Worked.{node, link, turn_of, net_of, waits, lane_with, lane_queueing, at_start, Shown, empty, has, holds, shown}
+use Rattle.street_base.proofs.Worked.{two_links, node, link, turn_of, net_of, waits, lane_with, lane_queueing, at_start, Shown, empty, has, holds, shown}
 
 abbrev onward : List ℕ
 onward = 0 ∷ 1 ∷ []
@@ -46,17 +46,26 @@ meeting turns low high = at_start
     3
 
 -- of two buffers that lead to one lane that of lane 0 comes first, and gives its front alone
-pub lane_0_first : shown (steps 1 (meeting (turn_of 10 0 20 1 ∷ turn_of 10 1 20 1 ∷ []) ((0, 4, 0) ∷ (1, 3, 0) ∷ []) ((2, 2, 0) ∷ []))) ≡ (has [] ((1, 3, 0) ∷ []) [] ∷ has [] ((2, 2, 0) ∷ []) [] ∷ []) ∷ (empty ∷ holds ((0, 0, 4) ∷ []) ∷ []) ∷ []
+abbrev to_one_lane : List TurnSpec
+to_one_lane = turn_of 10 0 20 1 ∷ turn_of 10 1 20 1 ∷ []
+
+pub lane_0_first :
+    shown (steps 1 (meeting to_one_lane ((0, 4, 0) ∷ (1, 3, 0) ∷ []) ((2, 2, 0) ∷ [])))
+    ≡ (has [] ((1, 3, 0) ∷ []) [] ∷ has [] ((2, 2, 0) ∷ []) [] ∷ []) ∷ (empty ∷ holds ((0, 0, 4) ∷ []) ∷ []) ∷ []
 unfolding machine_computed
 lane_0_first = refl
 
 -- two that lead to two lanes give both, each to the lane of its turn
-pub each_to_its_lane : shown (steps 1 (meeting (turn_of 10 0 20 1 ∷ turn_of 10 1 20 0 ∷ []) ((0, 4, 0) ∷ []) ((2, 2, 0) ∷ []))) ≡ (empty ∷ empty ∷ []) ∷ (holds ((0, 2, 2) ∷ []) ∷ holds ((0, 0, 4) ∷ []) ∷ []) ∷ []
+pub each_to_its_lane :
+    shown (steps 1 (meeting (turn_of 10 0 20 1 ∷ turn_of 10 1 20 0 ∷ []) ((0, 4, 0) ∷ []) ((2, 2, 0) ∷ [])))
+    ≡ (empty ∷ empty ∷ []) ∷ (holds ((0, 2, 2) ∷ []) ∷ holds ((0, 0, 4) ∷ []) ∷ []) ∷ []
 unfolding machine_computed
 each_to_its_lane = refl
 
 -- a front that is not ready holds those behind it, and not the other buffer
-pub not_ready_holds : shown (steps 1 (meeting (turn_of 10 0 20 1 ∷ turn_of 10 1 20 1 ∷ []) ((0, 4, 1) ∷ (1, 3, 0) ∷ []) ((2, 2, 0) ∷ []))) ≡ (has [] ((0, 4, 1) ∷ (1, 3, 0) ∷ []) [] ∷ empty ∷ []) ∷ (empty ∷ holds ((0, 2, 2) ∷ []) ∷ []) ∷ []
+pub not_ready_holds :
+    shown (steps 1 (meeting to_one_lane ((0, 4, 1) ∷ (1, 3, 0) ∷ []) ((2, 2, 0) ∷ [])))
+    ≡ (has [] ((0, 4, 1) ∷ (1, 3, 0) ∷ []) [] ∷ empty ∷ []) ∷ (empty ∷ holds ((0, 2, 2) ∷ []) ∷ []) ∷ []
 unfolding machine_computed
 not_ready_holds = refl
 
@@ -87,6 +96,8 @@ unfolding machine_computed
 not_before_its_depart = refl
 
 -- who goes on from a buffer comes before who departs
-pub buffer_before_departure : shown (steps 1 (at_start (net_of (node 1 ∷ node 2 ∷ node 3 ∷ []) (link 10 1 2 1 10 ∷ link 20 2 3 1 10 ∷ []) (turn_of 10 0 20 0 ∷ []) 0 0 0) ((lane_queueing 10 onward ((1, 2, 0) ∷ []) ∷ []) ∷ (lane_with 10 (waits 0 (1 ∷ []) 0 ∷ []) ∷ []) ∷ []) 2)) ≡ (empty ∷ []) ∷ (has ((0, 1, 2) ∷ []) [] (0 ∷ []) ∷ []) ∷ []
+pub buffer_before_departure :
+    shown (steps 1 (at_start two_links ((lane_queueing 10 onward ((1, 2, 0) ∷ []) ∷ []) ∷ (lane_with 10 (waits 0 (1 ∷ []) 0 ∷ []) ∷ []) ∷ []) 2))
+    ≡ (empty ∷ []) ∷ (has ((0, 1, 2) ∷ []) [] (0 ∷ []) ∷ []) ∷ []
 unfolding machine_computed
 buffer_before_departure = refl

@@ -10,8 +10,7 @@ use Rattle.street_base.specs.declared.net.NetSpec.{NetSpec}
 use Rattle.street_base.specs.Vehicle.{Vehicle}
 use Rattle.street_base.specs.State.{Traffic, LaneState, Queued, Waiting, each_lane}
 use Rattle.street_base.specs.Network.{Place, is_place}
-use Rattle.street_base.specs.Detector.{Row, full_rows, running_row}
-use Rattle.street_base.specs.declared.command.End.{End}
+use Rattle.street_base.specs.Detector.{Row}
 
 abbrev pub node : ℕ → NodeSpec
 node id = record { id = id; residence = 1; capacity = 2 }
@@ -104,16 +103,6 @@ without_vehicle number m = record m {
 
 abbrev pub place_of : ℕ → ℕ → Place
 place_of link lane = record { link = link; lane = lane }
-
--- all that a run shows
-pub record Summary : Type 0 where
-  pub lanes : List (List Shown)
-  pub rows : List (List Row)
-  pub now : List (Row × ℕ)
-  pub ends : List (Option End)
-
-abbrev pub summary : Traffic → Summary
-summary m = record { lanes = shown m; rows = map full_rows m.detectors; now = map running_row m.detectors; ends = m.ends }
 
 abbrev pub row_is : ℕ → ℕ → ℕ → ℕ → Row
 row_is start passes speeds occupied = record { start = start; passes = passes; speeds = speeds; occupied = occupied }
