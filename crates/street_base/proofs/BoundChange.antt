@@ -40,6 +40,11 @@ pub gap_behind_of_six : shown (steps 1 (road ((10, 0, 2) ∷ (12, 1, 0) ∷ []) 
 unfolding machine_computed
 gap_behind_of_six = refl
 
+-- of two behind on the other lane the nearer one counts
+pub nearer_behind : shown (steps 1 (road ((10, 0, 2) ∷ (12, 1, 0) ∷ []) ((1, 2, 0) ∷ (6, 3, 0) ∷ []))) ≡ lanes ((11, 0, 1) ∷ (13, 1, 1) ∷ []) ((2, 2, 1) ∷ (7, 3, 1) ∷ [])
+unfolding machine_computed
+nearer_behind = refl
+
 -- nobody changes to a cell that is closed, or in which somebody stands
 pub closed_beside : shown (steps 1 (with_marks true (place_of 0 1) 8 12 (road ((10, 0, 2) ∷ (12, 1, 0) ∷ []) []))) ≡ lanes ((11, 0, 1) ∷ (13, 1, 1) ∷ []) []
 unfolding machine_computed

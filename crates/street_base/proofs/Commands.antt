@@ -110,14 +110,10 @@ pub more : Converses (
 unfolding machine_computed
 more = refl
 
--- 10,000 steps are not too many, on a network of no links
-pub most_steps : Converses (
-    (Load (record two_links { links = []; turns = []; start = 999990000 }), Loaded 0 3 0)
-    ∷ (Advance 10001, Refused BadCount)
-    ∷ (Advance 10000, Clock 1000000000)
-    ∷ [])
+-- 10,000 steps are not too many
+pub most_steps : (m : Traffic) → m.clock ≡ 999990000 → refusal (Some m) (Advance 10000) ≡ None
 unfolding machine_computed
-most_steps = refl
+most_steps m clock = simp clock refl
 
 -- the clock ends at 1,000,000,000; too many steps are refused before that
 pub clock_ends : Converses (

@@ -16,6 +16,7 @@ pub mod BoundChange
 pub mod BoundZone
 pub mod BoundClosed
 pub mod BoundEntry
+pub mod BoundSignal
 pub mod Drawn
 pub mod Commands
 pub mod Faulty
