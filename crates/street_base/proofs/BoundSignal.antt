@@ -17,15 +17,15 @@ green link lane next = record { link = link; lane = lane; next = next }
 abbrev crossing : ℕ → ℕ → SignalPlan → Traffic
 crossing clock next plan = record (at_start
     (net_of
-        (node 1 ∷ node 2 ∷ node 3 ∷ node 4 ∷ [])
-        (link 10 1 2 2 10 ∷ link 20 1 2 1 10 ∷ link 30 2 3 1 10 ∷ link 40 2 4 1 10 ∷ [])
-        (turn_of 10 0 40 0 ∷ turn_of 20 0 30 0 ∷ turn_of 10 1 30 0 ∷ turn_of 10 0 30 0 ∷ [])
-        0 0 0)
+    (node 1 ∷ node 2 ∷ node 3 ∷ node 4 ∷ [])
+    (link 10 1 2 2 10 ∷ link 20 1 2 1 10 ∷ link 30 2 3 1 10 ∷ link 40 2 4 1 10 ∷ [])
+    (turn_of 10 0 40 0 ∷ turn_of 20 0 30 0 ∷ turn_of 10 1 30 0 ∷ turn_of 10 0 30 0 ∷ [])
+    0 0 0)
     ((lane_holding 10 (0 ∷ next ∷ []) ((9, 0, 1) ∷ []) ∷ lane_holding 10 (0 ∷ 2 ∷ []) ((9, 1, 1) ∷ []) ∷ [])
-        ∷ (lane_holding 10 (1 ∷ 2 ∷ []) ((9, 2, 1) ∷ []) ∷ [])
-        ∷ (lane_with 10 [] ∷ [])
-        ∷ (lane_with 10 [] ∷ [])
-        ∷ [])
+    ∷ (lane_holding 10 (1 ∷ 2 ∷ []) ((9, 2, 1) ∷ []) ∷ [])
+    ∷ (lane_with 10 [] ∷ [])
+    ∷ (lane_with 10 [] ∷ [])
+    ∷ [])
     3) { clock = clock; signals = None ∷ Some plan ∷ None ∷ None ∷ [] }
 
 abbrev links : Shown → Shown → Shown → List (List Shown)

@@ -15,10 +15,12 @@ pub mod RowDetector
 pub mod BoundChange
 pub mod BoundZone
 pub mod BoundClosed
-pub mod BoundEntry
+pub mod BoundRelease
+pub mod BoundDeparture
 pub mod BoundSignal
 pub mod Drawn
 pub mod Commands
+pub mod Told
 pub mod Faulty
 pub mod Releasing
 pub mod Tables

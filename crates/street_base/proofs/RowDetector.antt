@@ -65,3 +65,11 @@ last_rows = refl
 pub no_steps_yet : running_row (meter 0 0 1 (replicate 33 quiet)) ≡ (row_is 33 0 0 0, 0)
 unfolding machine_computed
 no_steps_yet = refl
+
+-- rows count from the step at which a detector was placed
+abbrev later : Detector
+later = record (meter 0 0 2 (replicate 5 quiet)) { start = 7 }
+
+pub from_its_start : (full_rows later ≡ row_is 7 0 0 0 ∷ row_is 9 0 0 0 ∷ []) × (running_row later ≡ (row_is 11 0 0 0, 1))
+unfolding machine_computed
+from_its_start = (refl, refl)

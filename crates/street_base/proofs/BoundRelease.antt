@@ -1,11 +1,12 @@
--- Worked rows: who goes on to a link, and who departs on it.
+-- Worked rows: who goes on to a link, and how one comes into a buffer.
 use Rattle.street_base.proofs.Unfolded.{machine_computed}
 use Rattle.std.proofs.Common.{◌≡◌, ℕ, List, [], ◌∷◌, refl}
+use Rattle.street_base.specs.declared.net.NodeSpec.{NodeSpec}
 use Rattle.street_base.specs.declared.net.LinkSpec.{LinkSpec}
 use Rattle.street_base.specs.declared.net.TurnSpec.{TurnSpec}
-use Rattle.street_base.specs.State.{Traffic, Waiting}
+use Rattle.street_base.specs.State.{Traffic}
 use Rattle.street_base.specs.Step.{steps}
-use Rattle.street_base.proofs.Worked.{two_links, node, link, turn_of, net_of, waits, lane_with, lane_queueing, at_start, Shown, empty, has, holds, shown}
+use Rattle.street_base.proofs.Worked.{node, link, turn_of, net_of, lane_with, lane_holding, lane_queueing, at_start, Shown, empty, has, holds, shown}
 
 abbrev onward : List ℕ
 onward = 0 ∷ 1 ∷ []
@@ -69,35 +70,49 @@ pub not_ready_holds :
 unfolding machine_computed
 not_ready_holds = refl
 
--- ---- departures
+-- a turn is that of its own lane and of both its links
+abbrev by_turns : Traffic
+by_turns = at_start
+    (net_of
+    (node 1 ∷ node 2 ∷ node 3 ∷ node 4 ∷ [])
+    (link 10 1 3 1 10 ∷ link 20 2 3 1 10 ∷ link 30 3 4 2 10 ∷ link 40 3 4 2 10 ∷ [])
+    (turn_of 10 0 40 1 ∷ turn_of 10 0 30 0 ∷ turn_of 20 0 30 1 ∷ [])
+    0 0 0)
+    ((lane_queueing 10 (0 ∷ 2 ∷ []) ((0, 2, 0) ∷ []) ∷ [])
+    ∷ (lane_queueing 10 (1 ∷ 2 ∷ []) ((1, 3, 0) ∷ []) ∷ [])
+    ∷ (lane_with 10 [] ∷ lane_with 10 [] ∷ [])
+    ∷ (lane_with 10 [] ∷ lane_with 10 [] ∷ [])
+    ∷ [])
+    2
 
-abbrev waiting : List Waiting → Traffic
-waiting list = at_start (net_of (node 1 ∷ node 2 ∷ []) (link 10 1 2 1 10 ∷ []) [] 0 0 0) ((lane_with 10 list ∷ []) ∷ []) 3
-
--- the earlier depart goes first, then the lower number; vehicle 0 enters last, when 1 and 2 have left cell 0
-abbrev three : Traffic
-three = record (waiting (waits 0 (0 ∷ []) 3 ∷ waits 1 (0 ∷ []) 2 ∷ waits 2 (0 ∷ []) 2 ∷ [])) { clock = 5 }
-
-pub earlier_first : shown (steps 1 three) ≡ (has ((0, 1, 0) ∷ []) [] (0 ∷ 2 ∷ []) ∷ []) ∷ []
+pub by_its_own_turn : shown (steps 1 by_turns) ≡ (empty ∷ []) ∷ (empty ∷ []) ∷ (holds ((0, 0, 2) ∷ []) ∷ holds ((0, 1, 3) ∷ []) ∷ []) ∷ (empty ∷ empty ∷ []) ∷ []
 unfolding machine_computed
-earlier_first = refl
+by_its_own_turn = refl
 
-pub then_lower_number : shown (steps 2 three) ≡ (has ((0, 2, 0) ∷ (1, 1, 1) ∷ []) [] (0 ∷ []) ∷ []) ∷ []
-unfolding machine_computed
-then_lower_number = refl
+-- ---- leavers
 
--- at its depart a vehicle goes, and not before
-pub at_its_depart : shown (steps 1 (waiting (waits 0 (0 ∷ []) 1 ∷ waits 1 (0 ∷ []) 0 ∷ []))) ≡ (has ((0, 1, 0) ∷ []) [] (0 ∷ []) ∷ []) ∷ []
-unfolding machine_computed
-at_its_depart = refl
+abbrev resting : ℕ → ℕ → NodeSpec
+resting id residence = record { id = id; residence = residence; capacity = 2 }
 
-pub not_before_its_depart : shown (steps 1 (waiting (waits 0 (0 ∷ []) 1 ∷ []))) ≡ (has [] [] (0 ∷ []) ∷ []) ∷ []
-unfolding machine_computed
-not_before_its_depart = refl
+-- vehicle 1 may go on from the buffer at step 9, and vehicle 0 leaves the link in step 0
+abbrev joining : Traffic
+joining = at_start
+    (net_of (resting 1 7 ∷ resting 2 3 ∷ resting 3 5 ∷ []) (link 10 1 2 1 10 ∷ link 20 2 3 1 10 ∷ []) (turn_of 10 0 20 0 ∷ []) 0 0 0)
+    ((record (lane_queueing 10 onward ((1, 2, 9) ∷ [])) { track = (lane_holding 10 onward ((9, 0, 1) ∷ [])).track } ∷ []) ∷ (lane_with 10 [] ∷ []) ∷ [])
+    2
 
--- who goes on from a buffer comes before who departs
-pub buffer_before_departure :
-    shown (steps 1 (at_start two_links ((lane_queueing 10 onward ((1, 2, 0) ∷ []) ∷ []) ∷ (lane_with 10 (waits 0 (1 ∷ []) 0 ∷ []) ∷ []) ∷ []) 2))
-    ≡ (empty ∷ []) ∷ (has ((0, 1, 2) ∷ []) [] (0 ∷ []) ∷ []) ∷ []
+-- it goes to the end of the buffer, for the residence of the node that the link runs to
+pub goes_to_the_end : shown (steps 1 joining) ≡ (has [] ((1, 2, 9) ∷ (0, 2, 3) ∷ []) [] ∷ []) ∷ (empty ∷ []) ∷ []
 unfolding machine_computed
-buffer_before_departure = refl
+goes_to_the_end = refl
+
+-- a lane that serves another link alone does not let it go
+abbrev for_another : Traffic
+for_another = at_start
+    (net_of (node 1 ∷ node 2 ∷ node 3 ∷ []) (link 10 1 2 2 10 ∷ link 20 2 3 1 10 ∷ link 30 2 3 1 10 ∷ []) (turn_of 10 0 20 0 ∷ turn_of 10 1 30 0 ∷ []) 0 0 0)
+    ((lane_holding 10 (0 ∷ 2 ∷ []) ((8, 0, 3) ∷ []) ∷ lane_with 10 [] ∷ []) ∷ (lane_with 10 [] ∷ []) ∷ (lane_with 10 [] ∷ []) ∷ [])
+    1
+
+pub stays_on_its_lane : shown (steps 1 for_another) ≡ (holds ((9, 0, 1) ∷ []) ∷ empty ∷ []) ∷ (empty ∷ []) ∷ (empty ∷ []) ∷ []
+unfolding machine_computed
+stays_on_its_lane = refl
