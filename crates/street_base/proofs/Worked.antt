@@ -1,17 +1,16 @@
 -- States for worked rows.
 use Rattle.std.proofs.Common.{ℕ, List, [], ◌∷◌, map, replicate}
-use Rattle.std.specs.Prelude.{Option, Some, None, Bool, false, ◌&&◌, ◌==◌, nat_le, filter_map, if◌then◌else◌}
+use Rattle.std.specs.Prelude.{Option, Some, None, Bool, false, ◌&&◌, ◌==◌, nat_le, find, filter_map, if◌then◌else◌}
 use Rattle.std.specs.Option.{option_map_or}
-use Rattle.std.specs.List.{enumerate_from}
+use Rattle.std.specs.List.{enumerate_from, range_with_len}
 use Rattle.street_base.specs.declared.net.NodeSpec.{NodeSpec}
 use Rattle.street_base.specs.declared.net.LinkSpec.{LinkSpec}
 use Rattle.street_base.specs.declared.net.TurnSpec.{TurnSpec}
 use Rattle.street_base.specs.declared.net.NetSpec.{NetSpec}
 use Rattle.street_base.specs.Vehicle.{Vehicle}
-use Rattle.street_base.specs.State.{Traffic, LaneState, Waiting, each_lane}
+use Rattle.street_base.specs.State.{Traffic, LaneState, Queued, Waiting, each_lane}
 use Rattle.street_base.specs.Network.{Place, is_place}
-use Rattle.street_base.specs.Detector.{Row, full_rows, running_row}
-use Rattle.street_base.specs.declared.command.End.{End}
+use Rattle.street_base.specs.Detector.{Row}
 
 abbrev pub node : ℕ → NodeSpec
 node id = record { id = id; residence = 1; capacity = 2 }
@@ -35,6 +34,22 @@ waits number plan depart = record { vehicle = vehicle number 0 plan 0; depart = 
 abbrev pub lane_with : ℕ → List Waiting → LaneState
 lane_with size waiting = record { track = record { cells = replicate size None; closed = replicate size false }; queue = []; waiting = waiting }
 
+-- a lane with vehicles of one plan in its cells, told as (cell, number, speed)
+abbrev pub lane_holding : ℕ → List ℕ → List (ℕ × ℕ × ℕ) → LaneState
+lane_holding size plan held = record (lane_with size []) {
+  track = record {
+    cells = map (λ x. option_map_or (λ e. Some (vehicle e.1 e.2 plan 0)) (find (λ e. e.0 == x) held) None) (range_with_len 0 size);
+    closed = replicate size false;
+  };
+}
+
+-- a lane with vehicles of one plan in its buffer, told as (number, speed, ready)
+abbrev pub queued : List ℕ → ℕ × ℕ × ℕ → Queued
+queued plan e = record { vehicle = vehicle e.0 e.1 plan 0; ready = e.2 }
+
+abbrev pub lane_queueing : ℕ → List ℕ → List (ℕ × ℕ × ℕ) → LaneState
+lane_queueing size plan queue = record (lane_with size []) { queue = map (queued plan) queue }
+
 abbrev pub at_start : NetSpec → List (List LaneState) → ℕ → Traffic
 at_start net lanes admitted = record {
   network = net;
@@ -53,6 +68,13 @@ pub record Shown : Type 0 where
   pub cells : List (ℕ × ℕ × ℕ)
   pub queue : List (ℕ × ℕ × ℕ)
   pub waiting : List ℕ
+
+-- the lane holds nothing, or these and nothing else
+abbrev pub empty : Shown
+empty = record { cells = []; queue = []; waiting = [] }
+
+abbrev pub holds : List (ℕ × ℕ × ℕ) → Shown
+holds cells = record { cells = cells; queue = []; waiting = [] }
 
 abbrev pub has : List (ℕ × ℕ × ℕ) → List (ℕ × ℕ × ℕ) → List ℕ → Shown
 has cells queue waiting = record { cells = cells; queue = queue; waiting = waiting }
@@ -81,16 +103,6 @@ without_vehicle number m = record m {
 
 abbrev pub place_of : ℕ → ℕ → Place
 place_of link lane = record { link = link; lane = lane }
-
--- all that a run shows
-pub record Summary : Type 0 where
-  pub lanes : List (List Shown)
-  pub rows : List (List Row)
-  pub now : List (Row × ℕ)
-  pub ends : List (Option End)
-
-abbrev pub summary : Traffic → Summary
-summary m = record { lanes = shown m; rows = map full_rows m.detectors; now = map running_row m.detectors; ends = m.ends }
 
 abbrev pub row_is : ℕ → ℕ → ℕ → ℕ → Row
 row_is start passes speeds occupied = record { start = start; passes = passes; speeds = speeds; occupied = occupied }
