@@ -1,0 +1,4 @@
+pub mod Searching
+pub mod Firsts
+pub mod Telling
+pub mod Planning

@@ -1,0 +1,35 @@
+-- A load's first fault, part by part.
+use Rattle.std.proofs.Common.{◌≡◌, ℕ, refl, sym, ◌∙◌, ap}
+use Rattle.std.specs.Prelude.{Option, Some, None}
+use Rattle.std.specs.Option.{option_or}
+use Rattle.street_base.specs.declared.net.NetSpec.{NetSpec}
+use Rattle.street_base.specs.declared.command.Part.TheVariants.{Nodes, Links, Turns, Values}
+use Rattle.street_base.specs.Faults.{Fault, in_part, nodes_fault, links_fault, turns_fault, values_fault, network_fault}
+use Rattle.street_net.specs.declared.faults.NetFault.{NetFault}
+use Rattle.street_net.specs.declared.faults.NetFault.TheVariants.{Bad, Starved}
+use Rattle.street_net.specs.Refused.{TellsFault}
+
+-- what tells the first fault of a part tells that of parts of which it is the first
+first-of : (part all : Option Fault) (e : NetFault) → ((fault : Fault) → part ≡ Some fault → all ≡ Some fault) → TellsFault part e → TellsFault all e
+first-of part all (Bad p at) h t = h (record { part = p; at = at }) t
+first-of part all Starved h t = tt
+
+module _ (net : NetSpec) where
+  pub tells-nodes : (e : NetFault) → TellsFault (in_part Nodes (nodes_fault net)) e → TellsFault (network_fault net) e
+  unfolding network_fault
+  tells-nodes e t = first-of (in_part Nodes (nodes_fault net)) _ e (λ fault h. rw h refl) t
+
+  module _ (nodes : nodes_fault net ≡ None) where
+    pub tells-links : (e : NetFault) → TellsFault (in_part Links (links_fault net)) e → TellsFault (network_fault net) e
+    unfolding network_fault
+    tells-links e t = first-of (in_part Links (links_fault net)) _ e (λ fault h. rw (nodes, h) refl) t
+
+    module _ (links : links_fault net ≡ None) where
+      pub tells-turns : (e : NetFault) → TellsFault (in_part Turns (turns_fault net)) e → TellsFault (network_fault net) e
+      unfolding network_fault
+      tells-turns e t = first-of (in_part Turns (turns_fault net)) _ e (λ fault h. rw (nodes, links, h) refl) t
+
+      -- with no fault in the three lists, the first fault is that of the values
+      pub values-tell : turns_fault net ≡ None → network_fault net ≡ in_part Values (values_fault net)
+      unfolding network_fault
+      values-tell turns = rw (nodes, links, turns) refl

@@ -1,0 +1,8 @@
+use Rattle.std.proofs.Common.{◌≡◌, take}
+use Rattle.street_base.specs.Faults.{is_bad_link}
+use Rattle.street_net.specs.Keys.{ids_of_links}
+use Rattle.street_net.proofs.Firsts.{NoneBad}
+use Rattle.street_net.proofs.lists.read_links.Given as goal
+
+abbrev pub invariant-loop-at : goal.invariant-loop-at
+invariant-loop-at l = record { keys : l.ids.keys ≡ ids_of_links (take l.at l.spec.links); none_bad : NoneBad (is_bad_link l.spec) l.spec.links l.at }

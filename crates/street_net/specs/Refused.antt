@@ -1,0 +1,25 @@
+-- What a refused load or plan tells.
+use Rattle.std.specs.Prelude.{◌≡◌, ℕ, ◌<◌, ◌≤◌, List, Option, Some, None}
+use Rattle.street_base.specs.declared.net.NetSpec.{NetSpec}
+use Rattle.street_base.specs.Network.{link_at}
+use Rattle.street_base.specs.Faults.{Fault, plan_fault}
+use Rattle.street_base.specs.Machine.{entry_of}
+use Rattle.street_net.specs.declared.faults.NetFault.{NetFault}
+use Rattle.street_net.specs.declared.faults.NetFault.TheVariants.{Bad as BadLoad, Starved as StarvedLoad}
+use Rattle.street_net.specs.declared.faults.PlanFault.{PlanFault}
+use Rattle.street_net.specs.declared.faults.PlanFault.TheVariants.{Bad as BadPlan, Lane, Starved as StarvedPlan}
+
+-- where a load is refused, this is its first fault; where memory was wanting nothing is told
+abbrev pub TellsFault : Option Fault → NetFault → Type 0
+TellsFault first (BadLoad part at) = first ≡ Some (record { part = part; at = at })
+TellsFault first StarvedLoad = Unit {0}
+
+-- how many lanes the first link of a plan has
+abbrev pub entry_lanes : NetSpec → List ℕ → ℕ → ℕ
+entry_lanes net plan lane = (link_at net (entry_of net plan lane).link).lanes
+
+-- the plan comes before the lane, and the lane before memory
+abbrev pub TellsPlanFault : NetSpec → List ℕ → ℕ → PlanFault → Type 0
+TellsPlanFault net plan lane (BadPlan at) = plan_fault net plan ≡ Some at
+TellsPlanFault net plan lane Lane = (plan_fault net plan ≡ None) × (entry_lanes net plan lane ≤ lane)
+TellsPlanFault net plan lane StarvedPlan = (plan_fault net plan ≡ None) × (lane < entry_lanes net plan lane)

@@ -1,0 +1,152 @@
+//! The checked network.
+ghost use Rattle.std.specs.Prelude.{◌≡◌, ◌∷◌, ◌<◌, [], None, Some, length, slice_index_or, IfOk, IfErr, OnOk};
+ghost use Rattle.street_base.specs.Network.{link_of, node_of};
+ghost use Rattle.street_base.specs.Faults.{network_fault, plan_fault};
+ghost use Rattle.street_base.specs.Machine.{plan_links};
+ghost use Rattle.street_net.specs.Refused.{TellsFault, TellsPlanFault, entry_lanes};
+
+use crate::faults::{NetFault, PlanFault};
+use crate::keys::{find_link, find_node};
+use crate::lists::{read_links, read_nodes, read_turns, values_fault};
+use indexmap::IndexSet;
+use std::alloc::{AllocError, Global};
+use std::marker::Model;
+use street_base::{LinkIx, Listing, NetSpec, NodeIx, Part, Plan};
+
+/// A network without faults, with constant-time look-ups of identifiers. Contracts see what it was loaded from.
+#[derive(Drop)]
+pub struct Network {
+    spec: NetSpec,
+    node_ids: IndexSet<u64>,
+    link_ids: IndexSet<u64>,
+}
+
+impl Model for Network {
+    ghost use Rattle.street_base.specs.declared.net.NetSpec.{NetSpec};
+
+    ghost Value = { NetSpec };
+
+    ghost use Rattle.street_net.specs.Keys.{IsChecked};
+
+    ghost view = { λ n. n.spec };
+
+    ghost invariant = { λ n. IsChecked n.spec n.node_ids.keys n.link_ids.keys };
+}
+
+/// A load that equals `spec`.
+fn copy_spec(alloc: Global, spec: &NetSpec) -> Result<NetSpec, AllocError>
+    ensures { IfOk result (λ copy. copy ≡ spec.now) }
+{
+    Ok(NetSpec {
+        nodes: Listing::from_vec(Vec::from_slice(alloc, spec.nodes.as_slice())?),
+        links: Listing::from_vec(Vec::from_slice(alloc, spec.links.as_slice())?),
+        turns: Listing::from_vec(Vec::from_slice(alloc, spec.turns.as_slice())?),
+        zone: spec.zone,
+        dawdle: spec.dawdle,
+        change: spec.change,
+        seed: spec.seed,
+        start: spec.start,
+    })
+}
+
+impl Network {
+    /// Checks a load, and copies it.
+    ///
+    /// # Errors
+    ///
+    /// `Bad` with the load's first fault: nodes, then links, then turns, then values, each entry by entry. `Starved` where
+    /// memory was refused.
+    pub fn build(alloc: Global, spec: &NetSpec) -> Result<Network, NetFault>
+        ensures value { IfOk result (λ net. net ≡ spec.now) }
+        ensures faultless { OnOk result (network_fault spec.now ≡ None) }
+        ensures fault { IfErr result (TellsFault (network_fault spec.now)) }
+    {
+        let node_ids = read_nodes(alloc, spec)?;
+        let link_ids = read_links(alloc, spec, &node_ids)?;
+        read_turns(alloc, spec, &link_ids)?;
+        if let Some(at) = values_fault(spec) {
+            return Err(NetFault::Bad {
+                part: Part::Values,
+                at,
+            });
+        }
+        Ok(Network {
+            spec: copy_spec(alloc, spec)?,
+            node_ids,
+            link_ids,
+        })
+    }
+
+    /// What the network was loaded from.
+    pub fn spec(&self) -> &NetSpec
+        ensures value { result.now ≡ self.now }
+        ensures faultless { network_fault self.now ≡ None }
+    {
+        &self.spec
+    }
+
+    /// The position of the link with an identifier.
+    pub fn link_of(&self, id: u64) -> Option<LinkIx>
+        ensures { result ≡ link_of self.now id }
+    {
+        let position = find_link(&self.spec, &self.link_ids, id)?;
+        Some(LinkIx::new(position))
+    }
+
+    /// The position of the node with an identifier.
+    pub fn node_of(&self, id: u64) -> Option<NodeIx>
+        ensures { result ≡ node_of self.now id }
+    {
+        let position = find_node(&self.spec, &self.node_ids, id)?;
+        Some(NodeIx::new(position))
+    }
+
+    /// The one link of a plan of identifiers, or the position of the plan's first fault.
+    fn only_link(&self, plan: &[u64]) -> Result<LinkIx, u64>
+        ensures links { IfOk result (λ link. plan_links self.now plan.now ≡ link ∷ []) }
+        ensures within { IfOk result (λ link. link < length self.now.links) }
+        ensures faultless { OnOk result (plan_fault self.now plan.now ≡ None) }
+        ensures fault { IfErr result (λ at. plan_fault self.now plan.now ≡ Some at) }
+    {
+        match plan {
+            [] => Err(0),
+            [id] => self.link_of(*id).ok_or(0),
+            [id, ..] => match self.link_of(*id) {
+                Some(_) => Err(1),
+                None => Err(0),
+            },
+        }
+    }
+
+    /// How many lanes the link at a position has.
+    fn lanes_of(&self, link: LinkIx) -> u64
+        requires { link < length self.now.links }
+        ensures { result ≡ (slice_index_or self.now.links link (record { id = 0; from = 0; to = 0; lanes = 0; length = 0; limit = 0 })).lanes }
+    {
+        self.spec.links.as_slice()[link.position()].lanes
+    }
+
+    /// The links of a plan of identifiers, for a vehicle that enters on a lane of the first.
+    ///
+    /// # Errors
+    ///
+    /// `Bad` with the position of the plan's first fault; else `Lane` where the first link has no such lane; else `Starved`
+    /// where memory was refused.
+    pub fn check_plan(&self, alloc: Global, plan: &[u64], lane: u64) -> Result<Plan, PlanFault>
+        ensures links { IfOk result (λ links. links ≡ plan_links self.now plan.now) }
+        ensures some { IfOk result (λ links. 0 < length links) }
+        ensures faultless { OnOk result (plan_fault self.now plan.now ≡ None) }
+        ensures lane { OnOk result (lane < entry_lanes self.now plan.now lane) }
+        ensures fault { IfErr result (TellsPlanFault self.now plan.now lane) }
+    {
+        let link = match self.only_link(plan) {
+            Ok(link) => link,
+            Err(at) => return Err(PlanFault::Bad { at }),
+        };
+        if lane >= self.lanes_of(link) {
+            return Err(PlanFault::Lane);
+        }
+        let links = Vec::from_slice(alloc, &[link])?;
+        Ok(Plan::from_vec(links))
+    }
+}

@@ -1,0 +1,110 @@
+//! Whether an entry of a load is bad.
+ghost use Rattle.std.specs.Prelude.{◌≡◌, take};
+ghost use Rattle.street_base.specs.Faults.{is_within, is_bad_node, is_bad_link, is_bad_turn, joins};
+ghost use Rattle.street_net.specs.Keys.{ids_of_nodes, ids_of_links, keys_of_turns};
+
+use crate::keys::{
+    TurnKey, find_node, is_repeated_link, is_repeated_node, is_repeated_turn, link_with,
+};
+use indexmap::IndexSet;
+use street_base::{LinkSpec, NetSpec, NodeSpec, TurnSpec};
+
+/// How many nodes a load has at most.
+pub(crate) const MOST_NODES: usize = 4_096;
+
+/// How many links a load has at most.
+pub(crate) const MOST_LINKS: usize = 4_096;
+
+/// How many turns a load has at most.
+pub(crate) const MOST_TURNS: usize = 32_768;
+
+/// The greatest identifier of a node or a link.
+pub(crate) const MOST_ID: u64 = 4_294_967_295;
+
+/// The greatest residence in a buffer, in steps.
+pub(crate) const MOST_RESIDENCE: u64 = 60;
+
+/// How many vehicles a buffer holds at most.
+pub(crate) const MOST_CAPACITY: u64 = 64;
+
+/// How many lanes a link has at most.
+pub(crate) const MOST_LANES: u64 = 1;
+
+/// How many cells a lane has at most.
+pub(crate) const MOST_LENGTH: u64 = 1_000;
+
+/// The greatest speed limit, in cells a step.
+pub(crate) const MOST_LIMIT: u64 = 5;
+
+fn is_within(low: u64, high: u64, number: u64) -> bool
+    ensures { result ≡ is_within low high number }
+{
+    low <= number && number <= high
+}
+
+/// Whether a node is bad at its position. `seen` are the identifiers before it.
+pub(crate) fn is_bad_node(
+    spec: &NetSpec,
+    seen: &IndexSet<u64>,
+    at: usize,
+    node: &NodeSpec,
+) -> bool
+    requires { seen.now.keys ≡ ids_of_nodes (take at spec.now.nodes) }
+    ensures { result ≡ is_bad_node spec.now at node.now }
+{
+    at >= MOST_NODES
+        || node.id > MOST_ID
+        || is_repeated_node(spec, seen, at, node.id)
+        || !is_within(1, MOST_RESIDENCE, node.residence)
+        || !is_within(1, MOST_CAPACITY, node.capacity)
+}
+
+/// Whether a link is bad at its position. `seen` are the identifiers before it, `nodes` those of all nodes.
+pub(crate) fn is_bad_link(
+    spec: &NetSpec,
+    nodes: &IndexSet<u64>,
+    seen: &IndexSet<u64>,
+    at: usize,
+    link: &LinkSpec,
+) -> bool
+    requires nodes { nodes.now.keys ≡ ids_of_nodes spec.now.nodes }
+    requires seen { seen.now.keys ≡ ids_of_links (take at spec.now.links) }
+    ensures { result ≡ is_bad_link spec.now at link.now }
+{
+    at >= MOST_LINKS
+        || link.id > MOST_ID
+        || is_repeated_link(spec, seen, at, link.id)
+        || find_node(spec, nodes, link.from).is_none()
+        || find_node(spec, nodes, link.to).is_none()
+        || !is_within(1, MOST_LANES, link.lanes)
+        || !is_within(1, MOST_LENGTH, link.length)
+        || !is_within(1, MOST_LIMIT, link.limit)
+}
+
+/// Whether a turn joins two links. `ids` are the identifiers of all links.
+fn joins(spec: &NetSpec, ids: &IndexSet<u64>, turn: &TurnSpec) -> bool
+    requires { ids.now.keys ≡ ids_of_links spec.now.links }
+    ensures { result ≡ joins spec.now turn.now }
+{
+    match (link_with(spec, ids, turn.link), link_with(spec, ids, turn.next)) {
+        (Some(link), Some(next)) => {
+            turn.lane < link.lanes && turn.next_lane < next.lanes && link.to == next.from
+        }
+        _ => false,
+    }
+}
+
+/// Whether a turn is bad at its position. `seen` are the keys before it, `ids` the identifiers of all links.
+pub(crate) fn is_bad_turn(
+    spec: &NetSpec,
+    ids: &IndexSet<u64>,
+    seen: &IndexSet<TurnKey>,
+    at: usize,
+    turn: &TurnSpec,
+) -> bool
+    requires ids { ids.now.keys ≡ ids_of_links spec.now.links }
+    requires seen { seen.now.keys ≡ keys_of_turns (take at spec.now.turns) }
+    ensures { result ≡ is_bad_turn spec.now at turn.now }
+{
+    at >= MOST_TURNS || !joins(spec, ids, turn) || is_repeated_turn(spec, seen, at, turn)
+}

@@ -1,0 +1,14 @@
+//! A network that was checked, with its look-ups.
+//!
+//! [`Network::build`] reads a load once, in time linear in it, and answers its first fault or a [`Network`]. Of a network
+//! it is known from then on that it has no fault, and that each look-up of an identifier takes constant time.
+#![tactic(auto)]
+
+mod checked;
+mod entries;
+mod faults;
+mod keys;
+mod lists;
+
+pub use checked::Network;
+pub use faults::{NetFault, PlanFault};

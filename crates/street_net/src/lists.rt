@@ -1,0 +1,117 @@
+//! The parts of a load, each read once.
+ghost use Rattle.std.specs.Prelude.{◌≡◌, None, IfOk, IfErr, OnOk};
+ghost use Rattle.street_base.specs.Faults.{in_part, nodes_fault, links_fault, turns_fault, values_fault};
+ghost use Rattle.street_base.specs.declared.command.Part.TheVariants.{Nodes, Links, Turns, Values};
+ghost use Rattle.street_net.specs.Keys.{ids_of_nodes, ids_of_links};
+ghost use Rattle.street_net.specs.Refused.{TellsFault};
+
+use crate::entries::{MOST_LINKS, MOST_NODES, MOST_TURNS, is_bad_link, is_bad_node, is_bad_turn};
+use crate::faults::NetFault;
+use crate::keys::turn_key;
+use indexmap::IndexSet;
+use std::alloc::Global;
+use street_base::{NetSpec, Part};
+
+/// The greatest length of the turn zone, in cells.
+pub(crate) const MOST_ZONE: u64 = 1_000;
+
+/// The greatest dawdle, of 1,000.
+pub(crate) const MOST_DAWDLE: u64 = 0;
+
+/// The greatest change, of 1,000.
+pub(crate) const MOST_CHANGE: u64 = 0;
+
+/// The greatest clock at the start.
+pub(crate) const MOST_START: u64 = 1_000_000_000;
+
+/// The identifiers of the nodes, or the first fault among them.
+pub(crate) fn read_nodes(alloc: Global, spec: &NetSpec) -> Result<IndexSet<u64>, NetFault>
+    ensures keys { IfOk result (λ ids. ids.keys ≡ ids_of_nodes spec.now.nodes) }
+    ensures faultless { OnOk result (nodes_fault spec.now ≡ None) }
+    ensures fault { IfErr result (TellsFault (in_part Nodes (nodes_fault spec.now))) }
+{
+    let nodes = spec.nodes.as_slice();
+    if nodes.is_empty() {
+        return Err(NetFault::Bad {
+            part: Part::Nodes,
+            at: 0,
+        });
+    }
+    let mut ids = IndexSet::with_capacity(alloc, nodes.len().min(MOST_NODES))?;
+    for (at, node) in nodes.iter().enumerate() {
+        if is_bad_node(spec, &ids, at, node) {
+            return Err(NetFault::Bad {
+                part: Part::Nodes,
+                at: at as u64,
+            });
+        }
+        ids.insert(node.id)?;
+    }
+    Ok(ids)
+}
+
+/// The identifiers of the links, or the first fault among them. `nodes` are the identifiers of the nodes.
+pub(crate) fn read_links(
+    alloc: Global,
+    spec: &NetSpec,
+    nodes: &IndexSet<u64>,
+) -> Result<IndexSet<u64>, NetFault>
+    requires { nodes.now.keys ≡ ids_of_nodes spec.now.nodes }
+    ensures keys { IfOk result (λ ids. ids.keys ≡ ids_of_links spec.now.links) }
+    ensures faultless { OnOk result (links_fault spec.now ≡ None) }
+    ensures fault { IfErr result (TellsFault (in_part Links (links_fault spec.now))) }
+{
+    let links = spec.links.as_slice();
+    let mut ids = IndexSet::with_capacity(alloc, links.len().min(MOST_LINKS))?;
+    for (at, link) in links.iter().enumerate() {
+        if is_bad_link(spec, nodes, &ids, at, link) {
+            return Err(NetFault::Bad {
+                part: Part::Links,
+                at: at as u64,
+            });
+        }
+        ids.insert(link.id)?;
+    }
+    Ok(ids)
+}
+
+/// The first fault among the turns, if they have one. `links` are the identifiers of the links.
+pub(crate) fn read_turns(
+    alloc: Global,
+    spec: &NetSpec,
+    links: &IndexSet<u64>,
+) -> Result<(), NetFault>
+    requires { links.now.keys ≡ ids_of_links spec.now.links }
+    ensures faultless { OnOk result (turns_fault spec.now ≡ None) }
+    ensures fault { IfErr result (TellsFault (in_part Turns (turns_fault spec.now))) }
+{
+    let turns = spec.turns.as_slice();
+    let mut seen = IndexSet::with_capacity(alloc, turns.len().min(MOST_TURNS))?;
+    for (at, turn) in turns.iter().enumerate() {
+        if is_bad_turn(spec, links, &seen, at, turn) {
+            return Err(NetFault::Bad {
+                part: Part::Turns,
+                at: at as u64,
+            });
+        }
+        seen.insert(turn_key(turn))?;
+    }
+    Ok(())
+}
+
+/// The first fault among the values.
+pub(crate) fn values_fault(spec: &NetSpec) -> Option<u64>
+    ensures { result ≡ values_fault spec.now }
+{
+    if spec.zone > MOST_ZONE {
+        Some(0)
+    } else if spec.dawdle > MOST_DAWDLE {
+        Some(1)
+    } else if spec.change > MOST_CHANGE {
+        Some(2)
+    } else if spec.start > MOST_START {
+        Some(3)
+    } else {
+        None
+    }
+}
