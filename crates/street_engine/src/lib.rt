@@ -1,0 +1,6 @@
+//! The engine: commands over traffic.
+#![tactic(auto)]
+
+mod motion;
+
+pub use motion::{Dawdling, drive_cells, new_speed};
