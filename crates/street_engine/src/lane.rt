@@ -240,3 +240,72 @@ fn remaining_ids(alloc: Global, net: &NetSpec, car: &Car) -> Result<Listing<u64>
     }
     Ok(Listing::from_vec(ids))
 }
+
+#[cfg(test)]
+mod tests {
+    use super::*;
+    use std::test::Fail;
+
+    /// Nobody dawdles.
+    struct Steady;
+
+    impl Dawdling for Steady {
+        ghost use Rattle.std.specs.Prelude.{false};
+
+        ghost dawdles = { λ _ _. false };
+
+        fn dawdles(&self, _number: CarNo) -> bool {
+            false
+        }
+    }
+
+    fn empty_net(alloc: Global) -> NetSpec {
+        NetSpec {
+            nodes: Listing::from_vec(Vec::new(alloc)),
+            links: Listing::from_vec(Vec::new(alloc)),
+            turns: Listing::from_vec(Vec::new(alloc)),
+            zone: 0,
+            dawdle: 0,
+            change: 0,
+            seed: 0,
+            start: 0,
+        }
+    }
+
+    fn waiting_car(alloc: Global, number: CarNo) -> Car {
+        Car {
+            number,
+            speed: 0,
+            cell: 0,
+            step: 3,
+            plan: Listing::from_vec(Vec::new(alloc)),
+            at: 0,
+        }
+    }
+
+    #[test]
+    fn a_car_is_found_where_it_waits_and_where_it_drives(rt: HostRuntime) -> Result<(), Fail> {
+        let alloc = rt.alloc();
+        let net = empty_net(alloc);
+        let link = LinkIx::new(0);
+        let mut lane = Lane::new(alloc, 10)?;
+        lane.admit(waiting_car(alloc, 7))?;
+        let waits = lane.find(alloc, &net, link, 7)?;
+        assert!(rt; matches!(waits, Some(Whereabouts::Waiting { depart: 3, .. })));
+        lane.depart(3);
+        let gone = lane.drive(5, false, &Steady);
+        assert!(rt; gone.is_none());
+        let drives = lane.find(alloc, &net, link, 7)?;
+        assert!(rt;
+            matches!(
+                drives,
+                Some(Whereabouts::Cell {
+                    cell: 1,
+                    speed: 1,
+                    ..
+                })
+            )
+        );
+        Ok(())
+    }
+}

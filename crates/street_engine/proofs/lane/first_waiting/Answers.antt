@@ -1,7 +1,7 @@
-use Rattle.std.proofs.Common.{◌≡◌, ℕ, ◌<◌, length, sym, arith}
+use Rattle.std.proofs.Common.{◌≡◌, ◌<◌, length, sym, arith}
 use Rattle.std.proofs.lemmas.Bool.Decides.{nat_tests}
 use Rattle.std.proofs.lemmas.List.{nil_from_length}
-use Rattle.street_engine.proofs.Departing.{IsFirst, first-none, first-start, first-stays, first-goes, first-all}
+use Rattle.street_engine.proofs.Departing.{first-none, first-start, first-stays, first-goes, first-all}
 use Rattle.street_engine.proofs.lane.first_waiting.Goals as goal
 use Rattle.street_engine.proofs.lane.first_waiting.Goals.{then-is_before, else-is_before}
 

@@ -1,9 +1,6 @@
 use Rattle.std.proofs.Common.{◌≡◌, ◌<◌, ◌≤◌, true, false, length, refl, sym, ◌∙◌}
-use Rattle.std.specs.Prelude.{Option, Some, None}
 use Rattle.std.proofs.lemmas.List.{map-set, get_or_default}
 use Rattle.street_base.specs.Lane.{Track, vehicles, is_free}
-use Rattle.street_base.specs.Departure.{first_waiting}
-use Rattle.street_engine.specs.LaneView.{waiting_of}
 use Rattle.street_engine.proofs.Departing.{departed-shut, departed-nobody, departed-late, departed-first}
 use Rattle.street_engine.proofs.lane.Lane.depart.Goals as goal
 

@@ -1,5 +1,5 @@
 use Rattle.std.proofs.Common.{◌≡◌, ◌<◌, length, refl, sym, ◌∙◌}
-use Rattle.std.specs.Prelude.{◌==◌, false, Option, Some, None, position, option_map}
+use Rattle.std.specs.Prelude.{◌==◌, false, Some, None, position}
 use Rattle.std.specs.Option.{option_map_or}
 use Rattle.street_base.specs.declared.car.Car.{Car}
 use Rattle.street_base.specs.Vehicle.{vehicle_of}

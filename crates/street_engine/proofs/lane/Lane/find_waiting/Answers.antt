@@ -1,5 +1,5 @@
 use Rattle.std.proofs.Common.{◌≡◌, refl, sym}
-use Rattle.std.specs.Prelude.{◌==◌, Option, Some, None, find}
+use Rattle.std.specs.Prelude.{◌==◌, Some, None, find}
 use Rattle.street_base.specs.declared.car.Car.{Car}
 use Rattle.street_engine.specs.LaneView.{waiting_of}
 use Rattle.street_engine.proofs.Finding.{find-map}
