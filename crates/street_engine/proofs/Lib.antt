@@ -1,3 +1,14 @@
 pub mod Driving
 pub mod Departing
 pub mod Finding
+pub mod Running
+pub mod Agree
+pub mod Arrivals
+pub mod OneLane
+pub mod Simplicity
+pub mod Faultless
+pub mod Writing
+pub mod Stepping
+pub mod Seeing
+pub mod OneStep
+pub mod Entering

@@ -1,1 +1,3 @@
 pub mod LaneView
+pub mod Simple
+pub mod Refines

@@ -1,0 +1,7 @@
+use Rattle.std.proofs.Common.{refl}
+use Rattle.street_engine.specs.Refines.{StandsFor}
+use Rattle.street_engine.proofs.engine.Engine.new.Goals as goal
+
+pub returns : goal.returns
+unfolding StandsFor
+returns g c = refl
