@@ -1,20 +1,33 @@
--- Motion under two drives that agree on all vehicles of a lane.
-use Rattle.std.proofs.Common.{◌≡◌, ℕ, ◌+◌, Bool, false, List, length, map, refl, ap}
-use Rattle.std.specs.Prelude.{Option, Some, None, option_map, option_and_then, nat_le, ◌==◌}
+-- Motion under two drives that agree. The exit matters to nobody but who has nothing ahead.
+use Rattle.std.proofs.Common.{◌≡◌, ℕ, ◌+◌, ◌-◌, Bool, false, List, length, map, refl, ap}
+use Rattle.std.specs.Prelude.{Option, Some, None, option_map, option_and_then, unwrap_or, nat_le, ◌==◌, if◌then◌else◌}
 use Rattle.std.specs.Option.{option_map_or}
 use Rattle.std.specs.List.{range_with_len}
-use mathlib.Core.Path.{fun_ext}
-use Rattle.street_base.specs.Vehicle.{Vehicle}
-use Rattle.street_base.specs.Lane.{Cells, vehicle_at}
+use Rattle.std.proofs.Math.Path.{fun_ext}
+use Rattle.street_base.specs.Vehicle.{Vehicle, with_speed}
+use Rattle.street_base.specs.Lane.{Cells, vehicle_at, obstacle_ahead}
 use Rattle.street_base.specs.Search.{least}
-use Rattle.street_base.specs.Motion.{Drive, driven_on, motion_gap, moved, comes_to, leaves, comer, motion, leaver}
+use Rattle.street_base.specs.Motion.{Drive, speed_after, driven_on, motion_gap, moved, comes_to, leaves, comer, motion, leaver}
 
-module _ (a b : Drive) (cells : Cells) (closed : List Bool) (same_limit : a.limit ≡ b.limit) (same_dawdles : (n : ℕ) → a.dawdles n ≡ b.dawdles n)
-    (same_exit : (x : ℕ) (v : Vehicle) → vehicle_at cells x ≡ Some v → a.is_open_to v ≡ b.is_open_to v) where
+-- two drives with the same limit and dawdlers, and the same exit for whoever has nothing ahead
+pub record DrivesAlike (a b : Drive) (cells : Cells) (closed : List Bool) : Type 0 where
+  pub limit : a.limit ≡ b.limit
+  pub dawdles : (number : ℕ) → a.dawdles number ≡ b.dawdles number
+  pub exit : (x : ℕ) (v : Vehicle) → vehicle_at cells x ≡ Some v → obstacle_ahead cells closed x ≡ None → a.is_open_to v ≡ b.is_open_to v
+
+-- the gap to an obstacle, or with none to the exit
+abbrev gap : Option ℕ → ℕ → ℕ → Bool → ℕ
+gap obstacle x size exit_open = unwrap_or (option_map (λ y. y - x - 1) obstacle) (if exit_open then 16 else size - 1 - x)
+
+module _ (a b : Drive) (cells : Cells) (closed : List Bool) (alike : DrivesAlike a b cells closed) where
+  gap-agrees : (x : ℕ) (v : Vehicle) (ahead : Option ℕ) → vehicle_at cells x ≡ Some v → obstacle_ahead cells closed x ≡ ahead → gap ahead x (length cells) (a.is_open_to v) ≡ gap ahead x (length cells) (b.is_open_to v)
+  gap-agrees x v None there e = ap (gap None x (length cells)) (alike.exit x v there e)
+  gap-agrees x v (Some y) there e = refl
+
   moved-at : (x : ℕ) (o : Option Vehicle) → vehicle_at cells x ≡ o → option_map (driven_on a cells closed x) o ≡ option_map (driven_on b cells closed x) o
   unfolding motion_gap
-  moved-at x None e = refl
-  moved-at x (Some v) e = rw (same_exit x v e, same_limit, same_dawdles v.number) refl
+  moved-at x None there = refl
+  moved-at x (Some v) there = rw (alike.limit, alike.dawdles v.number) (ap (λ room. Some (with_speed v (speed_after b.limit room (b.dawdles v.number) v.speed))) (gap-agrees x v (obstacle_ahead cells closed x) there refl))
 
   moved-agrees : moved a cells closed ≡ moved b cells closed
   unfolding moved

@@ -1,18 +1,14 @@
 -- One lane with what a walk from its end to its begin knows.
-use Rattle.std.proofs.Common.{◌≡◌, ℕ, ◌+◌, ◌-◌, ◌<◌, ◌≤◌, Bool, false, cond, List, length, map, get_or, set, refl, sym, ◌∙◌, ap, arith, get_or-set_same, get_or-set_other}
-use Rattle.std.specs.Prelude.{Option, Some, None, option_map, option_and_then, unwrap_or, is_some, ◌||◌, ◌==◌, nat_le, if◌then◌else◌}
-use Rattle.std.specs.Option.{option_map_or}
-use Rattle.std.specs.List.{range_with_len}
+use Rattle.std.proofs.Common.{◌≡◌, ℕ, ◌+◌, ◌-◌, ◌<◌, ◌≤◌, Bool, cond, List, length, get_or, set, refl, sym, ◌∙◌, ap, arith, get_or-set_same, get_or-set_other}
+use Rattle.std.specs.Prelude.{Option, Some, None, option_map, unwrap_or, is_some, ◌||◌, if◌then◌else◌}
 use Rattle.std.proofs.lemmas.Bool.{or_left}
 use Rattle.std.proofs.lemmas.List.{length-set, map-set, get_or_default, set-get_or}
-use Rattle.std.proofs.Math.Path.{fun_ext}
 use Rattle.std.proofs.Math.ListN.{length-map, get_or-map}
 use Rattle.street_base.specs.declared.car.Car.{Car}
 use Rattle.street_base.specs.Vehicle.{Vehicle, with_speed, vehicle_of}
-use Rattle.street_base.specs.Lane.{Cells, vehicles, vehicle_at, is_obstacle, is_entrance, is_occupied, obstacle_ahead}
+use Rattle.street_base.specs.Lane.{Cells, vehicles, vehicle_at, is_obstacle, is_entrance, is_occupied}
 use Rattle.street_base.specs.Search.{least}
-use Rattle.street_base.specs.Motion.{Drive, speed_after, motion_gap, driven_on, moved, comes_to, leaves, comer, motion, leaver}
-use Rattle.street_engine.specs.LaneView.{IsExit}
+use Rattle.street_base.specs.Motion.{Drive, speed_after, motion_gap, moved, motion, leaver}
 use Rattle.street_base.proofs.Searching.{least-past, least-step, least-here, least-above}
 use Rattle.street_base.proofs.Moving.{IsPartMoved, leaver_from, part_moved-start, part_moved-all, part_moved-empty, part_moved-vehicle, leaver_from-past, leaver_from-empty, leaver_from-stays, leaver_from-goes, leaver_from-all}
 
@@ -136,33 +132,3 @@ module _ (drive : Drive) (first : List (Option Car)) (closed : List Bool) (x top
   cars_driven-empty blocked none e =
       let same : set cars x taken ≡ cars = ap (set cars x) (emptied ∙ none ∙ get_or_default cars x item None inside) ∙ set-get_or cars x None in
       rw same (driven-empty drive (vehicles first) closed x top (vehicles cars) obstacle outgoing next before blocked (vehicles-none cars x item inside none) e)
-
--- the exit matters to nobody but who has nothing ahead
-
-module _ (limit : ℕ) (dawdles : ℕ → Bool) (exit_open : Bool) (is_open_to : Vehicle → Bool) (cells : Cells) (closed : List Bool) (exit : IsExit is_open_to exit_open cells closed) where
-  abbrev to_all : Drive
-  to_all = record { limit = limit; is_open_to = λ v. exit_open; dawdles = dawdles }
-
-  abbrev to_some : Drive
-  to_some = record { limit = limit; is_open_to = is_open_to; dawdles = dawdles }
-
-  gap-exit : (x : ℕ) (v : Vehicle) (ahead : Option ℕ) → vehicle_at cells x ≡ Some v → obstacle_ahead cells closed x ≡ ahead → gap_to ahead x (length cells) exit_open ≡ gap_to ahead x (length cells) (is_open_to v)
-  gap-exit x v None there e = ap (gap_to None x (length cells)) (sym (exit x v there e))
-  gap-exit x v (Some y) there e = refl
-
-  moved-exit : (x : ℕ) (o : Option Vehicle) → vehicle_at cells x ≡ o → option_map (driven_on to_all cells closed x) o ≡ option_map (driven_on to_some cells closed x) o
-  unfolding motion_gap
-  moved-exit x None there = refl
-  moved-exit x (Some v) there = ap (λ gap. Some (with_speed v (speed_after limit gap (dawdles v.number) v.speed))) (gap-exit x v (obstacle_ahead cells closed x) there refl)
-
-  all_moved-exit : moved to_all cells closed ≡ moved to_some cells closed
-  unfolding moved
-  all_moved-exit = fun_ext (λ x. moved-exit x (vehicle_at cells x) refl)
-
-  pub motion-exit : motion to_all cells closed ≡ motion to_some cells closed
-  unfolding motion comer comes_to
-  motion-exit = ap (λ (m : ℕ → Option Vehicle). map (λ y. option_and_then m (least (λ x. option_map_or (λ v. x + v.speed == y) (m x) false) 0 (length cells))) (range_with_len 0 (length cells))) all_moved-exit
-
-  pub leaver-exit : leaver to_all cells closed ≡ leaver to_some cells closed
-  unfolding leaver leaves
-  leaver-exit = ap (λ (m : ℕ → Option Vehicle). option_and_then m (least (λ x. option_map_or (λ v. nat_le (length cells) (x + v.speed)) (m x) false) 0 (length cells))) all_moved-exit

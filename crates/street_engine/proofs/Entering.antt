@@ -1,8 +1,8 @@
 -- Traffic as it is loaded, and with one more vehicle.
-use Rattle.std.proofs.Common.{◌≡◌, ℕ, zero, suc, ◌+◌, ◌<◌, ◌≤◌, Bool, true, false, List, [], ◌∷◌, ◌++◌, length, map, set, get_or, replicate, refl, sym, ◌∙◌, ap, arith, inl, inr}
+use Rattle.std.proofs.Common.{◌≡◌, ℕ, zero, suc, ◌<◌, Bool, true, List, [], ◌∷◌, ◌++◌, length, map, set, get_or, replicate, refl, sym, ◌∙◌, ap, arith}
 use Rattle.std.specs.Prelude.{Option, Some, None, slice_get, ◌==◌, ◌&&◌, if◌then◌else◌}
 use Rattle.std.proofs.Math.Bool.{and-true}
-use Rattle.std.proofs.lemmas.Bool.{cases_eq, eq-eqb}
+use Rattle.std.proofs.lemmas.Bool.{eq-eqb}
 use Rattle.std.proofs.lemmas.List.{length-map}
 use Rattle.std.proofs.lemmas.Option.{slice_get-get_or}
 use Rattle.street_base.specs.Faults.{network_fault}
@@ -10,14 +10,14 @@ use mathlib.Core.Path.{fun_ext}
 use Rattle.street_base.specs.declared.net.NetSpec.{NetSpec}
 use Rattle.street_base.specs.declared.net.LinkSpec.{LinkSpec}
 use Rattle.street_base.specs.declared.command.End.{End}
-use Rattle.street_base.specs.Network.{Place, is_place, link_at}
+use Rattle.street_base.specs.Network.{is_place, link_at}
 use Rattle.street_base.specs.Vehicle.{Vehicle, is_on_last}
-use Rattle.street_base.specs.State.{Traffic, LaneState, Waiting, each_lane}
-use Rattle.street_base.specs.Machine.{empty_lane, empty_lanes, loaded, plan_links, entry_of, admitted, with_waiting, entered}
+use Rattle.street_base.specs.State.{LaneState, Waiting, each_lane}
+use Rattle.street_base.specs.Machine.{empty_lane, empty_lanes, loaded, plan_links, entry_of, with_waiting, entered}
 use Rattle.street_engine.specs.Simple.{one_lane, place_of, traffic_of, IsSimple, IsSimpleTraffic}
 use Rattle.street_engine.proofs.OneLane.{each_from, each_lane-one, each_from-one}
 use Rattle.street_engine.proofs.Simplicity.{empty-simple, waiting-simple}
-use Rattle.street_engine.proofs.Faultless.{IsGoodLink, good_link, good_start}
+use Rattle.street_engine.proofs.Faultless.{good_link, good_start}
 
 -- ---- loads
 

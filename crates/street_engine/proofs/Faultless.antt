@@ -1,13 +1,13 @@
 -- What a network without a fault keeps.
-use Rattle.std.proofs.Common.{◌≡◌, ℕ, ◌<◌, ◌≤◌, Bool, true, false, List, length, get_or, refl, sym, ◌∙◌, ap, arith}
-use Rattle.std.specs.Prelude.{Option, Some, None, [], ◌∷◌, position, not, nat_lt, nat_le, ◌&&◌, ◌||◌}
+use Rattle.std.proofs.Common.{◌≡◌, ℕ, ◌<◌, ◌≤◌, Bool, true, false, length, refl, arith}
+use Rattle.std.specs.Prelude.{Option, Some, None, [], ◌∷◌, position, not, nat_le, ◌&&◌}
 use Rattle.std.specs.Option.{option_or}
 use Rattle.std.proofs.lemmas.Bool.{or_parts, ltb-false, leb-true}
 use Rattle.street_base.specs.declared.net.NetSpec.{NetSpec}
 use Rattle.street_base.specs.declared.command.Part.{Part}
 use Rattle.street_base.specs.declared.command.Part.TheVariants.{Nodes, Links, Turns, Values}
 use Rattle.street_base.specs.Network.{link_at}
-use Rattle.street_base.specs.Faults.{Fault, in_part, is_within, is_bad_link, bad_values, links_fault, nodes_fault, turns_fault, values_fault, network_fault}
+use Rattle.street_base.specs.Faults.{in_part, is_within, is_bad_link, links_fault, nodes_fault, turns_fault, values_fault, network_fault}
 use Rattle.street_base.proofs.FirstBad.{first_bad-none}
 
 or-none : {A : Type 0} (a b : Option A) → option_or a b ≡ None → (a ≡ None) × (b ≡ None)

@@ -1,15 +1,15 @@
 -- Traffic on links of one lane: its lanes as a plain list.
-use Rattle.std.proofs.Common.{◌≡◌, ℕ, ◌+◌, ◌<◌, ◌≤◌, zero, suc, Bool, true, false, List, [], ◌∷◌, ◌++◌, length, map, set, get_or, replicate, refl, sym, ◌∙◌, ap, arith, inl, inr, add-zero}
-use Rattle.std.specs.Prelude.{Option, Some, None, ◌==◌, ◌⊎◌, ◌&&◌, flat_map, filter_map, if◌then◌else◌}
+use Rattle.std.proofs.Common.{◌≡◌, ℕ, ◌+◌, ◌<◌, ◌≤◌, zero, suc, Bool, true, false, List, [], ◌∷◌, ◌++◌, length, map, set, get_or, refl, sym, ◌∙◌, ap, arith, add-zero}
+use Rattle.std.specs.Prelude.{Option, ◌==◌, flat_map, filter_map, if◌then◌else◌}
 use Rattle.std.specs.List.{range_with_len, enumerate_from, zip, cons_option}
 use Rattle.std.proofs.lemmas.List.{get_or-map, length-map}
 use Rattle.std.proofs.lemmas.List.FromFn.{fill_by_all, length-enumerate_from, get_or-enumerate_from}
 use Rattle.std.proofs.lemmas.Slice.Zip.{length-zip, get_or-zip}
-use Rattle.std.proofs.lemmas.Bool.{cases_Bool, cases_eq, ne_eqb, eq-eqb}
+use Rattle.std.proofs.lemmas.Bool.{ne_eqb, eq-eqb}
 use Rattle.std.proofs.lemmas.List.Concat.{flat_map_single}
 use Rattle.street_base.specs.declared.net.NetSpec.{NetSpec}
 use Rattle.street_base.specs.declared.net.LinkSpec.{LinkSpec}
-use Rattle.street_base.specs.Network.{Place, is_place, link_at, places}
+use Rattle.street_base.specs.Network.{Place, link_at, places}
 use Rattle.street_base.specs.State.{Traffic, LaneState, each_lane, lane_at, no_lane}
 use Rattle.street_engine.specs.Simple.{one_lane, place_of}
 

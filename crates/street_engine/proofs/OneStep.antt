@@ -1,30 +1,30 @@
 -- A step of traffic on links of one lane, with everybody on the last link of the plan.
-use Rattle.std.proofs.Common.{◌≡◌, ℕ, zero, suc, ◌+◌, ◌<◌, ◌≤◌, Bool, true, false, List, [], ◌∷◌, ◌++◌, length, map, get_or, refl, sym, ◌∙◌, ap, arith, inl, inr}
+use Rattle.std.proofs.Common.{◌≡◌, ℕ, zero, suc, ◌+◌, ◌<◌, ◌≤◌, true, List, [], ◌∷◌, ◌++◌, length, map, get_or, refl, sym, ◌∙◌, ap, arith}
 use Rattle.std.specs.Prelude.{Option, Some, None, is_none, filter_map, option_map, slice_get, ◌&&◌, ◌==◌, if◌then◌else◌}
 use Rattle.std.specs.Option.{option_map_or}
 use Rattle.std.specs.List.{range_with_len, zip, list_any, enumerate_from}
 use Rattle.std.proofs.lemmas.List.FromFn.{length-enumerate_from}
 use Rattle.street_base.specs.declared.command.End.TheVariants.{Arrived}
-use Rattle.std.proofs.lemmas.List.{append-nil, length-map, get_or-map}
+use Rattle.std.proofs.lemmas.List.{append-nil, length-map}
 use Rattle.std.proofs.lemmas.Slice.Zip.{length-zip}
 use Rattle.std.proofs.lemmas.Option.{slice_get-get_or, slice_get-map}
 use Rattle.street_base.specs.declared.net.NetSpec.{NetSpec}
 use Rattle.street_base.specs.declared.net.LinkSpec.{LinkSpec}
 use Rattle.street_base.specs.declared.command.End.{End}
-use Rattle.street_base.specs.Network.{Place, link_at, places, serves}
+use Rattle.street_base.specs.Network.{Place, link_at, serves}
 use Rattle.street_base.specs.Vehicle.{Vehicle, next_link, is_on_last}
 use Rattle.street_base.specs.Lane.{vehicle_at}
 use Rattle.street_base.specs.Signal.{is_green}
 use Rattle.street_base.specs.Motion.{motion, leaver}
-use Rattle.street_base.specs.State.{Traffic, LaneState, Queued, no_lane, lane_at, each_lane}
+use Rattle.street_base.specs.State.{Traffic, LaneState, Queued, no_lane, each_lane}
 use Rattle.street_base.specs.Release.{released}
 use Rattle.street_base.specs.Departure.{departed_lane, departed}
-use Rattle.street_base.specs.Step.{changed, drive_on, is_exit_open, plan_at, has_room, leaver_of, joining, driven_lane, arrival, arrivals, with_arrivals, driven, noted, step}
+use Rattle.street_base.specs.Step.{changed, drive_on, plan_at, has_room, leaver_of, joining, driven_lane, arrival, arrivals, with_arrivals, driven, noted, step}
 use Rattle.street_base.proofs.Idle.{changed-idle, released-idle, nobody_dawdles}
 use Rattle.street_engine.specs.Simple.{steady, moved_lane, moved_road, gone_from, gone_number, place_of, one_lane, traffic_of, IsSimple, IsSimpleTraffic}
-use Rattle.street_engine.proofs.Agree.{motion-agrees, leaver-agrees}
+use Rattle.street_engine.proofs.Agree.{DrivesAlike, motion-agrees, leaver-agrees}
 use Rattle.street_engine.proofs.OneLane.{each_from, each_lane-one, each_from-plain, each_from-range, zip-range, map-after, filter_map-after, map-agree, filter_map-agree, places-one, lane_at-one}
-use Rattle.street_engine.proofs.Simplicity.{empty-simple, leaver-last, moved-simple, departed-simple}
+use Rattle.street_engine.proofs.Simplicity.{leaver-last, moved-simple, departed-simple}
 use Rattle.street_engine.proofs.Faultless.{good_link, no_dawdling}
 
 abbrev no_link : LinkSpec
@@ -48,11 +48,14 @@ module _ (m : Traffic) (place : Place) (lane : LaneState) (simple : IsSimple lan
   exits : (x : ℕ) (v : Vehicle) → vehicle_at lane.track.cells x ≡ Some v → (drive_on m place).is_open_to v ≡ true
   exits x v e = open-at-last m place v (next_link v) refl (simple.cells x v e)
 
+  alike : DrivesAlike (drive_on m place) (steady (link_at m.network place.link).limit) lane.track.cells lane.track.closed
+  alike = record { limit = refl; dawdles = λ number. nobody_dawdles m place number steady_drivers; exit = λ x v there none. exits x v there }
+
   motion-steady : motion (drive_on m place) lane.track.cells lane.track.closed ≡ motion (steady (link_at m.network place.link).limit) lane.track.cells lane.track.closed
-  motion-steady = motion-agrees (drive_on m place) (steady (link_at m.network place.link).limit) lane.track.cells lane.track.closed refl (λ number. nobody_dawdles m place number steady_drivers) exits
+  motion-steady = motion-agrees (drive_on m place) (steady (link_at m.network place.link).limit) lane.track.cells lane.track.closed alike
 
   pub leaver-steady : leaver (drive_on m place) lane.track.cells lane.track.closed ≡ gone_from (link_at m.network place.link).limit lane
-  leaver-steady = leaver-agrees (drive_on m place) (steady (link_at m.network place.link).limit) lane.track.cells lane.track.closed refl (λ number. nobody_dawdles m place number steady_drivers) exits
+  leaver-steady = leaver-agrees (drive_on m place) (steady (link_at m.network place.link).limit) lane.track.cells lane.track.closed alike
 
   leaves-at-last : (v : Vehicle) → leaver (drive_on m place) lane.track.cells lane.track.closed ≡ Some v → is_on_last v ≡ true
   leaves-at-last v e = leaver-last (drive_on m place) lane.track.cells lane.track.closed simple.cells v e

@@ -1,12 +1,12 @@
 -- A run goes on by one command.
-use Rattle.std.proofs.Common.{◌≡◌, List, [], ◌∷◌, ◌++◌, refl, sym, ◌∙◌, subst}
+use Rattle.std.proofs.Common.{List, [], ◌∷◌, ◌++◌, refl, subst}
 use Rattle.street_base.specs.declared.command.Command.{Command}
 use Rattle.street_base.specs.declared.command.Reply.{Reply}
 use Rattle.street_base.specs.declared.command.Outcome.{Outcome}
 use Rattle.street_base.specs.State.{State}
 use Rattle.street_base.specs.Outcomes.{Answers}
 use Rattle.street_base.specs.Run.{Runs}
-use Rattle.street_engine.specs.Refines.{View, StandsFor, Serves, ServesAll}
+use Rattle.street_engine.specs.Refines.{View, Serves, ServesAll}
 
 runs-more : (old mid new : State) (cs : List Command) (rs : List (Reply × Outcome)) (c : Command) (r : Reply × Outcome) → Runs old cs rs mid → Answers mid c r.0 r.1 new → Runs old (cs ++ c ∷ []) (rs ++ r ∷ []) new
 runs-more old mid new [] [] c r same a = (new, subst (λ m. Answers m c r.0 r.1 new) same a, refl)

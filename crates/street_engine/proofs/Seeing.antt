@@ -1,5 +1,5 @@
 -- A vehicle looked for on one lane after another.
-use Rattle.std.proofs.Common.{◌≡◌, ℕ, zero, suc, ◌+◌, ◌-◌, ◌<◌, ◌≤◌, Bool, true, false, List, [], ◌∷◌, length, map, get_or, refl, sym, ◌∙◌, ap, arith}
+use Rattle.std.proofs.Common.{◌≡◌, ℕ, suc, ◌+◌, ◌-◌, ◌<◌, true, false, List, length, get_or, refl, sym, ◌∙◌, ap, arith}
 use Rattle.std.specs.Prelude.{Option, Some, None, is_some, filter_map, slice_get}
 use Rattle.std.specs.List.{range_with_len, cons_option}
 use Rattle.std.specs.Option.{option_or}
@@ -7,8 +7,8 @@ use mathlib.Core.Path.{fun_ext}
 use Rattle.street_base.specs.declared.net.NetSpec.{NetSpec}
 use Rattle.street_base.specs.declared.command.Whereabouts.{Whereabouts}
 use Rattle.street_base.specs.declared.command.End.{End}
-use Rattle.street_base.specs.Network.{Place, link_at, places}
-use Rattle.street_base.specs.State.{Traffic, LaneState, no_lane, lane_at}
+use Rattle.street_base.specs.Network.{Place, link_at}
+use Rattle.street_base.specs.State.{LaneState, no_lane, lane_at}
 use Rattle.street_base.specs.Machine.{seen_in, seen}
 use Rattle.street_engine.specs.Simple.{place_of, seen_from, traffic_of}
 use Rattle.street_engine.proofs.OneLane.{places-one, lane_at-one, filter_map-after}

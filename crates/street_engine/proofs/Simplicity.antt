@@ -1,12 +1,10 @@
 -- Every phase keeps every vehicle on the last link of its plan, and the buffers empty.
-use Rattle.std.proofs.Common.{◌≡◌, ◌≢◌, ℕ, zero, suc, ◌+◌, ◌<◌, ◌≤◌, Bool, true, false, List, [], ◌∷◌, ◌++◌, length, map, set, get_or, replicate, take, drop, refl, sym, subst, ◌∙◌, ap, arith, inl, inr}
-use Rattle.std.specs.Prelude.{Option, Some, None, remove, slice_get, option_map, option_and_then, nat_le, ◌⊎◌}
+use Rattle.std.proofs.Common.{◌≡◌, ℕ, zero, suc, ◌+◌, ◌≤◌, Bool, true, List, [], ◌∷◌, ◌++◌, length, map, set, replicate, refl, sym, subst, ◌∙◌, ap, arith, inl, inr}
+use Rattle.std.specs.Prelude.{Option, Some, None, remove, slice_get, option_map, option_and_then, nat_le}
 use Rattle.std.specs.Option.{option_map_or}
 use Rattle.std.specs.List.{range_with_len}
-use Rattle.std.proofs.lemmas.Bool.{cases_Bool, cases_eq, cases_lt}
-use Rattle.std.proofs.lemmas.List.{get_or-set_same, get_or-set_other, length-set}
+use Rattle.std.proofs.lemmas.Bool.{cases_Bool, cases_lt}
 use Rattle.std.proofs.lemmas.List.FromFn.{get_or-map-range_with_len, length-map-range_with_len}
-use Rattle.std.proofs.lemmas.Option.{slice_get_cases}
 use Rattle.street_base.specs.Vehicle.{Vehicle, is_on_last, with_speed}
 use Rattle.street_base.specs.Lane.{Cells, vehicle_at, is_free}
 use Rattle.street_base.specs.Search.{least}
@@ -14,7 +12,7 @@ use Rattle.street_base.specs.Motion.{Drive, driven_on, moved, comes_to, comer, m
 use Rattle.street_base.specs.State.{LaneState, Waiting}
 use Rattle.street_base.specs.Departure.{first_waiting, with_departure, with_departure_of, departed_lane}
 use Rattle.street_base.specs.Machine.{empty_lane, with_waiting}
-use Rattle.street_engine.specs.Simple.{moved_lane, gone_from, steady, IsSimple}
+use Rattle.street_engine.specs.Simple.{moved_lane, steady, IsSimple}
 
 -- ---- a lane with nobody on it
 

@@ -1,5 +1,5 @@
 -- The lanes of a network while they are stepped one after another.
-use Rattle.std.proofs.Common.{◌≡◌, ℕ, ◌+◌, ◌-◌, ◌<◌, ◌≤◌, suc, List, [], ◌∷◌, ◌++◌, length, map, set, get_or, drop, refl, sym, ◌∙◌, ap, arith}
+use Rattle.std.proofs.Common.{◌≡◌, ℕ, ◌+◌, ◌-◌, ◌<◌, suc, List, [], ◌∷◌, length, map, set, get_or, drop, refl, sym, ◌∙◌, ap, arith}
 use Rattle.std.specs.Prelude.{Option, Some, None, filter_map, option_map}
 use Rattle.std.specs.Option.{option_map_or}
 use Rattle.std.specs.List.{zip, cons_option}

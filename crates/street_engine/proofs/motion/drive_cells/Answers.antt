@@ -1,6 +1,7 @@
-use Rattle.std.proofs.Common.{◌≡◌, ◌-◌, length, true, false, refl, ◌∙◌, arith}
+use Rattle.std.proofs.Common.{◌≡◌, ◌-◌, length, true, false, refl, sym, ◌∙◌, arith}
 use Rattle.std.proofs.lemmas.List.{length-set}
-use Rattle.street_engine.proofs.Driving.{driven-start, driven-all, obstacle-above, motion-exit, leaver-exit, cars_driven-stays, cars_driven-leaves, cars_driven-empty, length-vehicles, gap_to}
+use Rattle.street_engine.proofs.Agree.{motion-agrees, leaver-agrees}
+use Rattle.street_engine.proofs.Driving.{driven-start, driven-all, obstacle-above, cars_driven-stays, cars_driven-leaves, cars_driven-empty, length-vehicles, gap_to}
 use Rattle.street_engine.proofs.motion.drive_cells.Goals as goal
 use Rattle.street_engine.proofs.motion.drive_cells.Goals.{After-new_speed}
 
@@ -43,7 +44,7 @@ loop-x-preserved g c = record {
 }
 
 pub returns-clause-cells : goal.returns-clause-cells
-returns-clause-cells g c = λ is_open_to exit. let e : c.loop-x.x ≡ 0 = omega arith in (driven-all _ _ _ _ _ _ (rw e at c.loop-x.invariant.driven)).0 ∙ motion-exit _ _ _ is_open_to _ _ exit
+returns-clause-cells g c = λ is_open_to exit. let e : c.loop-x.x ≡ 0 = omega arith in (driven-all _ _ _ _ _ _ (rw e at c.loop-x.invariant.driven)).0 ∙ motion-agrees _ _ _ _ (record { limit = refl; dawdles = λ number. refl; exit = λ x v there none. sym (exit x v there none) })
 
 pub returns-clause-leaves : goal.returns-clause-leaves
-returns-clause-leaves g c = λ is_open_to exit. let e : c.loop-x.x ≡ 0 = omega arith in (driven-all _ _ _ _ _ _ (rw e at c.loop-x.invariant.driven)).1 ∙ leaver-exit _ _ _ is_open_to _ _ exit
+returns-clause-leaves g c = λ is_open_to exit. let e : c.loop-x.x ≡ 0 = omega arith in (driven-all _ _ _ _ _ _ (rw e at c.loop-x.invariant.driven)).1 ∙ leaver-agrees _ _ _ _ (record { limit = refl; dawdles = λ number. refl; exit = λ x v there none. sym (exit x v there none) })

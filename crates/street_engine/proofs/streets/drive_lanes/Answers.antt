@@ -1,4 +1,4 @@
-use Rattle.std.proofs.Common.{arith, ◌≡◌, ◌∙◌, ap, length, get_or, refl, Bool, true}
+use Rattle.std.proofs.Common.{arith, ◌≡◌, length, get_or, refl, Bool, true}
 use Rattle.std.specs.Prelude.{option_map}
 use Rattle.street_base.specs.declared.net.LinkSpec.{LinkSpec}
 use Rattle.street_base.specs.Vehicle.{Vehicle, vehicle_of}

@@ -1,4 +1,4 @@
-use Rattle.std.proofs.Common.{◌≡◌, arith}
+use Rattle.std.proofs.Common.{arith}
 use Rattle.street_engine.proofs.Faultless.{good_link}
 use Rattle.street_engine.proofs.streets.empty_lanes.Goals as goal
 

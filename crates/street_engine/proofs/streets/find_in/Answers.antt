@@ -1,9 +1,9 @@
-use Rattle.std.proofs.Common.{◌≡◌, ℕ, ◌+◌, ◌-◌, ◌∙◌, ap, sym, length, get_or, arith, false}
+use Rattle.std.proofs.Common.{◌≡◌, ℕ, ◌∙◌, ap, sym, length, get_or, arith, false}
 use Rattle.std.specs.Prelude.{is_some}
 use Rattle.std.proofs.lemmas.List.{get_or_default}
 use Rattle.street_base.specs.State.{no_lane, LaneState}
 use Rattle.street_base.specs.Machine.{seen_in}
-use Rattle.street_engine.specs.Simple.{place_of, seen_from}
+use Rattle.street_engine.specs.Simple.{place_of}
 use Rattle.street_engine.proofs.Seeing.{seen_from-more, none-or}
 use Rattle.street_engine.proofs.streets.find_in.Goals as goal
 

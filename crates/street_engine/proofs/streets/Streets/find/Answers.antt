@@ -1,4 +1,3 @@
-use Rattle.std.proofs.Common.{◌≡◌, ◌∙◌, ap, sym}
 use Rattle.street_engine.proofs.Seeing.{seen-one}
 use Rattle.street_engine.proofs.Faultless.{good_link}
 use Rattle.street_engine.proofs.streets.Streets.find.Goals as goal

@@ -1,4 +1,3 @@
-use Rattle.std.proofs.Common.{◌≡◌, ◌∙◌, ap, sym}
 use Rattle.street_engine.proofs.Entering.{loaded-is, loaded-simple}
 use Rattle.street_engine.proofs.streets.Streets.load.Goals as goal
 
