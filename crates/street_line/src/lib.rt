@@ -1,0 +1,13 @@
+//! Lines: from the bytes of a line to a command, from a reply to its line, and a whole text of lines served one after
+//! another.
+//!
+//! A line is one JSON object. What it says is `reading` of `specs/Reading`; what a reply prints as is `reply_line` of
+//! `specs/Printing`; what a text of lines gives is `Goes` of `specs/Running`.
+#![tactic(auto)]
+
+mod fault;
+mod orders;
+mod reading;
+
+pub use fault::LineFault;
+pub use orders::read_command;
