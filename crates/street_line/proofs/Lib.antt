@@ -1,2 +1,4 @@
 pub mod Entries
 pub mod Texts
+pub mod Items
+pub mod Floats

@@ -8,6 +8,8 @@
 mod fault;
 mod orders;
 mod reading;
+mod replies;
 
 pub use fault::LineFault;
 pub use orders::read_command;
+pub use replies::reply_text;
