@@ -7,9 +7,17 @@
 
 mod fault;
 mod orders;
+mod part;
 mod reading;
 mod replies;
+mod running;
+mod service;
+mod tally;
+mod writing;
 
 pub use fault::LineFault;
 pub use orders::read_command;
 pub use replies::reply_text;
+pub use running::run_lines;
+pub use service::{Served, Service};
+pub use tally::{FaultKind, RunFault, Tally};
