@@ -13,6 +13,8 @@ mod replies;
 mod running;
 mod service;
 mod tally;
+#[cfg(test)]
+mod tests;
 mod writing;
 
 pub use fault::LineFault;
