@@ -1,0 +1,17 @@
+use Rattle.std.proofs.Common.{arith}
+use Rattle.std.proofs.lemmas.List.{take_more, take_all}
+use Rattle.street_line.proofs.Runs.{feeds_none, feeds_more}
+use Rattle.street_line.proofs.running.feed.Goals as goal
+
+pub loop-byte-init : goal.loop-byte-init
+loop-byte-init g c = (feeds_none g.S.Service.serves _ _ _, record { lines = omega arith; within = c.requires.within })
+
+pub loop-byte-preserved : goal.loop-byte-preserved
+loop-byte-preserved g c =
+    let fed = c.in_ok-take_byte.ensures in (
+      rw (take_more c.args.bytes.now c.loop-byte.byte-index 0 c.loop-byte-test.true) (feeds_more g.S.Service.serves _ _ _ _ _ _ _ _ _ _ _ c.loop-byte.invariant.0 fed.feeds),
+      record { lines = omega (arith, fed.grows.lines); within = fed.grows.within },
+    )
+
+pub returns-clause-feeds : goal.returns-clause-feeds
+returns-clause-feeds g c = rw (take_all c.loop-byte.byte-index c.args.bytes.now c.loop-byte-test.false) at c.loop-byte.invariant.0

@@ -1,0 +1,25 @@
+//! What serves commands.
+
+use street_base::{Command, Reply};
+
+/// What a service answers to a command.
+#[derive(Drop)]
+pub enum Served {
+    /// The command was called, and this is its reply.
+    Answered(Reply),
+    /// The command was not called: no place is left for it.
+    Full,
+}
+
+/// What serves commands one after another. Its meaning is a relation between the old state, the command, what was served
+/// and the new state.
+pub trait Service {
+    ghost use Rattle.street_base.specs.declared.command.Command.{Command};
+    ghost use Rattle.street_line.specs.declared.service.Served.{Served};
+
+    ghost serves: { Self → Command → Served → Self → Type 0 };
+
+    /// Serves one command.
+    fn serve(&mut self, command: Command) -> Served
+        ensures { serves self.old command result self.new };
+}

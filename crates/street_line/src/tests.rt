@@ -1,0 +1,519 @@
+use crate::{FaultKind, LineFault, Served, Service, Tally, read_command, reply_text, run_lines};
+use std::alloc::Global;
+use std::io;
+use std::io::{Read, Write};
+use std::process::Abort;
+use std::test::Fail;
+use street_base::{Command, End, Listing, Part, Refusal, Reply, Whereabouts};
+
+/// The name of a command or of a fault.
+fn kind(read: &Result<Command, LineFault>) -> &'static str {
+    match read {
+        Ok(Command::Load(_)) => "load",
+        Ok(Command::Enter { .. }) => "enter",
+        Ok(Command::Advance { .. }) => "advance",
+        Ok(Command::Vehicle { .. }) => "vehicle",
+        Err(LineFault::LineTooLong) => "22",
+        Err(LineFault::NotJson) => "20",
+        Err(LineFault::BadCommand) => "21",
+        Err(LineFault::Starved) => "starved",
+    }
+}
+
+fn repeated(alloc: Global, byte: u8, count: u32) -> Result<Vec<u8>, Fail> {
+    let mut bytes = Vec::new(alloc);
+    for _ in 0..count {
+        bytes.push(byte)?;
+    }
+    Ok(bytes)
+}
+
+#[test]
+fn numbers_are_digits_alone(rt: HostRuntime) -> Result<(), Fail> {
+    for (number, want) in [
+        ("5", "advance"),
+        ("0", "advance"),
+        ("18446744073709551615", "advance"),
+        ("18446744073709551616", "21"),
+        ("1.0", "21"),
+        ("1e3", "21"),
+        ("1E0", "21"),
+        ("10e-1", "21"),
+        ("-0", "21"),
+        ("-1", "21"),
+        ("\"5\"", "21"),
+        ("[5]", "21"),
+        ("null", "21"),
+        ("true", "21"),
+        ("01", "20"),
+        ("+1", "20"),
+        ("1.", "20"),
+        ("NaN", "20"),
+        ("1e999", "20"),
+        ("", "20"),
+    ] {
+        let line = format!(in rt.alloc(); "{{\"cmd\":\"advance\",\"steps\":{number}}}")?;
+        assert_eq!(rt;
+            kind(&read_command(rt.alloc(), line.as_bytes())),
+            want,
+            "at {number}"
+        );
+    }
+    Ok(())
+}
+
+#[test]
+fn odd_lines(rt: HostRuntime) {
+    for (line, want) in [
+        (b"{\"steps\":5,\"cmd\":\"advance\"}".as_slice(), "advance"),
+        (
+            b" \t{ \"cmd\" : \"advance\" , \"steps\" : 5 } \r",
+            "advance",
+        ),
+        (
+            b"{\"cmd\":\"advance\",\"steps\":5,\"x\":[1,{\"y\":null}]}",
+            "advance",
+        ),
+        (
+            b"{\"cmd\":\"advance\",\"steps\":\"x\",\"steps\":5}",
+            "advance",
+        ),
+        (b"{\"cmd\":\"advance\",\"steps\":5,\"steps\":\"x\"}", "21"),
+        (b"{\"\\u0063md\":\"\\u0061dvance\",\"steps\":5}", "advance"),
+        (b"{\"cmd\":\"vehicle\",\"car\":0}", "vehicle"),
+        (
+            b"{\"cmd\":\"enter\",\"plan\":[],\"lane\":7,\"depart\":0}",
+            "enter",
+        ),
+        (
+            b"{\"cmd\":\"enter\",\"plan\":[1,2.5],\"lane\":0,\"depart\":0}",
+            "21",
+        ),
+        (
+            b"{\"cmd\":\"enter\",\"plan\":[[1]],\"lane\":0,\"depart\":0}",
+            "21",
+        ),
+        (
+            b"{\"cmd\":\"enter\",\"plan\":1,\"lane\":0,\"depart\":0}",
+            "21",
+        ),
+        (b"{\"cmd\":\"enter\",\"plan\":[1],\"lane\":0}", "21"),
+        (b"{\"cmd\":\"advance\"}", "21"),
+        (b"{\"cmd\":\"Advance\",\"steps\":5}", "21"),
+        (b"{\"Cmd\":\"advance\",\"steps\":5}", "21"),
+        (b"{\"cmd\":\"halt\"}", "21"),
+        (b"{\"cmd\":5}", "21"),
+        (b"{\"steps\":5}", "21"),
+        (b"{}", "21"),
+        (b"[]", "21"),
+        (b"[\"cmd\",\"advance\"]", "21"),
+        (b"\"advance\"", "21"),
+        (b"5", "21"),
+        (b"null", "21"),
+        (b"", "20"),
+        (b"  ", "20"),
+        (b"x", "20"),
+        (b"[1,]", "20"),
+        (b"{\"cmd\":\"advance\",\"steps\":5,}", "20"),
+        (b"{\"cmd\":\"advance\",\"steps\":5} x", "20"),
+        (b"{\"cmd\":\"advance\",\"steps\":5}{}", "20"),
+        (b"{\"cmd\":\"advance\",\"steps\":5", "20"),
+        (b"{'cmd':'advance','steps':5}", "20"),
+        (b"{\"cmd\":\"advance\",\"steps\":5,\"x\":\"a\tb\"}", "20"),
+        (b"{\"cmd\":\"advance\",\"steps\":5,\"x\":\"\\ud800\"}", "20"),
+        (
+            b"{\"cmd\":\"advance\",\"steps\":5,\"x\":\"\\ud83d\\ude00\"}",
+            "advance",
+        ),
+        (b"{\"cmd\":\"advance\",\"steps\":5,\"x\":1e999}", "20"),
+        (b"{\"cmd\":\"advance\",\"steps\":5,\"x\":\"\xff\"}", "20"),
+        (b"\xff", "20"),
+        (b"\xef\xbb\xbf{\"cmd\":\"advance\",\"steps\":5}", "20"),
+    ] {
+        assert_eq!(rt; kind(&read_command(rt.alloc(), line)), want, "at {line:?}");
+    }
+}
+
+#[test]
+fn nesting_is_read_to_127_levels(rt: HostRuntime) -> Result<(), Fail> {
+    for (lists, want) in [(126, "advance"), (127, "20"), (1000, "20")] {
+        let mut line = Vec::from_slice(rt.alloc(), b"{\"cmd\":\"advance\",\"steps\":5,\"x\":")?;
+        line.extend_from_slice(repeated(rt.alloc(), b'[', lists)?.as_slice())?;
+        line.extend_from_slice(repeated(rt.alloc(), b']', lists)?.as_slice())?;
+        line.push(b'}')?;
+        assert_eq!(rt;
+            kind(&read_command(rt.alloc(), line.as_slice())),
+            want,
+            "at {lists}"
+        );
+    }
+    Ok(())
+}
+
+#[test]
+fn a_line_has_at_most_1048576_bytes(rt: HostRuntime) -> Result<(), Fail> {
+    for (spaces, want) in [(1_048_549, "advance"), (1_048_550, "22")] {
+        let mut line = repeated(rt.alloc(), b' ', spaces)?;
+        line.extend_from_slice(b"{\"cmd\":\"advance\",\"steps\":5}")?;
+        assert_eq!(rt;
+            kind(&read_command(rt.alloc(), line.as_slice())),
+            want,
+            "at {spaces}"
+        );
+    }
+    let blank = repeated(rt.alloc(), b' ', 3_000_000)?;
+    assert_eq!(rt; kind(&read_command(rt.alloc(), blank.as_slice())), "22");
+    Ok(())
+}
+
+#[test]
+fn reads_the_fields_of_each_command(rt: HostRuntime) -> Result<(), Fail> {
+    let line =
+        b"{\"cmd\":\"load\",\"nodes\":[[1,2,3],[4,5,6]],\"links\":[[10,1,4,2,7,5]],\"turns\":[[10,1,10,0]],\"zone\":8,\"dawdle\":9,\"change\":11,\"seed\":18446744073709551615,\"start\":12}";
+    let Command::Load(net) = read_command(rt.alloc(), line)? else {
+        return Err("no load")?;
+    };
+    let nodes = net.nodes.as_slice();
+    assert_eq!(rt; nodes.len(), 2);
+    assert_eq!(rt;
+        (nodes[1].id, nodes[1].residence, nodes[1].capacity),
+        (4, 5, 6)
+    );
+    let links = net.links.as_slice();
+    assert_eq!(rt; links.len(), 1);
+    let link = links[0];
+    assert_eq!(rt; (link.id, link.from, link.to), (10, 1, 4));
+    assert_eq!(rt; (link.lanes, link.length, link.limit), (2, 7, 5));
+    let turns = net.turns.as_slice();
+    assert_eq!(rt; turns.len(), 1);
+    assert_eq!(rt;
+        (
+            turns[0].link,
+            turns[0].lane,
+            turns[0].next,
+            turns[0].next_lane
+        ),
+        (10, 1, 10, 0)
+    );
+    assert_eq!(rt;
+        (net.zone, net.dawdle, net.change, net.start),
+        (8, 9, 11, 12)
+    );
+    assert_eq!(rt; net.seed, u64::MAX);
+    let Command::Enter { plan, lane, depart } = read_command(
+        rt.alloc(),
+        b"{\"cmd\":\"enter\",\"depart\":3,\"plan\":[20,10],\"lane\":1}",
+    )?
+    else {
+        return Err("no enter")?;
+    };
+    assert_eq!(rt; plan.as_slice(), [20, 10].as_slice());
+    assert_eq!(rt; (lane, depart), (1, 3));
+    Ok(())
+}
+
+#[test]
+fn start_may_be_absent_but_no_other_field(rt: HostRuntime) -> Result<(), Fail> {
+    for (rest, want) in [
+        ("\"seed\":0", "load"),
+        ("\"seed\":0,\"start\":7", "load"),
+        ("\"seed\":0,\"start\":null", "21"),
+        ("\"seed\":0,\"start\":-1", "21"),
+        ("\"start\":7", "21"),
+        ("\"seed\":0,\"nodes\":[[1,1]]", "21"),
+        ("\"seed\":0,\"nodes\":[[1,1,2,2]]", "21"),
+        ("\"seed\":0,\"links\":[[10,1,1,1,10]]", "21"),
+        ("\"seed\":0,\"turns\":[[10,0,10,0,0]]", "21"),
+        ("\"seed\":0,\"turns\":[10]", "21"),
+    ] {
+        let line = format!(in rt.alloc();
+            "{{\"cmd\":\"load\",\"nodes\":[[1,1,2]],\"links\":[],\"turns\":[],\"zone\":0,\"dawdle\":0,\"change\":0,{rest}}}"
+        )?;
+        assert_eq!(rt;
+            kind(&read_command(rt.alloc(), line.as_bytes())),
+            want,
+            "at {rest}"
+        );
+    }
+    let line =
+        b"{\"cmd\":\"load\",\"nodes\":[],\"links\":[],\"turns\":[],\"zone\":0,\"dawdle\":0,\"change\":0,\"seed\":0}";
+    let Command::Load(net) = read_command(rt.alloc(), line)? else {
+        return Err("no load")?;
+    };
+    assert_eq!(rt; net.start, 0);
+    Ok(())
+}
+
+fn plan_of(alloc: Global, links: &[u64]) -> Result<Listing<u64>, Fail> {
+    Ok(Listing::from_vec(Vec::from_slice(alloc, links)?))
+}
+
+fn vehicle(car: u64, whereabouts: Whereabouts) -> Reply {
+    Reply::Vehicle { car, whereabouts }
+}
+
+fn check_text(rt: &(impl Abort + AllocGlobal), reply: &Reply, want: &str) -> Result<(), Fail> {
+    let text = reply_text(rt.alloc(), reply)?;
+    assert_eq!(rt; text.as_slice(), want.as_bytes(), "at {want}");
+    Ok(())
+}
+
+#[test]
+fn prints_each_place_of_a_vehicle(rt: HostRuntime) -> Result<(), Fail> {
+    let cell = Whereabouts::Cell {
+        link: 20,
+        lane: 1,
+        cell: 9,
+        speed: 4,
+        plan: plan_of(rt.alloc(), &[20, 30])?,
+    };
+    check_text(
+        &rt,
+        &vehicle(3, cell),
+        "{\"car\":3,\"cell\":9,\"lane\":1,\"link\":20,\"plan\":[20,30],\"speed\":4,\"state\":\"cell\"}\n",
+    )?;
+    let buffer = Whereabouts::Buffer {
+        link: 10,
+        lane: 0,
+        ready: 5,
+        speed: 4,
+        plan: plan_of(rt.alloc(), &[10, 20])?,
+    };
+    check_text(
+        &rt,
+        &vehicle(0, buffer),
+        "{\"car\":0,\"lane\":0,\"link\":10,\"plan\":[10,20],\"ready\":5,\"speed\":4,\"state\":\"buffer\"}\n",
+    )?;
+    let waiting = Whereabouts::Waiting {
+        link: 20,
+        lane: 0,
+        depart: 5,
+        plan: plan_of(rt.alloc(), &[20])?,
+    };
+    check_text(
+        &rt,
+        &vehicle(1, waiting),
+        "{\"car\":1,\"depart\":5,\"lane\":0,\"link\":20,\"plan\":[20],\"state\":\"waiting\"}\n",
+    )?;
+    let arrived = Whereabouts::Ended(End::Arrived { step: 4 });
+    check_text(
+        &rt,
+        &vehicle(0, arrived),
+        "{\"car\":0,\"state\":\"arrived\",\"step\":4}\n",
+    )?;
+    let taken = Whereabouts::Ended(End::Taken { step: 5 });
+    check_text(
+        &rt,
+        &vehicle(1, taken),
+        "{\"car\":1,\"state\":\"taken\",\"step\":5}\n",
+    )?;
+    Ok(())
+}
+
+#[test]
+fn prints_each_other_reply(rt: HostRuntime) -> Result<(), Fail> {
+    let loaded = Reply::Loaded {
+        links: 2,
+        nodes: 3,
+        turns: 1,
+    };
+    check_text(&rt, &loaded, "{\"links\":2,\"nodes\":3,\"turns\":1}\n")?;
+    check_text(
+        &rt,
+        &Reply::Entered { car: u64::MAX },
+        "{\"car\":18446744073709551615}\n",
+    )?;
+    check_text(&rt, &Reply::Clock { clock: 5 }, "{\"clock\":5}\n")?;
+    check_text(
+        &rt,
+        &Reply::Short { clock: 7, short: 2 },
+        "{\"clock\":7,\"short\":2}\n",
+    )?;
+    check_text(&rt, &Reply::Starved, "{\"starved\":true}\n")?;
+    for (refusal, want) in [
+        (Refusal::NotLoaded, "{\"error\":1,\"name\":\"NotLoaded\"}\n"),
+        (
+            Refusal::AlreadyLoaded,
+            "{\"error\":2,\"name\":\"AlreadyLoaded\"}\n",
+        ),
+        (
+            Refusal::BadNetwork {
+                part: Part::Nodes,
+                at: 1,
+            },
+            "{\"at\":1,\"error\":3,\"name\":\"BadNetwork\",\"part\":\"nodes\"}\n",
+        ),
+        (
+            Refusal::BadNetwork {
+                part: Part::Links,
+                at: 0,
+            },
+            "{\"at\":0,\"error\":3,\"name\":\"BadNetwork\",\"part\":\"links\"}\n",
+        ),
+        (
+            Refusal::BadNetwork {
+                part: Part::Turns,
+                at: 2,
+            },
+            "{\"at\":2,\"error\":3,\"name\":\"BadNetwork\",\"part\":\"turns\"}\n",
+        ),
+        (
+            Refusal::BadNetwork {
+                part: Part::Values,
+                at: 3,
+            },
+            "{\"at\":3,\"error\":3,\"name\":\"BadNetwork\",\"part\":\"values\"}\n",
+        ),
+        (Refusal::NoLane, "{\"error\":6,\"name\":\"NoLane\"}\n"),
+        (Refusal::BadRange, "{\"error\":7,\"name\":\"BadRange\"}\n"),
+        (
+            Refusal::BadPlan { at: 1 },
+            "{\"at\":1,\"error\":8,\"name\":\"BadPlan\"}\n",
+        ),
+        (
+            Refusal::NoVehicle,
+            "{\"error\":10,\"name\":\"NoVehicle\"}\n",
+        ),
+        (Refusal::TooMany, "{\"error\":13,\"name\":\"TooMany\"}\n"),
+        (Refusal::BadCount, "{\"error\":14,\"name\":\"BadCount\"}\n"),
+        (Refusal::ClockEnd, "{\"error\":15,\"name\":\"ClockEnd\"}\n"),
+    ] {
+        check_text(&rt, &Reply::Refused(refusal), want)?;
+    }
+    Ok(())
+}
+
+/// A service with a clock, which has no place for vehicles.
+#[derive(Drop)]
+struct Toy {
+    clock: u64,
+}
+
+impl Service for Toy {
+    ghost serves = { λ old command served new. Unit {0} };
+
+    fn serve(&mut self, command: Command) -> Served {
+        if let Command::Advance { steps } = command {
+            self.clock = self.clock.saturating_add(steps);
+            return Served::Answered(Reply::Clock { clock: self.clock });
+        }
+        Served::Full
+    }
+}
+
+#[test]
+fn serves_a_text(rt: HostRuntime) -> Result<(), Fail> {
+    let mut text = Vec::from_slice(rt.alloc(), b"{\"cmd\":\"advance\",\"steps\":5}\n \t\r\n")?;
+    text.extend_from_slice(b"{\"cmd\":\"advance\",\"steps\":-1}\r\n\xff\n")?;
+    text.extend_from_slice(repeated(rt.alloc(), b'x', 1_048_577)?.as_slice())?;
+    text.push(b'\n')?;
+    text.extend_from_slice(repeated(rt.alloc(), b' ', 3_000_000)?.as_slice())?;
+    text.extend_from_slice(
+        b"\n\n{\"cmd\":\"vehicle\",\"car\":0}\n{\"cmd\":\"advance\",\"steps\":2}",
+    )?;
+    let want =
+        b"{\"clock\":5}\n{\"error\":21,\"name\":\"BadCommand\"}\n{\"error\":20,\"name\":\"NotJson\"}\n{\"error\":22,\"name\":\"LineTooLong\"}\n{\"error\":23,\"name\":\"Full\"}\n{\"clock\":7}\n";
+    let mut reader = text.as_slice();
+    let mut output = Vec::new(rt.alloc());
+    let mut toy = Toy { clock: 0 };
+    let tally = run_lines(rt.alloc(), &mut toy, &mut reader, &mut output).or(Err("a fault"))?;
+    assert_eq!(rt; output.as_slice(), want.as_slice());
+    assert_eq!(rt; toy.clock, 7);
+    let bytes = want.len() as u128;
+    assert_eq!(rt;
+        tally,
+        Tally {
+            lines: 9,
+            calls: 3,
+            replies: 6,
+            bytes
+        }
+    );
+    Ok(())
+}
+
+/// Gives a text a byte at a time, and then fails or ends.
+#[derive(Drop)]
+struct SlowReader<'a> {
+    text: &'a [u8],
+    at: usize,
+    fails: bool,
+}
+
+impl<'a> Read for SlowReader<'a> {
+    fn read(&mut self, buffer: &mut [u8]) -> io::Result<usize> {
+        match (self.text.get(self.at), buffer.first_mut()) {
+            (Some(byte), Some(place)) => {
+                *place = *byte;
+                self.at = self.at.saturating_add(1);
+                Ok(1)
+            }
+            _ if self.fails => Err(io::Error::from(io::ErrorKind::BrokenPipe)),
+            _ => Ok(0),
+        }
+    }
+}
+
+/// Takes a byte at a time while there is room, and then fails or takes none.
+#[derive(Drop)]
+struct SlowWriter {
+    taken: Vec<u8>,
+    room: usize,
+    fails: bool,
+}
+
+impl Write for SlowWriter {
+    fn write(&mut self, bytes: &[u8]) -> io::Result<usize> {
+        match bytes.first() {
+            Some(byte) if self.taken.len() < self.room => {
+                self.taken.push(*byte)?;
+                Ok(1)
+            }
+            _ if self.fails => Err(io::Error::from(io::ErrorKind::BrokenPipe)),
+            _ => Ok(0),
+        }
+    }
+
+    fn flush(&mut self) -> io::Result<()> {
+        Ok(())
+    }
+}
+
+#[test]
+fn faults_in_mid_stream(rt: HostRuntime) -> Result<(), Fail> {
+    let text = b"{\"cmd\":\"advance\",\"steps\":5}\n{\"cmd\":\"advance\",\"steps\":2}".as_slice();
+    let whole = b"{\"clock\":5}\n{\"clock\":7}\n";
+    for (reader_fails, room, writer_fails, want) in [
+        (false, 24, true, None),
+        (true, 24, true, Some(FaultKind::Read)),
+        (false, 15, true, Some(FaultKind::Write)),
+        (false, 15, false, Some(FaultKind::Write)),
+        (false, 0, false, Some(FaultKind::Write)),
+    ] {
+        let mut reader = SlowReader {
+            text,
+            at: 0,
+            fails: reader_fails,
+        };
+        let mut writer = SlowWriter {
+            taken: Vec::new(rt.alloc()),
+            room,
+            fails: writer_fails,
+        };
+        let mut toy = Toy { clock: 0 };
+        let run = run_lines(rt.alloc(), &mut toy, &mut reader, &mut writer);
+        let (kind, tally) = match run {
+            Ok(tally) => (None, tally),
+            Err(fault) => (Some(fault.kind), fault.tally),
+        };
+        assert_eq!(rt; kind, want, "at {room}");
+        assert!(rt; whole.starts_with(writer.taken.as_slice()), "at {room}");
+        assert_eq!(rt; tally.bytes, writer.taken.len() as u128, "at {room}");
+        assert_eq!(rt;
+            tally.calls,
+            if toy.clock == 7 { 2 } else { 1 },
+            "at {room}"
+        );
+    }
+    Ok(())
+}

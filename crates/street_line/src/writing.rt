@@ -1,0 +1,88 @@
+//! Reply lines, and how they go out.
+ghost use Rattle.std.specs.Prelude.{◌≡◌, ◌<◌, ◌+◌, ◌^◌, IfOk, OnOk, IfErr, length, take};
+ghost use Rattle.std.specs.Io.KnownBytes.{Appends};
+ghost use Rattle.street_line.specs.Printing.{line_of, error_data};
+ghost use Rattle.street_line.specs.Running.{fault_line, served_line};
+
+use crate::fault::LineFault;
+use crate::replies::{error_value, reply_text};
+use crate::service::Served;
+use crate::tally::{FaultKind, Tally};
+use std::alloc::Global;
+use std::io::Write;
+use street_base::Starved;
+
+fn error_text(alloc: Global, number: u64, name: &str) -> Result<Vec<u8>, Starved>
+    ensures { IfOk result (λ text. text.items ≡ line_of (error_data number name.now)) }
+{
+    let mut text = error_value(alloc, number, name)?.to_vec(alloc)?;
+    text.push(b'\n')?;
+    Ok(text)
+}
+
+/// The line that answers a fault of a line; `Starved` has none.
+#[tactic(auto, unfolding(crate::specs::Running::fault_line))]
+pub(crate) fn fault_text(alloc: Global, fault: LineFault) -> Result<Vec<u8>, Starved>
+    ensures text { IfOk result (λ text. text.items ≡ fault_line fault) }
+    ensures starved { OnOk result (fault ≡ LineFault.Starved → ⊥) }
+{
+    match fault {
+        LineFault::LineTooLong => error_text(alloc, 22, "LineTooLong"),
+        LineFault::NotJson => error_text(alloc, 20, "NotJson"),
+        LineFault::BadCommand => error_text(alloc, 21, "BadCommand"),
+        LineFault::Starved => Err(Starved),
+    }
+}
+
+/// The line that answers a command.
+#[tactic(auto, unfolding(crate::specs::Running::served_line))]
+pub(crate) fn served_text(alloc: Global, served: Served) -> Result<Vec<u8>, Starved>
+    ensures { IfOk result (λ text. text.items ≡ served_line served) }
+{
+    match served {
+        Served::Answered(reply) => reply_text(alloc, &reply),
+        Served::Full => error_text(alloc, 23, "Full"),
+    }
+}
+
+/// Writes the bytes, or only the first of them, whose number it then answers.
+fn write_text<W: Write>(writer: &mut W, text: &[u8]) -> Result<(), usize>
+    ensures ok { OnOk result (Appends (W.contents writer.old) (W.contents writer.new) text.now) }
+    ensures fault { IfErr result (λ n. (n < length text.now) × Appends (W.contents writer.old) (W.contents writer.new) (take n text.now)) }
+{
+    let mut at = 0;
+    while at < text.len() {
+        match writer.write(&text[at..]) {
+            Ok(0) | Err(_) => return Err(at),
+            Ok(n) => at += n,
+        }
+    }
+    Ok(())
+}
+
+/// Writes a reply, and counts what went out of it.
+pub(crate) fn write_reply<W: Write>(
+    writer: &mut W,
+    text: &[u8],
+    tally: &mut Tally,
+) -> Result<(), FaultKind>
+    requires count { tally.old.replies < 2 ^ 64 }
+    requires room { tally.old.bytes < 2 ^ 127 }
+    ensures written { OnOk result (Appends (W.contents writer.old) (W.contents writer.new) text.now) }
+    ensures replies { OnOk result (tally.new.replies ≡ tally.old.replies + 1) }
+    ensures bytes { OnOk result (tally.new.bytes ≡ tally.old.bytes + length text.now) }
+    ensures lines { tally.new.lines ≡ tally.old.lines }
+    ensures calls { tally.new.calls ≡ tally.old.calls }
+{
+    match write_text(writer, text) {
+        Ok(()) => {
+            tally.bytes += text.len() as u128;
+            tally.replies += 1;
+            Ok(())
+        }
+        Err(sent) => {
+            tally.bytes += sent as u128;
+            Err(FaultKind::Write)
+        }
+    }
+}
