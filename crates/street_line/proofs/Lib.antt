@@ -6,3 +6,4 @@ pub mod Lines
 pub mod Sent
 pub mod Tallies
 pub mod Runs
+pub mod Speaking

@@ -5,6 +5,7 @@
 //! `specs/Printing`; what a text of lines gives is `Goes` of `specs/Running`.
 #![tactic(auto)]
 
+mod engines;
 mod fault;
 mod orders;
 mod part;
@@ -17,6 +18,7 @@ mod tally;
 mod tests;
 mod writing;
 
+pub use engines::run_engine;
 pub use fault::LineFault;
 pub use orders::read_command;
 pub use replies::reply_text;
