@@ -3,7 +3,7 @@ use Rattle.std.proofs.Common.{◌≡◌, ℕ, refl, sym, subst, ◌∙◌, ap, i
 use Rattle.std.specs.Prelude.{Some, ◌⊎◌}
 use Rattle.std.proofs.lemmas.Option.{none-some}
 use Rattle.street_base.specs.declared.command.Command.{Command}
-use Rattle.street_base.specs.declared.command.Command.TheVariants.{Load, Enter, Advance, Vehicle as AskVehicle}
+use Rattle.street_base.specs.declared.command.Command.TheVariants.{Advance, TakeOut, Count}
 use Rattle.street_base.specs.declared.command.Refusal.{Refusal}
 use Rattle.street_base.specs.declared.command.Reply.{Reply}
 use Rattle.street_base.specs.declared.command.Reply.TheVariants.{Refused}
@@ -15,16 +15,14 @@ use Rattle.street_base.specs.Outcomes.{state_of_whole, reply_of_whole, state_aft
 
 module _ (old : State) (r : Refusal) where
   never_short : (c : Command) (k : ℕ) → refusal old c ≡ Some r → MayBeShort old c k → ⊥
-  never_short (Load net) k refused may = may
-  never_short (Enter plan lane depart) k refused may = may
   never_short (Advance n) k refused may = none-some r (sym may.2 ∙ refused)
-  never_short (AskVehicle car) k refused may = may
+  never_short c k refused may = may
 
   starved-fault : (c : Command) → refusal old c ≡ Some r → MayStarve old c → is_network_fault (Some r)
-  starved-fault (Load net) refused may = subst is_network_fault refused may
-  starved-fault (Enter plan lane depart) refused may = subst is_network_fault refused may
   starved-fault (Advance n) refused may = absurd (none-some r (sym may.1 ∙ refused))
-  starved-fault (AskVehicle car) refused may = subst is_network_fault refused may
+  starved-fault (TakeOut car) refused may = absurd may
+  starved-fault Count refused may = absurd may
+  starved-fault c refused may = subst is_network_fault refused may
 
   state_stays : (c : Command) (outcome : Outcome) → refusal old c ≡ Some r → Allows old c outcome → state_after old c outcome ≡ old
   state_stays c Whole refused allowed = ap (state_of_whole old c) refused

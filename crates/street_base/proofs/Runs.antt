@@ -4,7 +4,7 @@ use Rattle.std.specs.Prelude.{Option, Some, None, nat_le}
 use Rattle.std.proofs.lemmas.Bool.{leb-false}
 use Rattle.std.proofs.lemmas.Option.{none-some}
 use Rattle.street_base.specs.declared.command.Command.{Command}
-use Rattle.street_base.specs.declared.command.Command.TheVariants.{Load, Enter, Advance, Vehicle as AskVehicle}
+use Rattle.street_base.specs.declared.command.Command.TheVariants.{Load, Enter, Advance}
 use Rattle.street_base.specs.declared.command.Refusal.{Refusal}
 use Rattle.street_base.specs.declared.command.Reply.{Reply}
 use Rattle.street_base.specs.declared.command.Outcome.{Outcome}
@@ -28,16 +28,13 @@ bad_network-none (Some fault) e = absurd (none-some _ (sym e))
 
 done-sound : (old : State) (c : Command) → refusal old c ≡ None → IsSoundState old → IsSoundState (done old c)
 done-sound None (Load net) accepted sound = loaded-sound net (bad_network-none (network_fault net) accepted)
-done-sound None (Enter plan lane depart) accepted sound = sound
-done-sound None (Advance n) accepted sound = sound
-done-sound None (AskVehicle car) accepted sound = sound
-done-sound (Some m) (Load net) accepted sound = sound
+done-sound None c accepted sound = sound
 done-sound (Some m) (Enter plan lane depart) accepted sound =
     let lanes = (link_at m.network (entry_of m.network plan lane).link).lanes in
     let on_lane : nat_le lanes lane ≡ false = grind arith in
     entered-sound m plan lane depart (leb-false lanes lane on_lane) sound
 done-sound (Some m) (Advance n) accepted sound = steps-sound n m sound
-done-sound (Some m) (AskVehicle car) accepted sound = sound
+done-sound (Some m) c accepted sound = sound
 
 -- ---- an answer
 

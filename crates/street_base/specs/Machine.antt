@@ -4,9 +4,9 @@ use Rattle.std.specs.Option.{option_map_or, option_or}
 use Rattle.street_base.specs.declared.net.LinkSpec.{LinkSpec}
 use Rattle.street_base.specs.declared.net.NetSpec.{NetSpec}
 use Rattle.street_base.specs.declared.command.Command.{Command}
-use Rattle.street_base.specs.declared.command.Command.TheVariants.{Load, Enter, Advance, Vehicle as AskVehicle}
+use Rattle.street_base.specs.declared.command.Command.TheVariants.{Load, Signal, Enter, Advance, CloseLane, ReopenLane, TakeOut, PlaceMeter, ReadMeter, Vehicle as AskVehicle, Lane as AskLane, Count}
 use Rattle.street_base.specs.declared.command.Refusal.{Refusal}
-use Rattle.street_base.specs.declared.command.Refusal.TheVariants.{NotLoaded, AlreadyLoaded, BadNetwork, NoLane, BadRange, BadPlan, NoVehicle, TooMany, BadCount, ClockEnd}
+use Rattle.street_base.specs.declared.command.Refusal.TheVariants.{NotLoaded, AlreadyLoaded, BadNetwork, NoLane, BadRange, BadPlan, NoVehicle, TooMany, BadCount, ClockEnd, NotYet}
 use Rattle.street_base.specs.declared.command.Reply.{Reply}
 use Rattle.street_base.specs.declared.command.Reply.TheVariants.{Loaded, Entered, Clock, Vehicle as TellVehicle, Refused}
 use Rattle.street_base.specs.declared.command.Whereabouts.{Whereabouts}
@@ -38,21 +38,41 @@ plan_links net plan = filter_map (link_of net) plan
 abbrev pub entry_of : NetSpec → List ℕ → ℕ → Place
 entry_of net plan lane = record { link = slice_index_or (plan_links net plan) 0 0; lane = lane }
 
--- the refusals of each command, in their order
-abbrev pub refusal : State → Command → Option Refusal
-refusal None (Load net) = bad_network (network_fault net)
-refusal (Some m) (Load net) = Some AlreadyLoaded
-refusal None (Enter plan lane depart) = Some NotLoaded
-refusal (Some m) (Enter plan lane depart) = first_of (
+-- without a network a command is refused, all but a load
+abbrev pub when_loaded : (Traffic → Option Refusal) → State → Option Refusal
+when_loaded refusals None = Some NotLoaded
+when_loaded refusals (Some m) = refusals m
+
+abbrev pub load_refusal : State → NetSpec → Option Refusal
+load_refusal None net = bad_network (network_fault net)
+load_refusal (Some m) net = Some AlreadyLoaded
+
+abbrev pub enter_refusal : List ℕ → ℕ → ℕ → Traffic → Option Refusal
+enter_refusal plan lane depart m = first_of (
     (nat_le 1000000 (length m.ends), TooMany)
     ∷ (is_some (plan_fault m.network plan), BadPlan (unwrap_or (plan_fault m.network plan) 0))
     ∷ (nat_le (link_at m.network (entry_of m.network plan lane).link).lanes lane, NoLane)
     ∷ (nat_lt 1000000000 depart, BadRange)
     ∷ [])
-refusal None (Advance n) = Some NotLoaded
-refusal (Some m) (Advance n) = first_of ((nat_lt 10000 n, BadCount) ∷ (nat_lt 1000000000 (m.clock + n), ClockEnd) ∷ [])
-refusal None (AskVehicle car) = Some NotLoaded
-refusal (Some m) (AskVehicle car) = first_of ((nat_le (length m.ends) car, NoVehicle) ∷ [])
+
+-- so far
+abbrev pub not_yet : State → Option Refusal
+not_yet m = when_loaded (λ t. Some NotYet) m
+
+-- the refusals of each command, in their order
+abbrev pub refusal : State → Command → Option Refusal
+refusal m (Load net) = load_refusal m net
+refusal m (Enter plan lane depart) = when_loaded (enter_refusal plan lane depart) m
+refusal m (Advance n) = when_loaded (λ t. first_of ((nat_lt 10000 n, BadCount) ∷ (nat_lt 1000000000 (t.clock + n), ClockEnd) ∷ [])) m
+refusal m (AskVehicle car) = when_loaded (λ t. first_of ((nat_le (length t.ends) car, NoVehicle) ∷ [])) m
+refusal m (Signal node offset phases) = not_yet m
+refusal m (CloseLane link lane first last) = not_yet m
+refusal m (ReopenLane link lane first last) = not_yet m
+refusal m (TakeOut car) = not_yet m
+refusal m (PlaceMeter link lane cell period) = not_yet m
+refusal m (ReadMeter meter) = not_yet m
+refusal m (AskLane link lane) = not_yet m
+refusal m Count = not_yet m
 
 -- ---- what is done
 
@@ -143,3 +163,4 @@ answered (Some m) (Enter plan lane depart) = Entered (length m.ends)
 answered (Some m) (Advance n) = Clock (m.clock + n)
 answered (Some m) (AskVehicle car) = told m car
 answered None c = Refused NotLoaded
+answered (Some m) c = Refused NotYet

@@ -1,7 +1,7 @@
 -- What a command leaves and answers under each outcome (this profile).
 use Rattle.std.specs.Prelude.{ℕ, ◌+◌, ◌<◌, ◌≤◌, ◌≡◌, Option, Some, None, ⊤}
 use Rattle.street_base.specs.declared.command.Command.{Command}
-use Rattle.street_base.specs.declared.command.Command.TheVariants.{Advance}
+use Rattle.street_base.specs.declared.command.Command.TheVariants.{Advance, TakeOut, Count}
 use Rattle.street_base.specs.declared.command.Refusal.{Refusal}
 use Rattle.street_base.specs.declared.command.Refusal.TheVariants.{BadNetwork}
 use Rattle.street_base.specs.declared.command.Reply.{Reply}
@@ -47,9 +47,11 @@ is_network_fault None = ⊤
 is_network_fault (Some (BadNetwork part at)) = ⊤
 is_network_fault (Some r) = ⊥
 
--- an advance of 0 steps takes no memory
+-- taking out, counting and an advance of 0 steps take no memory
 abbrev pub MayStarve : State → Command → Type 0
 MayStarve m (Advance n) = (0 < n) × (refusal m (Advance n) ≡ None)
+MayStarve m (TakeOut car) = ⊥
+MayStarve m Count = ⊥
 MayStarve m c = is_network_fault (refusal m c)
 
 -- only an advance stops short, after at least one step and before the last

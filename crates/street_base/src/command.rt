@@ -19,16 +19,97 @@ pub enum Command {
         /// The step from which the vehicle may depart.
         depart: u64,
     },
+    /// Sets the signal plan of a node.
+    Signal {
+        /// The node's identifier.
+        node: u64,
+        /// By how many steps the cycle is ahead of the clock.
+        offset: u64,
+        /// The phases, in order.
+        phases: Listing<PhaseSpec>,
+    },
     /// Makes steps.
     Advance {
         /// How many.
         steps: u64,
+    },
+    /// Closes cells of a lane.
+    CloseLane {
+        /// The link's identifier.
+        link: u64,
+        /// The lane.
+        lane: u64,
+        /// The first cell.
+        first: u64,
+        /// The last cell.
+        last: u64,
+    },
+    /// Opens cells of a lane again.
+    ReopenLane {
+        /// The link's identifier.
+        link: u64,
+        /// The lane.
+        lane: u64,
+        /// The first cell.
+        first: u64,
+        /// The last cell.
+        last: u64,
+    },
+    /// Takes a vehicle out, wherever it is.
+    TakeOut {
+        /// Its number.
+        car: u64,
+    },
+    /// Places a detector.
+    PlaceMeter {
+        /// The link's identifier.
+        link: u64,
+        /// The lane.
+        lane: u64,
+        /// The cell.
+        cell: u64,
+        /// How many steps a row sums.
+        period: u64,
+    },
+    /// Asks for the rows of a detector.
+    ReadMeter {
+        /// Its number.
+        meter: u64,
     },
     /// Asks where a vehicle is.
     Vehicle {
         /// Its number.
         car: u64,
     },
+    /// Asks for all of one lane.
+    Lane {
+        /// The link's identifier.
+        link: u64,
+        /// The lane.
+        lane: u64,
+    },
+    /// Asks for the clock and the census.
+    Count,
+}
+
+/// A turn that a phase shows green.
+#[derive(Clone, Copy)]
+pub struct GreenSpec {
+    /// The identifier of the link that is left.
+    pub link: u64,
+    /// The lane that is left.
+    pub lane: u64,
+    /// The identifier of the next link.
+    pub next: u64,
+}
+
+/// A phase of a signal plan.
+#[derive(Drop)]
+pub struct PhaseSpec {
+    /// How many steps it lasts.
+    pub duration: u64,
+    /// The turns that it shows green.
+    pub greens: Listing<GreenSpec>,
 }
 
 /// A part of a load.
@@ -58,6 +139,10 @@ pub enum Refusal {
         /// The position in it.
         at: u64,
     },
+    /// No node has this identifier.
+    NoNode,
+    /// No link has this identifier.
+    NoLink,
     /// The link has no such lane.
     NoLane,
     /// A number is out of its range.
@@ -67,14 +152,25 @@ pub enum Refusal {
         /// The position.
         at: u64,
     },
+    /// The signal plan has a fault; the first is at this position, that of the offset being the number of phases.
+    BadSignal {
+        /// The position.
+        at: u64,
+    },
     /// No vehicle has this number.
     NoVehicle,
+    /// The vehicle has ended.
+    Gone,
+    /// No detector has this number.
+    NoMeter,
     /// 1,000,000 vehicles were admitted.
     TooMany,
     /// More than 10,000 steps.
     BadCount,
     /// The steps lead past the greatest clock.
     ClockEnd,
+    /// The engine does not serve this command yet.
+    NotYet,
 }
 
 /// How a vehicle ended.
@@ -136,6 +232,74 @@ pub enum Whereabouts {
     Ended(End),
 }
 
+/// A vehicle in a buffer, as a lane shows it.
+#[derive(Clone, Copy)]
+pub struct BufferEntry {
+    /// Its number.
+    pub car: CarNo,
+    /// Its speed.
+    pub speed: Speed,
+    /// The step from which it may go on.
+    pub ready: Step,
+}
+
+/// A vehicle in a cell, as a lane shows it.
+#[derive(Clone, Copy)]
+pub struct CellEntry {
+    /// Its number.
+    pub car: CarNo,
+    /// The cell.
+    pub cell: CellNo,
+    /// Its speed.
+    pub speed: Speed,
+}
+
+/// Closed cells of a lane from the first to the last.
+#[derive(Clone, Copy)]
+pub struct Stretch {
+    /// The first cell.
+    pub first: CellNo,
+    /// The last cell.
+    pub last: CellNo,
+}
+
+/// A waiting vehicle, as a lane shows it.
+#[derive(Clone, Copy)]
+pub struct WaitingEntry {
+    /// Its number.
+    pub car: CarNo,
+    /// The step from which it may depart.
+    pub depart: Step,
+}
+
+/// What a detector summed over a period.
+#[derive(Clone, Copy)]
+pub struct MeterRow {
+    /// The first step of the period.
+    pub start: Step,
+    /// How many vehicles passed.
+    pub passes: u64,
+    /// The sum of their speeds.
+    pub speeds: u64,
+    /// In how many steps the cell was occupied at the end.
+    pub occupied: u64,
+}
+
+/// The running period of a detector.
+#[derive(Clone, Copy)]
+pub struct RunningRow {
+    /// The first step of the period.
+    pub start: Step,
+    /// How many steps it has so far.
+    pub steps: u64,
+    /// How many vehicles passed.
+    pub passes: u64,
+    /// The sum of their speeds.
+    pub speeds: u64,
+    /// In how many steps the cell was occupied at the end.
+    pub occupied: u64,
+}
+
 /// The answer to a command.
 #[derive(Drop)]
 pub enum Reply {
@@ -147,6 +311,11 @@ pub enum Reply {
         nodes: u64,
         /// How many turns.
         turns: u64,
+    },
+    /// A signal plan was set.
+    Signalled {
+        /// The length of its cycle.
+        cycle: u64,
     },
     /// A vehicle was admitted.
     Entered {
@@ -165,12 +334,62 @@ pub enum Reply {
         /// How many were made.
         short: u64,
     },
+    /// Cells were closed, or opened again.
+    Closed {
+        /// How many cells of the lane are closed now.
+        closed: u64,
+    },
+    /// A vehicle was taken out.
+    Taken {
+        /// Its number.
+        taken: CarNo,
+    },
+    /// A detector was placed.
+    Placed {
+        /// Its number.
+        meter: u64,
+    },
+    /// The rows of a detector.
+    Rows {
+        /// The running period.
+        now: RunningRow,
+        /// The last full periods, at most 32, the oldest first.
+        rows: Listing<MeterRow>,
+    },
     /// Where a vehicle is.
     Vehicle {
         /// Its number.
         car: CarNo,
         /// Where.
         whereabouts: Whereabouts,
+    },
+    /// All of one lane.
+    Lane {
+        /// The buffer, from its front.
+        buffer: Listing<BufferEntry>,
+        /// The occupied cells, the greatest first.
+        cells: Listing<CellEntry>,
+        /// The closed stretches, as long as possible, rising.
+        closed: Listing<Stretch>,
+        /// The waiting vehicles, by depart and number.
+        waiting: Listing<WaitingEntry>,
+    },
+    /// The clock, and how many vehicles stand where or have ended how.
+    Census {
+        /// How many were ever admitted.
+        admitted: u64,
+        /// How many have arrived.
+        arrived: u64,
+        /// How many stand in buffers.
+        buffers: u64,
+        /// How many stand in cells.
+        cells: u64,
+        /// The clock.
+        clock: Step,
+        /// How many were taken out.
+        taken: u64,
+        /// How many wait.
+        waiting: u64,
     },
     /// The command was refused, and nothing changed.
     Refused(Refusal),

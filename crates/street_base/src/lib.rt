@@ -14,7 +14,10 @@ mod net;
 mod refusals;
 
 pub use car::{Car, Plan};
-pub use command::{Command, End, Outcome, Part, Refusal, Reply, Starved, Whereabouts};
+pub use command::{
+    BufferEntry, CellEntry, Command, End, GreenSpec, MeterRow, Outcome, Part, PhaseSpec, Refusal,
+    Reply, RunningRow, Starved, Stretch, WaitingEntry, Whereabouts,
+};
 pub use laws::{
     census_holds, changes_nothing, draws_little, everyone_is_told, keeps_apart, keeps_both,
     keeps_each, keeps_everyone, refused_changes_nothing, releases_nothing,

@@ -13,13 +13,19 @@ impl Refusal {
             Refusal::NotLoaded => 1,
             Refusal::AlreadyLoaded => 2,
             Refusal::BadNetwork { .. } => 3,
+            Refusal::NoNode => 4,
+            Refusal::NoLink => 5,
             Refusal::NoLane => 6,
             Refusal::BadRange => 7,
             Refusal::BadPlan { .. } => 8,
+            Refusal::BadSignal { .. } => 9,
             Refusal::NoVehicle => 10,
+            Refusal::Gone => 11,
+            Refusal::NoMeter => 12,
             Refusal::TooMany => 13,
             Refusal::BadCount => 14,
             Refusal::ClockEnd => 15,
+            Refusal::NotYet => 19,
         }
     }
 
@@ -31,13 +37,19 @@ impl Refusal {
             Refusal::NotLoaded => "NotLoaded",
             Refusal::AlreadyLoaded => "AlreadyLoaded",
             Refusal::BadNetwork { .. } => "BadNetwork",
+            Refusal::NoNode => "NoNode",
+            Refusal::NoLink => "NoLink",
             Refusal::NoLane => "NoLane",
             Refusal::BadRange => "BadRange",
             Refusal::BadPlan { .. } => "BadPlan",
+            Refusal::BadSignal { .. } => "BadSignal",
             Refusal::NoVehicle => "NoVehicle",
+            Refusal::Gone => "Gone",
+            Refusal::NoMeter => "NoMeter",
             Refusal::TooMany => "TooMany",
             Refusal::BadCount => "BadCount",
             Refusal::ClockEnd => "ClockEnd",
+            Refusal::NotYet => "NotYet",
         }
     }
 }

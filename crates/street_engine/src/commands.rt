@@ -1,7 +1,8 @@
 //! Commands over what is loaded: refusals in their order, then what is done.
-ghost use Rattle.std.specs.Prelude.{◌≡◌, List};
+ghost use Rattle.std.specs.Prelude.{◌≡◌, List, Some, option_map};
 ghost use Rattle.street_base.specs.declared.command.Command.TheVariants.{Load, Enter, Advance, Vehicle};
 ghost use Rattle.street_base.specs.declared.command.Outcome.TheVariants.{Whole};
+ghost use Rattle.street_base.specs.Machine.{not_yet as refused_yet};
 ghost use Rattle.street_base.specs.Outcomes.{Answers};
 
 use crate::streets::Streets;
@@ -34,14 +35,26 @@ pub(crate) fn serve(
         ),
         Command::Advance { steps } => advance(state, *steps),
         Command::Vehicle { car } => tell(alloc, state, *car),
+        Command::Signal { .. }
+        | Command::CloseLane { .. }
+        | Command::ReopenLane { .. }
+        | Command::TakeOut { .. }
+        | Command::PlaceMeter { .. }
+        | Command::ReadMeter { .. }
+        | Command::Lane { .. }
+        | Command::Count => (not_yet(state), Outcome::Whole),
     }
 }
 
-fn refused(refusal: Refusal) -> (Reply, Outcome)
-    ensures reply { result.0 ≡ Reply.Refused refusal }
-    ensures outcome { result.1 ≡ Whole }
+/// The reply to a command that is not served yet.
+fn not_yet(state: &Option<Streets>) -> Reply
+    ensures { option_map (λ r. Reply.Refused r) (refused_yet state.now) ≡ Some result }
 {
-    (Reply::Refused(refusal), Outcome::Whole)
+    let refusal = match state {
+        Some(_) => Refusal::NotYet,
+        None => Refusal::NotLoaded,
+    };
+    Reply::Refused(refusal)
 }
 
 fn load(alloc: Global, state: &mut Option<Streets>, net: &NetSpec) -> (Reply, Outcome)
