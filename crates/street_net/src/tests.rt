@@ -116,13 +116,9 @@ fn row(number: u64) -> (u64, u64, Part, u64) {
     }
 }
 
-/// The first fault of a load.
-fn fault_of(alloc: Global, spec: &NetSpec) -> Result<Option<(Part, u64)>, AllocError> {
-    match Network::build(alloc, spec) {
-        Ok(_) => Ok(None),
-        Err(NetFault::Bad { part, at }) => Ok(Some((part, at))),
-        Err(NetFault::Starved) => Err(AllocError),
-    }
+/// Why no network is built.
+fn fault_of(alloc: Global, spec: &NetSpec) -> Option<NetFault> {
+    Network::build(alloc, spec).err()
 }
 
 #[test]
@@ -130,40 +126,56 @@ fn finds_first_faults(rt: HostRuntime) -> Result<(), Fail> {
     for k in 0..18 {
         let (place, number, part, at) = row(k);
         let spec = load(rt.alloc(), Change { place, number })?;
-        assert_eq!(rt;
-            fault_of(rt.alloc(), &spec)?,
-            Some((part, at)),
-            "in row {k}"
-        );
+        let Some(
+            NetFault::Bad {
+                part: bad,
+                at: here,
+            },
+        ) = fault_of(rt.alloc(), &spec)
+        else {
+            return Err(Fail::from("no fault is told"));
+        };
+        assert_eq!(rt; (bad, here), (part, at), "in row {k}");
     }
     Ok(())
 }
 
-/// What a plan is refused for: its fault, or nothing for a lane.
-fn refused(net: &Network, alloc: Global, plan: &[u64]) -> Result<Option<u64>, PlanFault> {
-    match net.check_plan(alloc, plan, 1) {
-        Ok(_) => Ok(Some(u64::MAX)),
-        Err(PlanFault::Bad { at }) => Ok(Some(at)),
-        Err(PlanFault::Lane) => Ok(None),
-        Err(PlanFault::Starved) => Err(PlanFault::Starved),
-    }
+/// The seed of a good network, and where node 9 and link 40 stand.
+fn found(alloc: Global) -> Result<(u64, Option<usize>, Option<usize>), NetFault> {
+    let net = Network::build(alloc, &load(alloc, NONE)?)?;
+    let node = net.node_of(9).map(|node| node.position());
+    let link = net.link_of(40).map(|link| link.position());
+    Ok((net.spec().seed, node, link))
 }
 
 #[test]
 fn looks_up(rt: HostRuntime) -> Result<(), Fail> {
-    let net = Network::build(rt.alloc(), &load(rt.alloc(), NONE)?)?;
-    assert_eq!(rt; net.spec().seed, u64::MAX);
-    assert_eq!(rt; net.node_of(9).map(|node| node.position()), Some(1));
-    assert_eq!(rt; net.link_of(40).map(|link| link.position()), Some(1));
+    assert_eq!(rt; found(rt.alloc())?, (u64::MAX, Some(1), Some(1)));
     Ok(())
+}
+
+/// Where a plan is bad, or its first link where it is taken, or 99 where it is refused for its lane.
+fn answer(net: &Network, alloc: Global, plan: &[u64], lane: u64) -> Result<usize, usize> {
+    match net.check_plan(alloc, plan, lane) {
+        Ok(links) => Ok(links.as_slice().first().map_or(99, |link| link.position())),
+        Err(PlanFault::Bad { at }) => Err(at as usize),
+        Err(_) => Err(99),
+    }
+}
+
+/// The answers to four plans.
+fn answers(alloc: Global) -> Result<[Result<usize, usize>; 4], NetFault> {
+    let net = Network::build(alloc, &load(alloc, NONE)?)?;
+    Ok([
+        answer(&net, alloc, &[40], 0),
+        answer(&net, alloc, &[], 1),
+        answer(&net, alloc, &[40, 40], 1),
+        answer(&net, alloc, &[40], 1),
+    ])
 }
 
 #[test]
 fn plans(rt: HostRuntime) -> Result<(), Fail> {
-    let net = Network::build(rt.alloc(), &load(rt.alloc(), NONE)?)?;
-    assert_eq!(rt; net.check_plan(rt.alloc(), &[40], 0)?.as_slice().len(), 1);
-    assert_eq!(rt; refused(&net, rt.alloc(), &[])?, Some(0));
-    assert_eq!(rt; refused(&net, rt.alloc(), &[40, 40])?, Some(1));
-    assert_eq!(rt; refused(&net, rt.alloc(), &[40])?, None);
+    assert_eq!(rt; answers(rt.alloc())?, [Ok(1), Err(0), Err(1), Err(99)]);
     Ok(())
 }
