@@ -1,6 +1,6 @@
 -- The first bad entry, found entry by entry.
-use Rattle.std.proofs.Common.{◌≡◌, ℕ, zero, ◌+◌, ◌<◌, ◌≤◌, Bool, true, false, List, [], ◌∷◌, length, get_or, refl, sym, ◌∙◌, ap, subst, arith, zero-add}
-use Rattle.std.specs.Prelude.{Option, Some, None, position, nat_lt}
+use Rattle.std.proofs.Common.{◌≡◌, ℕ, ◌+◌, ◌<◌, Bool, true, false, List, [], ◌∷◌, length, get_or, refl, ◌∙◌, ap, arith, zero-add}
+use Rattle.std.specs.Prelude.{Some, None, nat_lt}
 use Rattle.std.specs.List.{enumerate_from, position_or_len}
 use Rattle.std.proofs.lemmas.Bool.{cond-true, cond-false, lt-ltb, le-ltb, cases_eq}
 use Rattle.std.proofs.Common.{inl, inr}
