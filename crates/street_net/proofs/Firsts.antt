@@ -1,6 +1,6 @@
 -- The first bad entry, found entry by entry.
-use Rattle.std.proofs.Common.{◌≡◌, ℕ, zero, ◌+◌, ◌<◌, ◌≤◌, Bool, true, false, List, [], ◌∷◌, length, get_or, refl, sym, ◌∙◌, ap, subst, arith, zero-add}
-use Rattle.std.specs.Prelude.{Option, Some, None, position, nat_lt}
+use Rattle.std.proofs.Common.{◌≡◌, ℕ, ◌+◌, ◌<◌, Bool, true, false, List, [], ◌∷◌, length, get_or, refl, ◌∙◌, ap, arith, zero-add}
+use Rattle.std.specs.Prelude.{Some, None, nat_lt}
 use Rattle.std.specs.List.{enumerate_from, position_or_len}
 use Rattle.std.proofs.lemmas.Bool.{cond-true, cond-false, lt-ltb, le-ltb, cases_eq}
 use Rattle.std.proofs.Common.{inl, inr}
@@ -28,9 +28,9 @@ module _ {A : Type 0} (bad : ℕ → A → Bool) where
   first_bad-here xs i d h before here =
       let long = length-enumerate_from 0 xs in
       let is : position_or_len (λ (e : ℕ × A). bad e.0 e.1) (enumerate_from 0 xs) ≡ i =
-          position_or_len_is (λ (e : ℕ × A). bad e.0 e.1) (enumerate_from 0 xs) i (0, d) (omega arith)
-          (λ k l. at-entry xs k d false (omega arith) (before k d l))
-          (λ l. at-entry xs i d true h here) in
+      position_or_len_is (λ (e : ℕ × A). bad e.0 e.1) (enumerate_from 0 xs) i (0, d) (omega arith)
+      (λ k l. at-entry xs k d false (omega arith) (before k d l))
+      (λ l. at-entry xs i d true h here) in
       rw (is, long) (cond-true (nat_lt i (length xs)) (Some i) None (lt-ltb i (length xs) h))
 
   -- no entry is bad
@@ -39,7 +39,7 @@ module _ {A : Type 0} (bad : ℕ → A → Bool) where
   first_bad-none (x ∷ xs) none =
       let long = length-enumerate_from 0 (x ∷ xs) in
       let is : position_or_len (λ (e : ℕ × A). bad e.0 e.1) (enumerate_from 0 (x ∷ xs)) ≡ length (x ∷ xs) =
-          position_or_len_is (λ (e : ℕ × A). bad e.0 e.1) (enumerate_from 0 (x ∷ xs)) (length (x ∷ xs)) (0, x) (omega arith)
-          (λ k l. at-entry (x ∷ xs) k x false l (none k x l))
-          (λ l. absurd (omega arith)) in
+      position_or_len_is (λ (e : ℕ × A). bad e.0 e.1) (enumerate_from 0 (x ∷ xs)) (length (x ∷ xs)) (0, x) (omega arith)
+      (λ k l. at-entry (x ∷ xs) k x false l (none k x l))
+      (λ l. absurd (omega arith)) in
       rw (is, long) (cond-false (nat_lt (length (x ∷ xs)) (length (x ∷ xs))) (Some (length (x ∷ xs))) None (le-ltb (length (x ∷ xs)) (length (x ∷ xs)) (omega arith)))

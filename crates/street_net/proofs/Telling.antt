@@ -1,7 +1,6 @@
 -- A load's first fault, part by part.
-use Rattle.std.proofs.Common.{◌≡◌, ℕ, refl, sym, ◌∙◌, ap}
+use Rattle.std.proofs.Common.{◌≡◌, refl}
 use Rattle.std.specs.Prelude.{Option, Some, None}
-use Rattle.std.specs.Option.{option_or}
 use Rattle.street_base.specs.declared.net.NetSpec.{NetSpec}
 use Rattle.street_base.specs.declared.command.Part.TheVariants.{Nodes, Links, Turns, Values}
 use Rattle.street_base.specs.Faults.{Fault, in_part, nodes_fault, links_fault, turns_fault, values_fault, network_fault}

@@ -1,6 +1,6 @@
 //! The checked network.
-ghost use Rattle.std.specs.Prelude.{◌≡◌, ◌∷◌, ◌<◌, [], None, Some, length, slice_index_or, IfOk, IfErr, OnOk};
-ghost use Rattle.street_base.specs.Network.{link_of, node_of};
+ghost use Rattle.std.specs.Prelude.{◌≡◌, ◌∷◌, ◌<◌, [], None, Some, length, IfOk, IfErr, OnOk};
+ghost use Rattle.street_base.specs.Network.{link_at, link_of, node_of};
 ghost use Rattle.street_base.specs.Faults.{network_fault, plan_fault};
 ghost use Rattle.street_base.specs.Machine.{plan_links};
 ghost use Rattle.street_net.specs.Refused.{TellsFault, TellsPlanFault, entry_lanes};
@@ -121,7 +121,7 @@ impl Network {
     /// How many lanes the link at a position has.
     fn lanes_of(&self, link: LinkIx) -> u64
         requires { link < length self.now.links }
-        ensures { result ≡ (slice_index_or self.now.links link (record { id = 0; from = 0; to = 0; lanes = 0; length = 0; limit = 0 })).lanes }
+        ensures { result ≡ (link_at self.now link).lanes }
     {
         self.spec.links.as_slice()[link.position()].lanes
     }

@@ -43,12 +43,7 @@ fn is_within(low: u64, high: u64, number: u64) -> bool
 }
 
 /// Whether a node is bad at its position. `seen` are the identifiers before it.
-pub(crate) fn is_bad_node(
-    spec: &NetSpec,
-    seen: &IndexSet<u64>,
-    at: usize,
-    node: &NodeSpec,
-) -> bool
+pub(crate) fn is_bad_node(spec: &NetSpec, seen: &IndexSet<u64>, at: usize, node: &NodeSpec) -> bool
     requires { seen.now.keys ≡ ids_of_nodes (take at spec.now.nodes) }
     ensures { result ≡ is_bad_node spec.now at node.now }
 {
@@ -86,7 +81,10 @@ fn joins(spec: &NetSpec, ids: &IndexSet<u64>, turn: &TurnSpec) -> bool
     requires { ids.now.keys ≡ ids_of_links spec.now.links }
     ensures { result ≡ joins spec.now turn.now }
 {
-    match (link_with(spec, ids, turn.link), link_with(spec, ids, turn.next)) {
+    match (
+        link_with(spec, ids, turn.link),
+        link_with(spec, ids, turn.next),
+    ) {
         (Some(link), Some(next)) => {
             turn.lane < link.lanes && turn.next_lane < next.lanes && link.to == next.from
         }

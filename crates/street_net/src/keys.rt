@@ -35,11 +35,7 @@ pub(crate) fn find_link(spec: &NetSpec, ids: &IndexSet<u64>, id: u64) -> Option<
 }
 
 /// The link with an identifier. `ids` are those of all links.
-pub(crate) fn link_with<'a>(
-    spec: &'a NetSpec,
-    ids: &IndexSet<u64>,
-    id: u64,
-) -> Option<&'a LinkSpec>
+pub(crate) fn link_with<'a>(spec: &'a NetSpec, ids: &IndexSet<u64>, id: u64) -> Option<&'a LinkSpec>
     requires { ids.now.keys ≡ ids_of_links spec.now.links }
     ensures { option_copied result ≡ link_with spec.now id }
 {

@@ -9,6 +9,8 @@ mod entries;
 mod faults;
 mod keys;
 mod lists;
+#[cfg(test)]
+mod tests;
 
 pub use checked::Network;
 pub use faults::{NetFault, PlanFault};

@@ -1,5 +1,4 @@
 use Rattle.std.proofs.Common.{◌∙◌, ap, take, refl}
-use Rattle.street_base.specs.declared.net.TurnSpec.{TurnSpec}
 use Rattle.street_base.specs.Faults.{is_same_turn}
 use Rattle.std.specs.List.{list_any}
 use Rattle.street_net.specs.Keys.{turn_key}

@@ -1,4 +1,4 @@
-use Rattle.std.proofs.Common.{◌≡◌, ◌∙◌, sym, ap, refl, eqb}
+use Rattle.std.proofs.Common.{◌≡◌, ◌∙◌, sym, ap, eqb}
 use Rattle.std.specs.Prelude.{slice_get, option_copied}
 use Rattle.std.specs.Option.{option_and_then}
 use Rattle.street_base.specs.declared.net.LinkSpec.{LinkSpec}

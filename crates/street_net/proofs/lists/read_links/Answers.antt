@@ -1,4 +1,4 @@
-use Rattle.std.proofs.Common.{◌≡◌, ◌<◌, ◌≤◌, true, false, eqb, take, length, get_or, ◌∙◌, sym, ap, refl, arith, ℕ}
+use Rattle.std.proofs.Common.{◌≡◌, ◌<◌, ◌≤◌, true, false, eqb, take, length, get_or, ◌∙◌, sym, ap, arith, ℕ}
 use Rattle.std.specs.List.{list_any}
 use Rattle.std.proofs.lemmas.Bool.{or_parts}
 use Rattle.street_base.specs.declared.net.LinkSpec.{LinkSpec}
@@ -21,7 +21,7 @@ returns-then-is_bad_link-clause-fault c =
     let links = c.args.spec.now.links in
     let within : c.loop-at.at < length links = rw (← c.as_slice-links.ensures) c.loop-at-test.true in
     let here : is_bad_link c.args.spec.now c.loop-at.at (get_or links c.loop-at.at none) ≡ true =
-        ap (λ xs. is_bad_link c.args.spec.now c.loop-at.at (get_or xs c.loop-at.at none)) (sym c.as_slice-links.ensures) ∙ sym c.is_bad_link.ensures ∙ c.if-is_bad_link.true in
+    ap (λ xs. is_bad_link c.args.spec.now c.loop-at.at (get_or xs c.loop-at.at none)) (sym c.as_slice-links.ensures) ∙ sym c.is_bad_link.ensures ∙ c.if-is_bad_link.true in
     ap (in_part Links) (first_bad-here (is_bad_link c.args.spec.now) links c.loop-at.at none within c.loop-at.invariant.none_bad here)
 
 pub loop-at-preserved : goal.loop-at-preserved
@@ -30,7 +30,7 @@ loop-at-preserved c =
     let link : LinkSpec = get_or links c.loop-at.at none in
     let within : c.loop-at.at < length links = rw (← c.as_slice-links.ensures) c.loop-at-test.true in
     let good : is_bad_link c.args.spec.now c.loop-at.at link ≡ false =
-        ap (λ xs. is_bad_link c.args.spec.now c.loop-at.at (get_or xs c.loop-at.at none)) (sym c.as_slice-links.ensures) ∙ sym c.is_bad_link.ensures ∙ c.if-is_bad_link.false in
+    ap (λ xs. is_bad_link c.args.spec.now c.loop-at.at (get_or xs c.loop-at.at none)) (sym c.as_slice-links.ensures) ∙ sym c.is_bad_link.ensures ∙ c.if-is_bad_link.false in
     record {
       keys = keys-more (λ (link : LinkSpec). link.id) eqb (λ (x y : LinkSpec). eqb y.id x.id) (λ x y. eqb-sym x.id y.id) links c.loop-at.at none c.loop-at.ids.keys c.insert.new.self.keys within (fresh c.args.spec.now c.loop-at.at link good) c.loop-at.invariant.keys
           (rw c.as_slice-links.ensures at c.in_ok-insert.ensures.keys);

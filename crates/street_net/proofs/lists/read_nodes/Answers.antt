@@ -1,4 +1,4 @@
-use Rattle.std.proofs.Common.{◌≡◌, ◌<◌, ◌≤◌, true, false, eqb, take, length, get_or, ◌∙◌, sym, ap, refl, arith, ℕ}
+use Rattle.std.proofs.Common.{◌≡◌, ◌<◌, ◌≤◌, true, false, eqb, take, length, get_or, ◌∙◌, sym, ap, arith, ℕ}
 use Rattle.std.specs.List.{list_any}
 use Rattle.std.proofs.lemmas.Bool.{or_parts, cond-false, ne_eqb, eqb-false}
 use Rattle.street_base.specs.declared.net.NodeSpec.{NodeSpec}
@@ -24,7 +24,7 @@ returns-then-is_bad_node-clause-fault c =
     let nodes = c.args.spec.now.nodes in
     let within : c.loop-at.at < length nodes = rw (← c.as_slice-nodes.ensures) c.loop-at-test.true in
     let here : is_bad_node c.args.spec.now c.loop-at.at (get_or nodes c.loop-at.at none) ≡ true =
-        ap (λ xs. is_bad_node c.args.spec.now c.loop-at.at (get_or xs c.loop-at.at none)) (sym c.as_slice-nodes.ensures) ∙ sym c.is_bad_node.ensures ∙ c.if-is_bad_node.true in
+    ap (λ xs. is_bad_node c.args.spec.now c.loop-at.at (get_or xs c.loop-at.at none)) (sym c.as_slice-nodes.ensures) ∙ sym c.is_bad_node.ensures ∙ c.if-is_bad_node.true in
     ap (in_part Nodes) (some-nodes c.args.spec.now (omega arith) ∙ first_bad-here (is_bad_node c.args.spec.now) nodes c.loop-at.at none within c.loop-at.invariant.none_bad here)
 
 pub loop-at-preserved : goal.loop-at-preserved
@@ -33,7 +33,7 @@ loop-at-preserved c =
     let node : NodeSpec = get_or nodes c.loop-at.at none in
     let within : c.loop-at.at < length nodes = rw (← c.as_slice-nodes.ensures) c.loop-at-test.true in
     let good : is_bad_node c.args.spec.now c.loop-at.at node ≡ false =
-        ap (λ xs. is_bad_node c.args.spec.now c.loop-at.at (get_or xs c.loop-at.at none)) (sym c.as_slice-nodes.ensures) ∙ sym c.is_bad_node.ensures ∙ c.if-is_bad_node.false in
+    ap (λ xs. is_bad_node c.args.spec.now c.loop-at.at (get_or xs c.loop-at.at none)) (sym c.as_slice-nodes.ensures) ∙ sym c.is_bad_node.ensures ∙ c.if-is_bad_node.false in
     record {
       keys = keys-more (λ (node : NodeSpec). node.id) eqb (λ (x y : NodeSpec). eqb y.id x.id) (λ x y. eqb-sym x.id y.id) nodes c.loop-at.at none c.loop-at.ids.keys c.insert.new.self.keys within (fresh c.args.spec.now c.loop-at.at node good) c.loop-at.invariant.keys
           (rw c.as_slice-nodes.ensures at c.in_ok-insert.ensures.keys);

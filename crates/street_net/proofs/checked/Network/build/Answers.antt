@@ -35,8 +35,8 @@ pub invariant_of-result : goal.invariant_of-result
 invariant_of-result c =
     let same = c.in_ok-copy_spec.ensures in
     let faultless : network_fault c.args.spec.now ≡ None =
-        values-tell c.args.spec.now c.in_ok-node_ids.ensures.faultless c.in_ok-link_ids.ensures.faultless c.in_ok-read_turns.ensures.faultless
-        ∙ ap (in_part Values) (sym c.in_default.ensures) in
+    values-tell c.args.spec.now c.in_ok-node_ids.ensures.faultless c.in_ok-link_ids.ensures.faultless c.in_ok-read_turns.ensures.faultless
+    ∙ ap (in_part Values) (sym c.in_default.ensures) in
     record {
       nodes_listed = c.in_ok-node_ids.ensures.keys ∙ ap (λ net. ids_of_nodes net.nodes) (sym same);
       links_listed = c.in_ok-link_ids.ensures.keys ∙ ap (λ net. ids_of_links net.links) (sym same);
