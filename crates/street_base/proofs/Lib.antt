@@ -31,6 +31,7 @@ pub mod Arriving
 pub mod Forming
 pub mod Whole
 pub mod FirstBad
+pub mod Faultless
 pub mod Listed
 pub mod Loaded
 pub mod Entered

@@ -1,19 +1,17 @@
 -- A load without a fault leaves a sound state.
 use Rattle.std.proofs.Common.{◌≡◌, ℕ, zero, suc, ◌*◌, ◌<◌, Bool, true, false, List, [], ◌∷◌, length, map, get_or, replicate, refl, sym, subst, ◌∙◌, ap, arith}
-use Rattle.std.specs.Prelude.{Option, Some, None, position, find, option_and_then, not, nat_lt, slice_get, ◌==◌, ◌&&◌}
-use Rattle.std.specs.Option.{option_map_or, option_or}
+use Rattle.std.specs.Prelude.{Option, Some, None, position, find, option_and_then, nat_lt, slice_get, ◌==◌, ◌&&◌}
+use Rattle.std.specs.Option.{option_map_or}
 use Rattle.std.specs.List.{sum_by, list_any, position_or_len}
-use Rattle.std.proofs.lemmas.Bool.{and_parts, or_parts, eqb-true, ltb-true, leb-true, lt-leb}
+use Rattle.std.proofs.lemmas.Bool.{and_parts, or_parts, eqb-true, ltb-true, lt-leb}
 use Rattle.std.proofs.lemmas.List.{length-replicate}
 use Rattle.std.proofs.lemmas.List.Folds.{find_at, sum_by-replicate}
 use Rattle.std.proofs.lemmas.Option.{none-some, same_Some, cond_some, slice_get_within, get_or_from_slice_get}
 use Rattle.street_base.specs.declared.net.LinkSpec.{LinkSpec}
 use Rattle.street_base.specs.declared.net.TurnSpec.{TurnSpec}
 use Rattle.street_base.specs.declared.net.NetSpec.{NetSpec}
-use Rattle.street_base.specs.declared.command.Part.{Part}
-use Rattle.street_base.specs.declared.command.Part.TheVariants.{Nodes, Links, Turns, Values}
 use Rattle.street_base.specs.Network.{Place, is_place, link_of, link_at, names_link, turn, places}
-use Rattle.street_base.specs.Faults.{is_within, is_bad_link, link_with, joins, is_bad_turn, in_part, nodes_fault, links_fault, turns_fault, values_fault, network_fault}
+use Rattle.street_base.specs.Faults.{link_with, joins, is_bad_turn, turns_fault, network_fault}
 use Rattle.street_base.specs.Vehicle.{next_link}
 use Rattle.street_base.specs.State.{LaneState}
 use Rattle.street_base.specs.Machine.{empty_lane, empty_lanes, loaded}
@@ -22,36 +20,8 @@ use Rattle.street_base.specs.Census.{in_lane, in_lanes, one_if, sizes, IsSound}
 use Rattle.street_base.proofs.Releasing.{sums-zero, find-holds}
 use Rattle.street_base.proofs.Tables.{sums-map}
 use Rattle.street_base.proofs.FirstBad.{first_bad-none}
+use Rattle.street_base.proofs.Faultless.{not-false, turns-good, good_link}
 use Rattle.street_base.proofs.Listed.{places-listed}
-
--- ---- no part has a fault
-
-neither : {A : Type 0} (a b : Option A) → option_or a b ≡ None → (a ≡ None) × (b ≡ None)
-neither None b e = (refl, e)
-neither (Some x) b e = absurd (none-some x (sym e))
-
-in_part-none : (part : Part) (o : Option ℕ) → in_part part o ≡ None → o ≡ None
-in_part-none part None e = refl
-in_part-none part (Some at) e = absurd (none-some (record { part = part; at = at }) (sym e))
-
-no_faults : (net : NetSpec) → network_fault net ≡ None → (links_fault net ≡ None) × (turns_fault net ≡ None)
-unfolding network_fault
-no_faults net none =
-    let past_nodes = neither (in_part Nodes (nodes_fault net)) (option_or (in_part Links (links_fault net)) (option_or (in_part Turns (turns_fault net)) (in_part Values (values_fault net)))) none in
-    let past_links = neither (in_part Links (links_fault net)) (option_or (in_part Turns (turns_fault net)) (in_part Values (values_fault net))) past_nodes.1 in
-    let past_turns = neither (in_part Turns (turns_fault net)) (in_part Values (values_fault net)) past_links.1 in
-    (in_part-none Links (links_fault net) past_links.0, in_part-none Turns (turns_fault net) past_turns.0)
-
--- ---- links
-
-not-false : (b : Bool) → not b ≡ false → b ≡ true
-not-false true e = refl
-not-false false e = sym e
-
-good-link : (net : NetSpec) (at : ℕ) (link : LinkSpec) → is_bad_link net at link ≡ false → 0 < link.length
-good-link net at link good =
-    let long = or_parts _ _ (or_parts _ _ good).0 in
-    leb-true 1 link.length (and_parts _ _ (not-false (is_within 1 1000 link.length) long.1)).0
 
 -- ---- turns
 
@@ -121,14 +91,11 @@ unfolding loaded
 loaded-sound net none = record {
   formed = record {
     lanes = loaded-sizes net.links;
-    cells = λ link within. good-link net link (link_at net link) (first_bad-none (is_bad_link net) net.links faults.0 link _ within);
-    turns = λ from to v e. exit-leads net faults.1 from to (next_link v) e;
+    cells = λ link within. (good_link net none link within).some_cells;
+    turns = λ from to v e. exit-leads net (turns-good net none) from to (next_link v) e;
   };
   whole = λ number. omega (arith, nobody number net.links, not_given number);
 }
   where
     not_given : (number : ℕ) → one_if (nat_lt number 0) ≡ 0
     not_given number = ap one_if (lt-leb (suc number) 0 (omega arith))
-
-    faults : (links_fault net ≡ None) × (turns_fault net ≡ None)
-    faults = no_faults net none

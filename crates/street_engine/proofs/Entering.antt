@@ -17,7 +17,7 @@ use Rattle.street_base.specs.Machine.{empty_lane, empty_lanes, loaded, plan_link
 use Rattle.street_engine.specs.Simple.{one_lane, place_of, traffic_of, IsSimple, IsSimpleTraffic}
 use Rattle.street_engine.proofs.OneLane.{each_from, each_lane-one, each_from-one}
 use Rattle.street_engine.proofs.Simplicity.{empty-simple, waiting-simple}
-use Rattle.street_engine.proofs.Faultless.{good_link, good_start}
+use Rattle.street_base.proofs.Faultless.{good_link, good_start}
 
 -- ---- loads
 

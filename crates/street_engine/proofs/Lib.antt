@@ -6,7 +6,6 @@ pub mod Agree
 pub mod Arrivals
 pub mod OneLane
 pub mod Simplicity
-pub mod Faultless
 pub mod Writing
 pub mod Stepping
 pub mod Seeing

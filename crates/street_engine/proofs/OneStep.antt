@@ -25,7 +25,7 @@ use Rattle.street_engine.specs.Simple.{steady, moved_lane, moved_road, gone_from
 use Rattle.street_engine.proofs.Agree.{DrivesAlike, motion-agrees, leaver-agrees}
 use Rattle.street_engine.proofs.OneLane.{each_from, each_lane-one, each_from-plain, each_from-range, zip-range, map-after, filter_map-after, map-agree, filter_map-agree, places-one, lane_at-one}
 use Rattle.street_engine.proofs.Simplicity.{leaver-last, moved-simple, departed-simple}
-use Rattle.street_engine.proofs.Faultless.{good_link, no_dawdling}
+use Rattle.street_base.proofs.Faultless.{good_link, no_dawdling}
 
 abbrev no_link : LinkSpec
 no_link = record { id = 0; from = 0; to = 0; lanes = 0; length = 0; limit = 0 }

@@ -7,7 +7,7 @@ use Rattle.street_base.specs.Network.{link_at}
 use Rattle.street_base.specs.State.{LaneState, Traffic}
 use Rattle.street_base.specs.Machine.{with_waiting, plan_links}
 use Rattle.street_engine.proofs.Entering.{waits_with, waiting_next, link-inside, entered-is, entered-simple, one-at-last}
-use Rattle.street_engine.proofs.Faultless.{good_link}
+use Rattle.street_base.proofs.Faultless.{good_link}
 use Rattle.street_engine.proofs.streets.Streets.enter.Goals as goal
 
 first : (c : goal.In-Ok) → c.position-link.result ≡ get_or c.args.plan 0 0

@@ -1,5 +1,5 @@
 use Rattle.street_engine.proofs.Seeing.{seen-one}
-use Rattle.street_engine.proofs.Faultless.{good_link}
+use Rattle.street_base.proofs.Faultless.{good_link}
 use Rattle.street_engine.proofs.streets.Streets.find.Goals as goal
 
 pub returns : goal.returns

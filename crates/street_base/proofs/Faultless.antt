@@ -1,14 +1,16 @@
 -- What a network without a fault keeps.
-use Rattle.std.proofs.Common.{◌≡◌, ℕ, ◌<◌, ◌≤◌, Bool, true, false, length, refl, arith}
-use Rattle.std.specs.Prelude.{Option, Some, None, [], ◌∷◌, position, not, nat_le, ◌&&◌}
+use Rattle.std.proofs.Common.{◌≡◌, ℕ, ◌<◌, ◌≤◌, Bool, true, false, length, refl, sym, arith}
+use Rattle.std.specs.Prelude.{Option, Some, None, [], ◌∷◌, position, not}
 use Rattle.std.specs.Option.{option_or}
-use Rattle.std.proofs.lemmas.Bool.{or_parts, ltb-false, leb-true}
+use Rattle.std.proofs.lemmas.Bool.{and_parts, or_parts, ltb-false, leb-true}
 use Rattle.street_base.specs.declared.net.NetSpec.{NetSpec}
 use Rattle.street_base.specs.declared.command.Part.{Part}
 use Rattle.street_base.specs.declared.command.Part.TheVariants.{Nodes, Links, Turns, Values}
 use Rattle.street_base.specs.Network.{link_at}
 use Rattle.street_base.specs.Faults.{in_part, is_within, is_bad_link, links_fault, nodes_fault, turns_fault, values_fault, network_fault}
 use Rattle.street_base.proofs.FirstBad.{first_bad-none}
+
+-- ---- no part has a fault
 
 or-none : {A : Type 0} (a b : Option A) → option_or a b ≡ None → (a ≡ None) × (b ≡ None)
 or-none None b e = (refl, e)
@@ -18,13 +20,14 @@ in_part-none : (part : Part) (o : Option ℕ) → in_part part o ≡ None → o 
 in_part-none part None e = refl
 in_part-none part (Some at) e = cc
 
+pub not-false : (b : Bool) → not b ≡ false → b ≡ true
+not-false true e = refl
+not-false false e = sym e
+
 within-parts : (low high n : ℕ) → not (is_within low high n) ≡ false → (low ≤ n) × (n ≤ high)
-within-parts low high n e = both (nat_le low n) (nat_le n high) refl refl e
-  where
-    both : (a b : Bool) → nat_le low n ≡ a → nat_le n high ≡ b → not (a && b) ≡ false → (low ≤ n) × (n ≤ high)
-    both true true f g h = (leb-true _ _ f, leb-true _ _ g)
-    both true false f g h = cc
-    both false b f g h = cc
+within-parts low high n e =
+    let both = and_parts _ _ (not-false (is_within low high n) e) in
+    (leb-true low n both.0, leb-true n high both.1)
 
 one : (n : ℕ) → 1 ≤ n → n ≤ 1 → n ≡ 1
 one n low high = omega arith
@@ -36,6 +39,10 @@ module _ (net : NetSpec) (faultless : network_fault net ≡ None) where
   links-good : links_fault net ≡ None
   unfolding network_fault
   links-good = in_part-none Links (links_fault net) (or-none (in_part Links (links_fault net)) _ (or-none (in_part Nodes (nodes_fault net)) _ faultless).1).0
+
+  pub turns-good : turns_fault net ≡ None
+  unfolding network_fault
+  turns-good = in_part-none Turns (turns_fault net) (or-none (in_part Turns (turns_fault net)) _ (or-none (in_part Links (links_fault net)) _ (or-none (in_part Nodes (nodes_fault net)) _ faultless).1).1).0
 
   values-good : values_fault net ≡ None
   unfolding network_fault
