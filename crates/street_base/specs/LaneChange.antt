@@ -35,7 +35,7 @@ module _ (weave : Weave) (lane : ℕ) (own other : Track) where
       then option_map_or (λ next. zone_wish (weave.serves lane next) (weave.serves (1 - lane) next) (is_slow x v)) (next_link v) (is_slow x v)
       else is_slow x v
 
-  -- there is more room ahead on the other lane, and nobody close behind
+  -- the gap ahead on the other lane is long enough to speed up, and nobody is close behind there
   abbrev pub is_safe : ℕ → Vehicle → Bool
   is_safe x v = nat_lt (v.speed + 1) (free_ahead other x) && nat_lt 5 (free_behind other x)
 
