@@ -1,5 +1,5 @@
 //! Reply lines, and how they go out.
-ghost use Rattle.std.specs.Prelude.{◌≡◌, ◌<◌, ◌+◌, ◌^◌, IfOk, OnOk, IfErr, length, take};
+ghost use Rattle.std.specs.Prelude.{◌≡◌, ◌<◌, ◌+◌, ◌^◌, ℕ, IfOk, OnOk, OnErr, IfErr, length, take};
 ghost use Rattle.std.specs.Io.KnownBytes.{Appends};
 ghost use Rattle.street_line.specs.Printing.{line_of, error_data};
 ghost use Rattle.street_line.specs.Running.{fault_line, served_line};
@@ -71,6 +71,10 @@ pub(crate) fn write_reply<W: Write>(
     ensures written { OnOk result (Appends (W.contents writer.old) (W.contents writer.new) text.now) }
     ensures replies { OnOk result (tally.new.replies ≡ tally.old.replies + 1) }
     ensures bytes { OnOk result (tally.new.bytes ≡ tally.old.bytes + length text.now) }
+    ensures fault { OnErr result ((sent : ℕ) × (sent < length text.now)
+        × Appends (W.contents writer.old) (W.contents writer.new) (take sent text.now)
+        × (tally.new.bytes ≡ tally.old.bytes + sent)
+        × (tally.new.replies ≡ tally.old.replies)) }
     ensures lines { tally.new.lines ≡ tally.old.lines }
     ensures calls { tally.new.calls ≡ tally.old.calls }
 {
