@@ -3,7 +3,7 @@ use Rattle.std.proofs.Common.{◌≡◌, ℕ, ◌==◌, ◌+◌, ◌<◌, ◌≤
 use Rattle.std.proofs.lemmas.Bool.{ne_eqb}
 use Rattle.std.proofs.lemmas.List.{at_drop_more, take_more_set, take_all}
 use Rattle.std.proofs.Math.ListN.{set, drop_of_length-le}
-use Rattle.serde_json.specs.Data.{Data, no_items, item}
+use Rattle.serde_json.specs.Data.{Data}
 use Rattle.serde_json.specs.View.{view, items_view}
 use Rattle.serde_json.specs.declared.value.Value.{Value}
 use Rattle.street_line.specs.Reading.{entries_of, number_in}

@@ -1,5 +1,5 @@
 -- Lines served one after another.
-use Rattle.std.proofs.Common.{◌≡◌, ℕ, List, [], ◌∷◌, ◌++◌, ◌+◌, ◌<◌, take, length, Bool, true, false, ◌==◌, if◌then◌else◌, Option, Some, None, refl, sym, ap, ◌∙◌, subst, arith, append_assoc, append-nil}
+use Rattle.std.proofs.Common.{◌≡◌, ℕ, List, [], ◌∷◌, ◌++◌, ◌+◌, ◌<◌, take, length, Bool, true, false, ◌==◌, if◌then◌else◌, Option, refl, sym, ap, ◌∙◌, subst, arith, append_assoc, append-nil}
 use Rattle.std.proofs.lemmas.Bool.{ne_eqb}
 use Rattle.std.proofs.lemmas.List.{length-take}
 use Rattle.std.proofs.KnownBytes.{Appends-nil, Appends-trans, Consumes-trans}
@@ -9,7 +9,6 @@ use Rattle.street_line.specs.Reading.{longest_line}
 use Rattle.std.specs.Io.KnownBytes.{Appends, Consumes}
 use Rattle.street_base.specs.declared.command.Command.{Command}
 use Rattle.street_line.specs.declared.service.Served.{Served}
-use Rattle.street_line.specs.declared.part.PartialLine.{PartialLine}
 use Rattle.street_line.specs.declared.running.Progress.{Progress}
 use Rattle.street_line.specs.declared.tally.Tally.{Tally}
 use Rattle.street_line.specs.Running.{cut, onto_first, lines_of, if_any, said, Done, Goes, IsTally}

@@ -1,5 +1,5 @@
 -- What a tally counts, a line at a time.
-use Rattle.std.proofs.Common.{◌≡◌, ℕ, ◌+◌, List, [], ◌∷◌, ◌++◌, length, cond, sym, ap, ◌∙◌, length-append, arith}
+use Rattle.std.proofs.Common.{ℕ, ◌+◌, List, [], ◌∷◌, ◌++◌, length, cond, sym, ap, ◌∙◌, length-append, arith}
 use Rattle.std.proofs.lemmas.List.Sums.{sum_by_push}
 use Rattle.street_line.specs.declared.tally.Tally.{Tally}
 use Rattle.street_line.specs.Parts.{Counts, IsWithin}

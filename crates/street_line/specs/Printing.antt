@@ -2,7 +2,6 @@
 use Rattle.std.specs.Prelude.{ℕ, List, [], ◌∷◌, ◌++◌, true, codes}
 use Rattle.serde_json.specs.Data.{Data, boolean, number, unsigned, string, array, object, Items, no_items, item, Members, no_members, member}
 use Rattle.serde_json.specs.Written.{compact_text}
-use Rattle.street_base.specs.declared.command.End.{End}
 use Rattle.street_base.specs.declared.command.End.TheVariants.{Arrived, Taken}
 use Rattle.street_base.specs.declared.command.Refusal.{Refusal}
 use Rattle.street_base.specs.declared.command.Refusal.TheVariants.{BadNetwork, BadPlan}

@@ -1,4 +1,7 @@
 //! What a run counts, and how it may fail.
+ghost use Rattle.std.specs.Prelude.{◌≡◌};
+ghost use Rattle.street_line.specs.declared.tally.FaultKind.{FaultKind};
+ghost use Rattle.street_line.specs.declared.tally.FaultKind.TheVariants as kinds;
 
 use street_base::Starved;
 
@@ -38,6 +41,8 @@ pub struct RunFault {
 }
 
 impl From<Starved> for FaultKind {
+    ghost from_gives = { λ _ kind. kind ≡ kinds.Starved };
+
     fn from(_error: Starved) -> FaultKind {
         FaultKind::Starved
     }

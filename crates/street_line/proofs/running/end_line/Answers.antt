@@ -1,4 +1,4 @@
-use Rattle.std.proofs.Common.{◌≡◌, ◌∙◌, [], refl, sym, ap, arith, cond, ◌+◌}
+use Rattle.std.proofs.Common.{◌∙◌, [], refl, sym, arith}
 use Rattle.std.proofs.KnownBytes.{Appends-nil}
 use Rattle.street_line.proofs.Lines.{said_blank, said_kept, has_reply_said_by}
 use Rattle.street_line.proofs.running.end_line.Goals as goal

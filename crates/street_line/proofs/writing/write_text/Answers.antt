@@ -1,4 +1,3 @@
-use Rattle.std.proofs.Common.{take, drop, length, ◌-◌}
 use Rattle.std.proofs.KnownBytes.{Appends-trans}
 use Rattle.street_line.proofs.Sent.{next_part}
 use Rattle.street_line.proofs.writing.write_text.Goals as goal
