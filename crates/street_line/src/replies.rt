@@ -6,6 +6,8 @@ ghost use Rattle.street_base.specs.declared.command.Reply.TheVariants.{Rows, Lan
 ghost use Rattle.street_base.specs.declared.command.Whereabouts.TheVariants.{Cell, Buffer, Waiting};
 
 pub(crate) mod lists;
+#[cfg(test)]
+mod tests;
 
 use lists::{Printed, list_value};
 use serde_json::{Value, json};
@@ -31,8 +33,9 @@ fn refused(alloc: Global, refusal: Refusal) -> Result<Value, AllocError>
         Refusal::BadNetwork { part, at } => {
             json!(in alloc; {"at": at, "error": number, "name": name, "part": part.name()})
         }
-        Refusal::BadPlan { at } | Refusal::BadSignal { at } =>
-            json!(in alloc; {"at": at, "error": number, "name": name}),
+        Refusal::BadPlan { at } | Refusal::BadSignal { at } => {
+            json!(in alloc; {"at": at, "error": number, "name": name})
+        }
         _ => error_value(alloc, number, name),
     }
 }
