@@ -7,12 +7,13 @@ ghost use Rattle.street_base.specs.declared.command.Command.TheVariants.{Load, E
 ghost use Rattle.street_line.specs.CommandTexts.{node_data, link_data, turn_data, green_data, phase_data, stretch_order, command_data, text_of, Fits};
 ghost use Rattle.street_line.specs.Reading.{longest_line, reading};
 
+#[cfg(test)]
+mod tests;
+
 use crate::replies::lists::{Printed, list_value};
 use serde_json::{Value, json};
 use std::alloc::{AllocError, Global};
-use street_base::{
-    Command, GreenSpec, LinkSpec, NetSpec, NodeSpec, PhaseSpec, Starved, TurnSpec,
-};
+use street_base::{Command, GreenSpec, LinkSpec, NetSpec, NodeSpec, PhaseSpec, Starved, TurnSpec};
 
 impl Printed for NodeSpec {
     ghost prints = { node_data };
@@ -91,12 +92,7 @@ fn enter(alloc: Global, plan: &[u64], lane: u64, depart: u64) -> Result<Value, A
     json!(in alloc; {"cmd": "enter", "depart": depart, "lane": lane, "plan": plan})
 }
 
-fn signal(
-    alloc: Global,
-    node: u64,
-    offset: u64,
-    phases: &[PhaseSpec],
-) -> Result<Value, AllocError>
+fn signal(alloc: Global, node: u64, offset: u64, phases: &[PhaseSpec]) -> Result<Value, AllocError>
     ensures { IfOk result (λ v. view v ≡ command_data (Signal node offset phases.now)) }
 {
     let phases = list_value(alloc, phases)?;
@@ -147,7 +143,8 @@ fn command_value(alloc: Global, command: &Command) -> Result<Value, AllocError>
             lane,
             cell,
             period,
-        } => json!(in alloc; {"cell": *cell, "cmd": "meter", "lane": *lane, "link": *link, "period": *period}),
+        } =>
+            json!(in alloc; {"cell": *cell, "cmd": "meter", "lane": *lane, "link": *link, "period": *period}),
         Command::ReadMeter { meter } => json!(in alloc; {"cmd": "read", "meter": *meter}),
         Command::Vehicle { car } => json!(in alloc; {"car": *car, "cmd": "vehicle"}),
         Command::Lane { link, lane } => {

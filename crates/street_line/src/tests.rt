@@ -11,8 +11,16 @@ fn kind(read: &Result<Command, LineFault>) -> &'static str {
     match read {
         Ok(Command::Load(_)) => "load",
         Ok(Command::Enter { .. }) => "enter",
+        Ok(Command::Signal { .. }) => "signal",
         Ok(Command::Advance { .. }) => "advance",
+        Ok(Command::CloseLane { .. }) => "close",
+        Ok(Command::ReopenLane { .. }) => "reopen",
+        Ok(Command::TakeOut { .. }) => "takeout",
+        Ok(Command::PlaceMeter { .. }) => "meter",
+        Ok(Command::ReadMeter { .. }) => "read",
         Ok(Command::Vehicle { .. }) => "vehicle",
+        Ok(Command::Lane { .. }) => "lane",
+        Ok(Command::Count) => "count",
         Err(LineFault::LineTooLong) => "22",
         Err(LineFault::NotJson) => "20",
         Err(LineFault::BadCommand) => "21",
@@ -210,6 +218,123 @@ fn reads_the_fields_of_each_command(rt: HostRuntime) -> Result<(), Fail> {
     assert_eq!(rt; plan.as_slice(), [20, 10].as_slice());
     assert_eq!(rt; (lane, depart), (1, 3));
     Ok(())
+}
+
+#[test]
+fn reads_the_fields_of_each_order(rt: HostRuntime) -> Result<(), Fail> {
+    let line = b"{\"cmd\":\"close\",\"link\":10,\"lane\":1,\"first\":3,\"last\":7}";
+    let Command::CloseLane {
+        link,
+        lane,
+        first,
+        last,
+    } = read_command(rt.alloc(), line)?
+    else {
+        return Err("no close")?;
+    };
+    assert_eq!(rt; (link, lane, first, last), (10, 1, 3, 7));
+    let line = b"{\"cmd\":\"reopen\",\"link\":10,\"lane\":1,\"first\":3,\"last\":7}";
+    let Command::ReopenLane {
+        link,
+        lane,
+        first,
+        last,
+    } = read_command(rt.alloc(), line)?
+    else {
+        return Err("no reopen")?;
+    };
+    assert_eq!(rt; (link, lane, first, last), (10, 1, 3, 7));
+    let line = b"{\"cmd\":\"meter\",\"link\":10,\"lane\":1,\"cell\":4,\"period\":60}";
+    let Command::PlaceMeter {
+        link,
+        lane,
+        cell,
+        period,
+    } = read_command(rt.alloc(), line)?
+    else {
+        return Err("no meter")?;
+    };
+    assert_eq!(rt; (link, lane, cell, period), (10, 1, 4, 60));
+    let line = b"{\"cmd\":\"lane\",\"link\":10,\"lane\":1}";
+    let Command::Lane { link, lane } = read_command(rt.alloc(), line)? else {
+        return Err("no lane")?;
+    };
+    assert_eq!(rt; (link, lane), (10, 1));
+    Ok(())
+}
+
+#[test]
+fn reads_the_phases_of_a_signal(rt: HostRuntime) -> Result<(), Fail> {
+    let line =
+        b"{\"cmd\":\"signal\",\"node\":2,\"offset\":6,\"phases\":[[8,[[10,0,20],[11,1,21]]],[2,[]]]}";
+    let Command::Signal {
+        node,
+        offset,
+        phases,
+    } = read_command(rt.alloc(), line)?
+    else {
+        return Err("no signal")?;
+    };
+    assert_eq!(rt; (node, offset), (2, 6));
+    let phases = phases.as_slice();
+    assert_eq!(rt; phases.len(), 2);
+    assert_eq!(rt; (phases[0].duration, phases[1].duration), (8, 2));
+    let greens = phases[0].greens.as_slice();
+    assert_eq!(rt; greens.len(), 2);
+    assert_eq!(rt;
+        (greens[1].link, greens[1].lane, greens[1].next),
+        (11, 1, 21)
+    );
+    assert!(rt; phases[1].greens.as_slice().is_empty());
+    Ok(())
+}
+
+#[test]
+fn each_command_has_its_name_and_all_its_fields(rt: HostRuntime) {
+    for (line, want) in [
+        (b"{\"cmd\":\"takeout\",\"car\":1}".as_slice(), "takeout"),
+        (b"{\"cmd\":\"read\",\"meter\":0}", "read"),
+        (b"{\"cmd\":\"count\"}", "count"),
+        (b"{\"cmd\":\"count\",\"x\":[1]}", "count"),
+        (b"{\"cmd\":\"takeout\",\"meter\":1}", "21"),
+        (b"{\"cmd\":\"take_out\",\"car\":1}", "21"),
+        (b"{\"cmd\":\"read\",\"car\":0}", "21"),
+        (b"{\"cmd\":\"lane\",\"lane\":0}", "21"),
+        (
+            b"{\"cmd\":\"close\",\"link\":10,\"lane\":0,\"first\":1}",
+            "21",
+        ),
+        (
+            b"{\"cmd\":\"meter\",\"link\":10,\"lane\":0,\"cell\":1,\"period\":-1}",
+            "21",
+        ),
+        (
+            b"{\"cmd\":\"signal\",\"node\":2,\"offset\":0,\"phases\":[]}",
+            "signal",
+        ),
+        (
+            b"{\"cmd\":\"signal\",\"node\":2,\"offset\":0,\"phases\":[[10]]}",
+            "21",
+        ),
+        (
+            b"{\"cmd\":\"signal\",\"node\":2,\"offset\":0,\"phases\":[[10,[],0]]}",
+            "21",
+        ),
+        (
+            b"{\"cmd\":\"signal\",\"node\":2,\"offset\":0,\"phases\":[10,[]]}",
+            "21",
+        ),
+        (
+            b"{\"cmd\":\"signal\",\"node\":2,\"offset\":0,\"phases\":[[10,[[1,0]]]]}",
+            "21",
+        ),
+        (
+            b"{\"cmd\":\"signal\",\"node\":2,\"offset\":0,\"phases\":[[10,[[1,0,2,0]]]]}",
+            "21",
+        ),
+    ] {
+        assert_eq!(rt; kind(&read_command(rt.alloc(), line)), want, "at {line:?}");
+    }
 }
 
 #[test]
