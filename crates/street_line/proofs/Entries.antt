@@ -6,7 +6,7 @@ use Rattle.std.proofs.Math.ListN.{set, drop_of_length-le}
 use Rattle.serde_json.specs.Data.{Data}
 use Rattle.serde_json.specs.View.{view, items_view}
 use Rattle.serde_json.specs.declared.value.Value.{Value}
-use Rattle.street_line.specs.Reading.{entries_of, number_in}
+use Rattle.street_line.specs.Reading.{entries_of, number_in, phase_from}
 
 -- found, and then what is read of the rest
 abbrev pub with_front : {T : Type 0} → List T → Option (List T) → Option (List T)
@@ -42,6 +42,13 @@ other_size n (Some zs) k h other = rw (h zs refl, ne_eqb k n other)
 -- a list of another length is no row
 pub no_row : (n : ℕ) (vs : List Value) → (length vs ≡ n → ⊥) → sized n (entries_of number_in (items_view vs)) ≡ None
 no_row n vs other = other_size n (entries_of number_in (items_view vs)) (length vs) (entries_length number_in vs) other
+
+-- a list of another length is no phase
+pub no_phase : (vs : List Value) → (length vs ≡ 2 → ⊥) → phase_from (items_view vs) ≡ None
+no_phase [] other = refl
+no_phase (a ∷ []) other = refl
+no_phase (a ∷ b ∷ []) other = absurd (other refl)
+no_phase (a ∷ b ∷ c ∷ vs) other = refl
 
 -- a number more is read
 pub one_more : (row : List ℕ) (vs : List Value) (i : ℕ) (d : Value) (x : ℕ) → i < length row → i < length vs → number_in (view (get_or vs i d)) ≡ Some x

@@ -7,7 +7,9 @@ use Rattle.serde_json.specs.Find.{get, as_number, as_u64, as_str, as_array}
 use Rattle.serde_json.specs.View.{view}
 use Rattle.serde_json.specs.declared.value.Value.{Value}
 use Rattle.street_base.specs.declared.command.Command.{Command}
-use Rattle.street_base.specs.declared.command.Command.TheVariants.{Load, Enter, Advance, Vehicle}
+use Rattle.street_base.specs.declared.command.Command.TheVariants.{Load, Enter, Signal, Advance, CloseLane, ReopenLane, TakeOut, PlaceMeter, ReadMeter, Vehicle, Lane, Count}
+use Rattle.street_base.specs.declared.command.GreenSpec.{GreenSpec}
+use Rattle.street_base.specs.declared.command.PhaseSpec.{PhaseSpec}
 use Rattle.street_base.specs.declared.net.NodeSpec.{NodeSpec}
 use Rattle.street_base.specs.declared.net.LinkSpec.{LinkSpec}
 use Rattle.street_base.specs.declared.net.TurnSpec.{TurnSpec}
@@ -53,6 +55,21 @@ turn_from _ = None
 unfoldable pub turn_in : Data → Option TurnSpec
 turn_in d = option_and_then turn_from (row_in 4 d)
 
+abbrev pub green_from : List ℕ → Option GreenSpec
+green_from (a ∷ b ∷ c ∷ []) = Some (record { link = a; lane = b; next = c })
+green_from _ = None
+
+unfoldable pub green_in : Data → Option GreenSpec
+green_in d = option_and_then green_from (row_in 3 d)
+
+-- a duration and a list of greens
+abbrev pub phase_from : Items → Option PhaseSpec
+phase_from (item d (item g no_items)) = option_and_then (λ duration. option_map (λ greens. record { duration = duration; greens = greens }) (list_in green_in g)) (number_in d)
+phase_from _ = None
+
+unfoldable pub phase_in : Data → Option PhaseSpec
+phase_in d = option_and_then phase_from (as_array d)
+
 -- ---- fields
 
 -- a field that is read by `entry`
@@ -83,19 +100,56 @@ enter_in d =
     option_and_then (λ plan. option_and_then (λ lane. option_map (λ depart. Enter plan lane depart)
     (field number_in (codes "depart") d)) (field number_in (codes "lane") d)) (field (list_in number_in) (codes "plan") d)
 
+unfoldable pub signal_in : Data → Option Command
+signal_in d =
+    option_and_then (λ node. option_and_then (λ offset. option_map (λ phases. Signal node offset phases)
+    (field (list_in phase_in) (codes "phases") d)) (field number_in (codes "offset") d)) (field number_in (codes "node") d)
+
 unfoldable pub advance_in : Data → Option Command
 advance_in d = option_map (λ steps. Advance steps) (field number_in (codes "steps") d)
 
+unfoldable pub close_in : Data → Option Command
+close_in d =
+    option_and_then (λ link. option_and_then (λ lane. option_and_then (λ first. option_map (λ last. CloseLane link lane first last)
+    (field number_in (codes "last") d)) (field number_in (codes "first") d)) (field number_in (codes "lane") d)) (field number_in (codes "link") d)
+
+unfoldable pub reopen_in : Data → Option Command
+reopen_in d =
+    option_and_then (λ link. option_and_then (λ lane. option_and_then (λ first. option_map (λ last. ReopenLane link lane first last)
+    (field number_in (codes "last") d)) (field number_in (codes "first") d)) (field number_in (codes "lane") d)) (field number_in (codes "link") d)
+
+unfoldable pub take_out_in : Data → Option Command
+take_out_in d = option_map (λ car. TakeOut car) (field number_in (codes "car") d)
+
+unfoldable pub place_meter_in : Data → Option Command
+place_meter_in d =
+    option_and_then (λ link. option_and_then (λ lane. option_and_then (λ cell. option_map (λ period. PlaceMeter link lane cell period)
+    (field number_in (codes "period") d)) (field number_in (codes "cell") d)) (field number_in (codes "lane") d)) (field number_in (codes "link") d)
+
+unfoldable pub read_meter_in : Data → Option Command
+read_meter_in d = option_map (λ meter. ReadMeter meter) (field number_in (codes "meter") d)
+
 unfoldable pub vehicle_in : Data → Option Command
 vehicle_in d = option_map (λ car. Vehicle car) (field number_in (codes "car") d)
+
+unfoldable pub lane_in : Data → Option Command
+lane_in d = option_and_then (λ link. option_map (λ lane. Lane link lane) (field number_in (codes "lane") d)) (field number_in (codes "link") d)
 
 -- the command that `cmd` names
 unfoldable pub named : List ℕ → Data → Option Command
 named name d =
     if bytes_eq name (codes "load") then load_in d else
+    (if bytes_eq name (codes "signal") then signal_in d else
     (if bytes_eq name (codes "enter") then enter_in d else
     (if bytes_eq name (codes "advance") then advance_in d else
-    (if bytes_eq name (codes "vehicle") then vehicle_in d else None)))
+    (if bytes_eq name (codes "close") then close_in d else
+    (if bytes_eq name (codes "reopen") then reopen_in d else
+    (if bytes_eq name (codes "takeout") then take_out_in d else
+    (if bytes_eq name (codes "meter") then place_meter_in d else
+    (if bytes_eq name (codes "read") then read_meter_in d else
+    (if bytes_eq name (codes "vehicle") then vehicle_in d else
+    (if bytes_eq name (codes "lane") then lane_in d else
+    (if bytes_eq name (codes "count") then Some Count else None)))))))))))
 
 unfoldable pub command_in : Data → Option Command
 command_in d = option_and_then (λ name. named name d) (field as_str (codes "cmd") d)

@@ -2,7 +2,7 @@
 ghost use Rattle.std.specs.Prelude.{◌≡◌, ◌⊎◌};
 ghost use Rattle.serde_json.specs.Errors.{IsMemory};
 ghost use Rattle.serde_json.specs.View.{view};
-ghost use Rattle.street_line.specs.Reading.{load_in, enter_in, advance_in, vehicle_in, command_in, or_fault, reading, value_of, Gives, GivesValue};
+ghost use Rattle.street_line.specs.Reading.{load_in, signal_in, enter_in, advance_in, close_in, reopen_in, take_out_in, place_meter_in, read_meter_in, vehicle_in, lane_in, command_in, or_fault, reading, value_of, Gives, GivesValue};
 
 use crate::fault::LineFault;
 use crate::reading::{field_of, number_or_zero};
@@ -37,6 +37,20 @@ fn load(alloc: Global, value: &Value) -> Result<Command, LineFault>
     }))
 }
 
+#[tactic(auto, unfolding(crate::specs::Reading::signal_in))]
+fn signal(alloc: Global, value: &Value) -> Result<Command, LineFault>
+    ensures { Gives result (or_fault LineFault.BadCommand (signal_in (view value.now))) }
+{
+    let node = field_of(alloc, value, "node")?;
+    let offset = field_of(alloc, value, "offset")?;
+    let phases = field_of(alloc, value, "phases")?;
+    Ok(Command::Signal {
+        node,
+        offset,
+        phases,
+    })
+}
+
 #[tactic(auto, unfolding(crate::specs::Reading::enter_in))]
 fn enter(alloc: Global, value: &Value) -> Result<Command, LineFault>
     ensures { Gives result (or_fault LineFault.BadCommand (enter_in (view value.now))) }
@@ -55,12 +69,85 @@ fn advance(alloc: Global, value: &Value) -> Result<Command, LineFault>
     Ok(Command::Advance { steps })
 }
 
+#[tactic(auto, unfolding(crate::specs::Reading::close_in))]
+fn close(alloc: Global, value: &Value) -> Result<Command, LineFault>
+    ensures { Gives result (or_fault LineFault.BadCommand (close_in (view value.now))) }
+{
+    let link = field_of(alloc, value, "link")?;
+    let lane = field_of(alloc, value, "lane")?;
+    let first = field_of(alloc, value, "first")?;
+    let last = field_of(alloc, value, "last")?;
+    Ok(Command::CloseLane {
+        link,
+        lane,
+        first,
+        last,
+    })
+}
+
+#[tactic(auto, unfolding(crate::specs::Reading::reopen_in))]
+fn reopen(alloc: Global, value: &Value) -> Result<Command, LineFault>
+    ensures { Gives result (or_fault LineFault.BadCommand (reopen_in (view value.now))) }
+{
+    let link = field_of(alloc, value, "link")?;
+    let lane = field_of(alloc, value, "lane")?;
+    let first = field_of(alloc, value, "first")?;
+    let last = field_of(alloc, value, "last")?;
+    Ok(Command::ReopenLane {
+        link,
+        lane,
+        first,
+        last,
+    })
+}
+
+#[tactic(auto, unfolding(crate::specs::Reading::take_out_in))]
+fn take_out(alloc: Global, value: &Value) -> Result<Command, LineFault>
+    ensures { Gives result (or_fault LineFault.BadCommand (take_out_in (view value.now))) }
+{
+    let car = field_of(alloc, value, "car")?;
+    Ok(Command::TakeOut { car })
+}
+
+#[tactic(auto, unfolding(crate::specs::Reading::place_meter_in))]
+fn place_meter(alloc: Global, value: &Value) -> Result<Command, LineFault>
+    ensures { Gives result (or_fault LineFault.BadCommand (place_meter_in (view value.now))) }
+{
+    let link = field_of(alloc, value, "link")?;
+    let lane = field_of(alloc, value, "lane")?;
+    let cell = field_of(alloc, value, "cell")?;
+    let period = field_of(alloc, value, "period")?;
+    Ok(Command::PlaceMeter {
+        link,
+        lane,
+        cell,
+        period,
+    })
+}
+
+#[tactic(auto, unfolding(crate::specs::Reading::read_meter_in))]
+fn read_meter(alloc: Global, value: &Value) -> Result<Command, LineFault>
+    ensures { Gives result (or_fault LineFault.BadCommand (read_meter_in (view value.now))) }
+{
+    let meter = field_of(alloc, value, "meter")?;
+    Ok(Command::ReadMeter { meter })
+}
+
 #[tactic(auto, unfolding(crate::specs::Reading::vehicle_in))]
 fn vehicle(alloc: Global, value: &Value) -> Result<Command, LineFault>
     ensures { Gives result (or_fault LineFault.BadCommand (vehicle_in (view value.now))) }
 {
     let car = field_of(alloc, value, "car")?;
     Ok(Command::Vehicle { car })
+}
+
+#[tactic(auto, unfolding(crate::specs::Reading::lane_in))]
+fn lane(alloc: Global, value: &Value) -> Result<Command, LineFault>
+    ensures { Gives result (or_fault LineFault.BadCommand (lane_in (view value.now))) }
+{
+    let link = field_of(alloc, value, "link")?;
+    let lane = field_of(alloc, value, "lane")?;
+    Ok(Command::Lane { link, lane })
 }
 
 #[tactic(auto, unfolding(crate::specs::Reading::named, crate::specs::Reading::command_in))]
@@ -73,9 +160,17 @@ fn command(alloc: Global, value: &Value) -> Result<Command, LineFault>
         .ok_or(LineFault::BadCommand)?;
     match name {
         "load" => load(alloc, value),
+        "signal" => signal(alloc, value),
         "enter" => enter(alloc, value),
         "advance" => advance(alloc, value),
+        "close" => close(alloc, value),
+        "reopen" => reopen(alloc, value),
+        "takeout" => take_out(alloc, value),
+        "meter" => place_meter(alloc, value),
+        "read" => read_meter(alloc, value),
         "vehicle" => vehicle(alloc, value),
+        "lane" => lane(alloc, value),
+        "count" => Ok(Command::Count),
         _ => Err(LineFault::BadCommand),
     }
 }

@@ -2,12 +2,12 @@
 ghost use Rattle.std.specs.Prelude.{◌≡◌, Option};
 ghost use Rattle.serde_json.specs.Data.{Data};
 ghost use Rattle.serde_json.specs.View.{view};
-ghost use Rattle.street_line.specs.Reading.{number_in, list_in, row_in, node_in, link_in, turn_in, field, number_or_zero, or_fault, Gives};
+ghost use Rattle.street_line.specs.Reading.{number_in, list_in, row_in, node_in, link_in, turn_in, green_in, phase_in, field, number_or_zero, or_fault, Gives};
 
 use crate::fault::LineFault;
 use serde_json::Value;
 use std::alloc::Global;
-use street_base::{LinkSpec, Listing, NodeSpec, TurnSpec};
+use street_base::{GreenSpec, LinkSpec, Listing, NodeSpec, PhaseSpec, TurnSpec};
 
 /// What stands at a place of a value.
 pub(crate) trait Entry {
@@ -100,6 +100,31 @@ impl Entry for TurnSpec {
             next,
             next_lane,
         })
+    }
+}
+
+#[tactic(auto, unfolding(crate::specs::Reading::green_in))]
+impl Entry for GreenSpec {
+    ghost entry = { green_in };
+
+    fn of_value(_alloc: Global, value: &Value) -> Result<GreenSpec, LineFault> {
+        let [link, lane, next] = row::<3>(value).ok_or(LineFault::BadCommand)?;
+        Ok(GreenSpec { link, lane, next })
+    }
+}
+
+#[tactic(auto, unfolding(crate::specs::Reading::phase_in))]
+impl Entry for PhaseSpec {
+    ghost entry = { phase_in };
+
+    fn of_value(alloc: Global, value: &Value) -> Result<PhaseSpec, LineFault> {
+        let list = value.as_array().ok_or(LineFault::BadCommand)?;
+        if list.len() != 2 {
+            return Err(LineFault::BadCommand);
+        }
+        let duration = list[0].as_u64().ok_or(LineFault::BadCommand)?;
+        let greens = Listing::of_value(alloc, &list[1])?;
+        Ok(PhaseSpec { duration, greens })
     }
 }
 

@@ -1,24 +1,21 @@
 //! From a reply to its line.
 ghost use Rattle.std.specs.Prelude.{◌≡◌, IfOk, Ok};
-ghost use Rattle.serde_json.specs.Data.{array};
 ghost use Rattle.serde_json.specs.View.{view};
-ghost use Rattle.street_line.specs.Printing.{numbers, error_data, refused_data, ended_data, vehicle_data, reply_data, reply_line};
+ghost use Rattle.street_line.specs.Printing.{error_data, refused_data, ended_data, vehicle_data, reply_data, reply_line};
+ghost use Rattle.street_base.specs.declared.command.Reply.TheVariants.{Rows, Lane, Census};
 ghost use Rattle.street_base.specs.declared.command.Whereabouts.TheVariants.{Cell, Buffer, Waiting};
 
+pub(crate) mod lists;
+#[cfg(test)]
+mod tests;
+
+use lists::{Printed, list_value};
 use serde_json::{Value, json};
 use std::alloc::{AllocError, Global};
-use street_base::{End, Refusal, Reply, Starved, Whereabouts};
-
-#[tactic(auto, using(crate::proofs::Items::one_more_number, crate::proofs::Items::before_end))]
-fn numbers_value(alloc: Global, list: &[u64]) -> Result<Value, AllocError>
-    ensures { IfOk result (λ v. view v ≡ array (numbers list.now)) }
-{
-    let mut items = Vec::new(alloc);
-    for n in list {
-        items.push(Value::from(*n))?;
-    }
-    Ok(Value::Array(items))
-}
+use street_base::{
+    BufferEntry, CellEntry, End, Listing, MeterRow, Refusal, Reply, RunningRow, Starved, Stretch,
+    WaitingEntry, Whereabouts,
+};
 
 /// A refusal or a line fault that has no place.
 pub(crate) fn error_value(alloc: Global, number: u64, name: &str) -> Result<Value, AllocError>
@@ -36,7 +33,9 @@ fn refused(alloc: Global, refusal: Refusal) -> Result<Value, AllocError>
         Refusal::BadNetwork { part, at } => {
             json!(in alloc; {"at": at, "error": number, "name": name, "part": part.name()})
         }
-        Refusal::BadPlan { at } => json!(in alloc; {"at": at, "error": number, "name": name}),
+        Refusal::BadPlan { at } | Refusal::BadSignal { at } => {
+            json!(in alloc; {"at": at, "error": number, "name": name})
+        }
         _ => error_value(alloc, number, name),
     }
 }
@@ -52,7 +51,7 @@ fn in_cell(
 ) -> Result<Value, AllocError>
     ensures { IfOk result (λ v. view v ≡ vehicle_data car (Cell link lane cell speed plan.now)) }
 {
-    let plan = numbers_value(alloc, plan)?;
+    let plan = list_value(alloc, plan)?;
     json!(in alloc; {"car": car, "cell": cell, "lane": lane, "link": link, "plan": plan, "speed": speed, "state": "cell"})
 }
 
@@ -67,7 +66,7 @@ fn in_buffer(
 ) -> Result<Value, AllocError>
     ensures { IfOk result (λ v. view v ≡ vehicle_data car (Buffer link lane ready speed plan.now)) }
 {
-    let plan = numbers_value(alloc, plan)?;
+    let plan = list_value(alloc, plan)?;
     json!(in alloc; {"car": car, "lane": lane, "link": link, "plan": plan, "ready": ready, "speed": speed, "state": "buffer"})
 }
 
@@ -81,7 +80,7 @@ fn waiting(
 ) -> Result<Value, AllocError>
     ensures { IfOk result (λ v. view v ≡ vehicle_data car (Waiting link lane depart plan.now)) }
 {
-    let plan = numbers_value(alloc, plan)?;
+    let plan = list_value(alloc, plan)?;
     json!(in alloc; {"car": car, "depart": depart, "lane": lane, "link": link, "plan": plan, "state": "waiting"})
 }
 
@@ -120,6 +119,53 @@ fn vehicle(alloc: Global, car: u64, whereabouts: &Whereabouts) -> Result<Value, 
     }
 }
 
+fn rows(alloc: Global, now: &RunningRow, rows: &Listing<MeterRow>) -> Result<Value, AllocError>
+    ensures { IfOk result (λ v. view v ≡ reply_data (Rows now.now rows.now)) }
+{
+    let now = now.to_value(alloc)?;
+    let rows = list_value(alloc, rows.as_slice())?;
+    json!(in alloc; {"now": now, "rows": rows})
+}
+
+fn lane(
+    alloc: Global,
+    buffer: &Listing<BufferEntry>,
+    cells: &Listing<CellEntry>,
+    closed: &Listing<Stretch>,
+    waiting: &Listing<WaitingEntry>,
+) -> Result<Value, AllocError>
+    ensures { IfOk result (λ v. view v ≡ reply_data (Lane buffer.now cells.now closed.now waiting.now)) }
+{
+    let buffer = list_value(alloc, buffer.as_slice())?;
+    let cells = list_value(alloc, cells.as_slice())?;
+    let closed = list_value(alloc, closed.as_slice())?;
+    let waiting = list_value(alloc, waiting.as_slice())?;
+    json!(in alloc; {"buffer": buffer, "cells": cells, "closed": closed, "waiting": waiting})
+}
+
+fn census(
+    alloc: Global,
+    admitted: u64,
+    arrived: u64,
+    buffers: u64,
+    cells: u64,
+    clock: u64,
+    taken: u64,
+    waiting: u64,
+) -> Result<Value, AllocError>
+    ensures { IfOk result (λ v. view v ≡ reply_data (Census admitted arrived buffers cells clock taken waiting)) }
+{
+    json!(in alloc; {
+        "admitted": admitted,
+        "arrived": arrived,
+        "buffers": buffers,
+        "cells": cells,
+        "clock": clock,
+        "taken": taken,
+        "waiting": waiting,
+    })
+}
+
 fn reply_value(alloc: Global, reply: &Reply) -> Result<Value, AllocError>
     ensures { IfOk result (λ v. view v ≡ reply_data reply.now) }
 {
@@ -129,10 +175,32 @@ fn reply_value(alloc: Global, reply: &Reply) -> Result<Value, AllocError>
             nodes,
             turns,
         } => json!(in alloc; {"links": *links, "nodes": *nodes, "turns": *turns}),
+        Reply::Signalled { cycle } => json!(in alloc; {"cycle": *cycle}),
         Reply::Entered { car } => json!(in alloc; {"car": *car}),
         Reply::Clock { clock } => json!(in alloc; {"clock": *clock}),
         Reply::Short { clock, short } => json!(in alloc; {"clock": *clock, "short": *short}),
+        Reply::Closed { closed } => json!(in alloc; {"closed": *closed}),
+        Reply::Taken { taken } => json!(in alloc; {"taken": *taken}),
+        Reply::Placed { meter } => json!(in alloc; {"meter": *meter}),
+        Reply::Rows { now, rows: list } => rows(alloc, now, list),
         Reply::Vehicle { car, whereabouts } => vehicle(alloc, *car, whereabouts),
+        Reply::Lane {
+            buffer,
+            cells,
+            closed,
+            waiting,
+        } => lane(alloc, buffer, cells, closed, waiting),
+        Reply::Census {
+            admitted,
+            arrived,
+            buffers,
+            cells,
+            clock,
+            taken,
+            waiting,
+        } => census(
+            alloc, *admitted, *arrived, *buffers, *cells, *clock, *taken, *waiting,
+        ),
         Reply::Refused(refusal) => refused(alloc, *refusal),
         Reply::Starved => json!(in alloc; {"starved": true}),
     }

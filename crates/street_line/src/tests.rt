@@ -1,18 +1,26 @@
-use crate::{FaultKind, LineFault, Served, Service, Tally, read_command, reply_text, run_lines};
+use crate::{FaultKind, LineFault, Served, Service, Tally, read_command, run_lines};
 use std::alloc::Global;
 use std::io;
 use std::io::{Read, Write};
 use std::process::Abort;
 use std::test::Fail;
-use street_base::{Command, End, Listing, Part, Refusal, Reply, Whereabouts};
+use street_base::{Command, Reply};
 
 /// The name of a command or of a fault.
 fn kind(read: &Result<Command, LineFault>) -> &'static str {
     match read {
         Ok(Command::Load(_)) => "load",
         Ok(Command::Enter { .. }) => "enter",
+        Ok(Command::Signal { .. }) => "signal",
         Ok(Command::Advance { .. }) => "advance",
+        Ok(Command::CloseLane { .. }) => "close",
+        Ok(Command::ReopenLane { .. }) => "reopen",
+        Ok(Command::TakeOut { .. }) => "takeout",
+        Ok(Command::PlaceMeter { .. }) => "meter",
+        Ok(Command::ReadMeter { .. }) => "read",
         Ok(Command::Vehicle { .. }) => "vehicle",
+        Ok(Command::Lane { .. }) => "lane",
+        Ok(Command::Count) => "count",
         Err(LineFault::LineTooLong) => "22",
         Err(LineFault::NotJson) => "20",
         Err(LineFault::BadCommand) => "21",
@@ -213,6 +221,123 @@ fn reads_the_fields_of_each_command(rt: HostRuntime) -> Result<(), Fail> {
 }
 
 #[test]
+fn reads_the_fields_of_each_order(rt: HostRuntime) -> Result<(), Fail> {
+    let line = b"{\"cmd\":\"close\",\"link\":10,\"lane\":1,\"first\":3,\"last\":7}";
+    let Command::CloseLane {
+        link,
+        lane,
+        first,
+        last,
+    } = read_command(rt.alloc(), line)?
+    else {
+        return Err("no close")?;
+    };
+    assert_eq!(rt; (link, lane, first, last), (10, 1, 3, 7));
+    let line = b"{\"cmd\":\"reopen\",\"link\":10,\"lane\":1,\"first\":3,\"last\":7}";
+    let Command::ReopenLane {
+        link,
+        lane,
+        first,
+        last,
+    } = read_command(rt.alloc(), line)?
+    else {
+        return Err("no reopen")?;
+    };
+    assert_eq!(rt; (link, lane, first, last), (10, 1, 3, 7));
+    let line = b"{\"cmd\":\"meter\",\"link\":10,\"lane\":1,\"cell\":4,\"period\":60}";
+    let Command::PlaceMeter {
+        link,
+        lane,
+        cell,
+        period,
+    } = read_command(rt.alloc(), line)?
+    else {
+        return Err("no meter")?;
+    };
+    assert_eq!(rt; (link, lane, cell, period), (10, 1, 4, 60));
+    let line = b"{\"cmd\":\"lane\",\"link\":10,\"lane\":1}";
+    let Command::Lane { link, lane } = read_command(rt.alloc(), line)? else {
+        return Err("no lane")?;
+    };
+    assert_eq!(rt; (link, lane), (10, 1));
+    Ok(())
+}
+
+#[test]
+fn reads_the_phases_of_a_signal(rt: HostRuntime) -> Result<(), Fail> {
+    let line =
+        b"{\"cmd\":\"signal\",\"node\":2,\"offset\":6,\"phases\":[[8,[[10,0,20],[11,1,21]]],[2,[]]]}";
+    let Command::Signal {
+        node,
+        offset,
+        phases,
+    } = read_command(rt.alloc(), line)?
+    else {
+        return Err("no signal")?;
+    };
+    assert_eq!(rt; (node, offset), (2, 6));
+    let phases = phases.as_slice();
+    assert_eq!(rt; phases.len(), 2);
+    assert_eq!(rt; (phases[0].duration, phases[1].duration), (8, 2));
+    let greens = phases[0].greens.as_slice();
+    assert_eq!(rt; greens.len(), 2);
+    assert_eq!(rt;
+        (greens[1].link, greens[1].lane, greens[1].next),
+        (11, 1, 21)
+    );
+    assert!(rt; phases[1].greens.as_slice().is_empty());
+    Ok(())
+}
+
+#[test]
+fn each_command_has_its_name_and_all_its_fields(rt: HostRuntime) {
+    for (line, want) in [
+        (b"{\"cmd\":\"takeout\",\"car\":1}".as_slice(), "takeout"),
+        (b"{\"cmd\":\"read\",\"meter\":0}", "read"),
+        (b"{\"cmd\":\"count\"}", "count"),
+        (b"{\"cmd\":\"count\",\"x\":[1]}", "count"),
+        (b"{\"cmd\":\"takeout\",\"meter\":1}", "21"),
+        (b"{\"cmd\":\"take_out\",\"car\":1}", "21"),
+        (b"{\"cmd\":\"read\",\"car\":0}", "21"),
+        (b"{\"cmd\":\"lane\",\"lane\":0}", "21"),
+        (
+            b"{\"cmd\":\"close\",\"link\":10,\"lane\":0,\"first\":1}",
+            "21",
+        ),
+        (
+            b"{\"cmd\":\"meter\",\"link\":10,\"lane\":0,\"cell\":1,\"period\":-1}",
+            "21",
+        ),
+        (
+            b"{\"cmd\":\"signal\",\"node\":2,\"offset\":0,\"phases\":[]}",
+            "signal",
+        ),
+        (
+            b"{\"cmd\":\"signal\",\"node\":2,\"offset\":0,\"phases\":[[10]]}",
+            "21",
+        ),
+        (
+            b"{\"cmd\":\"signal\",\"node\":2,\"offset\":0,\"phases\":[[10,[],0]]}",
+            "21",
+        ),
+        (
+            b"{\"cmd\":\"signal\",\"node\":2,\"offset\":0,\"phases\":[10,[]]}",
+            "21",
+        ),
+        (
+            b"{\"cmd\":\"signal\",\"node\":2,\"offset\":0,\"phases\":[[10,[[1,0]]]]}",
+            "21",
+        ),
+        (
+            b"{\"cmd\":\"signal\",\"node\":2,\"offset\":0,\"phases\":[[10,[[1,0,2,0]]]]}",
+            "21",
+        ),
+    ] {
+        assert_eq!(rt; kind(&read_command(rt.alloc(), line)), want, "at {line:?}");
+    }
+}
+
+#[test]
 fn start_may_be_absent_but_no_other_field(rt: HostRuntime) -> Result<(), Fail> {
     for (rest, want) in [
         ("\"seed\":0", "load"),
@@ -241,145 +366,6 @@ fn start_may_be_absent_but_no_other_field(rt: HostRuntime) -> Result<(), Fail> {
         return Err("no load")?;
     };
     assert_eq!(rt; net.start, 0);
-    Ok(())
-}
-
-fn plan_of(alloc: Global, links: &[u64]) -> Result<Listing<u64>, Fail> {
-    Ok(Listing::from_vec(Vec::from_slice(alloc, links)?))
-}
-
-fn vehicle(car: u64, whereabouts: Whereabouts) -> Reply {
-    Reply::Vehicle { car, whereabouts }
-}
-
-fn check_text(rt: &(impl Abort + AllocGlobal), reply: &Reply, want: &str) -> Result<(), Fail> {
-    let text = reply_text(rt.alloc(), reply)?;
-    assert_eq!(rt; text.as_slice(), want.as_bytes(), "at {want}");
-    Ok(())
-}
-
-#[test]
-fn prints_each_place_of_a_vehicle(rt: HostRuntime) -> Result<(), Fail> {
-    let cell = Whereabouts::Cell {
-        link: 20,
-        lane: 1,
-        cell: 9,
-        speed: 4,
-        plan: plan_of(rt.alloc(), &[20, 30])?,
-    };
-    check_text(
-        &rt,
-        &vehicle(3, cell),
-        "{\"car\":3,\"cell\":9,\"lane\":1,\"link\":20,\"plan\":[20,30],\"speed\":4,\"state\":\"cell\"}\n",
-    )?;
-    let buffer = Whereabouts::Buffer {
-        link: 10,
-        lane: 0,
-        ready: 5,
-        speed: 4,
-        plan: plan_of(rt.alloc(), &[10, 20])?,
-    };
-    check_text(
-        &rt,
-        &vehicle(0, buffer),
-        "{\"car\":0,\"lane\":0,\"link\":10,\"plan\":[10,20],\"ready\":5,\"speed\":4,\"state\":\"buffer\"}\n",
-    )?;
-    let waiting = Whereabouts::Waiting {
-        link: 20,
-        lane: 0,
-        depart: 5,
-        plan: plan_of(rt.alloc(), &[20])?,
-    };
-    check_text(
-        &rt,
-        &vehicle(1, waiting),
-        "{\"car\":1,\"depart\":5,\"lane\":0,\"link\":20,\"plan\":[20],\"state\":\"waiting\"}\n",
-    )?;
-    let arrived = Whereabouts::Ended(End::Arrived { step: 4 });
-    check_text(
-        &rt,
-        &vehicle(0, arrived),
-        "{\"car\":0,\"state\":\"arrived\",\"step\":4}\n",
-    )?;
-    let taken = Whereabouts::Ended(End::Taken { step: 5 });
-    check_text(
-        &rt,
-        &vehicle(1, taken),
-        "{\"car\":1,\"state\":\"taken\",\"step\":5}\n",
-    )?;
-    Ok(())
-}
-
-#[test]
-fn prints_each_other_reply(rt: HostRuntime) -> Result<(), Fail> {
-    let loaded = Reply::Loaded {
-        links: 2,
-        nodes: 3,
-        turns: 1,
-    };
-    check_text(&rt, &loaded, "{\"links\":2,\"nodes\":3,\"turns\":1}\n")?;
-    check_text(
-        &rt,
-        &Reply::Entered { car: u64::MAX },
-        "{\"car\":18446744073709551615}\n",
-    )?;
-    check_text(&rt, &Reply::Clock { clock: 5 }, "{\"clock\":5}\n")?;
-    check_text(
-        &rt,
-        &Reply::Short { clock: 7, short: 2 },
-        "{\"clock\":7,\"short\":2}\n",
-    )?;
-    check_text(&rt, &Reply::Starved, "{\"starved\":true}\n")?;
-    for (refusal, want) in [
-        (Refusal::NotLoaded, "{\"error\":1,\"name\":\"NotLoaded\"}\n"),
-        (
-            Refusal::AlreadyLoaded,
-            "{\"error\":2,\"name\":\"AlreadyLoaded\"}\n",
-        ),
-        (
-            Refusal::BadNetwork {
-                part: Part::Nodes,
-                at: 1,
-            },
-            "{\"at\":1,\"error\":3,\"name\":\"BadNetwork\",\"part\":\"nodes\"}\n",
-        ),
-        (
-            Refusal::BadNetwork {
-                part: Part::Links,
-                at: 0,
-            },
-            "{\"at\":0,\"error\":3,\"name\":\"BadNetwork\",\"part\":\"links\"}\n",
-        ),
-        (
-            Refusal::BadNetwork {
-                part: Part::Turns,
-                at: 2,
-            },
-            "{\"at\":2,\"error\":3,\"name\":\"BadNetwork\",\"part\":\"turns\"}\n",
-        ),
-        (
-            Refusal::BadNetwork {
-                part: Part::Values,
-                at: 3,
-            },
-            "{\"at\":3,\"error\":3,\"name\":\"BadNetwork\",\"part\":\"values\"}\n",
-        ),
-        (Refusal::NoLane, "{\"error\":6,\"name\":\"NoLane\"}\n"),
-        (Refusal::BadRange, "{\"error\":7,\"name\":\"BadRange\"}\n"),
-        (
-            Refusal::BadPlan { at: 1 },
-            "{\"at\":1,\"error\":8,\"name\":\"BadPlan\"}\n",
-        ),
-        (
-            Refusal::NoVehicle,
-            "{\"error\":10,\"name\":\"NoVehicle\"}\n",
-        ),
-        (Refusal::TooMany, "{\"error\":13,\"name\":\"TooMany\"}\n"),
-        (Refusal::BadCount, "{\"error\":14,\"name\":\"BadCount\"}\n"),
-        (Refusal::ClockEnd, "{\"error\":15,\"name\":\"ClockEnd\"}\n"),
-    ] {
-        check_text(&rt, &Reply::Refused(refusal), want)?;
-    }
     Ok(())
 }
 

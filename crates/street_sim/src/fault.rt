@@ -5,7 +5,7 @@ use street_line::FaultKind;
 /// A fault of the program.
 #[derive(Clone, Copy)]
 pub enum Fault {
-    /// There are words on the command line.
+    /// The words of the command line are no options.
     BadArguments,
     /// Standard input could not be read.
     Input,

@@ -1,14 +1,17 @@
-//! The program `streetsim`: reads commands from standard input, a line of JSON each, and answers each by a line on
-//! standard output before it reads on. It takes no words.
+//! The program `streetsim [--workers N]`: reads commands from standard input, a line of JSON each, and answers each by a
+//! line on standard output before it reads on.
 #![tactic(auto)]
 
 mod fault;
+mod options;
 mod session;
+mod words;
 
 use fault::Fault;
 use session::serve;
 use std::process::ExitCode;
 use std::{env, io};
+use words::WordsFault;
 
 fn main(rt: HostRuntime) -> ExitCode {
     match run(&rt) {
@@ -22,14 +25,24 @@ fn main(rt: HostRuntime) -> ExitCode {
 }
 
 fn run(rt: &HostRuntime) -> Result<(), Fault> {
-    let Ok(mut words) = env::args(rt) else {
-        return Err(Fault::OutOfMemory);
-    };
-    let _program = words.next();
-    if words.next().is_some() {
-        return Err(Fault::BadArguments);
+    let words = program_words(rt)?;
+    match options::options(rt.alloc(), words.as_slice()) {
+        Ok(options) => {
+            let mut reader = rt.reader();
+            let mut writer = io::writer(rt);
+            serve(rt.alloc(), options.workers, &mut reader, &mut writer)
+        }
+        Err(WordsFault::Help(help)) => help.print(rt).map_err(|_| Fault::Output),
+        Err(WordsFault::Bad) => Err(Fault::BadArguments),
+        Err(WordsFault::Starved) => Err(Fault::OutOfMemory),
     }
-    let mut reader = rt.reader();
-    let mut writer = io::writer(rt);
-    serve(rt.alloc(), &mut reader, &mut writer)
+}
+
+/// The words of the command line, the program's name first. A word that is no UTF-8 is a bad argument.
+fn program_words(rt: &HostRuntime) -> Result<Vec<String>, Fault> {
+    match env::args(rt) {
+        Ok(words) => words.collect(rt.alloc()).map_err(|_| Fault::OutOfMemory),
+        Err(error) if error.kind() == io::ErrorKind::OutOfMemory => Err(Fault::OutOfMemory),
+        Err(_) => Err(Fault::BadArguments),
+    }
 }

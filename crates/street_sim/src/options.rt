@@ -1,0 +1,36 @@
+//! From the words of the command line to options.
+ghost use Rattle.std.specs.Prelude.{◌≤◌, IfOk, map, string_bytes};
+ghost use Rattle.street_sim.specs.Words.{Answers, IsWorkers};
+
+use crate::words::{Options, WordsFault};
+use clap::{Arg, ArgAction, Command, value_parser};
+use std::alloc::Global;
+
+/// The option `--workers N`.
+fn workers_option<'a>(alloc: Global) -> Arg<'a>
+    ensures { IsWorkers result }
+{
+    Arg::new(alloc, "workers")
+        .long("workers")
+        .action(ArgAction::Set)
+        .value_name("N")
+        .value_parser(value_parser!(u32).range(1..=64))
+        .default_value("1")
+        .help("Threads that work on a step, 1 to 64")
+}
+
+/// The options that words ask for. The first word is the program's name.
+pub fn options(alloc: Global, words: &[String]) -> Result<Options, WordsFault>
+    ensures few { IfOk result (λ found. (1 ≤ found.workers) × (found.workers ≤ 64)) }
+    ensures words { Answers (map (λ s. string_bytes s) words.now) result }
+{
+    let command = Command::new(alloc, "streetsim")
+        .about("A traffic simulator: commands in, replies out, a line of JSON each")
+        .arg(workers_option(alloc))?;
+    let matches = command.try_get_matches_from(words)?;
+    let workers = matches.get_one::<u32>("workers").unwrap();
+    Ok(Options { workers })
+}
+
+#[cfg(test)]
+mod tests;
