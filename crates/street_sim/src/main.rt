@@ -4,6 +4,8 @@
 
 mod fault;
 mod session;
+#[cfg(test)]
+mod tests;
 
 use fault::Fault;
 use session::serve;
