@@ -1,5 +1,5 @@
 //! The motion of one lane.
-ghost use Rattle.std.specs.Prelude.{◌≡◌, ℕ, ◌+◌, ◌-◌, ◌<◌, ◌≤◌, length, Bool, option_map, unwrap_or, if◌then◌else◌};
+ghost use Rattle.std.specs.Prelude.{◌≡◌, ℕ, ◌+◌, ◌-◌, ◌<◌, ◌≤◌, length, Bool, None, option_map, unwrap_or, if◌then◌else◌};
 ghost use Rattle.std.specs.Option.{ForSome};
 ghost use Rattle.street_base.specs.Vehicle.{Vehicle, vehicle_of};
 ghost use Rattle.street_base.specs.Lane.{vehicles, is_entrance};
@@ -38,6 +38,17 @@ fn is_entrance(closed: &[bool], x: usize) -> bool
     x < closed.len() && closed[x] && (x == 0 || !closed[x - 1])
 }
 
+/// Takes the car out of a cell. An empty cell is only read: most are empty, and to empty one is to write a car's size.
+fn take_car(cell: &mut Option<Car>) -> Option<Car>
+    ensures value { result ≡ cell.old }
+    ensures after { cell.new ≡ None }
+{
+    if cell.is_none() {
+        return None;
+    }
+    cell.take()
+}
+
 /// Moves all cars of a lane, from its end to its begin, each by what stood in the old cells, and gives the car that
 /// leaves. Takes no memory, and time in proportion to the cells.
 ///
@@ -62,7 +73,7 @@ pub fn drive_cells<D: Dawdling>(
     let mut obstacle = None;
     let mut leaver = None;
     for x in (0..length).rev() {
-        match cells[x].take() {
+        match take_car(&mut cells[x]) {
             Some(mut car) => {
                 let gap = gap_to(obstacle, x, length, exit_open);
                 car.speed = new_speed(car.speed, limit, gap as u64, draws.dawdles(car.number));

@@ -5,6 +5,8 @@
 mod fault;
 mod options;
 mod session;
+#[cfg(test)]
+mod tests;
 mod words;
 
 use fault::Fault;

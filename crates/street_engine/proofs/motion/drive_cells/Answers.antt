@@ -15,7 +15,7 @@ pub loop-x-preserved-then-place-length : goal.loop-x-preserved-then-place-length
 loop-x-preserved-then-place-length g c =
     let gap : c.gap_to-gap.result ≡ gap_to c.loop-x.obstacle (c.loop-x.x - 1) (length c.args.cells.now) c.args.exit_open = c.gap_to-gap.ensures in
     record {
-      driven = cars_driven-stays _ _ _ _ _ _ _ _ _ _ (omega arith) c.loop-x.invariant.driven (omega arith) c.take.ensures.after _ _ c.in-Some.ensures.value (rw (← gap, ← c.dawdles.ensures) c.new_speed.ensures) _ (omega arith);
+      driven = cars_driven-stays _ _ _ _ _ _ _ _ _ _ (omega arith) c.loop-x.invariant.driven (omega arith) c.take_car.ensures.after _ _ c.in-Some.ensures.value (rw (← gap, ← c.dawdles.ensures) c.new_speed.ensures) _ (omega arith);
       all = c.loop-x.invariant.all;
       same = simp length-set c.loop-x.invariant.same;
     }
@@ -24,21 +24,21 @@ pub loop-x-preserved-else-place-length : goal.loop-x-preserved-else-place-length
 loop-x-preserved-else-place-length g c =
     let gap : c.gap_to-gap.result ≡ gap_to c.loop-x.obstacle (c.loop-x.x - 1) (length c.args.cells.now) c.args.exit_open = c.gap_to-gap.ensures in
     record {
-      driven = cars_driven-leaves _ _ _ _ _ _ _ _ _ _ (omega arith) c.loop-x.invariant.driven (omega arith) c.take.ensures.after _ _ c.in-Some.ensures.value (rw (← gap, ← c.dawdles.ensures) c.new_speed.ensures) (omega arith);
+      driven = cars_driven-leaves _ _ _ _ _ _ _ _ _ _ (omega arith) c.loop-x.invariant.driven (omega arith) c.take_car.ensures.after _ _ c.in-Some.ensures.value (rw (← gap, ← c.dawdles.ensures) c.new_speed.ensures) (omega arith);
       all = c.loop-x.invariant.all;
       same = simp length-set c.loop-x.invariant.same;
     }
 
 pub loop-x-preserved-then-is_entrance : goal.loop-x-preserved-then-is_entrance
 loop-x-preserved-then-is_entrance g c = record {
-  driven = cars_driven-empty _ _ _ _ _ _ _ _ _ _ (omega arith) c.loop-x.invariant.driven (omega arith) c.take.ensures.after true c.in-None.ensures.value c.if-is_entrance.ensures;
+  driven = cars_driven-empty _ _ _ _ _ _ _ _ _ _ (omega arith) c.loop-x.invariant.driven (omega arith) c.take_car.ensures.after true c.in-None.ensures.value c.if-is_entrance.ensures;
   all = c.loop-x.invariant.all;
   same = simp length-set c.loop-x.invariant.same;
 }
 
 pub loop-x-preserved : goal.loop-x-preserved
 loop-x-preserved g c = record {
-  driven = cars_driven-empty _ _ _ _ _ _ _ _ _ _ (omega arith) c.loop-x.invariant.driven (omega arith) c.take.ensures.after false c.in-None.ensures.value c.if-is_entrance.ensures;
+  driven = cars_driven-empty _ _ _ _ _ _ _ _ _ _ (omega arith) c.loop-x.invariant.driven (omega arith) c.take_car.ensures.after false c.in-None.ensures.value c.if-is_entrance.ensures;
   all = c.loop-x.invariant.all;
   same = simp length-set c.loop-x.invariant.same;
 }
