@@ -17,6 +17,8 @@ const ONE_CELL: &str =
 const NEAR_THE_END: &str =
     "{\"cmd\":\"load\",\"nodes\":[[1,1,2],[2,1,2],[3,1,2]],\"links\":[[10,1,2,1,10,5],[20,2,3,1,10,5]],\"turns\":[[10,0,20,0]],\"zone\":0,\"dawdle\":0,\"change\":0,\"seed\":0,\"start\":999999999}\n";
 
+const NOT_LOADED: &str = "{\"error\":1,\"name\":\"NotLoaded\"}\n";
+
 const LOADED: &str = "{\"links\":2,\"nodes\":3,\"turns\":1}\n";
 
 #[test]
@@ -53,6 +55,12 @@ fn sessions(rt: HostRuntime) -> Result<(), Fail> {
             "{\"clock\":0}\n{\"error\":14,\"name\":\"BadCount\"}\n",
         ),
         (
+            "not served yet",
+            TEN_CELLS,
+            "{\"cmd\":\"count\"}\n{\"cmd\":\"lane\",\"link\":10,\"lane\":0}\n",
+            "{\"error\":19,\"name\":\"NotYet\"}\n{\"error\":19,\"name\":\"NotYet\"}\n",
+        ),
+        (
             "up to the last clock",
             NEAR_THE_END,
             "{\"cmd\":\"advance\",\"steps\":2}\n{\"cmd\":\"advance\",\"steps\":1}\n{\"cmd\":\"advance\",\"steps\":0}\n{\"cmd\":\"advance\",\"steps\":1}\n",
@@ -65,6 +73,21 @@ fn sessions(rt: HostRuntime) -> Result<(), Fail> {
         let mut output = Vec::new(rt.alloc());
         serve(rt.alloc(), 1, &mut reader, &mut output).or(Err("a fault"))?;
         assert_eq!(rt; output.as_slice(), whole.as_bytes(), "at {name}");
+    }
+    Ok(())
+}
+
+/// Every command but a load, before any load.
+#[test]
+fn nothing_loaded(rt: HostRuntime) -> Result<(), Fail> {
+    let session =
+        "{\"cmd\":\"count\"}\n{\"cmd\":\"enter\",\"plan\":[10],\"lane\":0,\"depart\":0}\n{\"cmd\":\"advance\",\"steps\":1}\n{\"cmd\":\"vehicle\",\"car\":0}\n{\"cmd\":\"signal\",\"node\":1,\"offset\":0,\"phases\":[]}\n{\"cmd\":\"close\",\"link\":1,\"lane\":0,\"first\":0,\"last\":0}\n{\"cmd\":\"reopen\",\"link\":1,\"lane\":0,\"first\":0,\"last\":0}\n{\"cmd\":\"takeout\",\"car\":0}\n{\"cmd\":\"meter\",\"link\":1,\"lane\":0,\"cell\":0,\"period\":1}\n{\"cmd\":\"read\",\"meter\":0}\n{\"cmd\":\"lane\",\"link\":1,\"lane\":0}";
+    let mut reader = session.as_bytes();
+    let mut output = Vec::new(rt.alloc());
+    serve(rt.alloc(), 1, &mut reader, &mut output).or(Err("a fault"))?;
+    assert_eq!(rt; output.len(), 11 * NOT_LOADED.len());
+    for line in output.chunks(NOT_LOADED.len()) {
+        assert_eq!(rt; line, NOT_LOADED.as_bytes());
     }
     Ok(())
 }
