@@ -70,3 +70,78 @@ impl<G: Gate + Drop> Engine<G> {
         Ok(replies)
     }
 }
+
+#[cfg(test)]
+mod tests {
+    use super::*;
+    use std::test::Fail;
+    use street_base::{LinkSpec, Listing, NetSpec, NodeSpec, Whereabouts};
+
+    /// A gate that nobody watches.
+    #[derive(Drop)]
+    struct Unwatched;
+
+    impl Gate for Unwatched {}
+
+    /// One link, named 10, of 11 cells.
+    fn one_link(alloc: Global) -> Result<NetSpec, AllocError> {
+        let node = NodeSpec {
+            id: 1,
+            residence: 1,
+            capacity: 2,
+        };
+        let link = LinkSpec {
+            id: 10,
+            from: 1,
+            to: 1,
+            lanes: 1,
+            length: 11,
+            limit: 5,
+        };
+        Ok(NetSpec {
+            nodes: Listing::from_vec(Vec::from_slice(alloc, &[node])?),
+            links: Listing::from_vec(Vec::from_slice(alloc, &[link])?),
+            turns: Listing::from_vec(Vec::new(alloc)),
+            zone: 0,
+            dawdle: 0,
+            change: 0,
+            seed: 0,
+            start: 0,
+        })
+    }
+
+    /// The cell, the speed and the first link of the plan that an answer tells.
+    fn told(answer: Option<&(Reply, Outcome)>) -> Option<(u64, u64, u64)> {
+        let Some((Reply::Vehicle { whereabouts, .. }, _)) = answer else {
+            return None;
+        };
+        match whereabouts {
+            Whereabouts::Cell {
+                cell,
+                speed,
+                plan,
+                ..
+            } => Some((*cell, *speed, *plan.as_slice().first()?)),
+            _ => None,
+        }
+    }
+
+    #[test]
+    fn a_list_of_commands_is_served(rt: HostRuntime) -> Result<(), Fail> {
+        let alloc = rt.alloc();
+        let mut commands = Vec::new(alloc);
+        commands.push(Command::Load(one_link(alloc)?))?;
+        commands.push(Command::Enter {
+            plan: Listing::from_vec(Vec::from_slice(alloc, &[10])?),
+            lane: 0,
+            depart: 0,
+        })?;
+        commands.push(Command::Advance { steps: 5 })?;
+        commands.push(Command::Vehicle { car: 0 })?;
+        let mut engine = Engine::new(alloc, 1, Unwatched);
+        let replies = engine.apply_all(commands.as_slice())?;
+        assert_eq!(rt; replies.len(), 4);
+        assert_eq!(rt; told(replies.as_slice().get(3)), Some((10, 4, 10)));
+        Ok(())
+    }
+}

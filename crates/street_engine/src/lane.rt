@@ -245,6 +245,7 @@ fn remaining_ids(alloc: Global, net: &NetSpec, car: &Car) -> Result<Listing<u64>
 mod tests {
     use super::*;
     use std::test::Fail;
+    use street_base::LinkSpec;
 
     /// Nobody dawdles.
     struct Steady;
@@ -259,43 +260,63 @@ mod tests {
         }
     }
 
-    fn empty_net(alloc: Global) -> NetSpec {
-        NetSpec {
+    /// A network of one link, named 30; a lane asks only for the name.
+    fn one_link(alloc: Global) -> Result<NetSpec, AllocError> {
+        let link = LinkSpec {
+            id: 30,
+            from: 1,
+            to: 1,
+            lanes: 1,
+            length: 10,
+            limit: 5,
+        };
+        Ok(NetSpec {
             nodes: Listing::from_vec(Vec::new(alloc)),
-            links: Listing::from_vec(Vec::new(alloc)),
+            links: Listing::from_vec(Vec::from_slice(alloc, &[link])?),
             turns: Listing::from_vec(Vec::new(alloc)),
             zone: 0,
             dawdle: 0,
             change: 0,
             seed: 0,
             start: 0,
-        }
+        })
     }
 
-    fn waiting_car(alloc: Global, number: CarNo) -> Car {
-        Car {
+    fn waiting_car(alloc: Global, number: CarNo) -> Result<Car, AllocError> {
+        Ok(Car {
             number,
             speed: 0,
             cell: 0,
             step: 3,
-            plan: Listing::from_vec(Vec::new(alloc)),
+            plan: Listing::from_vec(Vec::from_slice(alloc, &[LinkIx::new(0)])?),
             at: 0,
+        })
+    }
+
+    /// The first link of the plan that is told.
+    fn next_link(found: &Option<Whereabouts>) -> Option<u64> {
+        match found {
+            Some(Whereabouts::Cell { plan, .. }) => plan.as_slice().first().copied(),
+            Some(Whereabouts::Waiting { plan, .. }) => plan.as_slice().first().copied(),
+            _ => None,
         }
     }
 
     #[test]
     fn a_car_is_found_where_it_waits_and_where_it_drives(rt: HostRuntime) -> Result<(), Fail> {
         let alloc = rt.alloc();
-        let net = empty_net(alloc);
+        let net = one_link(alloc)?;
         let link = LinkIx::new(0);
         let mut lane = Lane::new(alloc, 10)?;
-        lane.admit(waiting_car(alloc, 7))?;
+        lane.admit(waiting_car(alloc, 7)?)?;
         let waits = lane.find(alloc, &net, link, 7)?;
         assert!(rt; matches!(waits, Some(Whereabouts::Waiting { depart: 3, .. })));
+        assert_eq!(rt; next_link(&waits), Some(30));
         lane.depart(3);
         let gone = lane.drive(5, false, &Steady);
         assert!(rt; gone.is_none());
         let drives = lane.find(alloc, &net, link, 7)?;
+        assert_eq!(rt; next_link(&drives), Some(30));
         assert!(rt;
             matches!(
                 drives,
