@@ -4,7 +4,6 @@ use Rattle.serde_json.specs.Data.{Data, boolean, number, unsigned, string, array
 use Rattle.serde_json.specs.Written.{compact_text}
 use Rattle.street_base.specs.declared.command.BufferEntry.{BufferEntry}
 use Rattle.street_base.specs.declared.command.CellEntry.{CellEntry}
-use Rattle.street_base.specs.declared.command.End.{End}
 use Rattle.street_base.specs.declared.command.End.TheVariants.{Arrived, Taken}
 use Rattle.street_base.specs.declared.command.MeterRow.{MeterRow}
 use Rattle.street_base.specs.declared.command.Refusal.{Refusal}
