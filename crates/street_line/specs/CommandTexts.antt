@@ -43,6 +43,10 @@ stretch_order name link lane first last =
     object (text_at (codes "cmd") name (number_at (codes "first") first (number_at (codes "lane") lane (number_at (codes "last") last
     (number_at (codes "link") link no_members)))))
 
+-- what is asked of one vehicle
+abbrev pub car_order : List ℕ → ℕ → Data
+car_order name car = object (number_at (codes "car") car (text_at (codes "cmd") name no_members))
+
 abbrev pub command_data : Command → Data
 command_data (Load net) = load_data net
 command_data (Enter plan lane depart) =
@@ -54,12 +58,12 @@ command_data (Signal node offset phases) =
 command_data (Advance steps) = object (text_at (codes "cmd") (codes "advance") (number_at (codes "steps") steps no_members))
 command_data (CloseLane link lane first last) = stretch_order (codes "close") link lane first last
 command_data (ReopenLane link lane first last) = stretch_order (codes "reopen") link lane first last
-command_data (TakeOut car) = object (number_at (codes "car") car (text_at (codes "cmd") (codes "takeout") no_members))
+command_data (TakeOut car) = car_order (codes "takeout") car
 command_data (PlaceMeter link lane cell period) =
     object (number_at (codes "cell") cell (text_at (codes "cmd") (codes "meter") (number_at (codes "lane") lane
     (number_at (codes "link") link (number_at (codes "period") period no_members)))))
 command_data (ReadMeter meter) = object (text_at (codes "cmd") (codes "read") (number_at (codes "meter") meter no_members))
-command_data (Vehicle car) = object (number_at (codes "car") car (text_at (codes "cmd") (codes "vehicle") no_members))
+command_data (Vehicle car) = car_order (codes "vehicle") car
 command_data (Lane link lane) = object (text_at (codes "cmd") (codes "lane") (number_at (codes "lane") lane (number_at (codes "link") link no_members)))
 command_data Count = object (text_at (codes "cmd") (codes "count") no_members)
 

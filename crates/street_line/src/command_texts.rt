@@ -3,8 +3,8 @@ ghost use Rattle.std.specs.Prelude.{◌≡◌, ◌≤◌, IfOk, Ok, length};
 ghost use Rattle.serde_json.specs.Data.{Data};
 ghost use Rattle.serde_json.specs.View.{view};
 ghost use Rattle.street_base.specs.declared.command.Command.{Command as AnyCommand};
-ghost use Rattle.street_base.specs.declared.command.Command.TheVariants.{Load, Enter, Signal};
-ghost use Rattle.street_line.specs.CommandTexts.{node_data, link_data, turn_data, green_data, phase_data, stretch_order, command_data, text_of, Fits};
+ghost use Rattle.street_base.specs.declared.command.Command.TheVariants.{Load, Enter, Signal, Advance, PlaceMeter, ReadMeter, Lane, Count};
+ghost use Rattle.street_line.specs.CommandTexts.{node_data, link_data, turn_data, green_data, phase_data, stretch_order, car_order, command_data, text_of, Fits};
 ghost use Rattle.street_line.specs.Reading.{longest_line, reading};
 
 #[cfg(test)]
@@ -66,7 +66,7 @@ impl Printed for PhaseSpec {
     }
 }
 
-fn load(alloc: Global, net: &NetSpec) -> Result<Value, AllocError>
+fn load_value(alloc: Global, net: &NetSpec) -> Result<Value, AllocError>
     ensures { IfOk result (λ v. view v ≡ command_data (Load net.now)) }
 {
     let links = list_value(alloc, net.links.as_slice())?;
@@ -85,14 +85,19 @@ fn load(alloc: Global, net: &NetSpec) -> Result<Value, AllocError>
     })
 }
 
-fn enter(alloc: Global, plan: &[u64], lane: u64, depart: u64) -> Result<Value, AllocError>
+fn enter_value(alloc: Global, plan: &[u64], lane: u64, depart: u64) -> Result<Value, AllocError>
     ensures { IfOk result (λ v. view v ≡ command_data (Enter plan.now lane depart)) }
 {
     let plan = list_value(alloc, plan)?;
     json!(in alloc; {"cmd": "enter", "depart": depart, "lane": lane, "plan": plan})
 }
 
-fn signal(alloc: Global, node: u64, offset: u64, phases: &[PhaseSpec]) -> Result<Value, AllocError>
+fn signal_value(
+    alloc: Global,
+    node: u64,
+    offset: u64,
+    phases: &[PhaseSpec],
+) -> Result<Value, AllocError>
     ensures { IfOk result (λ v. view v ≡ command_data (Signal node offset phases.now)) }
 {
     let phases = list_value(alloc, phases)?;
@@ -100,7 +105,7 @@ fn signal(alloc: Global, node: u64, offset: u64, phases: &[PhaseSpec]) -> Result
 }
 
 /// Cells of a lane, from the first to the last.
-fn stretch(
+fn stretch_value(
     alloc: Global,
     name: &str,
     link: u64,
@@ -113,44 +118,89 @@ fn stretch(
     json!(in alloc; {"cmd": name, "first": first, "lane": lane, "last": last, "link": link})
 }
 
+fn advance_value(alloc: Global, steps: u64) -> Result<Value, AllocError>
+    ensures { IfOk result (λ v. view v ≡ command_data (Advance steps)) }
+{
+    json!(in alloc; {"cmd": "advance", "steps": steps})
+}
+
+/// What is asked of one vehicle.
+fn car_value(alloc: Global, name: &str, car: u64) -> Result<Value, AllocError>
+    ensures { IfOk result (λ v. view v ≡ car_order name.now car) }
+{
+    json!(in alloc; {"car": car, "cmd": name})
+}
+
+fn place_meter_value(
+    alloc: Global,
+    link: u64,
+    lane: u64,
+    cell: u64,
+    period: u64,
+) -> Result<Value, AllocError>
+    ensures { IfOk result (λ v. view v ≡ command_data (PlaceMeter link lane cell period)) }
+{
+    json!(in alloc; {"cell": cell, "cmd": "meter", "lane": lane, "link": link, "period": period})
+}
+
+fn read_meter_value(alloc: Global, meter: u64) -> Result<Value, AllocError>
+    ensures { IfOk result (λ v. view v ≡ command_data (ReadMeter meter)) }
+{
+    json!(in alloc; {"cmd": "read", "meter": meter})
+}
+
+fn lane_value(alloc: Global, link: u64, lane: u64) -> Result<Value, AllocError>
+    ensures { IfOk result (λ v. view v ≡ command_data (Lane link lane)) }
+{
+    json!(in alloc; {"cmd": "lane", "lane": lane, "link": link})
+}
+
+fn count_value(alloc: Global) -> Result<Value, AllocError>
+    ensures { IfOk result (λ v. view v ≡ command_data Count) }
+{
+    json!(in alloc; {"cmd": "count"})
+}
+
 fn command_value(alloc: Global, command: &Command) -> Result<Value, AllocError>
     ensures { IfOk result (λ v. view v ≡ command_data command.now) }
 {
     match command {
-        Command::Load(net) => load(alloc, net),
-        Command::Enter { plan, lane, depart } => enter(alloc, plan.as_slice(), *lane, *depart),
+        Command::Load(net) => load_value(alloc, net),
+        Command::Enter { plan, lane, depart } => enter_value(
+            alloc,
+            plan.as_slice(),
+            *lane,
+            *depart,
+        ),
         Command::Signal {
             node,
             offset,
             phases,
-        } => signal(alloc, *node, *offset, phases.as_slice()),
-        Command::Advance { steps } => json!(in alloc; {"cmd": "advance", "steps": *steps}),
+        } => signal_value(alloc, *node, *offset, phases.as_slice()),
+        Command::Advance { steps } => advance_value(alloc, *steps),
         Command::CloseLane {
             link,
             lane,
             first,
             last,
-        } => stretch(alloc, "close", *link, *lane, *first, *last),
+        } => stretch_value(alloc, "close", *link, *lane, *first, *last),
         Command::ReopenLane {
             link,
             lane,
             first,
             last,
-        } => stretch(alloc, "reopen", *link, *lane, *first, *last),
-        Command::TakeOut { car } => json!(in alloc; {"car": *car, "cmd": "takeout"}),
+        } => stretch_value(alloc, "reopen", *link, *lane, *first, *last),
+        Command::TakeOut { car } => car_value(alloc, "takeout", *car),
         Command::PlaceMeter {
             link,
             lane,
             cell,
             period,
-        } =>
-            json!(in alloc; {"cell": *cell, "cmd": "meter", "lane": *lane, "link": *link, "period": *period}),
-        Command::ReadMeter { meter } => json!(in alloc; {"cmd": "read", "meter": *meter}),
-        Command::Vehicle { car } => json!(in alloc; {"car": *car, "cmd": "vehicle"}),
-        Command::Lane { link, lane } => {
-            json!(in alloc; {"cmd": "lane", "lane": *lane, "link": *link})
-        }
-        Command::Count => json!(in alloc; {"cmd": "count"}),
+        } => place_meter_value(alloc, *link, *lane, *cell, *period),
+        Command::ReadMeter { meter } => read_meter_value(alloc, *meter),
+        Command::Vehicle { car } => car_value(alloc, "vehicle", *car),
+        Command::Lane { link, lane } => lane_value(alloc, *link, *lane),
+        Command::Count => count_value(alloc),
     }
 }
 
