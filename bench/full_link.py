@@ -1,7 +1,7 @@
 #!/usr/bin/env python3
 """Times the program on one link of 1,000 cells, and on `vehicle` lines.
 
-Usage: bench/full_link.py PROGRAM [--limit L] [--chunks N] [--lines N]
+Usage: bench/full_link.py PROGRAM [--limit L] [--chunks N] [--entered N] [--waiting all|few] [--lines N]
 
 The vehicles in cells are counted by a model of the one lane, which is written here apart from the program: it moves
 them by the same rules, and its clock and arrivals are compared with what the program answers.
@@ -59,12 +59,14 @@ class Lane:
             self.waiting -= 1
 
 
-def vehicle_steps(limit, entered, steps):
-    """How often a vehicle in a cell was moved, and how many arrived."""
-    lane, moved = Lane(limit, entered), 0
-    for _ in range(steps):
-        moved += len(lane.cars)
-        lane.step()
+def vehicle_steps(limit, batches):
+    """How often a vehicle in a cell was moved, and how many arrived; a batch is how many enter and then how many steps."""
+    lane, moved = Lane(limit, 0), 0
+    for entered, steps in batches:
+        lane.waiting += entered
+        for _ in range(steps):
+            moved += len(lane.cars)
+            lane.step()
     return moved, lane.arrived
 
 
@@ -87,18 +89,26 @@ def main():
     parser.add_argument("--limit", type=int, default=5)
     parser.add_argument("--chunks", type=int, default=1)
     parser.add_argument("--entered", type=int, default=5_500)
-    parser.add_argument("--lines", type=int, default=20_000)
+    parser.add_argument("--waiting", choices=["all", "few"], default="all")
+    parser.add_argument("--lines", type=int, default=100_000)
     args = parser.parse_args()
 
-    entered = args.entered
     steps = args.chunks * CHUNK
-    moved, arrived = vehicle_steps(args.limit, entered, steps)
+    if args.waiting == "few":
+        batches = [(50, 100)] * (steps // 100)
+    else:
+        batches = [(args.entered, CHUNK)] + [(0, CHUNK)] * (args.chunks - 1)
+    entered = sum(batch[0] for batch in batches)
+    moved, arrived = vehicle_steps(args.limit, batches)
 
     entering = lines([load(args.limit)] + [ENTER] * entered)
-    advancing = lines([{"cmd": "advance", "steps": CHUNK}] * args.chunks)
+    session = [load(args.limit)]
+    for batch, made in batches:
+        session += [ENTER] * batch + [{"cmd": "advance", "steps": made}]
+    session = lines(session)
     base, _, _ = best(args.program, entering)
     asked = lines([{"cmd": "vehicle", "car": car} for car in (arrived - 1, arrived)])
-    whole, median, said = best(args.program, entering + advancing + asked)
+    whole, median, said = best(args.program, session + asked)
     first, second = (json.loads(line)["state"] for line in said[-2:])
     assert json.loads(said[-3])["clock"] == steps, said[-3]
     assert (first, second) == ("arrived", "cell"), (first, second)
@@ -111,7 +121,7 @@ def main():
 
     for name, car in (("ended", 0), ("in a cell", arrived), ("waiting last", entered - 1)):
         text = lines([{"cmd": "vehicle", "car": car}] * args.lines)
-        more, _, said = best(args.program, entering + advancing + text, 3)
+        more, _, said = best(args.program, session + text, 3)
         print(f"  vehicle lines a second  {args.lines / (more - whole):.0f}  ({name}: {json.loads(said[-1])['state']})")
 
 
