@@ -56,6 +56,14 @@ some_text : (xs : List (Bor Text)) (t : Text) → texts xs ≡ t ∷ [] → 0 < 
 some_text [] t e = cc
 some_text (x ∷ xs) t e = omega arith
 
+pub renamed : (a b : Command) → IsStart a → out-Command b ≡ record (out-Command a) { bin_name = (out-Command b).bin_name } → IsStart b
+renamed a b s is = record {
+  app = ap (λ (f : Command-F Command). app_of_fields f) is ∙ s.app;
+  args = ap (λ (f : Command-F Command). f.args.items) is ∙ s.args;
+  groups = ap (λ (f : Command-F Command). f.groups.items) is ∙ s.groups;
+  local = ap (λ (f : Command-F Command). f.has_globals) is ∙ s.local;
+}
+
 named_so : (a : Arg) → IsWorkers a → a.id.now ≡ codes "workers"
 named_so a w = ap (λ (r : Rule). r.id) w.rule
 

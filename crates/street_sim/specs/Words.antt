@@ -1,6 +1,6 @@
 -- What the words of the command line ask for.
 use Rattle.std.specs.Prelude.{◌≡◌, ◌≢◌, ℕ, List, [], ◌∷◌, Option, Some, None, false, Result, MatchResult, ⊤, codes, option_map, pos}
-use Rattle.std.specs.Str.Parse.{digits_value, without_leading_plus}
+use Rattle.std.specs.Str.Parse.{IsNumeral, digits_value, without_leading_plus}
 use Rattle.clap.specs.Words.{App, IsAmong, IsPlainArg, Kinds, Rule, Text, fault_of, kind_of, matches_of, new_app, new_rule, one_of, rule_of, with_rule}
 use Rattle.clap.specs.declared.builder.arg.Arg.{Arg}
 use Rattle.clap.specs.declared.builder.ArgAction.TheVariants.{Set}
@@ -61,3 +61,13 @@ abbrev pub Answers : List Text → Result Options WordsFault → Type 0
 Answers words result = MatchResult result
     (λ found. (wrongs words ≡ []) × (workers_of words ≡ Some found.workers))
     (TellsOf (wrongs words))
+
+-- so many workers, unless memory is refused
+abbrev pub Gives : ℕ → Result Options WordsFault → Type 0
+Gives n result = MatchResult result (λ found. found.workers ≡ n) (λ fault. fault ≡ Starved)
+
+-- the words are the program's name, `--workers` and n in digits
+abbrev pub AsksFor : List Text → ℕ → Type 0
+AsksFor words n = (program : Text) × (digits : Text)
+    × (words ≡ program ∷ codes "--workers" ∷ digits ∷ [])
+    × IsNumeral 10 digits × (digits_value 10 digits ≡ n)

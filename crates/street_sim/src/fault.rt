@@ -1,5 +1,8 @@
 //! What ends the program before its input ends.
 
+ghost use Rattle.std.specs.Prelude.{◌≡◌};
+ghost use Rattle.street_sim.specs.Faults.{fault_of_run, status_of, text_of};
+
 use street_line::FaultKind;
 
 /// A fault of the program.
@@ -19,7 +22,9 @@ pub enum Fault {
 
 impl Fault {
     /// What the program says of it, after its own name.
-    pub fn text(self) -> &'static str {
+    pub fn text(self) -> &'static str
+        ensures { result.now ≡ text_of self }
+    {
         match self {
             Fault::BadArguments => "bad arguments",
             Fault::Input => "cannot read standard input",
@@ -30,7 +35,9 @@ impl Fault {
     }
 
     /// The status that the program ends with.
-    pub fn status(self) -> u8 {
+    pub fn status(self) -> u8
+        ensures { result ≡ status_of self }
+    {
         match self {
             Fault::BadArguments => 2,
             _ => 1,
@@ -38,7 +45,9 @@ impl Fault {
     }
 
     /// The fault of a run of lines over the standard streams.
-    pub fn of_run(kind: FaultKind) -> Fault {
+    pub fn of_run(kind: FaultKind) -> Fault
+        ensures { result ≡ fault_of_run kind }
+    {
         match kind {
             FaultKind::Read => Fault::Input,
             FaultKind::Write => Fault::Output,

@@ -1,6 +1,6 @@
 //! From the words of the command line to options.
-ghost use Rattle.std.specs.Prelude.{◌≤◌, IfOk, map, string_bytes};
-ghost use Rattle.street_sim.specs.Words.{Answers, IsWorkers};
+ghost use Rattle.std.specs.Prelude.{◌≤◌, ℕ, IfOk, length, map, string_bytes};
+ghost use Rattle.street_sim.specs.Words.{Answers, AsksFor, Gives, IsWorkers};
 
 use crate::words::{Options, WordsFault};
 use clap::{Arg, ArgAction, Command, value_parser};
@@ -22,10 +22,13 @@ fn workers_option<'a>(alloc: Global) -> Arg<'a>
 /// The options that words ask for. The first word is the program's name.
 pub fn options(alloc: Global, words: &[String]) -> Result<Options, WordsFault>
     ensures few { IfOk result (λ found. (1 ≤ found.workers) × (found.workers ≤ 64)) }
+    ensures alone { length words.now ≤ 1 → Gives 1 result }
+    ensures asked { (n : ℕ) → 1 ≤ n → n ≤ 64 → AsksFor (map (λ s. string_bytes s) words.now) n → Gives n result }
     ensures words { Answers (map (λ s. string_bytes s) words.now) result }
 {
     let command = Command::new(alloc, "streetsim")
         .about("A traffic simulator: commands in, replies out, a line of JSON each")
+        .bin_name("streetsim")?
         .arg(workers_option(alloc))?;
     let matches = command.try_get_matches_from(words)?;
     let workers = matches.get_one::<u32>("workers").unwrap();

@@ -25,7 +25,7 @@ pub returns-in-Signal : goal.returns-in-Signal
 returns-in-Signal c =
     let m : State = c.args.state.now in
     let yet : (d : Command) → c.args.command.now ≡ d → refusal m d ≡ not_yet m → Answers m c.args.command.now c.not_yet.result Whole m =
-        λ d at e. subst (λ (k : Command). Answers m k c.not_yet.result Whole m) (sym at) (refused-yet m d c.not_yet.result e c.not_yet.ensures) in
+    λ d at e. subst (λ (k : Command). Answers m k c.not_yet.result Whole m) (sym at) (refused-yet m d c.not_yet.result e c.not_yet.ensures) in
     elim c.in-Signal.is [
       | inl signal ↦ yet _ signal.3 refl
       | inr (inl close) ↦ yet _ close.4 refl
