@@ -1,8 +1,7 @@
 -- Lines served by an engine are answered as the machine answers them.
-use Rattle.std.proofs.Common.{◌≡◌, ℕ, List, [], ◌∷◌, ◌++◌, refl, sym, ◌∙◌, subst}
+use Rattle.std.proofs.Common.{◌≡◌, ℕ, List, [], ◌∷◌, refl, sym, subst}
 use Rattle.street_base.specs.declared.command.Command.{Command}
 use Rattle.street_base.specs.State.{State}
-use Rattle.street_base.specs.Outcomes.{Answers}
 use Rattle.street_engine.specs.Refines.{View, StandsFor}
 use Rattle.street_line.specs.declared.service.Served.{Served}
 use Rattle.street_line.specs.declared.service.Served.TheVariants.{Answered, Full}

@@ -1,5 +1,5 @@
 use Rattle.std.proofs.Common.{◌≡◌, ◌∙◌, ap, refl, sym, subst, inl, inr}
-use Rattle.std.specs.Prelude.{Some, None, Option, option_map}
+use Rattle.std.specs.Prelude.{Some, None, option_map}
 use Rattle.street_base.specs.declared.command.Command.{Command}
 use Rattle.street_base.specs.declared.command.Refusal.{Refusal}
 use Rattle.street_base.specs.declared.command.Refusal.TheVariants.{NotLoaded, NotYet}
