@@ -1,6 +1,6 @@
 -- What a parse gives of the one option of a command, where that option has a default.
-use Rattle.std.proofs.Common.{◌≡◌, ◌⊎◌, ◌∙◌, ◌<◌, ◌≤◌, ◌++◌, ◌∷◌, [], ◌||◌, ℕ, Bool, true, false, List, Option, Some, None, zero, suc, length, refl, sym, ap, subst, inl, inr, arith, is_some}
-use Rattle.std.specs.List.{All, Any, slice_index_or}
+use Rattle.std.proofs.Common.{◌≡◌, ◌∙◌, ◌<◌, ◌≤◌, ◌++◌, ◌∷◌, [], ◌||◌, ℕ, Bool, true, false, List, Option, Some, None, zero, suc, length, refl, sym, ap, subst, inl, inr, arith}
+use Rattle.std.specs.List.{All, slice_index_or}
 use Rattle.std.specs.Str.{bytes_eq}
 use Rattle.std.specs.Prelude.{find, option_map, slice_get, unwrap_or}
 use Rattle.std.specs.Borrow.{Bor}
@@ -10,7 +10,6 @@ use Rattle.clap.proofs.CallerLemmas.{added_plain, default_present, entry_by_id, 
 use Rattle.clap.specs.Built.{AddsArg, IsAuto, IsParsedFrom, IsPlain, IsPlainArg, SameRules}
 use Rattle.clap.specs.Facts.{Entry, EntryPasses, HasIn, PassesArg, WantsDefault, args_of, groups_of, least_values, parser_of_value}
 use Rattle.clap.specs.Matches.{found_of, matched_of, one_text}
-use Rattle.clap.specs.Texts.{items_of}
 use Rattle.clap.specs.Values.{Accepts, read_as, reading_of}
 use Rattle.clap.specs.Walk.{Text}
 use Rattle.clap.specs.declared.builder.action.ArgAction.{ArgAction}

@@ -1,33 +1,30 @@
 -- The parse of the program's words, as a fact of their text.
-use Rattle.std.proofs.Common.{◌≡◌, ◌⊎◌, ◌∙◌, ◌<◌, ◌≤◌, ◌^◌, ◌∷◌, [], ℕ, true, false, List, Option, Some, None, length, refl, sym, ap, ap₂, subst, inl, inr, arith}
-use Rattle.std.specs.Prelude.{Err, IsErrAnd, MatchResult, Ok, Result, codes, option_map, pos, slice_index}
+use Rattle.std.proofs.Common.{◌≡◌, ◌∙◌, ◌<◌, ◌≤◌, ◌∷◌, [], ℕ, true, false, List, Option, Some, length, refl, sym, ap, ap₂, subst, inl, inr, arith}
+use Rattle.std.specs.Prelude.{Err, IsErrAnd, Ok, Result, codes, option_map, pos, slice_index}
 use Rattle.std.specs.Borrow.{Bor}
 use Rattle.std.specs.Str.Parse.{ParsesUnsigned, digits_value, without_leading_plus}
 use Rattle.clap.proofs.CallerReads.{signed_reads}
 use Rattle.clap.proofs.OnLiterals.{clap_on_literals}
 use Rattle.clap.proofs.WalkLemmas.{one_text-rows}
-use Rattle.clap.specs.Built.{AddsArg, IsAuto, IsParsedFrom, IsPlainArg}
-use Rattle.clap.specs.Facts.{args_of, groups_of, least_values, subcommands_of, unwrap_or_range}
+use Rattle.clap.specs.Built.{AddsArg, IsParsedFrom}
+use Rattle.clap.specs.Facts.{args_of, groups_of, subcommands_of}
 use Rattle.clap.specs.Faults.{fault_of, is_simple_and_free}
-use Rattle.clap.specs.Kinds.{FailsBy, HasKind, Kinds}
+use Rattle.clap.specs.Kinds.{HasKind, Kinds}
 use Rattle.clap.specs.Lexer.{without_minus}
 use Rattle.clap.specs.Matches.{ReadsOne, found_of, one_text}
 use Rattle.clap.specs.Simple.{App, HasMatchesOf, app_of, app_of_fields, is_simple, matches_of, new_app, with_rule}
 use Rattle.clap.specs.Texts.{items_of}
 use Rattle.clap.specs.Values.{kind_of}
-use Rattle.clap.specs.Walk.{Row, Rule, Text, one_of, rule_of, rows_of, texts}
-use Rattle.clap.specs.declared.builder.action.ArgAction.TheVariants.{Set}
+use Rattle.clap.specs.Walk.{Row, Rule, Text, one_of, rows_of, texts}
 use Rattle.clap.specs.declared.builder.arg.Arg.{Arg}
 use Rattle.clap.specs.declared.builder.command.Command.{Command}
 use Rattle.clap.specs.declared.builder.command.Command.TheViews.{out-Command}
 use Rattle.clap.specs.declared.builder.command.Command.TheOpen.{Command-F}
-use Rattle.clap.specs.declared.builder.value_parser.ValueParser.{ValueParser}
 use Rattle.clap.specs.declared.builder.value_parser.ValueParser.TheVariants as parser
 use Rattle.clap.specs.declared.error.Error.{Error}
-use Rattle.clap.specs.declared.error.kind.ErrorKind.TheVariants.{DisplayHelp}
 use Rattle.clap.specs.declared.parser.matches.ArgMatches.{ArgMatches}
 use Rattle.street_sim.proofs.Defaults.{IsOption, default_reads}
-use Rattle.street_sim.specs.Words.{Answers, IsWorkers, TellsOf, ToldOf, streetsim, workers_of, workers_rule, wrongs}
+use Rattle.street_sim.specs.Words.{Answers, IsWorkers, TellsOf, ToldOf, streetsim, workers_of, wrongs}
 use Rattle.street_sim.specs.declared.words.Options.{Options}
 use Rattle.street_sim.specs.declared.words.WordsFault.{WordsFault}
 use Rattle.street_sim.specs.declared.words.WordsFault.TheVariants.{Bad, Help, Starved}

@@ -1,4 +1,4 @@
-use Rattle.std.proofs.Common.{◌≡◌, ◌≤◌, ap, refl, sym, subst, ◌∙◌, ℕ, Some, string_bytes}
+use Rattle.std.proofs.Common.{◌≡◌, ◌≤◌, ap, refl, subst, ◌∙◌, ℕ, Some, string_bytes}
 use Rattle.std.specs.Prelude.{Ok, Result}
 use Rattle.std.specs.Str.Parse.{ExplainsUnsignedError, HasUnsignedDigitsIfOk, ParsesUnsigned}
 use Rattle.street_sim.proofs.Asked.{gives_alone, gives_asked}
