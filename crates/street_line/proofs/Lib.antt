@@ -1,9 +1,3 @@
-pub mod Entries
-pub mod Texts
-pub mod Items
-pub mod Floats
-pub mod Plain
-pub mod CommandData
 pub mod Lines
 pub mod Sent
 pub mod Tallies

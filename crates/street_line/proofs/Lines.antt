@@ -3,11 +3,11 @@ use Rattle.std.proofs.Common.{◌≡◌, ℕ, ◌+◌, ◌<◌, ◌≤◌, List,
 use Rattle.std.proofs.lemmas.List.{take_all, length-take-le, take-append-le, length-append}
 use Rattle.std.proofs.lemmas.Bool.{cases_lt}
 use Rattle.street_base.specs.declared.command.Command.{Command}
-use Rattle.street_line.specs.declared.fault.LineFault.{LineFault}
-use Rattle.street_line.specs.declared.fault.LineFault.TheVariants.{LineTooLong, NotJson, BadCommand, Starved}
+use Rattle.street_text.specs.declared.fault.LineFault.{LineFault}
+use Rattle.street_text.specs.declared.fault.LineFault.TheVariants.{LineTooLong, NotJson, BadCommand, Starved}
 use Rattle.street_line.specs.Running.{is_blank, is_space, silent, said, said_by, has_reply}
 use Rattle.street_line.specs.Parts.{kept}
-use Rattle.street_line.specs.Reading.{reading, longest_line, Fails}
+use Rattle.street_text.specs.Reading.{reading, longest_line, Fails}
 
 and_assoc : (a b c : Bool) → a && (b && c) ≡ (a && b) && c
 and_assoc true b c = refl

@@ -5,7 +5,7 @@ use Rattle.std.proofs.lemmas.List.{length-take}
 use Rattle.std.proofs.KnownBytes.{Appends-nil, Appends-trans, Consumes-trans}
 use Rattle.street_line.proofs.Lines.{kept_none}
 use Rattle.street_line.proofs.Tallies.{one_more_line}
-use Rattle.street_line.specs.Reading.{longest_line}
+use Rattle.street_text.specs.Reading.{longest_line}
 use Rattle.std.specs.Io.KnownBytes.{Appends, Consumes}
 use Rattle.street_base.specs.declared.command.Command.{Command}
 use Rattle.street_line.specs.declared.service.Served.{Served}

@@ -8,8 +8,8 @@ use Rattle.street_base.specs.Outcomes.{Answers}
 use Rattle.street_engine.specs.Refines.{View, Serves}
 use Rattle.street_line.specs.declared.service.Served.{Served}
 use Rattle.street_line.specs.declared.service.Served.TheVariants.{Answered, Full}
-use Rattle.street_line.specs.Printing.{reply_line}
-use Rattle.street_line.specs.Running.{Said, silent, faulty, orders, said, fault_line}
+use Rattle.street_text.specs.Printing.{fault_line, reply_line}
+use Rattle.street_line.specs.Running.{Said, silent, faulty, orders, said}
 
 -- an engine answers every command, as the machine does under some outcome
 abbrev pub EngineServes : View → Command → Served → View → Type 0

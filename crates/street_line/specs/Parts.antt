@@ -6,7 +6,7 @@ use Rattle.street_line.specs.declared.part.PartialLine.{PartialLine}
 use Rattle.street_line.specs.declared.running.Progress.{Progress}
 use Rattle.street_line.specs.declared.service.Served.{Served}
 use Rattle.street_line.specs.declared.tally.Tally.{Tally}
-use Rattle.street_line.specs.Reading.{longest_line}
+use Rattle.street_text.specs.Reading.{longest_line}
 use Rattle.street_line.specs.Running.{is_blank, is_order, has_reply, Said, cut, lines_of, Goes, IsTally}
 
 -- what is kept of a line

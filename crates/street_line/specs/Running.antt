@@ -2,13 +2,12 @@
 use Rattle.std.specs.Prelude.{◌≡◌, ℕ, ◌==◌, ◌||◌, ◌&&◌, List, [], ◌∷◌, ◌++◌, length, Bool, true, false, if◌then◌else◌, Result, Ok, Err, codes}
 use Rattle.std.specs.List.{count_by}
 use Rattle.street_base.specs.declared.command.Command.{Command}
-use Rattle.street_line.specs.declared.fault.LineFault.{LineFault}
-use Rattle.street_line.specs.declared.fault.LineFault.TheVariants.{LineTooLong, NotJson, BadCommand, Starved}
+use Rattle.street_text.specs.declared.fault.LineFault.{LineFault}
 use Rattle.street_line.specs.declared.service.Served.{Served}
 use Rattle.street_line.specs.declared.service.Served.TheVariants.{Answered, Full}
 use Rattle.street_line.specs.declared.tally.Tally.{Tally}
-use Rattle.street_line.specs.Printing.{line_of, error_data, reply_line}
-use Rattle.street_line.specs.Reading.{reading}
+use Rattle.street_text.specs.Printing.{line_of, error_data, fault_line, reply_line}
+use Rattle.street_text.specs.Reading.{reading}
 
 -- ---- lines
 
@@ -39,13 +38,6 @@ is_space b = (b == 32) || ((b == 9) || (b == 13))
 abbrev pub is_blank : List ℕ → Bool
 is_blank [] = true
 is_blank (b ∷ bs) = is_space b && is_blank bs
-
--- `Starved` ends a run, and has no line
-unfoldable pub fault_line : LineFault → List ℕ
-fault_line LineTooLong = line_of (error_data 22 (codes "LineTooLong"))
-fault_line NotJson = line_of (error_data 20 (codes "NotJson"))
-fault_line BadCommand = line_of (error_data 21 (codes "BadCommand"))
-fault_line Starved = []
 
 unfoldable pub served_line : Served → List ℕ
 served_line (Answered reply) = reply_line reply

@@ -3,9 +3,9 @@ ghost use Rattle.std.specs.Prelude.{◌≡◌, List, ℕ, [], ◌∷◌, ◌++�
 ghost use Rattle.street_line.specs.Running.{is_space};
 ghost use Rattle.street_line.specs.Parts.{kept, IsPart};
 
-use crate::orders::LONGEST_LINE;
 use std::alloc::Global;
 use street_base::Starved;
+use street_text::LONGEST_LINE;
 
 fn is_space(byte: u8) -> bool
     ensures { result ≡ is_space byte }

@@ -1,19 +1,18 @@
 //! A text of lines, served one after another.
 ghost use Rattle.std.specs.Prelude.{◌≡◌, ◌≤◌, ◌+◌, ◌^◌, ◌<◌, ℕ, List, [], ◌∷◌, ◌++◌, IfOk, OnOk, cond, length};
 ghost use Rattle.std.specs.Io.KnownBytes.{Appends, Consumes, IsAtEnd};
-ghost use Rattle.street_line.specs.Reading.{reading};
+ghost use Rattle.street_text.specs.Reading.{reading};
 ghost use Rattle.street_line.specs.Parts.{IsPart, IsWithin, Counts, Grows, Feeds, Finishes};
 ghost use Rattle.street_line.specs.Running.{lines_of, is_order, said, said_by, Done, Goes, IsTally};
 
-use crate::fault::LineFault;
-use crate::orders::read_command;
 use crate::part::PartialLine;
 use crate::service::Service;
 use crate::tally::{FaultKind, RunFault, Tally};
-use crate::writing::{fault_text, served_text, write_reply};
+use crate::writing::{served_text, write_reply};
 use std::alloc::Global;
 use std::io::{Read, Write};
 use street_base::Starved;
+use street_text::{fault_text, read_command};
 
 /// The most calls of `read` in one run.
 const MOST_READS: u32 = 1_000_000_000;

@@ -1,38 +1,14 @@
 //! Reply lines, and how they go out.
 ghost use Rattle.std.specs.Prelude.{◌≡◌, ◌<◌, ◌+◌, ◌^◌, ℕ, IfOk, OnOk, OnErr, IfErr, length, take};
 ghost use Rattle.std.specs.Io.KnownBytes.{Appends};
-ghost use Rattle.street_line.specs.Printing.{line_of, error_data};
-ghost use Rattle.street_line.specs.Running.{fault_line, served_line};
+ghost use Rattle.street_line.specs.Running.{served_line};
 
-use crate::fault::LineFault;
-use crate::replies::{error_value, reply_text};
 use crate::service::Served;
 use crate::tally::{FaultKind, Tally};
 use std::alloc::Global;
 use std::io::Write;
 use street_base::Starved;
-
-fn error_text(alloc: Global, number: u64, name: &str) -> Result<Vec<u8>, Starved>
-    ensures { IfOk result (λ text. text.items ≡ line_of (error_data number name.now)) }
-{
-    let mut text = error_value(alloc, number, name)?.to_vec(alloc)?;
-    text.push(b'\n')?;
-    Ok(text)
-}
-
-/// The line that answers a fault of a line; `Starved` has none.
-#[tactic(auto, unfolding(crate::specs::Running::fault_line))]
-pub(crate) fn fault_text(alloc: Global, fault: LineFault) -> Result<Vec<u8>, Starved>
-    ensures text { IfOk result (λ text. text.items ≡ fault_line fault) }
-    ensures starved { OnOk result (fault ≡ LineFault.Starved → ⊥) }
-{
-    match fault {
-        LineFault::LineTooLong => error_text(alloc, 22, "LineTooLong"),
-        LineFault::NotJson => error_text(alloc, 20, "NotJson"),
-        LineFault::BadCommand => error_text(alloc, 21, "BadCommand"),
-        LineFault::Starved => Err(Starved),
-    }
-}
+use street_text::{error_text, reply_text};
 
 /// The line that answers a command.
 #[tactic(auto, unfolding(crate::specs::Running::served_line))]
