@@ -1,5 +1,5 @@
 -- A line as far as it was read, and a run as far as it has come.
-use Rattle.std.specs.Prelude.{◌≡◌, ℕ, ◌+◌, ◌*◌, ◌^◌, ◌≤◌, List, ◌++◌, length, take, cond, Option}
+use Rattle.std.specs.Prelude.{◌≡◌, ℕ, ◌+◌, ◌*◌, ◌^◌, ◌≤◌, List, ◌++◌, length, take, if◌then◌else◌, Option}
 use Rattle.std.specs.Io.KnownBytes.{Appends}
 use Rattle.street_base.specs.declared.command.Command.{Command}
 use Rattle.street_line.specs.declared.part.PartialLine.{PartialLine}
@@ -20,8 +20,8 @@ pub record IsPart (part : PartialLine) (line : List ℕ) : Type 0 where
 -- a tally counts one line more, to which `out` was written
 pub record Counts (old new : Tally) (what : Said) (out : List ℕ) : Type 0 where
   pub lines : new.lines ≡ old.lines + 1
-  pub calls : new.calls ≡ old.calls + cond (is_order what) 1 0
-  pub replies : new.replies ≡ old.replies + cond (has_reply what) 1 0
+  pub calls : new.calls ≡ old.calls + (if is_order what then 1 else 0)
+  pub replies : new.replies ≡ old.replies + (if has_reply what then 1 else 0)
   pub bytes : new.bytes ≡ old.bytes + length out
 
 -- every count is bounded by that of lines
@@ -43,9 +43,12 @@ module _ {S : Type 0} (serves : S → Command → Served → S → Type 0) where
 
   -- from one such state to the next
   abbrev pub Feeds : S → Option (List ℕ) → Progress → List ℕ → S → Option (List ℕ) → Progress → Type 0
-  Feeds s w p bytes t v q = (start : S) (before : Option (List ℕ)) (seen : List ℕ) → Stands start before seen s w p → Stands start before (seen ++ bytes) t v q
+  Feeds old written progress bytes new written_then fed =
+      (start : S) (before : Option (List ℕ)) (seen : List ℕ) → Stands start before seen old written progress
+      → Stands start before (seen ++ bytes) new written_then fed
 
   -- the text ends
   abbrev pub Finishes : S → Option (List ℕ) → Progress → S → Option (List ℕ) → Progress → Type 0
-  Finishes s w p t v q = (start : S) (before : Option (List ℕ)) (seen : List ℕ) → Stands start before seen s w p
-      → (out : List ℕ) × Goes serves start (lines_of seen) out t × Appends before v out × IsTally q.tally (lines_of seen) out
+  Finishes old written progress new written_then finished =
+      (start : S) (before : Option (List ℕ)) (seen : List ℕ) → Stands start before seen old written progress
+      → (out : List ℕ) × Goes serves start (lines_of seen) out new × Appends before written_then out × IsTally finished.tally (lines_of seen) out

@@ -1,5 +1,5 @@
 //! A text of lines, served one after another.
-ghost use Rattle.std.specs.Prelude.{◌≡◌, ◌≤◌, ◌+◌, ◌^◌, ◌<◌, ℕ, List, [], ◌∷◌, ◌++◌, IfOk, OnOk, cond, length};
+ghost use Rattle.std.specs.Prelude.{◌≡◌, ◌≤◌, ◌+◌, ◌^◌, ◌<◌, ℕ, List, [], ◌∷◌, ◌++◌, IfOk, OnOk, if◌then◌else◌, length};
 ghost use Rattle.std.specs.Io.KnownBytes.{Appends, Consumes, IsAtEnd};
 ghost use Rattle.street_text.specs.Reading.{reading};
 ghost use Rattle.street_line.specs.Parts.{IsPart, IsWithin, Counts, Grows, Feeds, Finishes};
@@ -33,7 +33,7 @@ fn answer<S: Service>(
 ) -> Result<Vec<u8>, Starved>
     requires { calls.old < 2 ^ 64 }
     ensures done { IfOk result (λ text. Done S.serves service.old (said_by (reading line.now)) text.items service.new) }
-    ensures counted { OnOk result (calls.new ≡ calls.old + cond (is_order (said_by (reading line.now))) 1 0) }
+    ensures counted { OnOk result (calls.new ≡ calls.old + (if is_order (said_by (reading line.now)) then 1 else 0)) }
 {
     let command = match read_command(alloc, line) {
         Ok(command) => command,

@@ -366,3 +366,27 @@ fn start_may_be_absent_but_no_other_field(rt: HostRuntime) -> Result<(), Fail> {
     assert_eq!(rt; net.start, 0);
     Ok(())
 }
+
+#[test]
+fn prints_each_fault_of_a_line(rt: HostRuntime) -> Result<(), Fail> {
+    for (fault, want) in [
+        (
+            LineFault::LineTooLong,
+            "{\"error\":22,\"name\":\"LineTooLong\"}\n",
+        ),
+        (LineFault::NotJson, "{\"error\":20,\"name\":\"NotJson\"}\n"),
+        (
+            LineFault::BadCommand,
+            "{\"error\":21,\"name\":\"BadCommand\"}\n",
+        ),
+    ] {
+        let text = fault_text(rt.alloc(), fault)?;
+        assert_eq!(rt; text.as_slice(), want.as_bytes());
+    }
+    let full = error_text(rt.alloc(), 23, "Full")?;
+    assert_eq!(rt;
+        full.as_slice(),
+        b"{\"error\":23,\"name\":\"Full\"}\n".as_slice()
+    );
+    Ok(())
+}

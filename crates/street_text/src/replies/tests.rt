@@ -11,14 +11,24 @@ fn listing<T: Copy>(alloc: Global, entries: &[T]) -> Result<Listing<T>, Fail> {
     Ok(Listing::from_vec(Vec::from_slice(alloc, entries)?))
 }
 
-fn check_text(rt: &(impl Abort + AllocGlobal), reply: &Reply, want: &str) -> Result<(), Fail> {
-    let text = reply_text(rt.alloc(), reply)?;
-    assert_eq!(rt; text.as_slice(), want.as_bytes(), "at {want}");
+/// The line of the reply is `want` and LF.
+fn check_text(rt: &(impl Abort + AllocGlobal), reply: Reply, want: &str) -> Result<(), Fail> {
+    let text = reply_text(rt.alloc(), &reply)?;
+    assert_eq!(rt;
+        text.as_slice().strip_suffix(b"\n".as_slice()),
+        Some(want.as_bytes()),
+        "at {want}"
+    );
     Ok(())
 }
 
-fn vehicle(car: u64, whereabouts: Whereabouts) -> Reply {
-    Reply::Vehicle { car, whereabouts }
+fn check_vehicle(
+    rt: &(impl Abort + AllocGlobal),
+    car: u64,
+    whereabouts: Whereabouts,
+    want: &str,
+) -> Result<(), Fail> {
+    check_text(rt, Reply::Vehicle { car, whereabouts }, want)
 }
 
 #[test]
@@ -30,10 +40,11 @@ fn prints_each_place_of_a_vehicle(rt: HostRuntime) -> Result<(), Fail> {
         speed: 4,
         plan: listing(rt.alloc(), &[20, 30])?,
     };
-    check_text(
+    check_vehicle(
         &rt,
-        &vehicle(3, cell),
-        "{\"car\":3,\"cell\":9,\"lane\":1,\"link\":20,\"plan\":[20,30],\"speed\":4,\"state\":\"cell\"}\n",
+        3,
+        cell,
+        r#"{"car":3,"cell":9,"lane":1,"link":20,"plan":[20,30],"speed":4,"state":"cell"}"#,
     )?;
     let buffer = Whereabouts::Buffer {
         link: 10,
@@ -42,10 +53,11 @@ fn prints_each_place_of_a_vehicle(rt: HostRuntime) -> Result<(), Fail> {
         speed: 4,
         plan: listing(rt.alloc(), &[10, 20])?,
     };
-    check_text(
+    check_vehicle(
         &rt,
-        &vehicle(0, buffer),
-        "{\"car\":0,\"lane\":0,\"link\":10,\"plan\":[10,20],\"ready\":5,\"speed\":4,\"state\":\"buffer\"}\n",
+        0,
+        buffer,
+        r#"{"car":0,"lane":0,"link":10,"plan":[10,20],"ready":5,"speed":4,"state":"buffer"}"#,
     )?;
     let waiting = Whereabouts::Waiting {
         link: 20,
@@ -53,65 +65,81 @@ fn prints_each_place_of_a_vehicle(rt: HostRuntime) -> Result<(), Fail> {
         depart: 5,
         plan: listing(rt.alloc(), &[20])?,
     };
-    check_text(
+    check_vehicle(
         &rt,
-        &vehicle(1, waiting),
-        "{\"car\":1,\"depart\":5,\"lane\":0,\"link\":20,\"plan\":[20],\"state\":\"waiting\"}\n",
-    )?;
-    let arrived = Whereabouts::Ended(End::Arrived { step: 4 });
-    check_text(
-        &rt,
-        &vehicle(0, arrived),
-        "{\"car\":0,\"state\":\"arrived\",\"step\":4}\n",
-    )?;
-    let taken = Whereabouts::Ended(End::Taken { step: 5 });
-    check_text(
-        &rt,
-        &vehicle(1, taken),
-        "{\"car\":1,\"state\":\"taken\",\"step\":5}\n",
-    )?;
+        1,
+        waiting,
+        r#"{"car":1,"depart":5,"lane":0,"link":20,"plan":[20],"state":"waiting"}"#,
+    )
+}
+
+#[test]
+fn prints_each_end_of_a_vehicle(rt: HostRuntime) -> Result<(), Fail> {
+    for (car, end, want) in [
+        (
+            0,
+            End::Arrived { step: 4 },
+            r#"{"car":0,"state":"arrived","step":4}"#,
+        ),
+        (
+            1,
+            End::Taken { step: 5 },
+            r#"{"car":1,"state":"taken","step":5}"#,
+        ),
+    ] {
+        check_vehicle(&rt, car, Whereabouts::Ended(end), want)?;
+    }
     Ok(())
 }
 
 #[test]
 fn prints_each_reply_of_numbers(rt: HostRuntime) -> Result<(), Fail> {
-    let loaded = Reply::Loaded {
-        links: 2,
-        nodes: 3,
-        turns: 1,
-    };
-    check_text(&rt, &loaded, "{\"links\":2,\"nodes\":3,\"turns\":1}\n")?;
-    check_text(&rt, &Reply::Signalled { cycle: 10 }, "{\"cycle\":10}\n")?;
-    check_text(
-        &rt,
-        &Reply::Entered { car: u64::MAX },
-        "{\"car\":18446744073709551615}\n",
-    )?;
-    check_text(&rt, &Reply::Clock { clock: 5 }, "{\"clock\":5}\n")?;
-    check_text(
-        &rt,
-        &Reply::Short { clock: 7, short: 2 },
-        "{\"clock\":7,\"short\":2}\n",
-    )?;
-    check_text(&rt, &Reply::Closed { closed: 0 }, "{\"closed\":0}\n")?;
-    check_text(&rt, &Reply::Taken { taken: 1 }, "{\"taken\":1}\n")?;
-    check_text(&rt, &Reply::Placed { meter: 1023 }, "{\"meter\":1023}\n")?;
-    let census = Reply::Census {
-        admitted: 21,
-        arrived: 6,
-        buffers: 5,
-        cells: 4,
-        clock: 100,
-        taken: 3,
-        waiting: 3,
-    };
-    check_text(
-        &rt,
-        &census,
-        "{\"admitted\":21,\"arrived\":6,\"buffers\":5,\"cells\":4,\"clock\":100,\"taken\":3,\"waiting\":3}\n",
-    )?;
-    check_text(&rt, &Reply::Starved, "{\"starved\":true}\n")?;
+    for (reply, want) in [
+        (
+            Reply::Loaded {
+                links: 2,
+                nodes: 3,
+                turns: 1,
+            },
+            r#"{"links":2,"nodes":3,"turns":1}"#,
+        ),
+        (Reply::Signalled { cycle: 10 }, r#"{"cycle":10}"#),
+        (
+            Reply::Entered { car: u64::MAX },
+            r#"{"car":18446744073709551615}"#,
+        ),
+        (Reply::Clock { clock: 5 }, r#"{"clock":5}"#),
+        (
+            Reply::Short { clock: 7, short: 2 },
+            r#"{"clock":7,"short":2}"#,
+        ),
+        (Reply::Closed { closed: 0 }, r#"{"closed":0}"#),
+        (Reply::Taken { taken: 1 }, r#"{"taken":1}"#),
+        (Reply::Placed { meter: 1023 }, r#"{"meter":1023}"#),
+        (
+            Reply::Census {
+                admitted: 21,
+                arrived: 6,
+                buffers: 5,
+                cells: 4,
+                clock: 100,
+                taken: 3,
+                waiting: 3,
+            },
+            r#"{"admitted":21,"arrived":6,"buffers":5,"cells":4,"clock":100,"taken":3,"waiting":3}"#,
+        ),
+        (Reply::Starved, r#"{"starved":true}"#),
+    ] {
+        check_text(&rt, reply, want)?;
+    }
     Ok(())
+}
+
+fn rows(alloc: Global, now: RunningRow, rows: &[MeterRow]) -> Result<Reply, Fail> {
+    Ok(Reply::Rows {
+        now,
+        rows: listing(alloc, rows)?,
+    })
 }
 
 #[test]
@@ -135,21 +163,31 @@ fn prints_the_rows_of_a_detector(rt: HostRuntime) -> Result<(), Fail> {
         speeds: 3,
         occupied: 0,
     };
-    let rows = Reply::Rows {
-        now,
-        rows: listing(rt.alloc(), &[first, second])?,
-    };
     check_text(
         &rt,
-        &rows,
-        "{\"now\":[4,1,0,0,2],\"rows\":[[0,5,17,1],[2,1,3,0]]}\n",
+        rows(rt.alloc(), now, &[first, second])?,
+        r#"{"now":[4,1,0,0,2],"rows":[[0,5,17,1],[2,1,3,0]]}"#,
     )?;
-    let none = Reply::Rows {
-        now,
-        rows: listing(rt.alloc(), &[])?,
-    };
-    check_text(&rt, &none, "{\"now\":[4,1,0,0,2],\"rows\":[]}\n")?;
-    Ok(())
+    check_text(
+        &rt,
+        rows(rt.alloc(), now, &[])?,
+        r#"{"now":[4,1,0,0,2],"rows":[]}"#,
+    )
+}
+
+fn lane(
+    alloc: Global,
+    buffer: &[BufferEntry],
+    cells: &[CellEntry],
+    closed: &[Stretch],
+    waiting: &[WaitingEntry],
+) -> Result<Reply, Fail> {
+    Ok(Reply::Lane {
+        buffer: listing(alloc, buffer)?,
+        cells: listing(alloc, cells)?,
+        closed: listing(alloc, closed)?,
+        waiting: listing(alloc, waiting)?,
+    })
 }
 
 #[test]
@@ -169,94 +207,85 @@ fn prints_a_lane(rt: HostRuntime) -> Result<(), Fail> {
         cell: 1,
         speed: 0,
     };
-    let lane = Reply::Lane {
-        buffer: listing(rt.alloc(), &[in_buffer])?,
-        cells: listing(rt.alloc(), &[ahead, behind])?,
-        closed: listing(
-            rt.alloc(),
-            &[Stretch { first: 4, last: 6 }, Stretch { first: 9, last: 9 }],
-        )?,
-        waiting: listing(rt.alloc(), &[WaitingEntry { car: 7, depart: 30 }])?,
-    };
+    let closed = [Stretch { first: 4, last: 6 }, Stretch { first: 9, last: 9 }];
+    let waiting = WaitingEntry { car: 7, depart: 30 };
+    let full = lane(
+        rt.alloc(),
+        &[in_buffer],
+        &[ahead, behind],
+        &closed,
+        &[waiting],
+    )?;
     check_text(
         &rt,
-        &lane,
-        "{\"buffer\":[[3,5,12]],\"cells\":[[0,15,5],[2,1,0]],\"closed\":[[4,6],[9,9]],\"waiting\":[[7,30]]}\n",
+        full,
+        r#"{"buffer":[[3,5,12]],"cells":[[0,15,5],[2,1,0]],"closed":[[4,6],[9,9]],"waiting":[[7,30]]}"#,
     )?;
-    let empty = Reply::Lane {
-        buffer: listing(rt.alloc(), &[])?,
-        cells: listing(rt.alloc(), &[])?,
-        closed: listing(rt.alloc(), &[])?,
-        waiting: listing(rt.alloc(), &[])?,
-    };
+    let empty = lane(rt.alloc(), &[], &[], &[], &[])?;
     check_text(
         &rt,
-        &empty,
-        "{\"buffer\":[],\"cells\":[],\"closed\":[],\"waiting\":[]}\n",
-    )?;
-    Ok(())
+        empty,
+        r#"{"buffer":[],"cells":[],"closed":[],"waiting":[]}"#,
+    )
 }
 
 #[test]
 fn prints_each_refusal(rt: HostRuntime) -> Result<(), Fail> {
     for (refusal, want) in [
-        (Refusal::NotLoaded, "{\"error\":1,\"name\":\"NotLoaded\"}\n"),
+        (Refusal::NotLoaded, r#"{"error":1,"name":"NotLoaded"}"#),
         (
             Refusal::AlreadyLoaded,
-            "{\"error\":2,\"name\":\"AlreadyLoaded\"}\n",
+            r#"{"error":2,"name":"AlreadyLoaded"}"#,
         ),
         (
             Refusal::BadNetwork {
                 part: Part::Nodes,
                 at: 1,
             },
-            "{\"at\":1,\"error\":3,\"name\":\"BadNetwork\",\"part\":\"nodes\"}\n",
+            r#"{"at":1,"error":3,"name":"BadNetwork","part":"nodes"}"#,
         ),
         (
             Refusal::BadNetwork {
                 part: Part::Links,
                 at: 0,
             },
-            "{\"at\":0,\"error\":3,\"name\":\"BadNetwork\",\"part\":\"links\"}\n",
+            r#"{"at":0,"error":3,"name":"BadNetwork","part":"links"}"#,
         ),
         (
             Refusal::BadNetwork {
                 part: Part::Turns,
                 at: 2,
             },
-            "{\"at\":2,\"error\":3,\"name\":\"BadNetwork\",\"part\":\"turns\"}\n",
+            r#"{"at":2,"error":3,"name":"BadNetwork","part":"turns"}"#,
         ),
         (
             Refusal::BadNetwork {
                 part: Part::Values,
                 at: 3,
             },
-            "{\"at\":3,\"error\":3,\"name\":\"BadNetwork\",\"part\":\"values\"}\n",
+            r#"{"at":3,"error":3,"name":"BadNetwork","part":"values"}"#,
         ),
-        (Refusal::NoNode, "{\"error\":4,\"name\":\"NoNode\"}\n"),
-        (Refusal::NoLink, "{\"error\":5,\"name\":\"NoLink\"}\n"),
-        (Refusal::NoLane, "{\"error\":6,\"name\":\"NoLane\"}\n"),
-        (Refusal::BadRange, "{\"error\":7,\"name\":\"BadRange\"}\n"),
+        (Refusal::NoNode, r#"{"error":4,"name":"NoNode"}"#),
+        (Refusal::NoLink, r#"{"error":5,"name":"NoLink"}"#),
+        (Refusal::NoLane, r#"{"error":6,"name":"NoLane"}"#),
+        (Refusal::BadRange, r#"{"error":7,"name":"BadRange"}"#),
         (
             Refusal::BadPlan { at: 1 },
-            "{\"at\":1,\"error\":8,\"name\":\"BadPlan\"}\n",
+            r#"{"at":1,"error":8,"name":"BadPlan"}"#,
         ),
         (
             Refusal::BadSignal { at: 2 },
-            "{\"at\":2,\"error\":9,\"name\":\"BadSignal\"}\n",
+            r#"{"at":2,"error":9,"name":"BadSignal"}"#,
         ),
-        (
-            Refusal::NoVehicle,
-            "{\"error\":10,\"name\":\"NoVehicle\"}\n",
-        ),
-        (Refusal::Gone, "{\"error\":11,\"name\":\"Gone\"}\n"),
-        (Refusal::NoMeter, "{\"error\":12,\"name\":\"NoMeter\"}\n"),
-        (Refusal::TooMany, "{\"error\":13,\"name\":\"TooMany\"}\n"),
-        (Refusal::BadCount, "{\"error\":14,\"name\":\"BadCount\"}\n"),
-        (Refusal::ClockEnd, "{\"error\":15,\"name\":\"ClockEnd\"}\n"),
-        (Refusal::NotYet, "{\"error\":19,\"name\":\"NotYet\"}\n"),
+        (Refusal::NoVehicle, r#"{"error":10,"name":"NoVehicle"}"#),
+        (Refusal::Gone, r#"{"error":11,"name":"Gone"}"#),
+        (Refusal::NoMeter, r#"{"error":12,"name":"NoMeter"}"#),
+        (Refusal::TooMany, r#"{"error":13,"name":"TooMany"}"#),
+        (Refusal::BadCount, r#"{"error":14,"name":"BadCount"}"#),
+        (Refusal::ClockEnd, r#"{"error":15,"name":"ClockEnd"}"#),
+        (Refusal::NotYet, r#"{"error":19,"name":"NotYet"}"#),
     ] {
-        check_text(&rt, &Reply::Refused(refusal), want)?;
+        check_text(&rt, Reply::Refused(refusal), want)?;
     }
     Ok(())
 }

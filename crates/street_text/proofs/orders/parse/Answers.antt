@@ -6,4 +6,4 @@ pub returns-in-Ok : goal.returns-in-Ok
 returns-in-Ok c = value_read c.args.line.now _ c.in-Ok.ensures.ok.0 c.in-Ok.ensures.ok.1
 
 pub returns-in-Err : goal.returns-in-Err
-returns-in-Err c = elim c.fault_of.ensures [ inl starved ↦ rw starved tt | inr other ↦ rw other.0 (value_refused c.args.line.now (c.in-Err.ensures.err other.1)) ]
+returns-in-Err c = elim c.fault_of.ensures [ inl starved ↦ rw starved.0 tt | inr other ↦ rw other.0 (value_refused c.args.line.now (c.in-Err.ensures.err other.1)) ]
