@@ -13,13 +13,15 @@ pub record Place : Type 0 where
   pub link : ℕ
   pub lane : ℕ
 
+-- both are the same lane
 abbrev pub is_place : Place → Place → Bool
 is_place a b = (a.link == b.link) && (a.lane == b.lane)
 
--- the position of the node, and of the link, with an identifier
+-- the position of the node with an identifier
 abbrev pub node_of : NetSpec → ℕ → Option ℕ
 node_of net id = position (λ node. node.id == id) net.nodes
 
+-- the position of the link with an identifier
 abbrev pub link_of : NetSpec → ℕ → Option ℕ
 link_of net id = position (λ link. link.id == id) net.links
 
