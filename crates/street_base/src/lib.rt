@@ -24,4 +24,4 @@ pub use laws::{
 };
 pub use listing::Listing;
 pub use names::{CarNo, CellNo, LaneNo, LinkIx, NodeIx, Speed, Step};
-pub use net::{LinkSpec, NetSpec, NodeSpec, TurnSpec};
+pub use net::{LinkSpec, NetSpec, NodeSpec, Turn, TurnSpec};

@@ -1,6 +1,8 @@
-//! What a network is loaded from. A number here may be any `u64`: the ranges below are tested when the network is built.
+//! What a network is loaded from, and what it answers for a turn. A number to be loaded may be any `u64`: the ranges below
+//! are tested when the network is built.
 
 use crate::listing::Listing;
+use crate::names::{LaneNo, LinkIx};
 
 /// A node: where links meet.
 #[derive(Clone, Copy)]
@@ -63,4 +65,17 @@ pub struct NetSpec {
     pub seed: u64,
     /// The clock at the start: 0 to 1,000,000,000 steps.
     pub start: u64,
+}
+
+/// A turn of a network that was checked, by the positions of its links: what the network answers for a turn.
+#[derive(Clone, Copy)]
+pub struct Turn {
+    /// The link that is left.
+    pub link: LinkIx,
+    /// The lane that is left.
+    pub lane: LaneNo,
+    /// The next link.
+    pub next: LinkIx,
+    /// The lane of the next link.
+    pub next_lane: LaneNo,
 }
