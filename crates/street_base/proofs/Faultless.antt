@@ -5,7 +5,7 @@ use Rattle.std.proofs.lemmas.Bool.{and_parts, or_parts, ltb-false, leb-true}
 use Rattle.street_base.specs.declared.net.NetSpec.{NetSpec}
 use Rattle.street_base.specs.declared.command.Part.{Part}
 use Rattle.street_base.specs.declared.command.Part.TheVariants.{Nodes, Links, Turns, Values}
-use Rattle.street_base.specs.Network.{no_link, link_at}
+use Rattle.street_base.specs.Network.{last_clock, no_link, link_at}
 use Rattle.street_base.specs.Faults.{in_part, is_within, is_bad_link, links_fault, nodes_fault, turns_fault, values_fault, network_fault}
 use Rattle.street_base.proofs.Options.{option_or-none}
 use Rattle.street_base.proofs.FirstBad.{first_bad-none}
@@ -76,5 +76,5 @@ module _ (net : NetSpec) (faultless : network_fault net ≡ None) where
   pub no_dawdling : net.dawdle ≡ 0
   no_dawdling = none-below net.dawdle (ltb-false 0 net.dawdle (four _ _ _ _ values-good).0)
 
-  pub good_start : net.start ≤ 1000000000
-  good_start = ltb-false 1000000000 net.start (four _ _ _ _ values-good).1
+  pub good_start : net.start ≤ last_clock
+  good_start = ltb-false last_clock net.start (four _ _ _ _ values-good).1

@@ -9,7 +9,7 @@ use Rattle.street_base.specs.declared.net.TurnSpec.{TurnSpec}
 use Rattle.street_base.specs.declared.net.NetSpec.{NetSpec}
 use Rattle.street_base.specs.declared.command.Part.{Part}
 use Rattle.street_base.specs.declared.command.Part.TheVariants.{Nodes, Links, Turns, Values}
-use Rattle.street_base.specs.Network.{node_of, link_of}
+use Rattle.street_base.specs.Network.{last_clock, node_of, link_of}
 
 -- ---- limits of what can be simulated today; they rise to 2, 1,000 and 1,000
 
@@ -70,7 +70,7 @@ is_bad_turn net at t = nat_le 32768 at || not (joins net t) || list_any (is_same
 
 -- the values by their positions: whether zone, dawdle, change and start are bad
 abbrev pub bad_values : NetSpec → List Bool
-bad_values net = nat_lt 1000 net.zone ∷ nat_lt most_dawdle net.dawdle ∷ nat_lt most_change net.change ∷ nat_lt 1000000000 net.start ∷ []
+bad_values net = nat_lt 1000 net.zone ∷ nat_lt most_dawdle net.dawdle ∷ nat_lt most_change net.change ∷ nat_lt last_clock net.start ∷ []
 
 -- ---- the first fault
 

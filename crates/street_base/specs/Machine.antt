@@ -13,7 +13,7 @@ use Rattle.street_base.specs.declared.command.Reply.TheVariants.{Loaded, Entered
 use Rattle.street_base.specs.declared.command.Whereabouts.{Whereabouts}
 use Rattle.street_base.specs.declared.command.Whereabouts.TheVariants.{Cell, Buffer, Waiting as Waits, Ended}
 use Rattle.street_base.specs.declared.command.End.{End}
-use Rattle.street_base.specs.Network.{Place, is_place, link_of, link_at, places}
+use Rattle.street_base.specs.Network.{last_clock, Place, is_place, link_of, link_at, places}
 use Rattle.street_base.specs.Faults.{Fault, network_fault, plan_fault}
 use Rattle.street_base.specs.Vehicle.{Vehicle, remaining_plan}
 use Rattle.street_base.specs.Lane.{vehicle_at}
@@ -56,7 +56,7 @@ enter_refusal plan lane depart m = first_of (
     (nat_le 1000000 (length m.ends), TooMany)
     ∷ (is_some (plan_fault m.network plan), BadPlan (unwrap_or (plan_fault m.network plan) 0))
     ∷ (nat_le (link_at m.network (entry_of m.network plan lane).link).lanes lane, NoLane)
-    ∷ (nat_lt 1000000000 depart, BadRange)
+    ∷ (nat_lt last_clock depart, BadRange)
     ∷ [])
 
 -- a command that is not served so far
@@ -67,7 +67,7 @@ not_yet m = when_loaded (λ t. Some NotYet) m
 abbrev pub refusal : State → Command → Option Refusal
 refusal m (Load net) = load_refusal m net
 refusal m (Enter plan lane depart) = when_loaded (enter_refusal plan lane depart) m
-refusal m (Advance n) = when_loaded (λ t. first_of ((nat_lt 10000 n, BadCount) ∷ (nat_lt 1000000000 (t.clock + n), ClockEnd) ∷ [])) m
+refusal m (Advance n) = when_loaded (λ t. first_of ((nat_lt 10000 n, BadCount) ∷ (nat_lt last_clock (t.clock + n), ClockEnd) ∷ [])) m
 refusal m (AskVehicle car) = when_loaded (λ t. first_of ((nat_le (length t.ends) car, NoVehicle) ∷ [])) m
 refusal m (Signal node offset phases) = not_yet m
 refusal m (CloseLane link lane first last) = not_yet m

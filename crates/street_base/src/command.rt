@@ -17,7 +17,7 @@ pub enum Command {
         plan: Listing<u64>,
         /// The lane of the first link, below its number of lanes.
         lane: u64,
-        /// The step from which the vehicle may depart: 0 to 1,000,000,000. It may lie before the clock.
+        /// The step from which the vehicle may depart: 0 to `LAST_CLOCK`. It may lie before the clock.
         depart: u64,
     },
     /// Sets the signal plan of a node.
@@ -31,7 +31,7 @@ pub enum Command {
     },
     /// Makes steps.
     Advance {
-        /// How many: 0 to 10,000, and not past the clock 1,000,000,000.
+        /// How many: 0 to 10,000, and not past `LAST_CLOCK`.
         steps: u64,
     },
     /// Closes cells of a lane.
@@ -146,8 +146,8 @@ pub enum Refusal {
     NoLink,
     /// The link has no such lane.
     NoLane,
-    /// A depart is past the clock 1,000,000,000; of cells to close or reopen the first is above the last, or the last is not
-    /// in the lane; the cell of a detector is not in the lane.
+    /// A depart is past `LAST_CLOCK`; of cells to close or reopen the first is above the last, or the last is not in the lane;
+    /// the cell of a detector is not in the lane.
     BadRange,
     /// The plan has a fault; the first is at this position.
     BadPlan {
@@ -169,7 +169,7 @@ pub enum Refusal {
     TooMany,
     /// An advance is of more than 10,000 steps, or the period of a detector is not of 1 to 100,000.
     BadCount,
-    /// The steps lead past the clock 1,000,000,000.
+    /// The steps lead past `LAST_CLOCK`.
     ClockEnd,
     /// The engine does not serve this command yet.
     NotYet,

@@ -63,7 +63,7 @@ pub struct NetSpec {
     pub change: u64,
     /// The seed of all draws, any 64 bits.
     pub seed: u64,
-    /// The clock at the start: 0 to 1,000,000,000 steps.
+    /// The clock at the start: 0 to `LAST_CLOCK` steps.
     pub start: u64,
 }
 
