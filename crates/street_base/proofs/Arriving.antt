@@ -117,14 +117,6 @@ module _ (number : ℕ) where
       same None = refl
       same (Some e) = refl
 
-ended-le : (number : ℕ) (ends : List (Option End)) → has_ended number ends ≤ 1
-ended-le number ends = at_most (slice_get ends number)
-  where
-    at_most : (o : Option (Option End)) → option_map_or (λ e. if is_some e then 1 else 0) o 0 ≤ 1
-    at_most None = omega arith
-    at_most (Some None) = omega arith
-    at_most (Some (Some e)) = omega arith
-
 ends-are : (m : Traffic) → (driven m).ends ≡ with_arrivals m.clock (arrivals m) m.ends
 unfolding driven
 ends-are m = refl

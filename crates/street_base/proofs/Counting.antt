@@ -2,7 +2,7 @@
 use Rattle.std.proofs.Common.{◌≡◌, ℕ, zero, suc, ◌+◌, ◌<◌, Bool, false, List, length, set, get_or, cond, refl, ◌∙◌, ap, arith, inl, inr, add-zero, get_or-set_same, get_or-set_other}
 use Rattle.std.specs.Prelude.{Option, Some, None, option_and_then, ◌==◌}
 use Rattle.std.specs.List.{sum_by}
-use Rattle.std.proofs.lemmas.Bool.{cases_eq, cases_lt, lt-leb}
+use Rattle.std.proofs.lemmas.Bool.{cases_eq, cases_lt}
 use Rattle.std.proofs.lemmas.List.{length-set}
 use Rattle.std.proofs.lemmas.List.Sums.{sum_by-set}
 use Rattle.street_base.specs.Vehicle.{Vehicle}
@@ -10,7 +10,8 @@ use Rattle.street_base.specs.Lane.{Cells, vehicle_at}
 use Rattle.street_base.specs.Motion.{Drive, driven_on, moved, leaves, motion, leaver}
 use Rattle.street_base.specs.Apart.{weight}
 use Rattle.street_base.proofs.Moving.{IsPartMoved, leaver_from, part_moved-start, part_moved-all, part_moved-empty, part_moved-vehicle, leaver_from-past, leaver_from-empty, leaver_from-stays, leaver_from-goes, leaver_from-all}
-use Rattle.street_base.proofs.Overtaking.{no_overtaking, option_map-some}
+use Rattle.street_base.proofs.Options.{option_map-some}
+use Rattle.street_base.proofs.Overtaking.{no_overtaking}
 use Rattle.street_base.proofs.Behind.{comer_from-ahead, none-or-some, least-none-below}
 
 module _ (drive : Drive) (old : Cells) (closed : List Bool) where
@@ -28,10 +29,6 @@ module _ (drive : Drive) (old : Cells) (closed : List Bool) where
   leaves-none : (y : ℕ) → moved drive old closed y ≡ None → leaves drive old closed y ≡ false
   unfolding leaves
   leaves-none y e = rw e refl
-
-  leaves-not : (y : ℕ) (w : Vehicle) → moved drive old closed y ≡ Some w → y + w.speed < length old → leaves drive old closed y ≡ false
-  unfolding leaves
-  leaves-not y w e h = rw e (lt-leb _ _ h)
 
   module _ (number : ℕ) where
     -- the cells while vehicles move, with as many of this number as before

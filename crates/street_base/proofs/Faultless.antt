@@ -1,20 +1,16 @@
 -- What a network without a fault keeps.
 use Rattle.std.proofs.Common.{◌≡◌, ℕ, ◌<◌, ◌≤◌, Bool, true, false, length, refl, sym, arith}
 use Rattle.std.specs.Prelude.{Option, Some, None, [], ◌∷◌, position, not}
-use Rattle.std.specs.Option.{option_or}
 use Rattle.std.proofs.lemmas.Bool.{and_parts, or_parts, ltb-false, leb-true}
 use Rattle.street_base.specs.declared.net.NetSpec.{NetSpec}
 use Rattle.street_base.specs.declared.command.Part.{Part}
 use Rattle.street_base.specs.declared.command.Part.TheVariants.{Nodes, Links, Turns, Values}
-use Rattle.street_base.specs.Network.{link_at}
+use Rattle.street_base.specs.Network.{last_clock, no_link, link_at}
 use Rattle.street_base.specs.Faults.{in_part, is_within, is_bad_link, links_fault, nodes_fault, turns_fault, values_fault, network_fault}
+use Rattle.street_base.proofs.Options.{option_or-none}
 use Rattle.street_base.proofs.FirstBad.{first_bad-none}
 
 -- ---- no part has a fault
-
-or-none : {A : Type 0} (a b : Option A) → option_or a b ≡ None → (a ≡ None) × (b ≡ None)
-or-none None b e = (refl, e)
-or-none (Some x) b e = cc
 
 in_part-none : (part : Part) (o : Option ℕ) → in_part part o ≡ None → o ≡ None
 in_part-none part None e = refl
@@ -38,15 +34,15 @@ none-below n h = omega arith
 module _ (net : NetSpec) (faultless : network_fault net ≡ None) where
   links-good : links_fault net ≡ None
   unfolding network_fault
-  links-good = in_part-none Links (links_fault net) (or-none (in_part Links (links_fault net)) _ (or-none (in_part Nodes (nodes_fault net)) _ faultless).1).0
+  links-good = in_part-none Links (links_fault net) (option_or-none (in_part Links (links_fault net)) _ (option_or-none (in_part Nodes (nodes_fault net)) _ faultless).1).0
 
   pub turns-good : turns_fault net ≡ None
   unfolding network_fault
-  turns-good = in_part-none Turns (turns_fault net) (or-none (in_part Turns (turns_fault net)) _ (or-none (in_part Links (links_fault net)) _ (or-none (in_part Nodes (nodes_fault net)) _ faultless).1).1).0
+  turns-good = in_part-none Turns (turns_fault net) (option_or-none (in_part Turns (turns_fault net)) _ (option_or-none (in_part Links (links_fault net)) _ (option_or-none (in_part Nodes (nodes_fault net)) _ faultless).1).1).0
 
   values-good : values_fault net ≡ None
   unfolding network_fault
-  values-good = in_part-none Values (values_fault net) (or-none (in_part Turns (turns_fault net)) _ (or-none (in_part Links (links_fault net)) _ (or-none (in_part Nodes (nodes_fault net)) _ faultless).1).1).1
+  values-good = in_part-none Values (values_fault net) (option_or-none (in_part Turns (turns_fault net)) _ (option_or-none (in_part Links (links_fault net)) _ (option_or-none (in_part Nodes (nodes_fault net)) _ faultless).1).1).1
 
   -- each link has one lane, 1 to 1,000 cells and a limit of at most 5
   pub record IsGoodLink (link : ℕ) : Type 0 where
@@ -58,7 +54,7 @@ module _ (net : NetSpec) (faultless : network_fault net ≡ None) where
   pub good_link : (link : ℕ) → link < length net.links → IsGoodLink link
   good_link link h =
       let spec = link_at net link in
-      let good = first_bad-none (is_bad_link net) net.links links-good link (record { id = 0; from = 0; to = 0; lanes = 0; length = 0; limit = 0 }) h in
+      let good = first_bad-none (is_bad_link net) net.links links-good link no_link h in
       let limit = or_parts _ _ good in
       let size = or_parts _ _ limit.0 in
       let lanes = or_parts _ _ size.0 in
@@ -80,5 +76,5 @@ module _ (net : NetSpec) (faultless : network_fault net ≡ None) where
   pub no_dawdling : net.dawdle ≡ 0
   no_dawdling = none-below net.dawdle (ltb-false 0 net.dawdle (four _ _ _ _ values-good).0)
 
-  pub good_start : net.start ≤ 1000000000
-  good_start = ltb-false 1000000000 net.start (four _ _ _ _ values-good).1
+  pub good_start : net.start ≤ last_clock
+  good_start = ltb-false last_clock net.start (four _ _ _ _ values-good).1

@@ -1,7 +1,7 @@
 -- Worked rows: the first fault of a load.
 use Rattle.street_base.proofs.Unfolded.{machine_computed}
 use Rattle.std.proofs.Common.{◌≡◌, ℕ, List, [], ◌∷◌, refl}
-use Rattle.std.specs.Prelude.{Option, Some, None}
+use Rattle.std.specs.Prelude.{Option, Some, None, true, false}
 use Rattle.street_base.specs.declared.net.NodeSpec.{NodeSpec}
 use Rattle.street_base.specs.declared.net.LinkSpec.{LinkSpec}
 use Rattle.street_base.specs.declared.net.TurnSpec.{TurnSpec}
@@ -10,6 +10,7 @@ use Rattle.street_base.specs.declared.command.Command.TheVariants.{Load}
 use Rattle.street_base.specs.declared.command.Refusal.{Refusal}
 use Rattle.street_base.specs.declared.command.Refusal.TheVariants.{BadNetwork}
 use Rattle.street_base.specs.declared.command.Part.TheVariants.{Nodes, Links, Turns, Values}
+use Rattle.street_base.specs.Faults.{is_bad_node, is_bad_link, is_bad_turn}
 use Rattle.street_base.specs.Machine.{refusal}
 use Rattle.street_base.proofs.Worked.{two_links, node, link, turn_of}
 
@@ -42,6 +43,10 @@ pub node_bounds :
 unfolding machine_computed
 node_bounds = (refl, refl, refl, refl, refl, refl)
 
+-- a good node may stand at position 4,095, and none at 4,096
+pub node_positions : (is_bad_node two_links 4095 (node 9) ≡ false) × (is_bad_node two_links 4096 (node 9) ≡ true)
+node_positions = (refl, refl)
+
 -- ---- links
 
 abbrev of_links : List LinkSpec → Option Refusal
@@ -73,6 +78,10 @@ pub link_bounds :
 unfolding machine_computed
 link_bounds = (refl, refl, refl, refl, refl, refl)
 
+-- a good link may stand at position 4,095, and none at 4,096
+pub link_positions : (is_bad_link two_links 4095 (link 30 1 2 1 10) ≡ false) × (is_bad_link two_links 4096 (link 30 1 2 1 10) ≡ true)
+link_positions = (refl, refl)
+
 -- links of two lanes are refused today
 pub two_lanes_today : of_links (link 10 1 2 2 10 ∷ []) ≡ Some (BadNetwork Links 0)
 unfolding machine_computed
@@ -82,6 +91,9 @@ two_lanes_today = refl
 
 abbrev of_turns : List TurnSpec → Option Refusal
 of_turns turns = load (record two_links { turns = turns })
+
+abbrev unturned : NetSpec
+unturned = record two_links { turns = [] }
 
 pub turns_good : of_turns [] ≡ None
 unfolding machine_computed
@@ -97,6 +109,10 @@ pub turn_joins :
     × (of_turns (turn_of 10 0 20 0 ∷ turn_of 10 0 20 0 ∷ []) ≡ Some (BadNetwork Turns 1))
 unfolding machine_computed
 turn_joins = (refl, refl, refl, refl, refl, refl)
+
+-- a good turn may stand at position 32,767, and none at 32,768
+pub turn_positions : (is_bad_turn unturned 32767 (turn_of 10 0 20 0) ≡ false) × (is_bad_turn unturned 32768 (turn_of 10 0 20 0) ≡ true)
+turn_positions = (refl, refl)
 
 -- ---- values
 

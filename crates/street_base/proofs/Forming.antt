@@ -10,7 +10,7 @@ use Rattle.std.proofs.lemmas.List.FromFn.{length-map-range_with_len}
 use Rattle.std.proofs.Math.ListN.{length-map, get_or-map}
 use Rattle.street_base.specs.declared.net.NetSpec.{NetSpec}
 use Rattle.street_base.specs.declared.net.LinkSpec.{LinkSpec}
-use Rattle.street_base.specs.Network.{Place, is_place, link_at, places}
+use Rattle.street_base.specs.Network.{Place, is_place, no_link, link_at, places}
 use Rattle.street_base.specs.Vehicle.{Vehicle}
 use Rattle.street_base.specs.Lane.{Track, is_free}
 use Rattle.street_base.specs.State.{Traffic, LaneState, Waiting, no_lane, lane_at, each_lane}
@@ -28,7 +28,7 @@ pub row-sizes : (m : Traffic) → IsFormed m → (link : ℕ) → map (λ lane. 
 row-sizes m formed link =
     sym (get_or-map (λ lanes. map (λ (lane : LaneState). length lane.track.cells) lanes) m.lanes link [])
     ∙ ap (λ xs. get_or xs link []) formed.lanes
-    ∙ get_or-map (λ (l : LinkSpec). replicate l.lanes l.length) m.network.links link (record { id = 0; from = 0; to = 0; lanes = 0; length = 0; limit = 0 })
+    ∙ get_or-map (λ (l : LinkSpec). replicate l.lanes l.length) m.network.links link no_link
 
 pub shape-of : (m : Traffic) → IsFormed m → HasShape m
 shape-of m formed = record {

@@ -1,3 +1,4 @@
+pub mod Options
 pub mod Searching
 pub mod Moving
 pub mod Overtaking

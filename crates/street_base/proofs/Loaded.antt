@@ -17,6 +17,7 @@ use Rattle.street_base.specs.State.{LaneState}
 use Rattle.street_base.specs.Machine.{empty_lane, empty_lanes, loaded}
 use Rattle.street_base.specs.Apart.{weight}
 use Rattle.street_base.specs.Census.{in_lane, in_lanes, one_if, sizes, IsSound}
+use Rattle.street_base.proofs.Options.{holds-some}
 use Rattle.street_base.proofs.Releasing.{sums-zero, find-holds}
 use Rattle.street_base.proofs.Tables.{sums-map}
 use Rattle.street_base.proofs.FirstBad.{first_bad-none}
@@ -24,10 +25,6 @@ use Rattle.street_base.proofs.Faultless.{not-false, turns-good, good_link}
 use Rattle.street_base.proofs.Listed.{places-listed}
 
 -- ---- turns
-
-some-of : {A : Type 0} (test : A → Bool) (o : Option A) → option_map_or test o false ≡ true → (x : A) × (o ≡ Some x) × (test x ≡ true)
-some-of test None e = cc
-some-of test (Some x) e = (x, refl, e)
 
 -- the first entry, found and by its position
 find-position : {A : Type 0} (test : A → Bool) (xs : List A) (i : ℕ) (x d : A) → position test xs ≡ Some i → find test xs ≡ Some x → get_or xs i d ≡ x
@@ -47,10 +44,10 @@ module _ (net : NetSpec) (none : turns_fault net ≡ None) where
   next_lane-within : (from : Place) (next : ℕ) (t : TurnSpec) → turn net from next ≡ Some t → t.next_lane < (link_at net next).lanes
   next_lane-within from next t found =
       let holds = find-holds (λ (u : TurnSpec). names_link net u.link from.link && (u.lane == from.lane) && names_link net u.next next) net.turns t found in
-      let named = some-of (λ i. i == next) (link_of net t.next) (and_parts _ _ holds).1 in
+      let named = holds-some (λ i. i == next) (link_of net t.next) (and_parts _ _ holds).1 in
       let position_is : link_of net t.next ≡ Some next = named.1 ∙ ap Some (eqb-true _ _ named.2) in
-      let first = some-of _ (link_with net t.link) (good-turn _ t found) in
-      let second = some-of _ (link_with net t.next) first.2 in
+      let first = holds-some _ (link_with net t.link) (good-turn _ t found) in
+      let second = holds-some _ (link_with net t.next) first.2 in
       let same : link_at net next ≡ second.0 = find-position (λ (l : LinkSpec). l.id == t.next) net.links next second.0 _ position_is second.1 in
       let below : t.next_lane < second.0.lanes = ltb-true _ _ (and_parts _ _ (and_parts _ _ second.2).0).1 in
       subst (λ (l : LinkSpec). t.next_lane < l.lanes) (sym same) below

@@ -1,25 +1,17 @@
 -- A vehicle stays behind the old cell of the one ahead.
-use Rattle.std.proofs.Common.{◌≡◌, ℕ, ◌+◌, ◌<◌, ◌≤◌, Bool, true, false, List, length, refl, subst, ap, arith}
-use Rattle.std.specs.Prelude.{Option, Some, None, option_map, is_some, ◌==◌, nat_le}
-use Rattle.std.specs.Option.{option_map_or}
-use Rattle.std.proofs.lemmas.Bool.{or_left, eqb-true, leb-true, false≢true}
+use Rattle.std.proofs.Common.{◌≡◌, ℕ, ◌+◌, ◌<◌, ◌≤◌, Bool, true, false, List, length, subst, ap, arith}
+use Rattle.std.specs.Prelude.{Some, is_some, ◌==◌, nat_le}
+use Rattle.std.proofs.lemmas.Bool.{or_left, eqb-true, leb-true}
 use Rattle.street_base.specs.Vehicle.{Vehicle}
 use Rattle.street_base.specs.Lane.{Cells, vehicle_at, is_obstacle, is_entrance, is_occupied}
 use Rattle.street_base.specs.Motion.{Drive, speed_after, motion_gap, driven_on, moved, comes_to, leaves}
 use Rattle.street_base.specs.Apart.{KeepsApart}
+use Rattle.street_base.proofs.Options.{option_map-some, holds-some}
 use Rattle.street_base.proofs.Searching.{least-to}
 
 speed_after-le : (limit gap : ℕ) (dawdles : Bool) (speed : ℕ) → speed_after limit gap dawdles speed ≤ gap
 speed_after-le limit gap true speed = omega arith
 speed_after-le limit gap false speed = omega arith
-
-pub option_map-some : {A B : Type 0} (f : A → B) (o : Option A) (y : B) → option_map f o ≡ Some y → (x : A) × (o ≡ Some x) × (f x ≡ y)
-option_map-some f None y e = cc
-option_map-some f (Some x) y e = (x, refl, cc)
-
-pub holds-some : {A : Type 0} (test : A → Bool) (o : Option A) → option_map_or test o false ≡ true → (x : A) × (o ≡ Some x) × (test x ≡ true)
-holds-some test None e = absurd (false≢true e)
-holds-some test (Some x) e = (x, refl, e)
 
 module _ (drive : Drive) (cells : Cells) (closed : List Bool) where
   speed-within : (x : ℕ) (w v : Vehicle) → driven_on drive cells closed x w ≡ v → v.speed ≤ motion_gap drive cells closed x w

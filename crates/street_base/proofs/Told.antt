@@ -19,15 +19,11 @@ use Rattle.street_base.specs.State.{Traffic, Queued, Waiting, LaneState, lane_at
 use Rattle.street_base.specs.Machine.{told_cell, is_number, seen_in_cells, seen_in_buffer, seen_waiting, seen_in, end_of, seen, whereabouts, told}
 use Rattle.street_base.specs.Apart.{weight}
 use Rattle.street_base.specs.Census.{in_lane, in_lanes, has_ended, one_if, IsSound}
-use Rattle.street_base.proofs.Overtaking.{holds-some}
+use Rattle.street_base.proofs.Options.{option_or-none, holds-some}
 use Rattle.street_base.proofs.Entering.{in_lanes-places}
 use Rattle.street_base.proofs.Forming.{shape-of}
 
 -- ---- where nothing is found
-
-or-none : {A : Type 0} (o p : Option A) → option_or o p ≡ None → (o ≡ None) × (p ≡ None)
-or-none None p e = (refl, e)
-or-none (Some x) p e = cc
 
 map-none : {A B : Type 0} (f : A → B) (o : Option A) → option_map f o ≡ None → o ≡ None
 map-none f None e = refl
@@ -75,8 +71,8 @@ module _ (net : NetSpec) (place : Place) (car : ℕ) where
   unseen-zero : (lane : LaneState) → seen_in net place car lane ≡ None → in_lane car lane ≡ 0
   unfolding seen_in
   unseen-zero lane none =
-      let parts = or-none (seen_in_cells net place car lane) (option_or (seen_in_buffer net place car lane) (seen_waiting net place car lane)) none in
-      let rest = or-none (seen_in_buffer net place car lane) (seen_waiting net place car lane) parts.1 in
+      let parts = option_or-none (seen_in_cells net place car lane) (option_or (seen_in_buffer net place car lane) (seen_waiting net place car lane)) none in
+      let rest = option_or-none (seen_in_buffer net place car lane) (seen_waiting net place car lane) parts.1 in
       let cells = cells-none lane parts.0 in
       let queue = unfound-zero (λ (q : Queued). q.vehicle.number == car) (λ q. weight car (Some q.vehicle)) (λ q. other-number q.vehicle) lane.queue (map-none _ _ rest.0) in
       let waiting = unfound-zero (λ (w : Waiting). w.vehicle.number == car) (λ w. weight car (Some w.vehicle)) (λ w. other-number w.vehicle) lane.waiting (map-none _ _ rest.1) in
@@ -106,7 +102,7 @@ module _ (m : Traffic) (sound : IsSound m) (car : ℕ) (given : car < length m.e
 
   somewhere : whereabouts m car ≡ None → ⊥
   somewhere none =
-      let parts = or-none (option_map (λ (e : End). Ended e) (end_of m car)) (seen m car) none in
+      let parts = option_or-none (option_map (λ (e : End). Ended e) (end_of m car)) (seen m car) none in
       not-unseen (map-none _ _ parts.0) parts.1
 
   pub somewhere-told : (w : Whereabouts) × (told m car ≡ TellVehicle car w)

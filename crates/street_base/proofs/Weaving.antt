@@ -8,7 +8,7 @@ use Rattle.street_base.specs.Vehicle.{Vehicle}
 use Rattle.street_base.specs.Lane.{Cells, Track, vehicle_at, is_free, is_closed}
 use Rattle.street_base.specs.LaneChange.{Weave, wishes, is_safe, changes, settled, woven}
 use Rattle.street_base.specs.Apart.{weight, KeepsBoth}
-use Rattle.street_base.proofs.Overtaking.{holds-some}
+use Rattle.street_base.proofs.Options.{holds-some}
 
 none-from-not : (o : Option Vehicle) → not (is_some o) ≡ true → o ≡ None
 none-from-not None e = refl

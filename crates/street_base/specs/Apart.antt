@@ -1,4 +1,5 @@
--- What motion never does.
+-- What motion and lane changes keep: motion brings no two vehicles together, and neither loses or makes one. No rule stands
+-- here: these are laws, proved of the rules.
 use Rattle.std.specs.Prelude.{ℕ, ◌+◌, ◌<◌, ◌≡◌, ◌==◌, List, length, Bool, true, Option, if◌then◌else◌}
 use Rattle.std.specs.Option.{option_map_or}
 use Rattle.std.specs.List.{sum_by}

@@ -1,4 +1,5 @@
 -- Where each number stands.
+-- Source: this profile.
 use Rattle.std.specs.Prelude.{ℕ, ◌+◌, ◌<◌, ◌≡◌, nat_lt, List, length, map, replicate, sum_by, Bool, true, Option, Some, None, is_some, slice_get, if◌then◌else◌, ⊤}
 use Rattle.std.specs.Option.{option_map_or}
 use Rattle.std.specs.List.{list_any}
@@ -16,6 +17,7 @@ in_lane number lane =
     + sum_by (λ q. weight number (Some q.vehicle)) lane.queue
     + sum_by (λ w. weight number (Some w.vehicle)) lane.waiting
 
+-- how often it stands in all lanes together
 abbrev pub in_lanes : ℕ → List (List LaneState) → ℕ
 in_lanes number links = sum_by (λ lanes. sum_by (in_lane number) lanes) links
 
@@ -23,6 +25,7 @@ in_lanes number links = sum_by (λ lanes. sum_by (in_lane number) lanes) links
 abbrev pub has_ended : ℕ → List (Option End) → ℕ
 has_ended number ends = option_map_or (λ e. if is_some e then 1 else 0) (slice_get ends number) 0
 
+-- 1 where a test holds, and else 0
 abbrev pub one_if : Bool → ℕ
 one_if test = if test then 1 else 0
 
@@ -40,11 +43,12 @@ pub record IsFormed (m : Traffic) : Type 0 where
   pub cells : (link : ℕ) → link < length m.network.links → 0 < (link_at m.network link).length
   pub turns : (from to : Place) (v : Vehicle) → exit_lane m from v ≡ Some to → list_any (is_place to) (places m.network) ≡ true
 
+-- traffic as each command leaves it: formed, and each number in one place or ended
 pub record IsSound (m : Traffic) : Type 0 where
   pub formed : IsFormed m
   pub whole : IsWhole m
 
--- in every state of a run: with nothing loaded nobody stands anywhere
+-- what holds in every state of a run; with nothing loaded nobody stands anywhere
 abbrev pub IsSoundState : State → Type 0
 IsSoundState None = ⊤
 IsSoundState (Some m) = IsSound m

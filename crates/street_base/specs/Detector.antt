@@ -1,4 +1,5 @@
 -- Detectors: what one notes in a step, and its rows.
+-- Source: this profile.
 use Rattle.std.specs.Prelude.{ℕ, ◌+◌, ◌-◌, ◌*◌, ◌/◌, nat_lt, List, length, map, take, drop, sum_by, Bool, if◌then◌else◌}
 use Rattle.std.specs.Option.{option_map_or}
 use Rattle.std.specs.List.{range_with_len}
@@ -26,6 +27,7 @@ pub record Row : Type 0 where
   pub speeds : ℕ
   pub occupied : ℕ
 
+-- the row of these triples, the first of which was noted in this step
 abbrev pub row_of : ℕ → List Triple → Row
 row_of start triples = record {
   start = start;

@@ -1,4 +1,5 @@
--- What is wrong with a load or a plan: the first fault (this profile).
+-- What is wrong with a load or a plan: the first fault.
+-- Source: this profile.
 use Rattle.std.specs.Prelude.{ℕ, ◌==◌, nat_lt, nat_le, List, [], ◌∷◌, length, take, position, find, Bool, false, not, ◌&&◌, ◌||◌, Option, Some, None, is_some, if◌then◌else◌}
 use Rattle.std.specs.Option.{option_map_or, option_or}
 use Rattle.std.specs.List.{list_any, enumerate_from}
@@ -8,23 +9,25 @@ use Rattle.street_base.specs.declared.net.TurnSpec.{TurnSpec}
 use Rattle.street_base.specs.declared.net.NetSpec.{NetSpec}
 use Rattle.street_base.specs.declared.command.Part.{Part}
 use Rattle.street_base.specs.declared.command.Part.TheVariants.{Nodes, Links, Turns, Values}
-use Rattle.street_base.specs.Network.{node_of, link_of}
+use Rattle.street_base.specs.Network.{last_clock, node_of, link_of}
 
 -- ---- limits of what can be simulated today; they rise to 2, 1,000 and 1,000
 
--- lanes of a link
+-- the most lanes of a link
 abbrev pub most_lanes : ℕ
 most_lanes = 1
 
--- the greatest dawdle and the greatest change, of 1,000
+-- the greatest dawdle, of 1,000
 abbrev pub most_dawdle : ℕ
 most_dawdle = 0
 
+-- the greatest change, of 1,000
 abbrev pub most_change : ℕ
 most_change = 0
 
 -- ---- the parts of a load
 
+-- a number lies in a range, its bounds included
 abbrev pub is_within : ℕ → ℕ → ℕ → Bool
 is_within low high n = nat_le low n && nat_le n high
 
@@ -57,6 +60,7 @@ link_with net id = find (λ link. link.id == id) net.links
 abbrev pub joins : NetSpec → TurnSpec → Bool
 joins net t = option_map_or (λ a. option_map_or (λ b. nat_lt t.lane a.lanes && nat_lt t.next_lane b.lanes && (a.to == b.from)) (link_with net t.next) false) (link_with net t.link) false
 
+-- two turns lead from one lane to one next link
 abbrev pub is_same_turn : TurnSpec → TurnSpec → Bool
 is_same_turn t u = (t.link == u.link) && (t.lane == u.lane) && (t.next == u.next)
 
@@ -66,7 +70,7 @@ is_bad_turn net at t = nat_le 32768 at || not (joins net t) || list_any (is_same
 
 -- the values by their positions: whether zone, dawdle, change and start are bad
 abbrev pub bad_values : NetSpec → List Bool
-bad_values net = nat_lt 1000 net.zone ∷ nat_lt most_dawdle net.dawdle ∷ nat_lt most_change net.change ∷ nat_lt 1000000000 net.start ∷ []
+bad_values net = nat_lt 1000 net.zone ∷ nat_lt most_dawdle net.dawdle ∷ nat_lt most_change net.change ∷ nat_lt last_clock net.start ∷ []
 
 -- ---- the first fault
 
@@ -79,6 +83,7 @@ pub record Fault : Type 0 where
 abbrev pub first_bad : {A : Type 0} → (ℕ → A → Bool) → List A → Option ℕ
 first_bad bad xs = position (λ e. bad e.0 e.1) (enumerate_from 0 xs)
 
+-- a bad position is a fault of its part
 abbrev pub in_part : Part → Option ℕ → Option Fault
 in_part part None = None
 in_part part (Some at) = Some (record { part = part; at = at })
@@ -87,12 +92,15 @@ in_part part (Some at) = Some (record { part = part; at = at })
 abbrev pub nodes_fault : NetSpec → Option ℕ
 nodes_fault net = if length net.nodes == 0 then Some 0 else first_bad (is_bad_node net) net.nodes
 
+-- the first bad link; a load without links is good
 abbrev pub links_fault : NetSpec → Option ℕ
 links_fault net = first_bad (is_bad_link net) net.links
 
+-- the first bad turn; a load without turns is good
 abbrev pub turns_fault : NetSpec → Option ℕ
 turns_fault net = first_bad (is_bad_turn net) net.turns
 
+-- the first bad value of the four
 abbrev pub values_fault : NetSpec → Option ℕ
 values_fault net = position (λ bad. bad) (bad_values net)
 

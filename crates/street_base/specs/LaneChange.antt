@@ -1,4 +1,6 @@
--- Lane changes on a link of two lanes, all at once from the old cells (Rickert, Nagel, Schreckenberg and Latour 1996).
+-- Lane changes on a link of two lanes, all at once from the old cells.
+-- Source: symmetric lane changes by Rickert, Nagel, Schreckenberg and Latour 1996; the turn zone and closed cells are this
+-- profile.
 use Rattle.std.specs.Prelude.{ℕ, ◌+◌, ◌-◌, nat_lt, nat_le, map, length, Bool, true, false, ◌&&◌, Option, None, unwrap_or, if◌then◌else◌}
 use Rattle.std.specs.Option.{option_map_or}
 use Rattle.std.specs.List.{range_with_len}
@@ -11,14 +13,15 @@ pub record Weave : Type 0 where
   pub serves : ℕ → ℕ → Bool
   pub may_change : ℕ → Bool
 
--- for lane changing a gap with nothing in sight is 16
+-- the gap ahead for lane changing: 16 where no obstacle is in sight
 abbrev pub free_ahead : Track → ℕ → ℕ
 free_ahead track x = unwrap_or (gap_ahead track.cells track.closed x) 16
 
+-- the gap behind for lane changing: 16 where nobody is behind
 abbrev pub free_behind : Track → ℕ → ℕ
 free_behind track x = unwrap_or (gap_behind track.cells x) 16
 
--- in the turn zone: to a lane that serves the next link, or as elsewhere if both do; never away to one that does not
+-- in the turn zone: away from a lane that does not serve the next link, never from the only one that does, and as elsewhere if both do
 abbrev pub zone_wish : Bool → Bool → Bool → Bool
 zone_wish false other_serves slow = true
 zone_wish true false slow = false
@@ -29,6 +32,7 @@ module _ (weave : Weave) (lane : ℕ) (own other : Track) where
   abbrev pub is_slow : ℕ → Vehicle → Bool
   is_slow x v = nat_lt (free_ahead own x) (v.speed + 1)
 
+  -- in cell x the vehicle wants the other lane: as it is slow here, or in the turn zone for its next link
   abbrev pub wishes : ℕ → Vehicle → Bool
   wishes x v =
       if nat_le (length own.cells) (x + weave.zone)

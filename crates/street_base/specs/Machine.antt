@@ -1,4 +1,5 @@
--- Commands of the machine: what is refused, and else what is done and answered (this profile).
+-- Commands of the machine: what is refused, and else what is done and answered.
+-- Source: this profile.
 use Rattle.std.specs.Prelude.{ℕ, ◌+◌, ◌==◌, nat_lt, nat_le, List, [], ◌∷◌, ◌++◌, length, map, filter_map, replicate, find, position, Bool, false, Option, Some, None, is_some, unwrap_or, option_map, option_and_then, slice_get, slice_index_or, if◌then◌else◌}
 use Rattle.std.specs.Option.{option_map_or, option_or}
 use Rattle.street_base.specs.declared.net.LinkSpec.{LinkSpec}
@@ -12,7 +13,7 @@ use Rattle.street_base.specs.declared.command.Reply.TheVariants.{Loaded, Entered
 use Rattle.street_base.specs.declared.command.Whereabouts.{Whereabouts}
 use Rattle.street_base.specs.declared.command.Whereabouts.TheVariants.{Cell, Buffer, Waiting as Waits, Ended}
 use Rattle.street_base.specs.declared.command.End.{End}
-use Rattle.street_base.specs.Network.{Place, is_place, link_of, link_at, places}
+use Rattle.street_base.specs.Network.{last_clock, Place, is_place, link_of, link_at, places}
 use Rattle.street_base.specs.Faults.{Fault, network_fault, plan_fault}
 use Rattle.street_base.specs.Vehicle.{Vehicle, remaining_plan}
 use Rattle.street_base.specs.Lane.{vehicle_at}
@@ -26,6 +27,7 @@ abbrev pub first_of : List (Bool × Refusal) → Option Refusal
 first_of [] = None
 first_of (r ∷ rs) = if r.0 then Some r.1 else first_of rs
 
+-- a load with a fault is refused, and told where it is
 abbrev pub bad_network : Option Fault → Option Refusal
 bad_network None = None
 bad_network (Some fault) = Some (BadNetwork fault.part fault.at)
@@ -43,19 +45,21 @@ abbrev pub when_loaded : (Traffic → Option Refusal) → State → Option Refus
 when_loaded refusals None = Some NotLoaded
 when_loaded refusals (Some m) = refusals m
 
+-- a load is refused where a network is loaded already, and where its own has a fault
 abbrev pub load_refusal : State → NetSpec → Option Refusal
 load_refusal None net = bad_network (network_fault net)
 load_refusal (Some m) net = Some AlreadyLoaded
 
+-- a vehicle is refused, in this order: where too many were admitted, for its plan, for its lane, and for its depart
 abbrev pub enter_refusal : List ℕ → ℕ → ℕ → Traffic → Option Refusal
 enter_refusal plan lane depart m = first_of (
     (nat_le 1000000 (length m.ends), TooMany)
     ∷ (is_some (plan_fault m.network plan), BadPlan (unwrap_or (plan_fault m.network plan) 0))
     ∷ (nat_le (link_at m.network (entry_of m.network plan lane).link).lanes lane, NoLane)
-    ∷ (nat_lt 1000000000 depart, BadRange)
+    ∷ (nat_lt last_clock depart, BadRange)
     ∷ [])
 
--- so far
+-- a command that is not served so far
 abbrev pub not_yet : State → Option Refusal
 not_yet m = when_loaded (λ t. Some NotYet) m
 
@@ -63,7 +67,7 @@ not_yet m = when_loaded (λ t. Some NotYet) m
 abbrev pub refusal : State → Command → Option Refusal
 refusal m (Load net) = load_refusal m net
 refusal m (Enter plan lane depart) = when_loaded (enter_refusal plan lane depart) m
-refusal m (Advance n) = when_loaded (λ t. first_of ((nat_lt 10000 n, BadCount) ∷ (nat_lt 1000000000 (t.clock + n), ClockEnd) ∷ [])) m
+refusal m (Advance n) = when_loaded (λ t. first_of ((nat_lt 10000 n, BadCount) ∷ (nat_lt last_clock (t.clock + n), ClockEnd) ∷ [])) m
 refusal m (AskVehicle car) = when_loaded (λ t. first_of ((nat_le (length t.ends) car, NoVehicle) ∷ [])) m
 refusal m (Signal node offset phases) = not_yet m
 refusal m (CloseLane link lane first last) = not_yet m
@@ -80,6 +84,7 @@ refusal m Count = not_yet m
 abbrev pub empty_lane : ℕ → LaneState
 empty_lane size = record { track = record { cells = replicate size None; closed = replicate size false }; queue = []; waiting = [] }
 
+-- all lanes of a link with nobody on them
 abbrev pub empty_lanes : LinkSpec → List LaneState
 empty_lanes link = replicate link.lanes (empty_lane link.length)
 
@@ -98,6 +103,7 @@ loaded net = record {
 abbrev pub admitted : Traffic → List ℕ → Vehicle
 admitted m plan = record { number = length m.ends; speed = 0; plan = plan_links m.network plan; position = 0 }
 
+-- one more vehicle waits on a lane
 abbrev pub with_waiting : Waiting → LaneState → LaneState
 with_waiting w lane = record lane { waiting = lane.waiting ++ w ∷ [] }
 
@@ -122,22 +128,27 @@ abbrev pub remaining_ids : NetSpec → Vehicle → List ℕ
 remaining_ids net v = map (λ link. (link_at net link).id) (remaining_plan v)
 
 module _ (net : NetSpec) (place : Place) (car : ℕ) where
+  -- what is told of a vehicle in cell x of this lane
   abbrev pub told_cell : ℕ → Vehicle → Whereabouts
   told_cell x v = Cell (link_at net place.link).id place.lane x v.speed (remaining_ids net v)
 
+  -- this is the vehicle that is asked for
   abbrev pub is_number : Option Vehicle → Bool
   is_number o = option_map_or (λ v. v.number == car) o false
 
-  -- the vehicle in a cell of this lane, in its buffer, and among those who wait
+  -- what is told of it if it stands in a cell of this lane
   abbrev pub seen_in_cells : LaneState → Option Whereabouts
   seen_in_cells lane = option_and_then (λ x. option_map (told_cell x) (vehicle_at lane.track.cells x)) (position is_number lane.track.cells)
 
+  -- what is told of it if it stands in the lane's buffer
   abbrev pub seen_in_buffer : LaneState → Option Whereabouts
   seen_in_buffer lane = option_map (λ q. Buffer (link_at net place.link).id place.lane q.ready q.vehicle.speed (remaining_ids net q.vehicle)) (find (λ q. q.vehicle.number == car) lane.queue)
 
+  -- what is told of it if it waits on the lane
   abbrev pub seen_waiting : LaneState → Option Whereabouts
   seen_waiting lane = option_map (λ w. Waits (link_at net place.link).id place.lane w.depart (remaining_ids net w.vehicle)) (find (λ w. w.vehicle.number == car) lane.waiting)
 
+  -- where it is on this lane, if it is there: in a cell, in the buffer, or waiting
   unfoldable pub seen_in : LaneState → Option Whereabouts
   seen_in lane = option_or (seen_in_cells lane) (option_or (seen_in_buffer lane) (seen_waiting lane))
 
@@ -149,10 +160,11 @@ end_of m car = slice_index_or m.ends car None
 unfoldable pub seen : Traffic → ℕ → Option Whereabouts
 seen m car = slice_get (filter_map (λ place. seen_in m.network place car (lane_at m place)) (places m.network)) 0
 
+-- how a vehicle ended, or else where it is
 abbrev pub whereabouts : Traffic → ℕ → Option Whereabouts
 whereabouts m car = option_or (option_map (λ end. Ended end) (end_of m car)) (seen m car)
 
--- the census rules out that a number given stands nowhere
+-- what is answered of a vehicle; the census rules out that a number given stands nowhere
 abbrev pub told : Traffic → ℕ → Reply
 told m car = option_map_or (λ found. TellVehicle car found) (whereabouts m car) (Refused NoVehicle)
 

@@ -1,4 +1,5 @@
--- The motion of one lane, all vehicles at once from the old cells (Nagel and Schreckenberg 1992).
+-- The motion of one lane, all vehicles at once from the old cells.
+-- Source: motion by Nagel and Schreckenberg 1992; exits and closed cells are this profile.
 use Rattle.std.specs.Prelude.{ℕ, ◌+◌, ◌-◌, ◌==◌, nat_le, min, List, length, map, Bool, false, Option, unwrap_or, option_map, option_and_then, if◌then◌else◌}
 use Rattle.std.specs.Option.{option_map_or}
 use Rattle.std.specs.List.{range_with_len}

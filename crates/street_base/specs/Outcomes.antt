@@ -1,4 +1,5 @@
--- What a command leaves and answers under each outcome (this profile).
+-- What a command leaves and answers under each outcome.
+-- Source: this profile.
 use Rattle.std.specs.Prelude.{ℕ, ◌+◌, ◌<◌, ◌≤◌, ◌≡◌, Option, Some, None, ⊤}
 use Rattle.street_base.specs.declared.command.Command.{Command}
 use Rattle.street_base.specs.declared.command.Command.TheVariants.{Advance, TakeOut, Count}
@@ -17,14 +18,17 @@ abbrev pub state_of_whole : State → Command → Option Refusal → State
 state_of_whole m c None = done m c
 state_of_whole m c (Some r) = m
 
+-- and it is answered by its refusal
 abbrev pub reply_of_whole : State → Command → Option Refusal → Reply
 reply_of_whole m c None = answered m c
 reply_of_whole m c (Some r) = Refused r
 
+-- an advance that stops short leaves the state after the steps that were made
 abbrev pub short_state : State → ℕ → State
 short_state None k = None
 short_state (Some m) k = Some (steps k m)
 
+-- and it answers the clock then, and how many they were
 abbrev pub short_reply : State → ℕ → Reply
 short_reply None k = StarvedReply
 short_reply (Some m) k = ShortReply (m.clock + k) k

@@ -1,10 +1,12 @@
--- The numbers and names of refusals (this profile).
+-- The numbers and names of refusals.
+-- Source: this profile.
 use Rattle.std.specs.Prelude.{ℕ, List, codes}
 use Rattle.street_base.specs.declared.command.Refusal.{Refusal}
 use Rattle.street_base.specs.declared.command.Refusal.TheVariants.{NotLoaded, AlreadyLoaded, BadNetwork, NoNode, NoLink, NoLane, BadRange, BadPlan, BadSignal, NoVehicle, Gone, NoMeter, TooMany, BadCount, ClockEnd, NotYet}
 use Rattle.street_base.specs.declared.command.Part.{Part}
 use Rattle.street_base.specs.declared.command.Part.TheVariants.{Nodes, Links, Turns, Values}
 
+-- the number by which a reply line tells a refusal
 abbrev pub number_of : Refusal → ℕ
 number_of NotLoaded = 1
 number_of AlreadyLoaded = 2
@@ -23,6 +25,7 @@ number_of BadCount = 14
 number_of ClockEnd = 15
 number_of NotYet = 19
 
+-- the name by which it tells it
 abbrev pub name_of : Refusal → List ℕ
 name_of NotLoaded = codes "NotLoaded"
 name_of AlreadyLoaded = codes "AlreadyLoaded"
@@ -41,6 +44,7 @@ name_of BadCount = codes "BadCount"
 name_of ClockEnd = codes "ClockEnd"
 name_of NotYet = codes "NotYet"
 
+-- the name of a part of a load
 abbrev pub part_name : Part → List ℕ
 part_name Nodes = codes "nodes"
 part_name Links = codes "links"

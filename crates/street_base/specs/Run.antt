@@ -1,4 +1,5 @@
 -- Whole runs of commands.
+-- Source: this profile.
 use Rattle.std.specs.Prelude.{List, [], ◌∷◌, ◌≡◌}
 use Rattle.street_base.specs.declared.command.Command.{Command}
 use Rattle.street_base.specs.declared.command.Reply.{Reply}

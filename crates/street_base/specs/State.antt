@@ -1,4 +1,5 @@
 -- The state of the machine.
+-- Source: this profile.
 use Rattle.std.specs.Prelude.{ℕ, List, [], map, Option, slice_index_or}
 use Rattle.std.specs.List.{enumerate_from}
 use Rattle.street_base.specs.declared.net.NetSpec.{NetSpec}
@@ -30,6 +31,7 @@ pub record Triple : Type 0 where
   pub speeds : ℕ
   pub occupied : ℕ
 
+-- a detector: its lane and cell, how many steps a row sums, the clock when it was placed, and the triple of each step since
 pub record Detector : Type 0 where
   pub place : Place
   pub cell : ℕ
@@ -37,7 +39,7 @@ pub record Detector : Type 0 where
   pub start : ℕ
   pub triples : List Triple
 
--- a loaded network: for each link its one or two lanes, for each node its signal plan, and for each number given how its vehicle ended, if it did
+-- a loaded network with its clock: for each link its one or two lanes, for each node its signal plan, the detectors, and for each number given how its vehicle ended, if it did
 pub record Traffic : Type 0 where
   pub network : NetSpec
   pub clock : ℕ
@@ -54,6 +56,7 @@ State = Option Traffic
 abbrev pub no_lane : LaneState
 no_lane = record { track = record { cells = []; closed = [] }; queue = []; waiting = [] }
 
+-- the lane at a place; where there is none, one with nothing in it
 abbrev pub lane_at : Traffic → Place → LaneState
 lane_at m place = slice_index_or (slice_index_or m.lanes place.link []) place.lane no_lane
 

@@ -1,4 +1,5 @@
 -- One step of the machine: its five phases, each from the whole state that the one before left.
+-- Source: sideways first and forward second by Rickert and others 1996; the other phases are this profile.
 use Rattle.std.specs.Prelude.{ℕ, ◌+◌, ◌==◌, nat_lt, List, [], ◌∷◌, ◌++◌, length, map, filter_map, Bool, true, false, ◌&&◌, Option, Some, None, slice_index_or, if◌then◌else◌}
 use Rattle.std.proofs.Common.{zero, suc}
 use Rattle.std.specs.Option.{option_map_or}
@@ -18,6 +19,7 @@ use Rattle.street_base.specs.Detector.{triple}
 
 -- ---- lane changes
 
+-- lane changes on a link: the zone of the network, the turns of the link's lanes, and who changes by its lane draw
 abbrev pub weave_on : Traffic → ℕ → Weave
 weave_on m link = record {
   zone = m.network.zone;
@@ -25,6 +27,7 @@ weave_on m link = record {
   may_change = λ number. nat_lt (lane_draw m.network.seed number m.clock) m.network.change;
 }
 
+-- a lane with other cells, all else as it was
 abbrev pub with_cells : LaneState → List (Option Vehicle) → LaneState
 with_cells lane cells = record lane { track = record lane.track { cells = cells } }
 
@@ -33,6 +36,7 @@ abbrev pub woven_lanes : Weave → List LaneState → List LaneState
 woven_lanes weave (a ∷ b ∷ []) = with_cells a (woven weave 0 a.track b.track) ∷ with_cells b (woven weave 1 b.track a.track) ∷ []
 woven_lanes weave lanes = lanes
 
+-- the phase of lane changes, on every link for itself
 unfoldable pub changed : Traffic → Traffic
 changed m = record m { lanes = map (λ at. woven_lanes (weave_on m at.0) at.1) (enumerate_from 0 m.lanes) }
 
@@ -50,6 +54,7 @@ has_room m place = option_map_or (λ node. nat_lt (length (lane_at m place).queu
 abbrev pub is_exit_open : Traffic → Place → Vehicle → Bool
 is_exit_open m place v = option_map_or (λ next. serves m.network place next && is_green (plan_at m place.link) place next m.clock && has_room m place) (next_link v) true
 
+-- motion on a lane: the limit of its link, to whom its exit is open, and who dawdles by its dawdle draw
 abbrev pub drive_on : Traffic → Place → Drive
 drive_on m place = record {
   limit = (link_at m.network place.link).limit;
@@ -66,6 +71,7 @@ abbrev pub joining : Traffic → Place → Option Vehicle → List Queued
 joining m place None = []
 joining m place (Some v) = if is_on_last v then [] else record { vehicle = v; ready = m.clock + option_map_or (λ node. node.residence) (end_node m.network place.link) 0 } ∷ []
 
+-- a lane after motion: all have moved, and who left for a next link is in the buffer
 abbrev pub driven_lane : Traffic → Place → LaneState → LaneState
 driven_lane m place lane = record lane {
   track = record lane.track { cells = motion (drive_on m place) lane.track.cells lane.track.closed };
@@ -77,6 +83,7 @@ abbrev pub arrival : Option Vehicle → Option ℕ
 arrival None = None
 arrival (Some v) = if is_on_last v then Some v.number else None
 
+-- the numbers of all who arrive in this step
 abbrev pub arrivals : Traffic → List ℕ
 arrivals m = filter_map (λ place. arrival (leaver_of m place)) (places m.network)
 
@@ -84,6 +91,7 @@ arrivals m = filter_map (λ place. arrival (leaver_of m place)) (places m.networ
 abbrev pub with_arrivals : ℕ → List ℕ → List (Option End) → List (Option End)
 with_arrivals clock numbers ends = map (λ e. if list_any (λ n. n == e.0) numbers then Some (Arrived clock) else e.1) (enumerate_from 0 ends)
 
+-- the motion phase, on every lane for itself; those who arrive have ended
 unfoldable pub driven : Traffic → Traffic
 driven m = record m {
   lanes = each_lane (driven_lane m) m.lanes;
@@ -100,12 +108,14 @@ noted before after d = record d {
 
 -- ---- the step
 
+-- lane changes, motion, releases, departures and detectors; then the clock is one more
 unfoldable pub step : Traffic → Traffic
 step m =
     let weaved = changed m in
     let after = departed (released (driven weaved)) in
     record after { detectors = map (noted weaved after) after.detectors; clock = m.clock + 1 }
 
+-- so many steps, one after another
 abbrev pub steps : ℕ → Traffic → Traffic
 steps zero m = m
 steps (suc n) m = steps n (step m)

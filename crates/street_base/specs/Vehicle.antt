@@ -1,4 +1,5 @@
 -- A vehicle of the machine.
+-- Source: plans made beforehand are those of TRANSIMS; the rest is this profile.
 use Rattle.std.specs.Prelude.{ℕ, List, Option, Bool, drop, slice_get, is_none}
 use Rattle.street_base.specs.declared.car.Car.{Car}
 
@@ -21,6 +22,7 @@ next_link v = slice_get (remaining_plan v) 1
 abbrev pub is_on_last : Vehicle → Bool
 is_on_last v = is_none (next_link v)
 
+-- the same vehicle at another speed
 abbrev pub with_speed : Vehicle → ℕ → Vehicle
 with_speed v speed = record v { speed = speed }
 

@@ -5,87 +5,88 @@ use crate::names::{CarNo, CellNo, LaneNo, Speed, Step};
 use crate::net::NetSpec;
 use std::alloc::{AllocError, AllocFailed};
 
-/// One command. Numbers may be out of their ranges: the engine refuses them by name.
+/// One command. Its numbers may be any `u64`: the ranges below are tested by the machine, which refuses by name what is
+/// outside (`Refusal`).
 #[derive(Drop)]
 pub enum Command {
     /// Loads a network.
     Load(NetSpec),
     /// Admits a vehicle, which waits at the first link of its plan.
     Enter {
-        /// Identifiers of links.
+        /// Identifiers of 1 to 1,024 links, in the order of the way; so far of 1.
         plan: Listing<u64>,
-        /// The lane of the first link.
+        /// The lane of the first link, below its number of lanes.
         lane: u64,
-        /// The step from which the vehicle may depart.
+        /// The step from which the vehicle may depart: 0 to `LAST_CLOCK`. It may lie before the clock.
         depart: u64,
     },
     /// Sets the signal plan of a node.
     Signal {
         /// The node's identifier.
         node: u64,
-        /// By how many steps the cycle is ahead of the clock.
+        /// By how many steps the cycle is ahead of the clock: from 0 to less than the cycle.
         offset: u64,
-        /// The phases, in order.
+        /// The phases, in order: 1 to 16 of them.
         phases: Listing<PhaseSpec>,
     },
     /// Makes steps.
     Advance {
-        /// How many.
+        /// How many: 0 to 10,000, and not past `LAST_CLOCK`.
         steps: u64,
     },
     /// Closes cells of a lane.
     CloseLane {
         /// The link's identifier.
         link: u64,
-        /// The lane.
+        /// The lane, below the link's number of lanes.
         lane: u64,
-        /// The first cell.
+        /// The first cell, at most `last`.
         first: u64,
-        /// The last cell.
+        /// The last cell, below the link's length.
         last: u64,
     },
     /// Opens cells of a lane again.
     ReopenLane {
         /// The link's identifier.
         link: u64,
-        /// The lane.
+        /// The lane, below the link's number of lanes.
         lane: u64,
-        /// The first cell.
+        /// The first cell, at most `last`.
         first: u64,
-        /// The last cell.
+        /// The last cell, below the link's length.
         last: u64,
     },
     /// Takes a vehicle out, wherever it is.
     TakeOut {
-        /// Its number.
+        /// Its number: one that was given, of a vehicle that has not ended.
         car: u64,
     },
     /// Places a detector.
     PlaceMeter {
         /// The link's identifier.
         link: u64,
-        /// The lane.
+        /// The lane, below the link's number of lanes.
         lane: u64,
-        /// The cell.
+        /// The cell, below the link's length.
         cell: u64,
-        /// How many steps a row sums.
+        /// How many steps a row sums: 1 to 100,000.
         period: u64,
     },
     /// Asks for the rows of a detector.
     ReadMeter {
-        /// Its number.
+        /// Its number: one that was answered when a detector was placed.
         meter: u64,
     },
     /// Asks where a vehicle is.
     Vehicle {
-        /// Its number.
+        /// Its number: one that was given.
         car: u64,
     },
     /// Asks for all of one lane.
     Lane {
         /// The link's identifier.
         link: u64,
-        /// The lane.
+        /// The lane, below the link's number of lanes.
         lane: u64,
     },
     /// Asks for the clock and the census.
@@ -95,7 +96,7 @@ pub enum Command {
 /// A turn that a phase shows green.
 #[derive(Clone, Copy)]
 pub struct GreenSpec {
-    /// The identifier of the link that is left.
+    /// The identifier of the link that is left, which runs to the plan's node.
     pub link: u64,
     /// The lane that is left.
     pub lane: u64,
@@ -106,9 +107,9 @@ pub struct GreenSpec {
 /// A phase of a signal plan.
 #[derive(Drop)]
 pub struct PhaseSpec {
-    /// How many steps it lasts.
+    /// How many steps it lasts: 1 to 600.
     pub duration: u64,
-    /// The turns that it shows green.
+    /// The turns that it shows green: 0 to 32,768, each a turn of the network. One may stand there twice.
     pub greens: Listing<GreenSpec>,
 }
 
@@ -125,7 +126,7 @@ pub enum Part {
     Values,
 }
 
-/// Why a command was refused. A refused command changes nothing.
+/// Why a command was refused. A refused command changes nothing. Positions are counted from 0.
 #[derive(Clone, Copy, Debug, PartialEq, Eq)]
 pub enum Refusal {
     /// No network is loaded.
@@ -145,7 +146,8 @@ pub enum Refusal {
     NoLink,
     /// The link has no such lane.
     NoLane,
-    /// A number is out of its range.
+    /// A depart is past `LAST_CLOCK`; of cells to close or reopen the first is above the last, or the last is not in the lane;
+    /// the cell of a detector is not in the lane.
     BadRange,
     /// The plan has a fault; the first is at this position.
     BadPlan {
@@ -157,17 +159,17 @@ pub enum Refusal {
         /// The position.
         at: u64,
     },
-    /// No vehicle has this number.
+    /// No vehicle was given this number.
     NoVehicle,
-    /// The vehicle has ended.
+    /// The vehicle has arrived, or was taken out.
     Gone,
     /// No detector has this number.
     NoMeter,
-    /// 1,000,000 vehicles were admitted.
+    /// 1,000,000 vehicles were admitted and one more is to enter, or 1,024 detectors stand and one more is to be placed.
     TooMany,
-    /// More than 10,000 steps.
+    /// An advance is of more than 10,000 steps, or the period of a detector is not of 1 to 100,000.
     BadCount,
-    /// The steps lead past the greatest clock.
+    /// The steps lead past `LAST_CLOCK`.
     ClockEnd,
     /// The engine does not serve this command yet.
     NotYet,
@@ -199,7 +201,7 @@ pub enum Whereabouts {
         lane: LaneNo,
         /// The cell.
         cell: CellNo,
-        /// The speed.
+        /// The speed, in cells a step.
         speed: Speed,
         /// The remaining plan.
         plan: Listing<u64>,
@@ -212,7 +214,7 @@ pub enum Whereabouts {
         lane: LaneNo,
         /// The step from which it may go on.
         ready: Step,
-        /// The speed.
+        /// The speed at which it left, in cells a step.
         speed: Speed,
         /// The remaining plan.
         plan: Listing<u64>,
@@ -237,7 +239,7 @@ pub enum Whereabouts {
 pub struct BufferEntry {
     /// Its number.
     pub car: CarNo,
-    /// Its speed.
+    /// Its speed, in cells a step.
     pub speed: Speed,
     /// The step from which it may go on.
     pub ready: Step,
@@ -250,7 +252,7 @@ pub struct CellEntry {
     pub car: CarNo,
     /// The cell.
     pub cell: CellNo,
-    /// Its speed.
+    /// Its speed, in cells a step.
     pub speed: Speed,
 }
 
@@ -279,7 +281,7 @@ pub struct MeterRow {
     pub start: Step,
     /// How many vehicles passed.
     pub passes: u64,
-    /// The sum of their speeds.
+    /// The sum of their speeds in the steps in which they passed, in cells a step.
     pub speeds: u64,
     /// In how many steps the cell was occupied at the end.
     pub occupied: u64,
@@ -290,11 +292,11 @@ pub struct MeterRow {
 pub struct RunningRow {
     /// The first step of the period.
     pub start: Step,
-    /// How many steps it has so far.
+    /// How many steps it has so far: fewer than the period.
     pub steps: u64,
     /// How many vehicles passed.
     pub passes: u64,
-    /// The sum of their speeds.
+    /// The sum of their speeds in the steps in which they passed, in cells a step.
     pub speeds: u64,
     /// In how many steps the cell was occupied at the end.
     pub occupied: u64,
@@ -314,12 +316,12 @@ pub enum Reply {
     },
     /// A signal plan was set.
     Signalled {
-        /// The length of its cycle.
+        /// The length of its cycle, in steps.
         cycle: u64,
     },
     /// A vehicle was admitted.
     Entered {
-        /// Its number.
+        /// Its number, which no other vehicle gets.
         car: CarNo,
     },
     /// All steps were made.
@@ -331,7 +333,7 @@ pub enum Reply {
     Short {
         /// The clock after them.
         clock: Step,
-        /// How many were made.
+        /// How many were made: at least 1 and not all.
         short: u64,
     },
     /// Cells were closed, or opened again.
@@ -346,7 +348,7 @@ pub enum Reply {
     },
     /// A detector was placed.
     Placed {
-        /// Its number.
+        /// Its number: 0, 1, 2, .. in the order of placing.
         meter: u64,
     },
     /// The rows of a detector.
@@ -374,7 +376,8 @@ pub enum Reply {
         /// The waiting vehicles, by depart and number.
         waiting: Listing<WaitingEntry>,
     },
-    /// The clock, and how many vehicles stand where or have ended how.
+    /// The clock, and how many vehicles stand where or have ended how: `arrived`, `buffers`, `cells`, `taken` and `waiting`
+    /// together make `admitted`.
     Census {
         /// How many were ever admitted.
         admitted: u64,

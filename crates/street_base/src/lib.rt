@@ -23,5 +23,5 @@ pub use laws::{
     keeps_each, keeps_everyone, refused_changes_nothing, releases_nothing,
 };
 pub use listing::Listing;
-pub use names::{CarNo, CellNo, LaneNo, LinkIx, NodeIx, Speed, Step};
-pub use net::{LinkSpec, NetSpec, NodeSpec, TurnSpec};
+pub use names::{CarNo, CellNo, LAST_CLOCK, LaneNo, LinkIx, NodeIx, Speed, Step};
+pub use net::{LinkSpec, NetSpec, NodeSpec, Turn, TurnSpec};

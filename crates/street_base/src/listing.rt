@@ -26,14 +26,6 @@ impl<T> Listing<T> {
         Listing { items }
     }
 
-    /// The `Vec` again.
-    pub fn into_vec(self) -> Vec<T>
-        ensures { result.items ≡ self }
-    {
-        let Listing { items } = self;
-        items
-    }
-
     /// The items in order.
     pub fn as_slice(&self) -> &[T]
         ensures { result.now ≡ self.now }

@@ -14,8 +14,11 @@ pub type CellNo = u64;
 /// Cells a step, 0 to 5.
 pub type Speed = u64;
 
-/// A time in steps of 1 s. The clock is at most 1,000,000,000; a ready step may lie up to 60 past it.
+/// A time in steps of 1 s. The clock is at most `LAST_CLOCK`; a ready step may lie up to 60 past it.
 pub type Step = u64;
+
+/// The last clock that a network may start at or come to, in steps.
+pub const LAST_CLOCK: Step = 1_000_000_000;
 
 /// The number of a vehicle: 0, 1, 2, .. in the order of admission, never used again.
 pub type CarNo = u64;

@@ -5,7 +5,7 @@ use Rattle.street_base.specs.declared.net.NetSpec.{NetSpec}
 use Rattle.street_base.specs.declared.net.LinkSpec.{LinkSpec}
 use Rattle.street_base.specs.declared.command.End.{End}
 use Rattle.street_base.specs.declared.command.Whereabouts.{Whereabouts}
-use Rattle.street_base.specs.Network.{Place}
+use Rattle.street_base.specs.Network.{last_clock, Place}
 use Rattle.street_base.specs.Faults.{network_fault}
 use Rattle.street_base.specs.Vehicle.{Vehicle, is_on_last}
 use Rattle.street_base.specs.Lane.{vehicle_at}
@@ -65,5 +65,5 @@ pub record IsSimpleTraffic (network : NetSpec) (clock : ℕ) (lanes : List LaneS
   pub faultless : network_fault network ≡ None
   pub a_lane_each : length lanes ≡ length network.links
   pub simple : (i : ℕ) (lane : LaneState) → slice_get lanes i ≡ Some lane → IsSimple lane
-  pub in_time : clock ≤ 1000000000
+  pub in_time : clock ≤ last_clock
   pub in_number : length ends ≤ 1000000

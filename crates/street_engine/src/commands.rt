@@ -7,14 +7,12 @@ ghost use Rattle.street_base.specs.Outcomes.{Answers};
 
 use crate::streets::Streets;
 use std::alloc::Global;
-use street_base::{CarNo, Command, NetSpec, Outcome, Refusal, Reply, Whereabouts};
+use street_base::{CarNo, Command, LAST_CLOCK, NetSpec, Outcome, Refusal, Reply, Whereabouts};
 use street_net::{NetFault, PlanFault};
 
 const MOST_VEHICLES: u64 = 1_000_000;
 
 const MOST_STEPS: u64 = 10_000;
-
-const LAST_STEP: u64 = 1_000_000_000;
 
 /// One command, and what it answers.
 pub(crate) fn serve(
@@ -101,7 +99,7 @@ fn enter(
     match checked {
         Err(PlanFault::Bad { at }) => (Reply::Refused(Refusal::BadPlan { at }), Outcome::Whole),
         Err(PlanFault::Lane) => (Reply::Refused(Refusal::NoLane), Outcome::Whole),
-        _ if depart > LAST_STEP => (Reply::Refused(Refusal::BadRange), Outcome::Whole),
+        _ if depart > LAST_CLOCK => (Reply::Refused(Refusal::BadRange), Outcome::Whole),
         Err(PlanFault::Starved) => (Reply::Starved, Outcome::Starved),
         Ok(links) => match streets.enter(links, lane, depart) {
             Ok(()) => (Reply::Entered { car }, Outcome::Whole),
@@ -120,7 +118,7 @@ fn advance(state: &mut Option<Streets>, steps: u64) -> (Reply, Outcome)
         return (Reply::Refused(Refusal::BadCount), Outcome::Whole);
     }
     let clock = streets.clock() + steps;
-    if clock > LAST_STEP {
+    if clock > LAST_CLOCK {
         return (Reply::Refused(Refusal::ClockEnd), Outcome::Whole);
     }
     streets.advance(steps);

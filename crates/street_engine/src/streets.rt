@@ -17,7 +17,9 @@ use crate::lane::Lane;
 use crate::motion::Dawdling;
 use std::alloc::{AllocError, Global};
 use std::marker::Model;
-use street_base::{Car, CarNo, End, LaneNo, LinkIx, LinkSpec, NetSpec, Plan, Step, Whereabouts};
+use street_base::{
+    Car, CarNo, End, LAST_CLOCK, LaneNo, LinkIx, LinkSpec, NetSpec, Plan, Step, Whereabouts,
+};
 use street_net::{NetFault, Network};
 
 /// A loaded network, its clock, the lane of each link, and how each vehicle ended.
@@ -138,7 +140,7 @@ impl Streets {
     /// The clock.
     pub fn clock(&self) -> Step
         ensures clock { result ≡ self.now.clock }
-        ensures in_time { self.now.clock ≤ 1000000000 }
+        ensures in_time { self.now.clock ≤ LAST_CLOCK }
     {
         self.clock
     }
@@ -196,7 +198,7 @@ impl Streets {
 
     /// One step.
     pub fn step(&mut self)
-        requires { self.old.clock < 1000000000 }
+        requires { self.old.clock < LAST_CLOCK }
         ensures { self.new ≡ step self.old }
     {
         let links = self.network.spec().links.as_slice();
@@ -207,7 +209,7 @@ impl Streets {
 
     /// Several steps.
     pub fn advance(&mut self, count: u64)
-        requires { self.old.clock + count ≤ 1000000000 }
+        requires { self.old.clock + count ≤ LAST_CLOCK }
         ensures { self.new ≡ steps count self.old }
     {
         for done in 0..count {

@@ -10,7 +10,7 @@ use crate::faults::NetFault;
 use crate::keys::turn_key;
 use indexmap::IndexSet;
 use std::alloc::Global;
-use street_base::{NetSpec, Part};
+use street_base::{LAST_CLOCK, NetSpec, Part};
 
 /// The greatest length of the turn zone, in cells.
 pub(crate) const MOST_ZONE: u64 = 1_000;
@@ -20,9 +20,6 @@ pub(crate) const MOST_DAWDLE: u64 = 0;
 
 /// The greatest change, of 1,000.
 pub(crate) const MOST_CHANGE: u64 = 0;
-
-/// The greatest clock at the start.
-pub(crate) const MOST_START: u64 = 1_000_000_000;
 
 /// The identifiers of the nodes, or the first fault among them.
 pub(crate) fn read_nodes(alloc: Global, spec: &NetSpec) -> Result<IndexSet<u64>, NetFault>
@@ -109,7 +106,7 @@ pub(crate) fn values_fault(spec: &NetSpec) -> Option<u64>
         Some(1)
     } else if spec.change > MOST_CHANGE {
         Some(2)
-    } else if spec.start > MOST_START {
+    } else if spec.start > LAST_CLOCK {
         Some(3)
     } else {
         None
