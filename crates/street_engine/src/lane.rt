@@ -27,13 +27,13 @@ impl Model for Lane {
     ghost use Rattle.std.specs.Prelude.{map, length, [], ◌≤◌, ◌<◌};
     ghost use Rattle.street_base.specs.State.{LaneState};
     ghost use Rattle.street_base.specs.Lane.{vehicles};
-    ghost use Rattle.street_engine.specs.LaneView.{waiting_of};
+    ghost use Rattle.street_engine.specs.LaneView.{waiting_of, IsPlaced};
 
     ghost Value = { LaneState };
 
     ghost view = { λ l. record { track = record { cells = vehicles l.cells.items; closed = l.closed.items }; queue = []; waiting = map waiting_of l.waiting.items } };
 
-    ghost invariant = { λ l. (0 < length l.cells.items) × (length l.cells.items ≤ 1000000) };
+    ghost invariant = { λ l. (0 < length l.cells.items) × (length l.cells.items ≤ 1000000) × IsPlaced l.cells.items };
 }
 
 impl Lane {

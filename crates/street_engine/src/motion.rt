@@ -4,7 +4,7 @@ ghost use Rattle.std.specs.Option.{ForSome};
 ghost use Rattle.street_base.specs.Vehicle.{Vehicle, vehicle_of};
 ghost use Rattle.street_base.specs.Lane.{vehicles, is_entrance};
 ghost use Rattle.street_base.specs.Motion.{Drive, motion, leaver, speed_after};
-ghost use Rattle.street_engine.specs.LaneView.{IsExit};
+ghost use Rattle.street_engine.specs.LaneView.{IsExit, IsPlaced};
 
 use street_base::{Car, CarNo, CellNo, Speed};
 
@@ -68,6 +68,7 @@ pub fn drive_cells<D: Dawdling>(
     ensures leaves { (is_open_to : Vehicle → Bool) → IsExit is_open_to exit_open (vehicles cells.old) closed.now
         → let drive : Drive = record { limit = limit; is_open_to = is_open_to; dawdles = D.dawdles draws.now } in
         option_map vehicle_of result ≡ leaver drive (vehicles cells.old) closed.now }
+    ensures placed { IsPlaced cells.new }
 {
     let length = cells.len();
     let mut obstacle = None;
