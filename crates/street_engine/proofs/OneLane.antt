@@ -42,10 +42,6 @@ pub zip-range : (links : List LinkSpec) (lanes : List LaneState) (c : LinkSpec) 
 zip-range links lanes c d same = fill_by_all (λ k. (get_or links k c, get_or lanes k d)) (zip links lanes) (length lanes) (c, d)
     (length-zip links lanes ∙ omega (arith, same)) (λ k h. get_or-zip links lanes k (c, d) (omega (arith, same)) h)
 
-pub map-after : {A B C : Type 0} (f : B → C) (g : A → B) (xs : List A) → map f (map g xs) ≡ map (λ x. f (g x)) xs
-map-after f g [] = refl
-map-after {A} {B} {C} f g (x ∷ xs) = ap (λ (ys : List C). f (g x) ∷ ys) (map-after f g xs)
-
 pub filter_map-after : {A B C : Type 0} (f : B → Option C) (g : A → B) (xs : List A) → filter_map f (map g xs) ≡ filter_map (λ x. f (g x)) xs
 filter_map-after f g [] = refl
 filter_map-after f g (x ∷ xs) = ap (cons_option (f (g x))) (filter_map-after f g xs)
