@@ -15,7 +15,7 @@ use Rattle.street_base.specs.Vehicle.{Vehicle, is_on_last}
 use Rattle.street_base.specs.State.{LaneState, Waiting, each_lane}
 use Rattle.street_base.specs.Machine.{empty_lane, empty_lanes, loaded, plan_links, entry_of, with_waiting, entered}
 use Rattle.street_engine.specs.Simple.{one_lane, place_of, traffic_of, IsSimple, IsSimpleTraffic}
-use Rattle.street_engine.proofs.OneLane.{each_from, each_lane-one, each_from-one}
+use Rattle.street_engine.proofs.OneLane.{no_link, each_from, each_lane-one, each_from-one}
 use Rattle.street_engine.proofs.Simplicity.{empty-simple, waiting-simple}
 use Rattle.street_base.proofs.Faultless.{good_link, good_start}
 
@@ -71,7 +71,7 @@ waiting_next plan ends depart = waits_with (length ends) plan depart
 pub link-inside : (net : NetSpec) (link lane : ℕ) → lane < (link_at net link).lanes → link < length net.links
 link-inside net link lane h = within net.links link (omega (arith, h))
   where
-    within : (links : List LinkSpec) (i : ℕ) → 0 < (get_or links i (record { id = 0; from = 0; to = 0; lanes = 0; length = 0; limit = 0 })).lanes → i < length links
+    within : (links : List LinkSpec) (i : ℕ) → 0 < (get_or links i no_link).lanes → i < length links
     within [] i h = absurd (omega arith)
     within (l ∷ links) zero h = omega arith
     within (l ∷ links) (suc i) h = let rest = within links i h in omega arith

@@ -25,12 +25,9 @@ use Rattle.street_base.proofs.Overtaking.{option_map-some}
 use Rattle.street_base.proofs.Idle.{changed-idle, released-idle, nobody_dawdles}
 use Rattle.street_engine.specs.Simple.{steady, moved_lane, moved_road, gone_from, gone_number, place_of, one_lane, traffic_of, IsSimple, IsSimpleTraffic}
 use Rattle.street_engine.proofs.Agree.{DrivesAlike, motion-agrees, leaver-agrees}
-use Rattle.street_engine.proofs.OneLane.{each_from, each_lane-one, each_from-plain, each_from-range, zip-range, filter_map-after, map-agree, filter_map-agree, places-one, lane_at-one}
+use Rattle.street_engine.proofs.OneLane.{no_link, each_from, each_lane-one, each_from-plain, each_from-range, zip-range, filter_map-after, map-agree, filter_map-agree, places-one, lane_at-one}
 use Rattle.street_engine.proofs.Simplicity.{leaver-last, moved-simple, departed-simple}
 use Rattle.street_base.proofs.Faultless.{good_link, no_dawdling}
-
-abbrev no_link : LinkSpec
-no_link = record { id = 0; from = 0; to = 0; lanes = 0; length = 0; limit = 0 }
 
 -- ---- one lane
 
