@@ -1,12 +1,13 @@
 -- Motion under two drives that agree. The exit matters to nobody but who has nothing ahead.
-use Rattle.std.proofs.Common.{◌≡◌, ℕ, ◌+◌, ◌-◌, Bool, false, List, length, map, refl, ap}
-use Rattle.std.specs.Prelude.{Option, Some, None, option_map, option_and_then, unwrap_or, nat_le, ◌==◌, if◌then◌else◌}
+use Rattle.std.proofs.Common.{◌≡◌, ℕ, ◌+◌, Bool, false, List, length, map, refl, ap}
+use Rattle.std.specs.Prelude.{Option, Some, None, option_map, option_and_then, nat_le, ◌==◌}
 use Rattle.std.specs.Option.{option_map_or}
 use Rattle.std.specs.List.{range_with_len}
 use Rattle.std.proofs.Math.Path.{fun_ext}
 use Rattle.street_base.specs.Vehicle.{Vehicle, with_speed}
 use Rattle.street_base.specs.Lane.{Cells, vehicle_at, obstacle_ahead}
 use Rattle.street_base.specs.Search.{least}
+use Rattle.street_engine.proofs.Driving.{gap_to}
 use Rattle.street_base.specs.Motion.{Drive, speed_after, driven_on, motion_gap, moved, comes_to, leaves, comer, motion, leaver}
 
 -- two drives with the same limit and dawdlers, and the same exit for whoever has nothing ahead
@@ -15,13 +16,9 @@ pub record DrivesAlike (a b : Drive) (cells : Cells) (closed : List Bool) : Type
   pub dawdles : (number : ℕ) → a.dawdles number ≡ b.dawdles number
   pub exit : (x : ℕ) (v : Vehicle) → vehicle_at cells x ≡ Some v → obstacle_ahead cells closed x ≡ None → a.is_open_to v ≡ b.is_open_to v
 
--- the gap to an obstacle, or with none to the exit
-abbrev gap : Option ℕ → ℕ → ℕ → Bool → ℕ
-gap obstacle x size exit_open = unwrap_or (option_map (λ y. y - x - 1) obstacle) (if exit_open then 16 else size - 1 - x)
-
 module _ (a b : Drive) (cells : Cells) (closed : List Bool) (alike : DrivesAlike a b cells closed) where
-  gap-agrees : (x : ℕ) (v : Vehicle) (ahead : Option ℕ) → vehicle_at cells x ≡ Some v → obstacle_ahead cells closed x ≡ ahead → gap ahead x (length cells) (a.is_open_to v) ≡ gap ahead x (length cells) (b.is_open_to v)
-  gap-agrees x v None there e = ap (gap None x (length cells)) (alike.exit x v there e)
+  gap-agrees : (x : ℕ) (v : Vehicle) (ahead : Option ℕ) → vehicle_at cells x ≡ Some v → obstacle_ahead cells closed x ≡ ahead → gap_to ahead x (length cells) (a.is_open_to v) ≡ gap_to ahead x (length cells) (b.is_open_to v)
+  gap-agrees x v None there e = ap (gap_to None x (length cells)) (alike.exit x v there e)
   gap-agrees x v (Some y) there e = refl
 
   moved-at : (x : ℕ) (o : Option Vehicle) → vehicle_at cells x ≡ o → option_map (driven_on a cells closed x) o ≡ option_map (driven_on b cells closed x) o

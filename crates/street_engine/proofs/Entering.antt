@@ -4,7 +4,7 @@ use Rattle.std.specs.Prelude.{Option, Some, None, slice_get, ◌==◌, ◌&&◌,
 use Rattle.std.proofs.Math.Bool.{and-true}
 use Rattle.std.proofs.lemmas.Bool.{eq-eqb}
 use Rattle.std.proofs.lemmas.List.{length-map}
-use Rattle.std.proofs.lemmas.Option.{slice_get-get_or}
+use Rattle.std.proofs.lemmas.Option.{slice_get-get_or, slice_get_within, get_or_from_slice_get}
 use Rattle.street_base.specs.Faults.{network_fault}
 use mathlib.Core.Path.{fun_ext}
 use Rattle.street_base.specs.declared.net.NetSpec.{NetSpec}
@@ -15,7 +15,7 @@ use Rattle.street_base.specs.Vehicle.{Vehicle, is_on_last}
 use Rattle.street_base.specs.State.{LaneState, Waiting, each_lane}
 use Rattle.street_base.specs.Machine.{empty_lane, empty_lanes, loaded, plan_links, entry_of, with_waiting, entered}
 use Rattle.street_engine.specs.Simple.{one_lane, place_of, traffic_of, IsSimple, IsSimpleTraffic}
-use Rattle.street_engine.proofs.OneLane.{each_from, each_lane-one, each_from-one}
+use Rattle.street_engine.proofs.OneLane.{no_link, each_from, each_lane-one, each_from-one}
 use Rattle.street_engine.proofs.Simplicity.{empty-simple, waiting-simple}
 use Rattle.street_base.proofs.Faultless.{good_link, good_start}
 
@@ -31,11 +31,6 @@ lanes-of (link ∷ links) one =
     ap (λ (n : ℕ). replicate n (empty_lane link.length) ∷ map one_lane (new_lanes links)) (sym (one 0 link refl))
     ∙ ap (λ (ls : List (List LaneState)). empty_lanes link ∷ ls) (lanes-of links (λ i l e. one (suc i) l e))
 
-link-listed : (links : List LinkSpec) (i : ℕ) (link d : LinkSpec) → slice_get links i ≡ Some link → (i < length links) × (get_or links i d ≡ link)
-link-listed [] i link d e = cc
-link-listed (l ∷ links) zero link d e = (omega arith, cc)
-link-listed (l ∷ links) (suc i) link d e = let rest = link-listed links i link d e in let h : i < length links = rest.0 in (omega arith, rest.1)
-
 new-simple : (links : List LinkSpec) (i : ℕ) (lane : LaneState) → slice_get (new_lanes links) i ≡ Some lane → IsSimple lane
 new-simple [] i lane e = cc
 new-simple (link ∷ links) zero lane e = let same : empty_lane link.length ≡ lane = cc in rw (sym same) (empty-simple link.length)
@@ -44,8 +39,8 @@ new-simple (link ∷ links) (suc i) lane e = new-simple links i lane e
 module _ (net : NetSpec) (faultless : network_fault net ≡ None) where
   one-lanes : (i : ℕ) (link : LinkSpec) → slice_get net.links i ≡ Some link → link.lanes ≡ 1
   one-lanes i link e =
-      let listed = link-listed net.links i link (record { id = 0; from = 0; to = 0; lanes = 0; length = 0; limit = 0 }) e in
-      ap (λ (l : LinkSpec). l.lanes) (sym listed.1) ∙ (good_link net faultless i listed.0).one_lane
+      let is : link_at net i ≡ link = get_or_from_slice_get net.links i link _ e in
+      ap (λ (l : LinkSpec). l.lanes) (sym is) ∙ (good_link net faultless i (slice_get_within net.links i link e)).one_lane
 
   pub loaded-is : traffic_of net net.start (new_lanes net.links) [] ≡ loaded net
   unfolding loaded
@@ -76,7 +71,7 @@ waiting_next plan ends depart = waits_with (length ends) plan depart
 pub link-inside : (net : NetSpec) (link lane : ℕ) → lane < (link_at net link).lanes → link < length net.links
 link-inside net link lane h = within net.links link (omega (arith, h))
   where
-    within : (links : List LinkSpec) (i : ℕ) → 0 < (get_or links i (record { id = 0; from = 0; to = 0; lanes = 0; length = 0; limit = 0 })).lanes → i < length links
+    within : (links : List LinkSpec) (i : ℕ) → 0 < (get_or links i no_link).lanes → i < length links
     within [] i h = absurd (omega arith)
     within (l ∷ links) zero h = omega arith
     within (l ∷ links) (suc i) h = let rest = within links i h in omega arith

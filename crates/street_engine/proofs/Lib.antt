@@ -1,3 +1,4 @@
+pub mod Placing
 pub mod Driving
 pub mod Departing
 pub mod Finding

@@ -13,6 +13,10 @@ use Rattle.street_base.specs.Network.{Place, link_at, places}
 use Rattle.street_base.specs.State.{Traffic, LaneState, each_lane, lane_at, no_lane}
 use Rattle.street_engine.specs.Simple.{one_lane, place_of}
 
+-- the link past the last
+abbrev pub no_link : LinkSpec
+no_link = record { id = 0; from = 0; to = 0; lanes = 0; length = 0; limit = 0 }
+
 -- f of each lane by the position of its link, from position n on
 abbrev pub each_from : (ℕ → LaneState → LaneState) → ℕ → List LaneState → List LaneState
 each_from f n lanes = map (λ e. f e.0 e.1) (enumerate_from n lanes)
@@ -41,10 +45,6 @@ each_from-range f lanes d = fill_by_all (λ k. f k (get_or lanes k d)) (each_fro
 pub zip-range : (links : List LinkSpec) (lanes : List LaneState) (c : LinkSpec) (d : LaneState) → length lanes ≡ length links → zip links lanes ≡ map (λ k. (get_or links k c, get_or lanes k d)) (range_with_len 0 (length lanes))
 zip-range links lanes c d same = fill_by_all (λ k. (get_or links k c, get_or lanes k d)) (zip links lanes) (length lanes) (c, d)
     (length-zip links lanes ∙ omega (arith, same)) (λ k h. get_or-zip links lanes k (c, d) (omega (arith, same)) h)
-
-pub map-after : {A B C : Type 0} (f : B → C) (g : A → B) (xs : List A) → map f (map g xs) ≡ map (λ x. f (g x)) xs
-map-after f g [] = refl
-map-after {A} {B} {C} f g (x ∷ xs) = ap (λ (ys : List C). f (g x) ∷ ys) (map-after f g xs)
 
 pub filter_map-after : {A B C : Type 0} (f : B → Option C) (g : A → B) (xs : List A) → filter_map f (map g xs) ≡ filter_map (λ x. f (g x)) xs
 filter_map-after f g [] = refl

@@ -20,15 +20,14 @@ use Rattle.street_base.specs.State.{Traffic, LaneState, Queued, no_lane, each_la
 use Rattle.street_base.specs.Release.{released}
 use Rattle.street_base.specs.Departure.{departed_lane, departed}
 use Rattle.street_base.specs.Step.{changed, drive_on, plan_at, has_room, leaver_of, joining, driven_lane, arrival, arrivals, with_arrivals, driven, noted, step}
+use mathlib.Core.List.{map-map}
+use Rattle.street_base.proofs.Overtaking.{option_map-some}
 use Rattle.street_base.proofs.Idle.{changed-idle, released-idle, nobody_dawdles}
 use Rattle.street_engine.specs.Simple.{steady, moved_lane, moved_road, gone_from, gone_number, place_of, one_lane, traffic_of, IsSimple, IsSimpleTraffic}
 use Rattle.street_engine.proofs.Agree.{DrivesAlike, motion-agrees, leaver-agrees}
-use Rattle.street_engine.proofs.OneLane.{each_from, each_lane-one, each_from-plain, each_from-range, zip-range, map-after, filter_map-after, map-agree, filter_map-agree, places-one, lane_at-one}
+use Rattle.street_engine.proofs.OneLane.{no_link, each_from, each_lane-one, each_from-plain, each_from-range, zip-range, filter_map-after, map-agree, filter_map-agree, places-one, lane_at-one}
 use Rattle.street_engine.proofs.Simplicity.{leaver-last, moved-simple, departed-simple}
 use Rattle.street_base.proofs.Faultless.{good_link, no_dawdling}
-
-abbrev no_link : LinkSpec
-no_link = record { id = 0; from = 0; to = 0; lanes = 0; length = 0; limit = 0 }
 
 -- ---- one lane
 
@@ -72,11 +71,6 @@ module _ (m : Traffic) (place : Place) (lane : LaneState) (simple : IsSimple lan
 
 -- ---- all lanes
 
-some-lane : (lanes : List LaneState) (i : ℕ) (lane : LaneState) → slice_get lanes i ≡ Some lane → i < length lanes
-some-lane [] i lane e = cc
-some-lane (l ∷ lanes) zero lane e = omega arith
-some-lane (l ∷ lanes) (suc i) lane e = let h = some-lane lanes i lane e in omega arith
-
 queue-none : (lanes : List LaneState) (link lane : ℕ) → ((i : ℕ) (l : LaneState) → slice_get lanes i ≡ Some l → IsSimple l) → (get_or (get_or (map one_lane lanes) link []) lane no_lane).queue ≡ []
 queue-none [] link lane all = refl
 queue-none (l ∷ lanes) zero zero all = (all 0 l refl).queue
@@ -93,10 +87,6 @@ zip-second [] lanes i road e = cc
 zip-second (k ∷ links) [] i road e = cc
 zip-second (k ∷ links) (l ∷ lanes) zero road e = let same : (k, l) ≡ road = cc in ap (λ (r : LinkSpec × LaneState). Some r.1) same
 zip-second (k ∷ links) (l ∷ lanes) (suc i) road e = zip-second links lanes i road e
-
-mapped : {A B : Type 0} (f : A → B) (o : Option A) (y : B) → option_map f o ≡ Some y → (x : A) × (o ≡ Some x) × (f x ≡ y)
-mapped f None y e = cc
-mapped f (Some x) y e = (x, refl, cc)
 
 module _ (net : NetSpec) (clock : ℕ) (lanes : List LaneState) (ends : List (Option End)) (ok : IsSimpleTraffic net clock lanes ends) where
   abbrev pub moved_lanes : List LaneState
@@ -118,7 +108,7 @@ module _ (net : NetSpec) (clock : ℕ) (lanes : List LaneState) (ends : List (Op
       each_from-range (λ i lane. driven_lane t (place_of i) lane) lanes no_lane
       ∙ map-agree (λ k. driven_lane t (place_of k) (get_or lanes k no_lane)) (λ k. moved_lane (link_at net k).limit (get_or lanes k no_lane)) 0 (length lanes)
       (λ k l h. driven_lane-simple t (place_of k) (get_or lanes k no_lane) (lane-simple k (omega arith)) drivers)
-      ∙ sym (map-after moved_road (λ k. (get_or net.links k no_link, get_or lanes k no_lane)) (range_with_len 0 (length lanes)))
+      ∙ sym (map-map moved_road (λ k. (get_or net.links k no_link, get_or lanes k no_lane)) (range_with_len 0 (length lanes)))
       ∙ ap (map moved_road) (sym (zip-range net.links lanes no_link no_lane ok.a_lane_each)) in
       each_lane-one (driven_lane t) lanes ∙ ap (map one_lane) by_range
 
@@ -143,7 +133,7 @@ module _ (net : NetSpec) (clock : ℕ) (lanes : List LaneState) (ends : List (Op
 
   moved_lanes-simple : (i : ℕ) (lane : LaneState) → slice_get moved_lanes i ≡ Some lane → IsSimple lane
   moved_lanes-simple i lane e =
-      let road = mapped moved_road (slice_get (zip net.links lanes) i) lane (sym (slice_get-map moved_road (zip net.links lanes) i) ∙ e) in
+      let road = option_map-some moved_road (slice_get (zip net.links lanes) i) lane (sym (slice_get-map moved_road (zip net.links lanes) i) ∙ e) in
       let old = ok.simple i road.0.1 (zip-second net.links lanes i road.0 road.1) in
       rw (sym road.2) (moved-simple road.0.0.limit road.0.1 old)
 
@@ -167,7 +157,7 @@ module _ (net : NetSpec) (clock : ℕ) (lanes : List LaneState) (ends : List (Op
 
   departed_lanes-simple : (i : ℕ) (lane : LaneState) → slice_get (map (departed_lane clock) moved_lanes) i ≡ Some lane → IsSimple lane
   departed_lanes-simple i lane e =
-      let old = mapped (departed_lane clock) (slice_get moved_lanes i) lane (sym (slice_get-map (departed_lane clock) moved_lanes i) ∙ e) in
+      let old = option_map-some (departed_lane clock) (slice_get moved_lanes i) lane (sym (slice_get-map (departed_lane clock) moved_lanes i) ∙ e) in
       rw (sym old.2) (departed-simple clock old.0 (moved_lanes-simple i old.0 old.1))
 
   departed_lanes-length : length (map (departed_lane clock) moved_lanes) ≡ length net.links

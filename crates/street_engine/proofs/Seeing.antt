@@ -1,5 +1,5 @@
 -- A vehicle looked for on one lane after another.
-use Rattle.std.proofs.Common.{◌≡◌, ℕ, suc, ◌+◌, ◌-◌, ◌<◌, true, false, List, length, get_or, refl, sym, ◌∙◌, ap, arith}
+use Rattle.std.proofs.Common.{◌≡◌, ℕ, suc, ◌+◌, ◌-◌, ◌<◌, false, List, length, get_or, refl, sym, ◌∙◌, ap, arith}
 use Rattle.std.specs.Prelude.{Option, Some, None, is_some, filter_map, slice_get}
 use Rattle.std.specs.List.{range_with_len, cons_option}
 use Rattle.std.specs.Option.{option_or}
@@ -22,10 +22,6 @@ pub seen_from-more : (net : NetSpec) (lanes : List LaneState) (car i n : ℕ) �
 seen_from-more net lanes car i n h =
     let e : n - i ≡ suc (n - (i + 1)) = omega arith in
     ap (λ (k : ℕ). seen_from net lanes car i k) e ∙ first-found (seen_in net (place_of i) car (get_or lanes i no_lane)) _
-
-pub some-or : (o p : Option Whereabouts) → is_some o ≡ true → option_or o p ≡ o
-some-or None p e = cc
-some-or (Some w) p e = refl
 
 pub none-or : (o p : Option Whereabouts) → is_some o ≡ false → option_or o p ≡ p
 none-or None p e = refl

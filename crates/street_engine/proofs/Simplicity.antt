@@ -1,9 +1,10 @@
 -- Every phase keeps every vehicle on the last link of its plan, and the buffers empty.
-use Rattle.std.proofs.Common.{◌≡◌, ℕ, zero, suc, ◌+◌, ◌≤◌, Bool, true, List, [], ◌∷◌, ◌++◌, length, map, set, replicate, refl, sym, subst, ◌∙◌, ap, arith, inl, inr}
+use Rattle.std.proofs.Common.{◌≡◌, ℕ, zero, suc, ◌+◌, Bool, true, List, [], ◌∷◌, ◌++◌, length, map, set, replicate, refl, sym, subst, ◌∙◌, ap, arith, inl, inr}
 use Rattle.std.specs.Prelude.{Option, Some, None, remove, slice_get, option_map, option_and_then, nat_le}
 use Rattle.std.specs.Option.{option_map_or}
 use Rattle.std.specs.List.{range_with_len}
 use Rattle.std.proofs.lemmas.Bool.{cases_Bool, cases_lt}
+use Rattle.std.proofs.lemmas.List.{get_or_past}
 use Rattle.std.proofs.lemmas.List.FromFn.{get_or-map-range_with_len, length-map-range_with_len}
 use Rattle.street_base.specs.Vehicle.{Vehicle, is_on_last, with_speed}
 use Rattle.street_base.specs.Lane.{Cells, vehicle_at, is_free}
@@ -56,11 +57,6 @@ module _ (drive : Drive) (cells : Cells) (closed : List Bool) (all : (x : ℕ) (
   found-last None v e = cc
   found-last (Some x) v e = moved-last x v e
 
-  past-none : (xs : Cells) (x : ℕ) → length xs ≤ x → vehicle_at xs x ≡ None
-  past-none [] x h = refl
-  past-none (c ∷ xs) zero h = absurd (omega arith)
-  past-none (c ∷ xs) (suc x) h = past-none xs x (omega arith)
-
   pub motion-last : (x : ℕ) (v : Vehicle) → vehicle_at (motion drive cells closed) x ≡ Some v → is_on_last v ≡ true
   unfolding motion comer
   motion-last x v e = elim (cases_lt x (length cells)) as (λ _. is_on_last v ≡ true) [
@@ -69,7 +65,7 @@ module _ (drive : Drive) (cells : Cells) (closed : List Bool) (all : (x : ℕ) (
         found-last (least (comes_to drive cells closed x) 0 (length cells)) v (sym (get_or-map-range_with_len (comer drive cells closed) 0 (length cells) x x None inside at) ∙ e))
     | inr outside ↦ (
         let size = length-map-range_with_len (comer drive cells closed) 0 (length cells) in
-        let past = past-none (map (comer drive cells closed) (range_with_len 0 (length cells))) x (omega (arith, size, outside)) in
+        let past = get_or_past (map (comer drive cells closed) (range_with_len 0 (length cells))) x None (omega (arith, size, outside)) in
         let no : ◌≡◌ {A = Option Vehicle} None (Some v) = sym past ∙ e in cc)
   ]
 

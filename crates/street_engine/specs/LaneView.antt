@@ -1,5 +1,5 @@
 -- What the arrays of a lane are in the machine.
-use Rattle.std.specs.Prelude.{ℕ, ◌≡◌, Bool, List, Some, None}
+use Rattle.std.specs.Prelude.{ℕ, ◌≡◌, Bool, List, Option, Some, None, slice_index_or}
 use Rattle.street_base.specs.declared.car.Car.{Car}
 use Rattle.street_base.specs.Vehicle.{Vehicle, vehicle_of}
 use Rattle.street_base.specs.Lane.{Cells, vehicle_at, obstacle_ahead}
@@ -12,3 +12,7 @@ IsExit is_open_to exit_open cells closed = (x : ℕ) (v : Vehicle) → vehicle_a
 -- a waiting car
 abbrev pub waiting_of : Car → Waiting
 waiting_of car = record { vehicle = vehicle_of car; depart = car.step }
+
+-- every car knows the cell that it stands in
+abbrev pub IsPlaced : List (Option Car) → Type 0
+IsPlaced cells = (x : ℕ) (car : Car) → slice_index_or cells x None ≡ Some car → car.cell ≡ x

@@ -11,7 +11,7 @@ use street_base::{Command, Outcome, Reply};
 /// Who watches the workers. It has no functions so far.
 pub trait Gate {}
 
-/// The commands of one network.
+/// Serves commands over one network, or over nothing loaded.
 #[derive(Drop)]
 pub struct Engine<G: Gate + Drop> {
     alloc: Global,
@@ -56,7 +56,8 @@ impl<G: Gate + Drop> Engine<G> {
     /// # Errors
     /// Memory for the list of answers was refused; nothing was served.
     pub fn apply_all(&mut self, commands: &[Command]) -> Result<Vec<(Reply, Outcome)>, AllocError>
-        ensures run { IfOk result (λ replies. ServesAll self.old commands.now replies.items self.new) }
+        ensures run { IfOk result (λ replies.
+            ServesAll self.old commands.now replies.items self.new) }
         ensures err { OnErr result (self.new ≡ self.old) }
     {
         let mut replies = Vec::with_capacity(self.alloc, commands.len())?;

@@ -27,17 +27,25 @@ impl Model for Lane {
     ghost use Rattle.std.specs.Prelude.{map, length, [], ◌≤◌, ◌<◌};
     ghost use Rattle.street_base.specs.State.{LaneState};
     ghost use Rattle.street_base.specs.Lane.{vehicles};
-    ghost use Rattle.street_engine.specs.LaneView.{waiting_of};
+    ghost use Rattle.street_engine.specs.LaneView.{waiting_of, IsPlaced};
 
     ghost Value = { LaneState };
 
-    ghost view = { λ l. record { track = record { cells = vehicles l.cells.items; closed = l.closed.items }; queue = []; waiting = map waiting_of l.waiting.items } };
+    ghost view = { λ l. record {
+      track = record { cells = vehicles l.cells.items; closed = l.closed.items };
+      queue = [];
+      waiting = map waiting_of l.waiting.items;
+    } };
 
-    ghost invariant = { λ l. (0 < length l.cells.items) × (length l.cells.items ≤ 1000000) };
+    ghost invariant = { λ l. (0 < length l.cells.items) × (length l.cells.items ≤ 1000000)
+        × IsPlaced l.cells.items };
 }
 
 impl Lane {
     /// A lane of so many cells, 1 to 1,000,000, with nobody on it.
+    ///
+    /// # Errors
+    /// Memory for the cells was refused.
     pub fn new(alloc: Global, length: u64) -> Result<Lane, AllocError>
         requires some { 0 < length }
         requires short { length ≤ 1000000 }
@@ -56,7 +64,10 @@ impl Lane {
         })
     }
 
-    /// One more vehicle waits. After an error the lane is as it was.
+    /// One more vehicle waits.
+    ///
+    /// # Errors
+    /// Memory for it was refused; the lane is as it was.
     pub fn admit(&mut self, car: Car) -> Result<(), AllocError>
         ensures ok { OnOk result (self.new ≡ with_waiting (waiting_of car) self.old) }
         ensures err { OnErr result (self.new ≡ self.old) }
@@ -65,16 +76,21 @@ impl Lane {
         Ok(())
     }
 
-    /// Moves all vehicles of the lane by the link's limit, and gives the one that leaves. Takes no memory.
+    /// Moves all vehicles of the lane by the link's limit, at most 5 cells a step, and gives the one that leaves. Takes no
+    /// memory.
     ///
     /// `exit_open` is asked only of the vehicle that has nothing ahead: to it the lane's exit is open, or not.
     pub fn drive<D: Dawdling>(&mut self, limit: Speed, exit_open: bool, draws: &D) -> Option<Car>
         requires { limit ≤ 5 }
-        ensures lane { (is_open_to : Vehicle → Bool) → IsExit is_open_to exit_open self.old.track.cells self.old.track.closed
-            → let drive : Drive = record { limit = limit; is_open_to = is_open_to; dawdles = D.dawdles draws.now } in
+        ensures lane { (is_open_to : Vehicle → Bool)
+            → IsExit is_open_to exit_open self.old.track.cells self.old.track.closed
+            → let drive : Drive =
+            record { limit = limit; is_open_to = is_open_to; dawdles = D.dawdles draws.now } in
             self.new ≡ with_cells self.old (motion drive self.old.track.cells self.old.track.closed) }
-        ensures leaves { (is_open_to : Vehicle → Bool) → IsExit is_open_to exit_open self.old.track.cells self.old.track.closed
-            → let drive : Drive = record { limit = limit; is_open_to = is_open_to; dawdles = D.dawdles draws.now } in
+        ensures leaves { (is_open_to : Vehicle → Bool)
+            → IsExit is_open_to exit_open self.old.track.cells self.old.track.closed
+            → let drive : Drive =
+            record { limit = limit; is_open_to = is_open_to; dawdles = D.dawdles draws.now } in
             option_map vehicle_of result ≡ leaver drive self.old.track.cells self.old.track.closed }
     {
         drive_cells(&mut self.cells, &self.closed, limit, exit_open, draws)
@@ -102,6 +118,9 @@ impl Lane {
 
     /// Where the vehicle of a number is, if it is on this lane, which is lane 0 of the link. Takes memory for the plan
     /// that it answers.
+    ///
+    /// # Errors
+    /// Memory for the plan was refused.
     pub fn find(
         &self,
         alloc: Global,
@@ -109,7 +128,9 @@ impl Lane {
         link: LinkIx,
         car: CarNo,
     ) -> Result<Option<Whereabouts>, AllocError>
-        ensures { IfOk result (λ found. let place : Place = record { link = link; lane = 0 } in found ≡ seen_in net.now place car self.now) }
+        ensures { IfOk result (λ found.
+            let place : Place = record { link = link; lane = 0 } in
+            found ≡ seen_in net.now place car self.now) }
     {
         if let Some(found) = self.find_in_cells(alloc, net, link, car)? {
             return Ok(Some(found));
@@ -124,7 +145,9 @@ impl Lane {
         link: LinkIx,
         car: CarNo,
     ) -> Result<Option<Whereabouts>, AllocError>
-        ensures { IfOk result (λ found. let place : Place = record { link = link; lane = 0 } in found ≡ seen_in_cells net.now place car self.now) }
+        ensures { IfOk result (λ found.
+            let place : Place = record { link = link; lane = 0 } in
+            found ≡ seen_in_cells net.now place car self.now) }
     {
         let Some(cell) = cell_of(&self.cells, car) else {
             return Ok(None);
@@ -148,7 +171,9 @@ impl Lane {
         link: LinkIx,
         car: CarNo,
     ) -> Result<Option<Whereabouts>, AllocError>
-        ensures found { IfOk result (λ found. let place : Place = record { link = link; lane = 0 } in found ≡ seen_waiting net.now place car self.now) }
+        ensures found { IfOk result (λ found.
+            let place : Place = record { link = link; lane = 0 } in
+            found ≡ seen_waiting net.now place car self.now) }
         ensures no_buffer { self.now.queue ≡ [] }
     {
         match car_of(&self.waiting, car) {
@@ -166,7 +191,8 @@ impl Lane {
 /// Whether cell 0 is empty and not closed.
 fn is_begin_free(cells: &[Option<Car>], closed: &[bool]) -> bool
     requires { 0 < length cells.now }
-    ensures { let track : Track = record { cells = vehicles cells.now; closed = closed.now } in result ≡ is_free track 0 }
+    ensures { let track : Track = record { cells = vehicles cells.now; closed = closed.now } in
+        result ≡ is_free track 0 }
 {
     cells[0].is_none() && !(closed.len() > 0 && closed[0])
 }
@@ -197,7 +223,8 @@ fn first_waiting(waiting: &[Car]) -> Option<usize>
 
 /// The first cell in which the vehicle of a number stands.
 fn cell_of(cells: &[Option<Car>], number: CarNo) -> Option<usize>
-    ensures first { result ≡ position (λ cell. option_map_or (λ car. car.number == number) cell false) cells.now }
+    ensures first { result ≡ position
+        (λ cell. option_map_or (λ car. car.number == number) cell false) cells.now }
     ensures inside { ForSome result (λ x. x < length cells.now) }
 {
     cells

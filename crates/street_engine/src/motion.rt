@@ -4,7 +4,7 @@ ghost use Rattle.std.specs.Option.{ForSome};
 ghost use Rattle.street_base.specs.Vehicle.{Vehicle, vehicle_of};
 ghost use Rattle.street_base.specs.Lane.{vehicles, is_entrance};
 ghost use Rattle.street_base.specs.Motion.{Drive, motion, leaver, speed_after};
-ghost use Rattle.street_engine.specs.LaneView.{IsExit};
+ghost use Rattle.street_engine.specs.LaneView.{IsExit, IsPlaced};
 
 use street_base::{Car, CarNo, CellNo, Speed};
 
@@ -50,9 +50,10 @@ fn take_car(cell: &mut Option<Car>) -> Option<Car>
 }
 
 /// Moves all cars of a lane, from its end to its begin, each by what stood in the old cells, and gives the car that
-/// leaves. Takes no memory, and time in proportion to the cells.
+/// leaves. Afterwards each car knows the cell that it stands in. Takes no memory, and time in proportion to the cells.
 ///
-/// `exit_open` is asked only of the car that has nothing ahead: to it the lane's exit is open, or not.
+/// The cells are at most 1,000,000, and the limit is at most 5 cells a step. `exit_open` is asked only of the car that
+/// has nothing ahead: to it the lane's exit is open, or not.
 pub fn drive_cells<D: Dawdling>(
     cells: &mut [Option<Car>],
     closed: &[bool],
@@ -62,12 +63,17 @@ pub fn drive_cells<D: Dawdling>(
 ) -> Option<Car>
     requires slow { limit ≤ 5 }
     requires short { length cells.old ≤ 1000000 }
-    ensures cells { (is_open_to : Vehicle → Bool) → IsExit is_open_to exit_open (vehicles cells.old) closed.now
-        → let drive : Drive = record { limit = limit; is_open_to = is_open_to; dawdles = D.dawdles draws.now } in
+    ensures cells { (is_open_to : Vehicle → Bool)
+        → IsExit is_open_to exit_open (vehicles cells.old) closed.now
+        → let drive : Drive =
+        record { limit = limit; is_open_to = is_open_to; dawdles = D.dawdles draws.now } in
         vehicles cells.new ≡ motion drive (vehicles cells.old) closed.now }
-    ensures leaves { (is_open_to : Vehicle → Bool) → IsExit is_open_to exit_open (vehicles cells.old) closed.now
-        → let drive : Drive = record { limit = limit; is_open_to = is_open_to; dawdles = D.dawdles draws.now } in
+    ensures leaves { (is_open_to : Vehicle → Bool)
+        → IsExit is_open_to exit_open (vehicles cells.old) closed.now
+        → let drive : Drive =
+        record { limit = limit; is_open_to = is_open_to; dawdles = D.dawdles draws.now } in
         option_map vehicle_of result ≡ leaver drive (vehicles cells.old) closed.now }
+    ensures placed { IsPlaced cells.new }
 {
     let length = cells.len();
     let mut obstacle = None;
@@ -101,7 +107,8 @@ pub fn drive_cells<D: Dawdling>(
 fn gap_to(obstacle: Option<usize>, x: usize, length: usize, exit_open: bool) -> usize
     requires inside { x < length }
     requires ahead { ForSome obstacle (λ y. x < y) }
-    ensures { result ≡ unwrap_or (option_map (λ y. y - x - 1) obstacle) (if exit_open then 16 else length - 1 - x) }
+    ensures { result ≡ unwrap_or (option_map (λ y. y - x - 1) obstacle)
+        (if exit_open then 16 else length - 1 - x) }
 {
     match obstacle {
         Some(y) => y - x - 1,

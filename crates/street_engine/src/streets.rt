@@ -58,7 +58,9 @@ impl Dawdling for Steady {
 
 /// Writes down that the vehicle which left has arrived.
 fn note_arrival(ends: &mut [Option<End>], gone: Option<Car>, clock: Step)
-    ensures { ends.new ≡ option_map_or (λ v. slice_set ends.old v.number (Some (Arrived clock))) (option_map vehicle_of gone) ends.old }
+    ensures { ends.new ≡ option_map_or
+        (λ v. slice_set ends.old v.number (Some (Arrived clock)))
+        (option_map vehicle_of gone) ends.old }
 {
     if let Some(car) = gone {
         let number = car.number as usize;
@@ -73,7 +75,8 @@ fn drive_lanes(links: &[LinkSpec], lanes: &mut [Lane], ends: &mut [Option<End>],
     requires same { length lanes.old ≡ length links.now }
     requires slow { All (λ link. link.limit ≤ 5) links.now }
     ensures lanes { lanes.new ≡ map moved_road (zip links.now lanes.old) }
-    ensures ends { ends.new ≡ with_arrivals clock (filter_map gone_number (zip links.now lanes.old)) ends.old }
+    ensures ends { ends.new
+        ≡ with_arrivals clock (filter_map gone_number (zip links.now lanes.old)) ends.old }
 {
     for i in 0..lanes.len() {
         let gone = lanes[i].drive(links[i].limit, true, &Steady);
@@ -114,7 +117,8 @@ impl Streets {
     /// # Errors
     /// The network's first fault, or want of memory.
     pub fn load(alloc: Global, net: &NetSpec) -> Result<Streets, NetFault>
-        ensures ok { IfOk result (λ streets. (streets ≡ loaded net.now) × (network_fault net.now ≡ None)) }
+        ensures ok { IfOk result (λ streets.
+            (streets ≡ loaded net.now) × (network_fault net.now ≡ None)) }
         ensures err { IfErr result (TellsFault (network_fault net.now)) }
     {
         let network = Network::build(alloc, net)?;
@@ -153,12 +157,16 @@ impl Streets {
         self.ends.len() as u64
     }
 
-    /// One more vehicle, with a plan of one link, waits on that link's lane.
+    /// One more vehicle, with a plan of one link, waits on that link's lane. Fewer than 1,000,000 were admitted before it.
+    ///
+    /// # Errors
+    /// Memory was refused; the streets are as they were.
     pub fn enter(&mut self, plan: Plan, lane: LaneNo, depart: Step) -> Result<(), AllocError>
         requires one { length plan ≡ 1 }
         requires there { lane < (link_at self.old.network (slice_index_or plan 0 0)).lanes }
         requires room { length self.old.ends < 1000000 }
-        ensures ok { OnOk result ((ids : List ℕ) → plan ≡ plan_links self.old.network ids → self.new ≡ entered self.old ids lane depart) }
+        ensures ok { OnOk result ((ids : List ℕ) → plan ≡ plan_links self.old.network ids
+            → self.new ≡ entered self.old ids lane depart) }
         ensures err { OnErr result (self.new ≡ self.old) }
     {
         let link = plan.as_slice()[0].position();
@@ -190,6 +198,9 @@ impl Streets {
     }
 
     /// Where a vehicle stands that has not ended. Takes memory for the plan that it answers.
+    ///
+    /// # Errors
+    /// Memory for the plan was refused.
     pub fn find(&self, alloc: Global, car: CarNo) -> Result<Option<Whereabouts>, AllocError>
         ensures { IfOk result (λ found. found ≡ seen self.now car) }
     {
@@ -221,7 +232,8 @@ impl Streets {
 /// A lane with nobody on it for each link.
 fn empty_lanes(alloc: Global, net: &NetSpec) -> Result<Vec<Lane>, AllocError>
     requires { network_fault net.now ≡ None }
-    ensures { IfOk result (λ lanes. lanes.items ≡ map (λ link. empty_lane link.length) net.now.links) }
+    ensures { IfOk result (λ lanes.
+        lanes.items ≡ map (λ link. empty_lane link.length) net.now.links) }
 {
     let mut lanes = Vec::new(alloc);
     for link in net.links.as_slice() {

@@ -21,7 +21,11 @@ pub(crate) const MOST_DAWDLE: u64 = 0;
 /// The greatest change, of 1,000.
 pub(crate) const MOST_CHANGE: u64 = 0;
 
-/// The identifiers of the nodes, or the first fault among them.
+/// The identifiers of the nodes.
+///
+/// # Errors
+///
+/// `Bad` with the first fault among the nodes. `Starved` where memory was refused.
 pub(crate) fn read_nodes(alloc: Global, spec: &NetSpec) -> Result<IndexSet<u64>, NetFault>
     ensures keys { IfOk result (λ ids. ids.keys ≡ ids_of_nodes spec.now.nodes) }
     ensures faultless { OnOk result (nodes_fault spec.now ≡ None) }
@@ -47,7 +51,11 @@ pub(crate) fn read_nodes(alloc: Global, spec: &NetSpec) -> Result<IndexSet<u64>,
     Ok(ids)
 }
 
-/// The identifiers of the links, or the first fault among them. `nodes` are the identifiers of the nodes.
+/// The identifiers of the links. `nodes` are the identifiers of the nodes.
+///
+/// # Errors
+///
+/// `Bad` with the first fault among the links. `Starved` where memory was refused.
 pub(crate) fn read_links(
     alloc: Global,
     spec: &NetSpec,
@@ -72,7 +80,11 @@ pub(crate) fn read_links(
     Ok(ids)
 }
 
-/// The first fault among the turns, if they have one. `links` are the identifiers of the links.
+/// Checks the turns. `links` are the identifiers of the links.
+///
+/// # Errors
+///
+/// `Bad` with the first fault among the turns. `Starved` where memory was refused.
 pub(crate) fn read_turns(
     alloc: Global,
     spec: &NetSpec,

@@ -4,6 +4,7 @@ use Rattle.street_base.specs.Vehicle.{vehicle_of}
 use Rattle.street_base.specs.Lane.{vehicles}
 use Rattle.street_base.specs.Motion.{Drive}
 use Rattle.street_engine.proofs.Driving.{IsDriven}
+use Rattle.street_engine.proofs.Placing.{IsPlacedFrom}
 use Rattle.street_engine.proofs.motion.drive_cells.Given as goal
 
 abbrev pub invariant-loop-x : goal.invariant-loop-x
@@ -12,5 +13,6 @@ invariant-loop-x g l =
     record {
       driven : IsDriven drive (vehicles l.fn.cells) l.closed l.x (vehicles l.cells) l.obstacle (option_map vehicle_of l.leaver);
       all : l.length ≡ length l.fn.cells;
+      placed : IsPlacedFrom l.x l.cells;
       same : length l.cells ≡ length l.fn.cells;
     }

@@ -1,13 +1,10 @@
 use Rattle.std.proofs.Common.{arith, ◌≡◌, length, get_or, refl, Bool, true}
 use Rattle.std.specs.Prelude.{option_map}
-use Rattle.street_base.specs.declared.net.LinkSpec.{LinkSpec}
 use Rattle.street_base.specs.Vehicle.{Vehicle, vehicle_of}
 use Rattle.street_engine.specs.Simple.{moved_lane, gone_from}
+use Rattle.street_engine.proofs.OneLane.{no_link}
 use Rattle.street_engine.proofs.Stepping.{stepped-start, stepped-next, stepped-all}
 use Rattle.street_engine.proofs.streets.drive_lanes.Goals as goal
-
-abbrev no_link : LinkSpec
-no_link = record { id = 0; from = 0; to = 0; lanes = 0; length = 0; limit = 0 }
 
 pub loop-i-init : goal.loop-i-init
 loop-i-init c = stepped-start _ _ _ _

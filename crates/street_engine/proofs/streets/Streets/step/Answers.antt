@@ -5,6 +5,7 @@ use Rattle.std.proofs.lemmas.List.Elements.{All-from_get_or}
 use Rattle.street_base.specs.declared.net.LinkSpec.{LinkSpec}
 use Rattle.street_base.specs.State.{Traffic}
 use Rattle.street_base.proofs.Faultless.{good_link}
+use Rattle.street_engine.proofs.OneLane.{no_link}
 use Rattle.street_engine.proofs.OneStep.{step-is, stepped-simple}
 use Rattle.street_engine.proofs.streets.Streets.step.Goals as goal
 
@@ -12,7 +13,7 @@ pub drive_lanes-requires-clause-slow : goal.drive_lanes-requires-clause-slow
 drive_lanes-requires-clause-slow c =
     let net = c.self.inside.network in
     rw (c.as_slice-links.ensures, c.spec.ensures.value)
-    (All-from_get_or (λ (link : LinkSpec). link.limit ≤ 5) net.links (record { id = 0; from = 0; to = 0; lanes = 0; length = 0; limit = 0 }) (λ i h. (good_link net c.self.invariant.faultless i h).slow))
+    (All-from_get_or (λ (link : LinkSpec). link.limit ≤ 5) net.links no_link (λ i h. (good_link net c.self.invariant.faultless i h).slow))
 
 pub invariant_of-self : goal.invariant_of-self
 invariant_of-self c =
