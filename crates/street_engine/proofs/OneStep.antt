@@ -21,7 +21,7 @@ use Rattle.street_base.specs.Release.{released}
 use Rattle.street_base.specs.Departure.{departed_lane, departed}
 use Rattle.street_base.specs.Step.{changed, drive_on, plan_at, has_room, leaver_of, joining, driven_lane, arrival, arrivals, with_arrivals, driven, noted, step}
 use mathlib.Core.List.{map-map}
-use Rattle.street_base.proofs.Overtaking.{option_map-some}
+use Rattle.street_base.proofs.Options.{option_map-some}
 use Rattle.street_base.proofs.Idle.{changed-idle, released-idle, nobody_dawdles}
 use Rattle.street_engine.specs.Simple.{steady, moved_lane, moved_road, gone_from, gone_number, place_of, one_lane, traffic_of, IsSimple, IsSimpleTraffic}
 use Rattle.street_engine.proofs.Agree.{DrivesAlike, motion-agrees, leaver-agrees}
