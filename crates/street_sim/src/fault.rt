@@ -6,7 +6,7 @@ ghost use Rattle.street_sim.specs.Faults.{fault_of_run, status_of, text_of};
 use street_line::FaultKind;
 
 /// A fault of the program.
-#[derive(Clone, Copy)]
+#[derive(Debug, Clone, Copy)]
 pub enum Fault {
     /// The words of the command line are no options.
     BadArguments,

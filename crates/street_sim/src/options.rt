@@ -19,7 +19,12 @@ fn workers_option<'a>(alloc: Global) -> Arg<'a>
         .help("Threads that work on a step, 1 to 64")
 }
 
-/// The options that words ask for. The first word is the program's name.
+/// The options that words ask for. The first word is the program's name; with no words there are the defaults.
+///
+/// # Errors
+///
+/// `Help`, with the parser's text, where a word asks for help; `Bad` where the parser finds something else wrong;
+/// `Starved` where memory was refused. Of several wrong things the parser decides which is told.
 pub fn options(alloc: Global, words: &[String]) -> Result<Options, WordsFault>
     ensures few { IfOk result (λ found. (1 ≤ found.workers) × (found.workers ≤ 64)) }
     ensures alone { length words.now ≤ 1 → Gives 1 result }
