@@ -34,109 +34,103 @@ fn repeated(alloc: Global, byte: u8, count: u32) -> Result<Vec<u8>, Fail> {
     Ok(bytes)
 }
 
+/// Numbers as they may be written, and what a line with them is.
+static NUMBERS: [(&str, &str); 20] = [
+    ("5", "advance"),
+    ("0", "advance"),
+    ("18446744073709551615", "advance"),
+    ("18446744073709551616", "21"),
+    ("1.0", "21"),
+    ("1e3", "21"),
+    ("1E0", "21"),
+    ("10e-1", "21"),
+    ("-0", "21"),
+    ("-1", "21"),
+    (r#""5""#, "21"),
+    ("[5]", "21"),
+    ("null", "21"),
+    ("true", "21"),
+    ("01", "20"),
+    ("+1", "20"),
+    ("1.", "20"),
+    ("NaN", "20"),
+    ("1e999", "20"),
+    ("", "20"),
+];
+
 #[test]
 fn numbers_are_digits_alone(rt: HostRuntime) -> Result<(), Fail> {
-    for (number, want) in [
-        ("5", "advance"),
-        ("0", "advance"),
-        ("18446744073709551615", "advance"),
-        ("18446744073709551616", "21"),
-        ("1.0", "21"),
-        ("1e3", "21"),
-        ("1E0", "21"),
-        ("10e-1", "21"),
-        ("-0", "21"),
-        ("-1", "21"),
-        ("\"5\"", "21"),
-        ("[5]", "21"),
-        ("null", "21"),
-        ("true", "21"),
-        ("01", "20"),
-        ("+1", "20"),
-        ("1.", "20"),
-        ("NaN", "20"),
-        ("1e999", "20"),
-        ("", "20"),
-    ] {
+    for (number, want) in &NUMBERS {
         let line = format!(in rt.alloc(); "{{\"cmd\":\"advance\",\"steps\":{number}}}")?;
         assert_eq!(rt;
             kind(&read_command(rt.alloc(), line.as_bytes())),
-            want,
+            *want,
             "at {number}"
         );
     }
     Ok(())
 }
 
+/// Odd lines, and what they are.
+static ODD_LINES: [(&[u8], &str); 40] = [
+    (br#"{"steps":5,"cmd":"advance"}"#, "advance"),
+    (
+        b" \t{ \"cmd\" : \"advance\" , \"steps\" : 5 } \r",
+        "advance",
+    ),
+    (
+        br#"{"cmd":"advance","steps":5,"x":[1,{"y":null}]}"#,
+        "advance",
+    ),
+    (br#"{"cmd":"advance","steps":"x","steps":5}"#, "advance"),
+    (br#"{"cmd":"advance","steps":5,"steps":"x"}"#, "21"),
+    (br#"{"\u0063md":"\u0061dvance","steps":5}"#, "advance"),
+    (br#"{"cmd":"vehicle","car":0}"#, "vehicle"),
+    (br#"{"cmd":"enter","plan":[],"lane":7,"depart":0}"#, "enter"),
+    (
+        br#"{"cmd":"enter","plan":[1,2.5],"lane":0,"depart":0}"#,
+        "21",
+    ),
+    (br#"{"cmd":"enter","plan":[[1]],"lane":0,"depart":0}"#, "21"),
+    (br#"{"cmd":"enter","plan":1,"lane":0,"depart":0}"#, "21"),
+    (br#"{"cmd":"enter","plan":[1],"lane":0}"#, "21"),
+    (br#"{"cmd":"advance"}"#, "21"),
+    (br#"{"cmd":"Advance","steps":5}"#, "21"),
+    (br#"{"Cmd":"advance","steps":5}"#, "21"),
+    (br#"{"cmd":"halt"}"#, "21"),
+    (br#"{"cmd":5}"#, "21"),
+    (br#"{"steps":5}"#, "21"),
+    (b"{}", "21"),
+    (b"[]", "21"),
+    (br#"["cmd","advance"]"#, "21"),
+    (br#""advance""#, "21"),
+    (b"5", "21"),
+    (b"null", "21"),
+    (b"", "20"),
+    (b"  ", "20"),
+    (b"x", "20"),
+    (b"[1,]", "20"),
+    (br#"{"cmd":"advance","steps":5,}"#, "20"),
+    (br#"{"cmd":"advance","steps":5} x"#, "20"),
+    (br#"{"cmd":"advance","steps":5}{}"#, "20"),
+    (br#"{"cmd":"advance","steps":5"#, "20"),
+    (b"{'cmd':'advance','steps':5}", "20"),
+    (b"{\"cmd\":\"advance\",\"steps\":5,\"x\":\"a\tb\"}", "20"),
+    (br#"{"cmd":"advance","steps":5,"x":"\ud800"}"#, "20"),
+    (
+        br#"{"cmd":"advance","steps":5,"x":"\ud83d\ude00"}"#,
+        "advance",
+    ),
+    (br#"{"cmd":"advance","steps":5,"x":1e999}"#, "20"),
+    (b"{\"cmd\":\"advance\",\"steps\":5,\"x\":\"\xff\"}", "20"),
+    (b"\xff", "20"),
+    (b"\xef\xbb\xbf{\"cmd\":\"advance\",\"steps\":5}", "20"),
+];
+
 #[test]
 fn odd_lines(rt: HostRuntime) {
-    for (line, want) in [
-        (b"{\"steps\":5,\"cmd\":\"advance\"}".as_slice(), "advance"),
-        (
-            b" \t{ \"cmd\" : \"advance\" , \"steps\" : 5 } \r",
-            "advance",
-        ),
-        (
-            b"{\"cmd\":\"advance\",\"steps\":5,\"x\":[1,{\"y\":null}]}",
-            "advance",
-        ),
-        (
-            b"{\"cmd\":\"advance\",\"steps\":\"x\",\"steps\":5}",
-            "advance",
-        ),
-        (b"{\"cmd\":\"advance\",\"steps\":5,\"steps\":\"x\"}", "21"),
-        (b"{\"\\u0063md\":\"\\u0061dvance\",\"steps\":5}", "advance"),
-        (b"{\"cmd\":\"vehicle\",\"car\":0}", "vehicle"),
-        (
-            b"{\"cmd\":\"enter\",\"plan\":[],\"lane\":7,\"depart\":0}",
-            "enter",
-        ),
-        (
-            b"{\"cmd\":\"enter\",\"plan\":[1,2.5],\"lane\":0,\"depart\":0}",
-            "21",
-        ),
-        (
-            b"{\"cmd\":\"enter\",\"plan\":[[1]],\"lane\":0,\"depart\":0}",
-            "21",
-        ),
-        (
-            b"{\"cmd\":\"enter\",\"plan\":1,\"lane\":0,\"depart\":0}",
-            "21",
-        ),
-        (b"{\"cmd\":\"enter\",\"plan\":[1],\"lane\":0}", "21"),
-        (b"{\"cmd\":\"advance\"}", "21"),
-        (b"{\"cmd\":\"Advance\",\"steps\":5}", "21"),
-        (b"{\"Cmd\":\"advance\",\"steps\":5}", "21"),
-        (b"{\"cmd\":\"halt\"}", "21"),
-        (b"{\"cmd\":5}", "21"),
-        (b"{\"steps\":5}", "21"),
-        (b"{}", "21"),
-        (b"[]", "21"),
-        (b"[\"cmd\",\"advance\"]", "21"),
-        (b"\"advance\"", "21"),
-        (b"5", "21"),
-        (b"null", "21"),
-        (b"", "20"),
-        (b"  ", "20"),
-        (b"x", "20"),
-        (b"[1,]", "20"),
-        (b"{\"cmd\":\"advance\",\"steps\":5,}", "20"),
-        (b"{\"cmd\":\"advance\",\"steps\":5} x", "20"),
-        (b"{\"cmd\":\"advance\",\"steps\":5}{}", "20"),
-        (b"{\"cmd\":\"advance\",\"steps\":5", "20"),
-        (b"{'cmd':'advance','steps':5}", "20"),
-        (b"{\"cmd\":\"advance\",\"steps\":5,\"x\":\"a\tb\"}", "20"),
-        (b"{\"cmd\":\"advance\",\"steps\":5,\"x\":\"\\ud800\"}", "20"),
-        (
-            b"{\"cmd\":\"advance\",\"steps\":5,\"x\":\"\\ud83d\\ude00\"}",
-            "advance",
-        ),
-        (b"{\"cmd\":\"advance\",\"steps\":5,\"x\":1e999}", "20"),
-        (b"{\"cmd\":\"advance\",\"steps\":5,\"x\":\"\xff\"}", "20"),
-        (b"\xff", "20"),
-        (b"\xef\xbb\xbf{\"cmd\":\"advance\",\"steps\":5}", "20"),
-    ] {
-        assert_eq!(rt; kind(&read_command(rt.alloc(), line)), want, "at {line:?}");
+    for (line, want) in &ODD_LINES {
+        assert_eq!(rt; kind(&read_command(rt.alloc(), line)), *want, "at {line:?}");
     }
 }
 
@@ -287,74 +281,77 @@ fn reads_the_phases_of_a_signal(rt: HostRuntime) -> Result<(), Fail> {
     Ok(())
 }
 
+/// Lines with names and fields right or wrong, and what they are.
+static NAMED_LINES: [(&[u8], &str); 16] = [
+    (br#"{"cmd":"takeout","car":1}"#, "takeout"),
+    (br#"{"cmd":"read","meter":0}"#, "read"),
+    (br#"{"cmd":"count"}"#, "count"),
+    (br#"{"cmd":"count","x":[1]}"#, "count"),
+    (br#"{"cmd":"takeout","meter":1}"#, "21"),
+    (br#"{"cmd":"take_out","car":1}"#, "21"),
+    (br#"{"cmd":"read","car":0}"#, "21"),
+    (br#"{"cmd":"lane","lane":0}"#, "21"),
+    (br#"{"cmd":"close","link":10,"lane":0,"first":1}"#, "21"),
+    (
+        br#"{"cmd":"meter","link":10,"lane":0,"cell":1,"period":-1}"#,
+        "21",
+    ),
+    (
+        br#"{"cmd":"signal","node":2,"offset":0,"phases":[]}"#,
+        "signal",
+    ),
+    (
+        br#"{"cmd":"signal","node":2,"offset":0,"phases":[[10]]}"#,
+        "21",
+    ),
+    (
+        br#"{"cmd":"signal","node":2,"offset":0,"phases":[[10,[],0]]}"#,
+        "21",
+    ),
+    (
+        br#"{"cmd":"signal","node":2,"offset":0,"phases":[10,[]]}"#,
+        "21",
+    ),
+    (
+        br#"{"cmd":"signal","node":2,"offset":0,"phases":[[10,[[1,0]]]]}"#,
+        "21",
+    ),
+    (
+        br#"{"cmd":"signal","node":2,"offset":0,"phases":[[10,[[1,0,2,0]]]]}"#,
+        "21",
+    ),
+];
+
 #[test]
 fn each_command_has_its_name_and_all_its_fields(rt: HostRuntime) {
-    for (line, want) in [
-        (b"{\"cmd\":\"takeout\",\"car\":1}".as_slice(), "takeout"),
-        (b"{\"cmd\":\"read\",\"meter\":0}", "read"),
-        (b"{\"cmd\":\"count\"}", "count"),
-        (b"{\"cmd\":\"count\",\"x\":[1]}", "count"),
-        (b"{\"cmd\":\"takeout\",\"meter\":1}", "21"),
-        (b"{\"cmd\":\"take_out\",\"car\":1}", "21"),
-        (b"{\"cmd\":\"read\",\"car\":0}", "21"),
-        (b"{\"cmd\":\"lane\",\"lane\":0}", "21"),
-        (
-            b"{\"cmd\":\"close\",\"link\":10,\"lane\":0,\"first\":1}",
-            "21",
-        ),
-        (
-            b"{\"cmd\":\"meter\",\"link\":10,\"lane\":0,\"cell\":1,\"period\":-1}",
-            "21",
-        ),
-        (
-            b"{\"cmd\":\"signal\",\"node\":2,\"offset\":0,\"phases\":[]}",
-            "signal",
-        ),
-        (
-            b"{\"cmd\":\"signal\",\"node\":2,\"offset\":0,\"phases\":[[10]]}",
-            "21",
-        ),
-        (
-            b"{\"cmd\":\"signal\",\"node\":2,\"offset\":0,\"phases\":[[10,[],0]]}",
-            "21",
-        ),
-        (
-            b"{\"cmd\":\"signal\",\"node\":2,\"offset\":0,\"phases\":[10,[]]}",
-            "21",
-        ),
-        (
-            b"{\"cmd\":\"signal\",\"node\":2,\"offset\":0,\"phases\":[[10,[[1,0]]]]}",
-            "21",
-        ),
-        (
-            b"{\"cmd\":\"signal\",\"node\":2,\"offset\":0,\"phases\":[[10,[[1,0,2,0]]]]}",
-            "21",
-        ),
-    ] {
-        assert_eq!(rt; kind(&read_command(rt.alloc(), line)), want, "at {line:?}");
+    for (line, want) in &NAMED_LINES {
+        assert_eq!(rt; kind(&read_command(rt.alloc(), line)), *want, "at {line:?}");
     }
 }
 
+/// How a load may end, and what it then is.
+static LOAD_ENDS: [(&str, &str); 10] = [
+    (r#""seed":0"#, "load"),
+    (r#""seed":0,"start":7"#, "load"),
+    (r#""seed":0,"start":null"#, "21"),
+    (r#""seed":0,"start":-1"#, "21"),
+    (r#""start":7"#, "21"),
+    (r#""seed":0,"nodes":[[1,1]]"#, "21"),
+    (r#""seed":0,"nodes":[[1,1,2,2]]"#, "21"),
+    (r#""seed":0,"links":[[10,1,1,1,10]]"#, "21"),
+    (r#""seed":0,"turns":[[10,0,10,0,0]]"#, "21"),
+    (r#""seed":0,"turns":[10]"#, "21"),
+];
+
 #[test]
 fn start_may_be_absent_but_no_other_field(rt: HostRuntime) -> Result<(), Fail> {
-    for (rest, want) in [
-        ("\"seed\":0", "load"),
-        ("\"seed\":0,\"start\":7", "load"),
-        ("\"seed\":0,\"start\":null", "21"),
-        ("\"seed\":0,\"start\":-1", "21"),
-        ("\"start\":7", "21"),
-        ("\"seed\":0,\"nodes\":[[1,1]]", "21"),
-        ("\"seed\":0,\"nodes\":[[1,1,2,2]]", "21"),
-        ("\"seed\":0,\"links\":[[10,1,1,1,10]]", "21"),
-        ("\"seed\":0,\"turns\":[[10,0,10,0,0]]", "21"),
-        ("\"seed\":0,\"turns\":[10]", "21"),
-    ] {
+    for (rest, want) in &LOAD_ENDS {
         let line = format!(in rt.alloc();
             "{{\"cmd\":\"load\",\"nodes\":[[1,1,2]],\"links\":[],\"turns\":[],\"zone\":0,\"dawdle\":0,\"change\":0,{rest}}}"
         )?;
         assert_eq!(rt;
             kind(&read_command(rt.alloc(), line.as_bytes())),
-            want,
+            *want,
             "at {rest}"
         );
     }
