@@ -43,13 +43,16 @@ pub fn releases_nothing()
 
 /// On links of one lane nobody changes.
 pub fn changes_nothing()
-    ensures { (m : Traffic) → ((link : ℕ) (d : List LaneState) → link < length m.lanes → length (slice_index_or m.lanes link d) ≤ 1) → changed m ≡ m }
+    ensures { (m : Traffic)
+        → ((link : ℕ) (d : List LaneState) → link < length m.lanes → length (slice_index_or m.lanes link d) ≤ 1)
+        → changed m ≡ m }
 {}
 
 /// A draw is below 1000, and with dawdle 0 nobody dawdles.
 pub fn draws_little()
     ensures below { (seed number place : ℕ) → draw seed number place < 1000 }
-    ensures never { (m : Traffic) (place : Place) (number : ℕ) → m.network.dawdle ≡ 0 → (drive_on m place).dawdles number ≡ false }
+    ensures never { (m : Traffic) (place : Place) (number : ℕ) → m.network.dawdle ≡ 0
+        → (drive_on m place).dawdles number ≡ false }
 {}
 
 /// Whatever steps are made, each number given stands in one place or has ended, once, and no other stands anywhere.
@@ -57,20 +60,27 @@ pub fn keeps_everyone()
     ensures { (n : ℕ) (m : Traffic) → IsSound m → IsSound (steps n m) }
 {}
 
-/// Whatever commands are given from nothing loaded, with whatever outcomes, each number given stands in one place or has ended, once, and no other stands anywhere.
+/// Whatever commands are given from nothing loaded, with whatever outcomes, each number given stands in one place or has
+/// ended, once, and no other stands anywhere.
 pub fn census_holds()
-    ensures { (commands : List Command) (answers : List (Reply × Outcome)) (state : State) → Runs None commands answers state → IsSoundState state }
+    ensures { (commands : List Command) (answers : List (Reply × Outcome)) (state : State)
+        → Runs None commands answers state → IsSoundState state }
 {}
 
 /// A refused command changes nothing, whatever its outcome, and done whole it is answered by its refusal. No other outcome is
 /// allowed, but that a load with a fault may be starved.
 pub fn refused_changes_nothing()
-    ensures unchanged { (old : State) (c : Command) (r : Refusal) → refusal old c ≡ Some r → (reply : Reply) (outcome : Outcome) (new : State) → Answers old c reply outcome new → new ≡ old }
-    ensures named { (old : State) (c : Command) (r : Refusal) → refusal old c ≡ Some r → (reply : Reply) (new : State) → Answers old c reply Whole new → reply ≡ Refused r }
-    ensures whole { (old : State) (c : Command) (r : Refusal) → refusal old c ≡ Some r → (reply : Reply) (outcome : Outcome) (new : State) → Answers old c reply outcome new → (outcome ≡ Whole) ⊎ ((outcome ≡ Starved) × is_network_fault (Some r)) }
+    ensures unchanged { (old : State) (c : Command) (r : Refusal) → refusal old c ≡ Some r
+        → (reply : Reply) (outcome : Outcome) (new : State) → Answers old c reply outcome new → new ≡ old }
+    ensures named { (old : State) (c : Command) (r : Refusal) → refusal old c ≡ Some r
+        → (reply : Reply) (new : State) → Answers old c reply Whole new → reply ≡ Refused r }
+    ensures whole { (old : State) (c : Command) (r : Refusal) → refusal old c ≡ Some r
+        → (reply : Reply) (outcome : Outcome) (new : State) → Answers old c reply outcome new
+        → (outcome ≡ Whole) ⊎ ((outcome ≡ Starved) × is_network_fault (Some r)) }
 {}
 
 /// Of each vehicle admitted it is told where it is.
 pub fn everyone_is_told()
-    ensures { (m : Traffic) (car : ℕ) → IsSound m → car < length m.ends → (w : Whereabouts) × (told m car ≡ TellVehicle car w) }
+    ensures { (m : Traffic) (car : ℕ) → IsSound m → car < length m.ends
+        → (w : Whereabouts) × (told m car ≡ TellVehicle car w) }
 {}

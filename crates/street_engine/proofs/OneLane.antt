@@ -13,10 +13,6 @@ use Rattle.street_base.specs.Network.{Place, link_at, places}
 use Rattle.street_base.specs.State.{Traffic, LaneState, each_lane, lane_at, no_lane}
 use Rattle.street_engine.specs.Simple.{one_lane, place_of}
 
--- the link past the last
-abbrev pub no_link : LinkSpec
-no_link = record { id = 0; from = 0; to = 0; lanes = 0; length = 0; limit = 0 }
-
 -- f of each lane by the position of its link, from position n on
 abbrev pub each_from : (ℕ → LaneState → LaneState) → ℕ → List LaneState → List LaneState
 each_from f n lanes = map (λ e. f e.0 e.1) (enumerate_from n lanes)

@@ -11,7 +11,7 @@ use Rattle.std.proofs.lemmas.Option.{slice_get-get_or, slice_get-map}
 use Rattle.street_base.specs.declared.net.NetSpec.{NetSpec}
 use Rattle.street_base.specs.declared.net.LinkSpec.{LinkSpec}
 use Rattle.street_base.specs.declared.command.End.{End}
-use Rattle.street_base.specs.Network.{Place, link_at, serves}
+use Rattle.street_base.specs.Network.{Place, link_at, serves, no_link, last_clock}
 use Rattle.street_base.specs.Vehicle.{Vehicle, next_link, is_on_last}
 use Rattle.street_base.specs.Lane.{vehicle_at}
 use Rattle.street_base.specs.Signal.{is_green}
@@ -25,7 +25,7 @@ use Rattle.street_base.proofs.Options.{option_map-some}
 use Rattle.street_base.proofs.Idle.{changed-idle, released-idle, nobody_dawdles}
 use Rattle.street_engine.specs.Simple.{steady, moved_lane, moved_road, gone_from, gone_number, place_of, one_lane, traffic_of, IsSimple, IsSimpleTraffic}
 use Rattle.street_engine.proofs.Agree.{DrivesAlike, motion-agrees, leaver-agrees}
-use Rattle.street_engine.proofs.OneLane.{no_link, each_from, each_lane-one, each_from-plain, each_from-range, zip-range, filter_map-after, map-agree, filter_map-agree, places-one, lane_at-one}
+use Rattle.street_engine.proofs.OneLane.{each_from, each_lane-one, each_from-plain, each_from-range, zip-range, filter_map-after, map-agree, filter_map-agree, places-one, lane_at-one}
 use Rattle.street_engine.proofs.Simplicity.{leaver-last, moved-simple, departed-simple}
 use Rattle.street_base.proofs.Faultless.{good_link, no_dawdling}
 
@@ -167,7 +167,7 @@ module _ (net : NetSpec) (clock : ℕ) (lanes : List LaneState) (ends : List (Op
   moved_ends-length = length-map (enumerate_from 0 ends) (λ e. if list_any (λ n. n == e.0) (filter_map gone_number (zip net.links lanes)) then Some (Arrived clock) else e.1) ∙ length-enumerate_from 0 ends
 
   -- and what holds of all streets holds after it
-  pub stepped-simple : clock < 1000000000 → IsSimpleTraffic net (clock + 1) (map (departed_lane clock) moved_lanes) moved_ends
+  pub stepped-simple : clock < last_clock → IsSimpleTraffic net (clock + 1) (map (departed_lane clock) moved_lanes) moved_ends
   stepped-simple early = record {
     faultless = ok.faultless;
     a_lane_each = departed_lanes-length;

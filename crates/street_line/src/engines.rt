@@ -37,7 +37,8 @@ pub fn run_engine<G: Gate + Drop, R: Read, W: Write>(
     reader: &mut R,
     writer: &mut W,
 ) -> Result<Tally, RunFault>
-    ensures { IfOk result (λ tally. (old : State) → StandsFor engine.old old → (text : List ℕ) × (out : List ℕ) × (new : State)
+    ensures { IfOk result (λ tally. (old : State) → StandsFor engine.old old
+        → (text : List ℕ) × (out : List ℕ) × (new : State)
         × Consumes (R.remaining reader.old) (R.remaining reader.new) text
         × IsAtEnd (R.remaining reader.new)
         × SaysAll old (lines_of text) out new

@@ -79,7 +79,8 @@ fn take_byte<S: Service, W: Write>(
 ) -> Result<(), FaultKind>
     requires within { IsWithin progress.old.tally }
     requires room { progress.old.tally.lines < 2 ^ 62 }
-    ensures feeds { OnOk result (Feeds S.serves service.old (W.contents writer.old) progress.old (byte ∷ []) service.new (W.contents writer.new) progress.new) }
+    ensures feeds { OnOk result (Feeds S.serves service.old (W.contents writer.old) progress.old (byte ∷ [])
+        service.new (W.contents writer.new) progress.new) }
     ensures grows { OnOk result (Grows progress.old.tally progress.new.tally 1) }
 {
     if byte == b'\n' {
@@ -101,7 +102,8 @@ fn feed<S: Service, W: Write>(
 ) -> Result<(), FaultKind>
     requires within { IsWithin progress.old.tally }
     requires room { progress.old.tally.lines + length bytes.now < 2 ^ 62 }
-    ensures feeds { OnOk result (Feeds S.serves service.old (W.contents writer.old) progress.old bytes.now service.new (W.contents writer.new) progress.new) }
+    ensures feeds { OnOk result (Feeds S.serves service.old (W.contents writer.old) progress.old bytes.now
+        service.new (W.contents writer.new) progress.new) }
     ensures grows { OnOk result (Grows progress.old.tally progress.new.tally (length bytes.now)) }
 {
     for byte in bytes {
@@ -119,7 +121,8 @@ fn finish<S: Service, W: Write>(
 ) -> Result<(), FaultKind>
     requires within { IsWithin progress.old.tally }
     requires room { progress.old.tally.lines < 2 ^ 62 }
-    ensures { OnOk result (Finishes S.serves service.old (W.contents writer.old) progress.old service.new (W.contents writer.new) progress.new) }
+    ensures { OnOk result (Finishes S.serves service.old (W.contents writer.old) progress.old
+        service.new (W.contents writer.new) progress.new) }
 {
     if progress.part.kept.is_empty() {
         return Ok(());

@@ -24,7 +24,8 @@ pub(crate) fn served_text(alloc: Global, served: Served) -> Result<Vec<u8>, Star
 /// Writes the bytes, or only the first of them, whose number it then answers.
 fn write_text<W: Write>(writer: &mut W, text: &[u8]) -> Result<(), usize>
     ensures ok { OnOk result (Appends (W.contents writer.old) (W.contents writer.new) text.now) }
-    ensures fault { IfErr result (λ n. (n < length text.now) × Appends (W.contents writer.old) (W.contents writer.new) (take n text.now)) }
+    ensures fault { IfErr result (λ n. (n < length text.now)
+        × Appends (W.contents writer.old) (W.contents writer.new) (take n text.now)) }
 {
     let mut at = 0;
     while at < text.len() {

@@ -9,7 +9,7 @@ ghost use Rattle.street_text.specs.Reading.{longest_line, reading};
 #[cfg(test)]
 mod tests;
 
-use crate::replies::lists::{Printed, list_value};
+use crate::lists::{Printed, list_value};
 use serde_json::{Value, json};
 use std::alloc::{AllocError, Global};
 use street_base::{Command, GreenSpec, LinkSpec, NetSpec, NodeSpec, PhaseSpec, Starved, TurnSpec};

@@ -8,6 +8,7 @@
 mod command_texts;
 mod errors;
 mod fault;
+mod lists;
 mod orders;
 mod reading;
 mod replies;

@@ -177,7 +177,8 @@ fn command(alloc: Global, value: &Value) -> Result<Command, LineFault>
 
 /// The fault of a text that was not read: only want of memory says nothing of the text.
 fn fault_of(error: &Error) -> LineFault
-    ensures { ((result ≡ LineFault.Starved) × IsMemory error.now) ⊎ ((result ≡ LineFault.NotJson) × ¬ IsMemory error.now) }
+    ensures { ((result ≡ LineFault.Starved) × IsMemory error.now)
+        ⊎ ((result ≡ LineFault.NotJson) × ¬ IsMemory error.now) }
 {
     match error.classify() {
         Category::Memory => LineFault::Starved,

@@ -5,12 +5,11 @@ ghost use Rattle.street_text.specs.Printing.{refused_data, ended_data, vehicle_d
 ghost use Rattle.street_base.specs.declared.command.Reply.TheVariants.{Rows, Lane, Census};
 ghost use Rattle.street_base.specs.declared.command.Whereabouts.TheVariants.{Cell, Buffer, Waiting};
 
-pub(crate) mod lists;
 #[cfg(test)]
 mod tests;
 
 use crate::errors::error_value;
-use lists::{Printed, list_value};
+use crate::lists::{Printed, list_value};
 use serde_json::{Value, json};
 use std::alloc::{AllocError, Global};
 use street_base::{

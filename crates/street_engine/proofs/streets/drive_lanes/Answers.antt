@@ -2,7 +2,7 @@ use Rattle.std.proofs.Common.{arith, ◌≡◌, length, get_or, refl, Bool, true
 use Rattle.std.specs.Prelude.{option_map}
 use Rattle.street_base.specs.Vehicle.{Vehicle, vehicle_of}
 use Rattle.street_engine.specs.Simple.{moved_lane, gone_from}
-use Rattle.street_engine.proofs.OneLane.{no_link}
+use Rattle.street_base.specs.Network.{no_link}
 use Rattle.street_engine.proofs.Stepping.{stepped-start, stepped-next, stepped-all}
 use Rattle.street_engine.proofs.streets.drive_lanes.Goals as goal
 

@@ -5,13 +5,10 @@ use Rattle.street_base.specs.declared.net.LinkSpec.{LinkSpec}
 use Rattle.street_base.specs.declared.net.NetSpec.{NetSpec}
 use Rattle.street_base.specs.declared.command.Part.TheVariants.{Links}
 use Rattle.street_base.specs.Faults.{is_bad_link, in_part}
+use Rattle.street_base.specs.Network.{no_link}
 use Rattle.street_net.proofs.Searching.{keys-more, eqb-sym}
 use Rattle.street_net.proofs.Firsts.{NoneBad-more, first_bad-here, first_bad-none}
 use Rattle.street_net.proofs.lists.read_links.Goals as goal
-
--- past the end
-abbrev none : LinkSpec
-none = record { id = 0; from = 0; to = 0; lanes = 0; length = 0; limit = 0 }
 
 fresh : (net : NetSpec) (at : ℕ) (link : LinkSpec) → is_bad_link net at link ≡ false → list_any (λ l. eqb l.id link.id) (take at net.links) ≡ false
 fresh net at link good = (or_parts _ _ (or_parts _ _ (or_parts _ _ (or_parts _ _ (or_parts _ _ (or_parts _ _ good).0).0).0).0).0).1
@@ -20,21 +17,21 @@ pub returns-then-is_bad_link-clause-fault : goal.returns-then-is_bad_link-clause
 returns-then-is_bad_link-clause-fault c =
     let links = c.args.spec.now.links in
     let within : c.loop-at.at < length links = rw (← c.as_slice-links.ensures) c.loop-at-test.true in
-    let here : is_bad_link c.args.spec.now c.loop-at.at (get_or links c.loop-at.at none) ≡ true =
-    ap (λ xs. is_bad_link c.args.spec.now c.loop-at.at (get_or xs c.loop-at.at none)) (sym c.as_slice-links.ensures) ∙ sym c.is_bad_link.ensures ∙ c.if-is_bad_link.true in
-    ap (in_part Links) (first_bad-here (is_bad_link c.args.spec.now) links c.loop-at.at none within c.loop-at.invariant.none_bad here)
+    let here : is_bad_link c.args.spec.now c.loop-at.at (get_or links c.loop-at.at no_link) ≡ true =
+    ap (λ xs. is_bad_link c.args.spec.now c.loop-at.at (get_or xs c.loop-at.at no_link)) (sym c.as_slice-links.ensures) ∙ sym c.is_bad_link.ensures ∙ c.if-is_bad_link.true in
+    ap (in_part Links) (first_bad-here (is_bad_link c.args.spec.now) links c.loop-at.at no_link within c.loop-at.invariant.none_bad here)
 
 pub loop-at-preserved : goal.loop-at-preserved
 loop-at-preserved c =
     let links = c.args.spec.now.links in
-    let link : LinkSpec = get_or links c.loop-at.at none in
+    let link : LinkSpec = get_or links c.loop-at.at no_link in
     let within : c.loop-at.at < length links = rw (← c.as_slice-links.ensures) c.loop-at-test.true in
     let good : is_bad_link c.args.spec.now c.loop-at.at link ≡ false =
-    ap (λ xs. is_bad_link c.args.spec.now c.loop-at.at (get_or xs c.loop-at.at none)) (sym c.as_slice-links.ensures) ∙ sym c.is_bad_link.ensures ∙ c.if-is_bad_link.false in
+    ap (λ xs. is_bad_link c.args.spec.now c.loop-at.at (get_or xs c.loop-at.at no_link)) (sym c.as_slice-links.ensures) ∙ sym c.is_bad_link.ensures ∙ c.if-is_bad_link.false in
     record {
-      keys = keys-more (λ (link : LinkSpec). link.id) eqb (λ (x y : LinkSpec). eqb y.id x.id) (λ x y. eqb-sym x.id y.id) links c.loop-at.at none c.loop-at.ids.keys c.insert.new.self.keys within (fresh c.args.spec.now c.loop-at.at link good) c.loop-at.invariant.keys
+      keys = keys-more (λ (link : LinkSpec). link.id) eqb (λ (x y : LinkSpec). eqb y.id x.id) (λ x y. eqb-sym x.id y.id) links c.loop-at.at no_link c.loop-at.ids.keys c.insert.new.self.keys within (fresh c.args.spec.now c.loop-at.at link good) c.loop-at.invariant.keys
           (rw c.as_slice-links.ensures at c.in_ok-insert.ensures.keys);
-      none_bad = NoneBad-more (is_bad_link c.args.spec.now) links c.loop-at.at none within c.loop-at.invariant.none_bad good;
+      none_bad = NoneBad-more (is_bad_link c.args.spec.now) links c.loop-at.at no_link within c.loop-at.invariant.none_bad good;
     }
 
 pub returns-clause-faultless : goal.returns-clause-faultless

@@ -1,9 +1,10 @@
 use Rattle.std.proofs.Common.{◌≡◌, ◌+◌, ◌-◌, ◌≤◌}
+use Rattle.street_base.specs.Network.{last_clock}
 use Rattle.street_base.specs.Step.{steps}
 use Rattle.street_engine.proofs.streets.Streets.advance.Given as goal
 
 abbrev pub invariant-loop-done : goal.invariant-loop-done
 invariant-loop-done l = record {
   rest : steps (l.count - l.done) l.self ≡ steps l.count l.fn.self;
-  in_time : l.self.clock + (l.count - l.done) ≤ 1000000000;
+  in_time : l.self.clock + (l.count - l.done) ≤ last_clock;
 }

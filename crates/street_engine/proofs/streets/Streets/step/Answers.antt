@@ -3,9 +3,9 @@ use Rattle.std.specs.Vec.{with_items}
 use Rattle.std.proofs.lemmas.List.{with_items_is}
 use Rattle.std.proofs.lemmas.List.Elements.{All-from_get_or}
 use Rattle.street_base.specs.declared.net.LinkSpec.{LinkSpec}
+use Rattle.street_base.specs.Network.{no_link, last_clock}
 use Rattle.street_base.specs.State.{Traffic}
 use Rattle.street_base.proofs.Faultless.{good_link}
-use Rattle.street_engine.proofs.OneLane.{no_link}
 use Rattle.street_engine.proofs.OneStep.{step-is, stepped-simple}
 use Rattle.street_engine.proofs.streets.Streets.step.Goals as goal
 
@@ -19,7 +19,7 @@ pub invariant_of-self : goal.invariant_of-self
 invariant_of-self c =
     let s = c.self.inside in
     let moved = with_items s.lanes c.drive_lanes.new.lanes in
-    let early : s.clock < 1000000000 = rw (ap (λ (m : Traffic). m.clock) (sym c.self.view_is)) at c.requires in
+    let early : s.clock < last_clock = rw (ap (λ (m : Traffic). m.clock) (sym c.self.view_is)) at c.requires in
     rw (
       with_items_is moved c.depart_lanes.new.lanes (omega (arith, c.depart_lanes.auto.lanes, c.deref_mut-3.ensures.len)),
       with_items_is s.ends c.drive_lanes.new.ends (omega (arith, c.drive_lanes.auto.ends, c.deref_mut-2.ensures.len)),

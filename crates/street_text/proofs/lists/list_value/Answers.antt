@@ -4,7 +4,7 @@ use Rattle.serde_json.specs.View.{items_view}
 use Rattle.serde_json.specs.declared.value.Value.{the_lemmas}
 use Rattle.street_text.specs.Printing.{items_from}
 use Rattle.street_text.proofs.Items.{before_end}
-use Rattle.street_text.proofs.replies.lists.list_value.Goals as goal
+use Rattle.street_text.proofs.lists.list_value.Goals as goal
 
 pub returns : goal.returns
 returns g c =

@@ -1,4 +1,4 @@
-//! The lists of a reply: numbers, and rows of numbers.
+//! The lists of a reply or a command: numbers, and rows of numbers.
 ghost use Rattle.std.specs.Prelude.{◌≡◌, IfOk};
 ghost use Rattle.serde_json.specs.Data.{Data, array};
 ghost use Rattle.serde_json.specs.View.{view};
@@ -8,7 +8,7 @@ use serde_json::Value;
 use std::alloc::{AllocError, Global};
 use street_base::{BufferEntry, CellEntry, MeterRow, RunningRow, Stretch, WaitingEntry};
 
-/// What stands in a list of a reply.
+/// What stands in a list of a reply or a command.
 pub(crate) trait Printed {
     ghost prints: { Self → Data };
 
