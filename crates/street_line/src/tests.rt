@@ -1,18 +1,9 @@
 use crate::{FaultKind, Served, Service, Tally, run_lines};
-use std::alloc::Global;
 use std::io;
 use std::io::{Read, Write};
 use std::process::Abort;
 use std::test::Fail;
 use street_base::{Command, Reply};
-
-fn repeated(alloc: Global, byte: u8, count: u32) -> Result<Vec<u8>, Fail> {
-    let mut bytes = Vec::new(alloc);
-    for _ in 0..count {
-        bytes.push(byte)?;
-    }
-    Ok(bytes)
-}
 
 /// A service with a clock, which has no place for vehicles.
 #[derive(Drop)]
@@ -36,9 +27,9 @@ impl Service for Toy {
 fn serves_a_text(rt: HostRuntime) -> Result<(), Fail> {
     let mut text = Vec::from_slice(rt.alloc(), b"{\"cmd\":\"advance\",\"steps\":5}\n \t\r\n")?;
     text.extend_from_slice(b"{\"cmd\":\"advance\",\"steps\":-1}\r\n\xff\n")?;
-    text.extend_from_slice(repeated(rt.alloc(), b'x', 1_048_577)?.as_slice())?;
+    text.extend_from_slice(vec![in rt.alloc(); b'x'; 1_048_577]?.as_slice())?;
     text.push(b'\n')?;
-    text.extend_from_slice(repeated(rt.alloc(), b' ', 3_000_000)?.as_slice())?;
+    text.extend_from_slice(vec![in rt.alloc(); b' '; 3_000_000]?.as_slice())?;
     text.extend_from_slice(
         b"\n\n{\"cmd\":\"vehicle\",\"car\":0}\n{\"cmd\":\"advance\",\"steps\":2}",
     )?;

@@ -1,5 +1,4 @@
 use crate::{LineFault, error_text, fault_text, read_command};
-use std::alloc::Global;
 use std::process::Abort;
 use std::test::Fail;
 use street_base::Command;
@@ -24,14 +23,6 @@ fn kind(read: &Result<Command, LineFault>) -> &'static str {
         Err(LineFault::BadCommand) => "21",
         Err(LineFault::Starved) => "starved",
     }
-}
-
-fn repeated(alloc: Global, byte: u8, count: u32) -> Result<Vec<u8>, Fail> {
-    let mut bytes = Vec::new(alloc);
-    for _ in 0..count {
-        bytes.push(byte)?;
-    }
-    Ok(bytes)
 }
 
 /// Numbers as they may be written, and what a line with them is.
@@ -138,8 +129,8 @@ fn odd_lines(rt: HostRuntime) {
 fn nesting_is_read_to_127_levels(rt: HostRuntime) -> Result<(), Fail> {
     for (lists, want) in [(126, "advance"), (127, "20"), (1000, "20")] {
         let mut line = Vec::from_slice(rt.alloc(), b"{\"cmd\":\"advance\",\"steps\":5,\"x\":")?;
-        line.extend_from_slice(repeated(rt.alloc(), b'[', lists)?.as_slice())?;
-        line.extend_from_slice(repeated(rt.alloc(), b']', lists)?.as_slice())?;
+        line.extend_from_slice(vec![in rt.alloc(); b'['; lists]?.as_slice())?;
+        line.extend_from_slice(vec![in rt.alloc(); b']'; lists]?.as_slice())?;
         line.push(b'}')?;
         assert_eq!(rt;
             kind(&read_command(rt.alloc(), line.as_slice())),
@@ -153,7 +144,7 @@ fn nesting_is_read_to_127_levels(rt: HostRuntime) -> Result<(), Fail> {
 #[test]
 fn a_line_has_at_most_1048576_bytes(rt: HostRuntime) -> Result<(), Fail> {
     for (spaces, want) in [(1_048_549, "advance"), (1_048_550, "22")] {
-        let mut line = repeated(rt.alloc(), b' ', spaces)?;
+        let mut line = vec![in rt.alloc(); b' '; spaces]?;
         line.extend_from_slice(b"{\"cmd\":\"advance\",\"steps\":5}")?;
         assert_eq!(rt;
             kind(&read_command(rt.alloc(), line.as_slice())),
@@ -161,7 +152,7 @@ fn a_line_has_at_most_1048576_bytes(rt: HostRuntime) -> Result<(), Fail> {
             "at {spaces}"
         );
     }
-    let blank = repeated(rt.alloc(), b' ', 3_000_000)?;
+    let blank = vec![in rt.alloc(); b' '; 3_000_000]?;
     assert_eq!(rt; kind(&read_command(rt.alloc(), blank.as_slice())), "22");
     Ok(())
 }
