@@ -3,7 +3,7 @@
 use Rattle.std.specs.Prelude.{ℕ, ◌+◌, ◌<◌, ◌≡◌, nat_lt, List, length, map, replicate, sum_by, Bool, true, Option, Some, None, is_some, slice_get, if◌then◌else◌, ⊤}
 use Rattle.std.specs.Option.{option_map_or}
 use Rattle.std.specs.List.{list_any}
-use Rattle.street_base.specs.declared.command.End.{End}
+use Rattle.street_base.specs.declared.reply.End.{End}
 use Rattle.street_base.specs.Vehicle.{Vehicle}
 use Rattle.street_base.specs.Network.{Place, is_place, link_at, places}
 use Rattle.street_base.specs.Release.{exit_lane}

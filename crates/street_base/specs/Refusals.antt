@@ -1,10 +1,10 @@
 -- The numbers and names of refusals.
 -- Source: this profile.
 use Rattle.std.specs.Prelude.{ℕ, List, codes}
-use Rattle.street_base.specs.declared.command.Refusal.{Refusal}
-use Rattle.street_base.specs.declared.command.Refusal.TheVariants.{NotLoaded, AlreadyLoaded, BadNetwork, NoNode, NoLink, NoLane, BadRange, BadPlan, BadSignal, NoVehicle, Gone, NoMeter, TooMany, BadCount, ClockEnd, NotYet}
-use Rattle.street_base.specs.declared.command.Part.{Part}
-use Rattle.street_base.specs.declared.command.Part.TheVariants.{Nodes, Links, Turns, Values}
+use Rattle.street_base.specs.declared.refusal.Refusal.{Refusal}
+use Rattle.street_base.specs.declared.refusal.Refusal.TheVariants.{NotLoaded, AlreadyLoaded, BadNetwork, NoNode, NoLink, NoLane, BadRange, BadPlan, BadSignal, NoVehicle, Gone, NoMeter, TooMany, BadCount, ClockEnd, NotYet}
+use Rattle.street_base.specs.declared.refusal.Part.{Part}
+use Rattle.street_base.specs.declared.refusal.Part.TheVariants.{Nodes, Links, Turns, Values}
 
 -- the number by which a reply line tells a refusal
 abbrev pub number_of : Refusal → ℕ

@@ -28,4 +28,4 @@ with_speed v speed = record v { speed = speed }
 
 -- the vehicle that a car of the code is
 abbrev pub vehicle_of : Car → Vehicle
-vehicle_of car = record { number = car.number; speed = car.speed; plan = car.plan; position = car.at }
+vehicle_of car = record { number = car.number; speed = car.speed; plan = car.plan.value; position = car.at }

@@ -1,12 +1,12 @@
 //! Laws of the definitions.
-ghost use Rattle.std.specs.Prelude.{◌≡◌, ◌<◌, ◌≤◌, ◌⊎◌, ℕ, [], List, Bool, false, Some, None, length, slice_index_or};
+ghost use Rattle.std.specs.Prelude.{◌≡◌, ◌+◌, ◌<◌, ◌≤◌, ◌⊎◌, ℕ, [], List, Bool, false, Some, None, length, slice_index_or};
 ghost use Rattle.street_base.specs.declared.command.Command.{Command};
-ghost use Rattle.street_base.specs.declared.command.Refusal.{Refusal};
-ghost use Rattle.street_base.specs.declared.command.Reply.{Reply};
-ghost use Rattle.street_base.specs.declared.command.Reply.TheVariants.{Refused, Vehicle as TellVehicle};
-ghost use Rattle.street_base.specs.declared.command.Whereabouts.{Whereabouts};
-ghost use Rattle.street_base.specs.declared.command.Outcome.{Outcome};
-ghost use Rattle.street_base.specs.declared.command.Outcome.TheVariants.{Whole, Starved};
+ghost use Rattle.street_base.specs.declared.refusal.Refusal.{Refusal};
+ghost use Rattle.street_base.specs.declared.reply.Reply.{Reply};
+ghost use Rattle.street_base.specs.declared.reply.Reply.TheVariants.{Refused, Vehicle as TellVehicle};
+ghost use Rattle.street_base.specs.declared.reply.Whereabouts.{Whereabouts};
+ghost use Rattle.street_base.specs.declared.reply.Outcome.{Outcome};
+ghost use Rattle.street_base.specs.declared.reply.Outcome.TheVariants.{Whole, Starved};
 ghost use Rattle.street_base.specs.Lane.{Cells, Track};
 ghost use Rattle.street_base.specs.Network.{Place};
 ghost use Rattle.street_base.specs.Draw.{draw};
@@ -15,11 +15,13 @@ ghost use Rattle.street_base.specs.LaneChange.{Weave};
 ghost use Rattle.street_base.specs.Motion.{Drive};
 ghost use Rattle.street_base.specs.Apart.{KeepsApart, KeepsEach, KeepsBoth};
 ghost use Rattle.street_base.specs.Release.{released};
-ghost use Rattle.street_base.specs.Step.{changed, drive_on, steps};
+ghost use Rattle.street_base.specs.Step.{changed, drive_on, step, steps};
+ghost use Rattle.street_base.specs.Driving.{KeepsLimit, KeepsOrder, KeepsClear, NobodySpeeds};
 ghost use Rattle.street_base.specs.Census.{IsSound, IsSoundState};
-ghost use Rattle.street_base.specs.Machine.{refusal, told};
-ghost use Rattle.street_base.specs.Outcomes.{is_network_fault, Answers};
+ghost use Rattle.street_base.specs.Machine.{refusal, whole_refusal, done, told};
+ghost use Rattle.street_base.specs.Outcomes.{MayStarveUnder, Answers};
 ghost use Rattle.street_base.specs.Run.{Runs};
+ghost use Rattle.street_base.specs.Shown.{have_arrived, were_taken, in_cells, in_buffers, in_wait};
 
 /// Motion loses no vehicle and makes none.
 pub fn keeps_each()
@@ -29,6 +31,22 @@ pub fn keeps_each()
 /// Motion brings no two vehicles to one cell, and lets at most one leave, whatever lane it is.
 pub fn keeps_apart()
     ensures { (drive : Drive) (cells : Cells) (closed : List Bool) → KeepsApart drive cells closed }
+{}
+
+/// In motion nobody passes the limit of the link, and after a step nobody in a cell is faster than it, whatever was before.
+pub fn keeps_limit()
+    ensures motion { (drive : Drive) (cells : Cells) (closed : List Bool) → KeepsLimit drive cells closed }
+    ensures step { (m : Traffic) → NobodySpeeds (step m) }
+{}
+
+/// In motion a lane keeps its order: who was behind stays behind.
+pub fn keeps_order()
+    ensures { (drive : Drive) (cells : Cells) (closed : List Bool) → KeepsOrder drive cells closed }
+{}
+
+/// In motion nobody drives into a cell that was occupied, nor through one, nor past the begin of a closed stretch.
+pub fn keeps_clear()
+    ensures { (drive : Drive) (cells : Cells) (closed : List Bool) → KeepsClear drive cells closed }
 {}
 
 /// Lane changes lose no vehicle and make none.
@@ -60,11 +78,24 @@ pub fn keeps_everyone()
     ensures { (n : ℕ) (m : Traffic) → IsSound m → IsSound (steps n m) }
 {}
 
+/// Each of the twelve commands keeps each number in one place or ended, once, also those that are not served so far.
+pub fn each_command_keeps_everyone()
+    ensures { (old : State) (c : Command) → whole_refusal old c ≡ None
+        → IsSoundState old → IsSoundState (done old c) }
+{}
+
 /// Whatever commands are given from nothing loaded, with whatever outcomes, each number given stands in one place or has
 /// ended, once, and no other stands anywhere.
 pub fn census_holds()
     ensures { (commands : List Command) (answers : List (Reply × Outcome)) (state : State)
         → Runs None commands answers state → IsSoundState state }
+{}
+
+/// The counts that are answered add up: who has arrived, stands in a buffer or a cell, was taken out or waits is each one of
+/// those admitted, and they are all.
+pub fn census_adds_up()
+    ensures { (m : Traffic) → IsSound m
+        → have_arrived m + in_buffers m + in_cells m + were_taken m + in_wait m ≡ length m.ends }
 {}
 
 /// A refused command changes nothing, whatever its outcome, and done whole it is answered by its refusal. No other outcome is
@@ -76,7 +107,7 @@ pub fn refused_changes_nothing()
         → (reply : Reply) (new : State) → Answers old c reply Whole new → reply ≡ Refused r }
     ensures whole { (old : State) (c : Command) (r : Refusal) → refusal old c ≡ Some r
         → (reply : Reply) (outcome : Outcome) (new : State) → Answers old c reply outcome new
-        → (outcome ≡ Whole) ⊎ ((outcome ≡ Starved) × is_network_fault (Some r)) }
+        → (outcome ≡ Whole) ⊎ ((outcome ≡ Starved) × MayStarveUnder (Some r)) }
 {}
 
 /// Of each vehicle admitted it is told where it is.

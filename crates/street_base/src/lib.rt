@@ -11,17 +11,21 @@ mod laws;
 mod listing;
 mod names;
 mod net;
-mod refusals;
+mod refusal;
+mod reply;
 
 pub use car::{Car, Plan};
-pub use command::{
-    BufferEntry, CellEntry, Command, End, GreenSpec, MeterRow, Outcome, Part, PhaseSpec, Refusal,
-    Reply, RunningRow, Starved, Stretch, WaitingEntry, Whereabouts,
-};
+pub use command::{Command, GreenSpec, PhaseSpec};
 pub use laws::{
-    census_holds, changes_nothing, draws_little, everyone_is_told, keeps_apart, keeps_both,
-    keeps_each, keeps_everyone, refused_changes_nothing, releases_nothing,
+    census_adds_up, census_holds, changes_nothing, draws_little, each_command_keeps_everyone,
+    everyone_is_told, keeps_apart, keeps_both, keeps_clear, keeps_each, keeps_everyone,
+    keeps_limit, keeps_order, refused_changes_nothing, releases_nothing,
 };
 pub use listing::Listing;
 pub use names::{CarNo, CellNo, LAST_CLOCK, LaneNo, LinkIx, NodeIx, Speed, Step};
 pub use net::{LinkSpec, NetSpec, NodeSpec, Turn, TurnSpec};
+pub use refusal::{Part, Refusal};
+pub use reply::{
+    BufferEntry, CellEntry, End, MeterRow, Outcome, Reply, RunningRow, Starved, Stretch,
+    WaitingEntry, Whereabouts,
+};

@@ -1,38 +1,41 @@
 //! Names of places, and the quantities that the rules reckon with.
 //!
 //! Nodes and links have identifiers (any number of 32 bits, as loaded) and positions (0, 1, 2, .. in the order of the
-//! load). A position is a type of its own, so that neither is taken for the other. Quantities are plain numbers.
+//! load). A position is a type of its own, so that neither is taken for the other. Quantities are plain numbers, as wide as
+//! their ranges want: millions of vehicles are kept. Commands and replies have 64 bits for every number.
+//!
+//! Source: cells of 7.5 m and steps of 1 s by Nagel and Schreckenberg 1992 and TRANSIMS; the rest is this profile.
 
 use std::marker::Model;
 
 /// A lane of a link: 0, or 1 on a link of two lanes.
-pub type LaneNo = u64;
+pub type LaneNo = u8;
 
 /// A cell of a lane, from 0, where vehicles enter, to the link's length less 1. A cell is 7.5 m long.
-pub type CellNo = u64;
+pub type CellNo = u32;
 
 /// Cells a step, 0 to 5.
-pub type Speed = u64;
+pub type Speed = u8;
 
 /// A time in steps of 1 s. The clock is at most `LAST_CLOCK`; a ready step may lie up to 60 past it.
-pub type Step = u64;
+pub type Step = u32;
 
 /// The last clock that a network may start at or come to, in steps.
 pub const LAST_CLOCK: Step = 1_000_000_000;
 
 /// The number of a vehicle: 0, 1, 2, .. in the order of admission, never used again.
-pub type CarNo = u64;
+pub type CarNo = u32;
 
 /// The position of a node in the load.
 #[derive(Clone, Copy)]
 pub struct NodeIx {
-    node: usize,
+    node: u16,
 }
 
 /// The position of a link in the load.
 #[derive(Clone, Copy)]
 pub struct LinkIx {
-    link: usize,
+    link: u16,
 }
 
 impl Model for NodeIx {
@@ -59,7 +62,7 @@ impl NodeIx {
     ghost use Rattle.std.specs.Prelude.{◌≡◌};
 
     /// The node at a position.
-    pub fn new(position: usize) -> Self
+    pub fn new(position: u16) -> Self
         ensures { result ≡ position }
     {
         NodeIx { node: position }
@@ -69,7 +72,7 @@ impl NodeIx {
     pub fn position(self) -> usize
         ensures { result ≡ self }
     {
-        self.node
+        usize::from(self.node)
     }
 }
 
@@ -77,7 +80,7 @@ impl LinkIx {
     ghost use Rattle.std.specs.Prelude.{◌≡◌};
 
     /// The link at a position.
-    pub fn new(position: usize) -> Self
+    pub fn new(position: u16) -> Self
         ensures { result ≡ position }
     {
         LinkIx { link: position }
@@ -87,6 +90,6 @@ impl LinkIx {
     pub fn position(self) -> usize
         ensures { result ≡ self }
     {
-        self.link
+        usize::from(self.link)
     }
 }

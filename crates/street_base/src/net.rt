@@ -1,5 +1,7 @@
 //! What a network is loaded from, and what it answers for a turn. A number to be loaded may be any `u64`: the ranges below
 //! are tested when the network is built.
+//!
+//! Source: nodes, links and turns of TRANSIMS; the ranges are this profile.
 
 use crate::listing::Listing;
 use crate::names::{LaneNo, LinkIx};

@@ -4,8 +4,8 @@ use Rattle.std.specs.Prelude.{Option, Some, ◌==◌, ◌||◌, if◌then◌else
 use Rattle.std.specs.List.{list_any, enumerate_from}
 use Rattle.std.proofs.lemmas.Bool.{ne_eqb, eq-eqb}
 use Rattle.std.proofs.lemmas.List.Folds.{list_any-append}
-use Rattle.street_base.specs.declared.command.End.{End}
-use Rattle.street_base.specs.declared.command.End.TheVariants.{Arrived}
+use Rattle.street_base.specs.declared.reply.End.{End}
+use Rattle.street_base.specs.declared.reply.End.TheVariants.{Arrived}
 use Rattle.street_base.specs.Step.{with_arrivals}
 
 -- the ends from place n of the list on

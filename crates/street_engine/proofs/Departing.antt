@@ -1,5 +1,5 @@
 -- Who departs first of those that wait, and what that leaves.
-use Rattle.std.proofs.Common.{◌≡◌, ℕ, suc, ◌+◌, ◌<◌, ◌≤◌, Bool, true, false, List, [], length, map, get_or, set, take, drop, refl, sym, ◌∙◌, ap, arith, inl, inr}
+use Rattle.std.proofs.Common.{◌≡◌, ℕ, suc, ◌+◌, ◌<◌, ◌≤◌, Bool, true, false, List, [], ◌∷◌, length, map, get_or, set, take, drop, refl, sym, ◌∙◌, ap, arith, inl, inr}
 use Rattle.std.specs.Prelude.{Some, None, option_map, slice_get, not, nat_lt, ◌==◌, ◌&&◌, ◌||◌}
 use Rattle.std.specs.Option.{option_map_or}
 use Rattle.std.specs.List.{list_all, position_or_len, remove, take-map, drop-map}
@@ -80,10 +80,9 @@ module _ (cars : List Car) where
     ahead = λ k d' e' l. rw (get_or_default cars count e' d h) (before-over (waiting_of (get_or cars count d)) (waiting_of (get_or cars first e)) (waiting_of (get_or cars k d')) sooner (i.none_before k d' e (omega arith)));
   }
 
-  pub first-all : (first : ℕ) → IsFirst cars (length cars) first → first_waiting (map waiting_of cars) ≡ Some first
+  first-all_from : (nobody : Car) (first : ℕ) → IsFirst cars (length cars) first → first_waiting (map waiting_of cars) ≡ Some first
   unfolding first_waiting
-  first-all first i =
-      let nobody : Car = record { number = 0; speed = 0; cell = 0; step = 0; plan = []; at = 0 } in
+  first-all_from nobody first i =
       let ws : List Waiting = map waiting_of cars in
       let test : Waiting → Bool = λ w. list_all (λ u. not (is_before u w)) ws in
       let long : length ws ≡ length cars = length-map cars waiting_of in
@@ -96,6 +95,10 @@ module _ (cars : List Car) where
       (λ k w h. rw (at k w (omega (arith, long)), at first (waiting_of nobody) i.inside) (ap not (i.none_before k nobody nobody (omega (arith, long))))) in
       let is : position_or_len test ws ≡ first = position_or_len_is test ws first (waiting_of nobody) (omega (arith, long, i.inside)) fails (λ h. passes) in
       rw is (cond-true _ _ _ (lt-ltb first (length ws) (omega (arith, long, i.inside))))
+
+pub first-all : (cars : List Car) (first : ℕ) → IsFirst cars (length cars) first → first_waiting (map waiting_of cars) ≡ Some first
+first-all [] first i = absurd (omega (arith, i.inside))
+first-all (car ∷ cars) first i = first-all_from (car ∷ cars) car first i
 
 -- nobody waits
 pub first-none : first_waiting [] ≡ None

@@ -9,8 +9,8 @@ use Rattle.street_base.specs.Vehicle.{Vehicle, with_speed, vehicle_of}
 use Rattle.street_base.specs.Lane.{Cells, vehicles, vehicle_at, is_obstacle, is_entrance, is_occupied}
 use Rattle.street_base.specs.Search.{least}
 use Rattle.street_base.specs.Motion.{Drive, speed_after, motion_gap, moved, motion, leaver}
-use Rattle.street_base.proofs.Searching.{least-past, least-step, least-here, least-above}
-use Rattle.street_base.proofs.Moving.{IsPartMoved, leaver_from, part_moved-start, part_moved-all, part_moved-empty, part_moved-vehicle, leaver_from-past, leaver_from-empty, leaver_from-stays, leaver_from-goes, leaver_from-all}
+use Rattle.street_base.proofs.SearchLemmas.{least-past, least-step, least-here, least-above}
+use Rattle.street_base.proofs.MotionLemmas.{IsPartMoved, leaver_from, part_moved-start, part_moved-all, part_moved-empty, part_moved-vehicle, leaver_from-past, leaver_from-empty, leaver_from-stays, leaver_from-goes, leaver_from-all}
 
 -- the gap to a known obstacle
 abbrev pub gap_to : Option ℕ → ℕ → ℕ → Bool → ℕ

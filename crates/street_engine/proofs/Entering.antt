@@ -9,7 +9,7 @@ use Rattle.street_base.specs.Faults.{network_fault}
 use mathlib.Core.Path.{fun_ext}
 use Rattle.street_base.specs.declared.net.NetSpec.{NetSpec}
 use Rattle.street_base.specs.declared.net.LinkSpec.{LinkSpec}
-use Rattle.street_base.specs.declared.command.End.{End}
+use Rattle.street_base.specs.declared.reply.End.{End}
 use Rattle.street_base.specs.Network.{is_place, link_at, no_link}
 use Rattle.street_base.specs.Vehicle.{Vehicle, is_on_last}
 use Rattle.street_base.specs.State.{LaneState, Waiting, each_lane}
@@ -17,7 +17,7 @@ use Rattle.street_base.specs.Machine.{empty_lane, empty_lanes, loaded, plan_link
 use Rattle.street_engine.specs.Simple.{one_lane, place_of, traffic_of, IsSimple, IsSimpleTraffic}
 use Rattle.street_engine.proofs.OneLane.{each_from, each_lane-one, each_from-one}
 use Rattle.street_engine.proofs.Simplicity.{empty-simple, waiting-simple}
-use Rattle.street_base.proofs.Faultless.{good_link, good_start}
+use Rattle.street_base.proofs.FaultLemmas.{good_link, good_start}
 
 -- ---- loads
 

@@ -4,14 +4,15 @@ use Rattle.std.specs.Prelude.{Option, Some, None, is_none, filter_map, option_ma
 use Rattle.std.specs.Option.{option_map_or}
 use Rattle.std.specs.List.{range_with_len, zip, list_any, enumerate_from}
 use Rattle.std.proofs.lemmas.List.FromFn.{length-enumerate_from}
-use Rattle.street_base.specs.declared.command.End.TheVariants.{Arrived}
+use Rattle.street_base.specs.declared.reply.End.TheVariants.{Arrived}
 use Rattle.std.proofs.lemmas.List.{append-nil, length-map}
 use Rattle.std.proofs.lemmas.Slice.Zip.{length-zip}
 use Rattle.std.proofs.lemmas.Option.{slice_get-get_or, slice_get-map}
 use Rattle.street_base.specs.declared.net.NetSpec.{NetSpec}
 use Rattle.street_base.specs.declared.net.LinkSpec.{LinkSpec}
-use Rattle.street_base.specs.declared.command.End.{End}
-use Rattle.street_base.specs.Network.{Place, link_at, serves, no_link, last_clock}
+use Rattle.street_base.specs.declared.reply.End.{End}
+use Rattle.street_base.specs.Network.{Place, link_at, serves, no_link}
+use Rattle.street_base.specs.Limits.{last_clock}
 use Rattle.street_base.specs.Vehicle.{Vehicle, next_link, is_on_last}
 use Rattle.street_base.specs.Lane.{vehicle_at}
 use Rattle.street_base.specs.Signal.{is_green}
@@ -21,13 +22,13 @@ use Rattle.street_base.specs.Release.{released}
 use Rattle.street_base.specs.Departure.{departed_lane, departed}
 use Rattle.street_base.specs.Step.{changed, drive_on, plan_at, has_room, leaver_of, joining, driven_lane, arrival, arrivals, with_arrivals, driven, noted, step}
 use mathlib.Core.List.{map-map}
-use Rattle.street_base.proofs.Options.{option_map-some}
-use Rattle.street_base.proofs.Idle.{changed-idle, released-idle, nobody_dawdles}
+use Rattle.street_base.proofs.OptionLemmas.{option_map-some}
+use Rattle.street_base.proofs.IdleLemmas.{changed-idle, released-idle, nobody_dawdles}
 use Rattle.street_engine.specs.Simple.{steady, moved_lane, moved_road, gone_from, gone_number, place_of, one_lane, traffic_of, IsSimple, IsSimpleTraffic}
 use Rattle.street_engine.proofs.Agree.{DrivesAlike, motion-agrees, leaver-agrees}
 use Rattle.street_engine.proofs.OneLane.{each_from, each_lane-one, each_from-plain, each_from-range, zip-range, filter_map-after, map-agree, filter_map-agree, places-one, lane_at-one}
 use Rattle.street_engine.proofs.Simplicity.{leaver-last, moved-simple, departed-simple}
-use Rattle.street_base.proofs.Faultless.{good_link, no_dawdling}
+use Rattle.street_base.proofs.FaultLemmas.{good_link, no_dawdling}
 
 -- ---- one lane
 

@@ -5,8 +5,8 @@ use Rattle.std.specs.List.{range_with_len, cons_option}
 use Rattle.std.specs.Option.{option_or}
 use mathlib.Core.Path.{fun_ext}
 use Rattle.street_base.specs.declared.net.NetSpec.{NetSpec}
-use Rattle.street_base.specs.declared.command.Whereabouts.{Whereabouts}
-use Rattle.street_base.specs.declared.command.End.{End}
+use Rattle.street_base.specs.declared.reply.Whereabouts.{Whereabouts}
+use Rattle.street_base.specs.declared.reply.End.{End}
 use Rattle.street_base.specs.Network.{Place, link_at}
 use Rattle.street_base.specs.State.{LaneState, no_lane, lane_at}
 use Rattle.street_base.specs.Machine.{seen_in, seen}

@@ -6,8 +6,8 @@ use Rattle.std.specs.List.{zip, cons_option}
 use Rattle.std.proofs.lemmas.List.{drop_all, drop_more, get_or-map, get_or_default, length-map}
 use Rattle.std.proofs.lemmas.Slice.Zip.{length-zip, get_or-zip}
 use Rattle.street_base.specs.declared.net.LinkSpec.{LinkSpec}
-use Rattle.street_base.specs.declared.command.End.{End}
-use Rattle.street_base.specs.declared.command.End.TheVariants.{Arrived}
+use Rattle.street_base.specs.declared.reply.End.{End}
+use Rattle.street_base.specs.declared.reply.End.TheVariants.{Arrived}
 use Rattle.street_base.specs.Vehicle.{Vehicle}
 use Rattle.street_base.specs.State.{LaneState, Traffic}
 use Rattle.street_base.specs.Step.{with_arrivals, step, steps}

@@ -1,8 +1,8 @@
 -- What an engine stands for, and what it owes at each command.
 use Rattle.std.specs.Prelude.{◌≡◌, List}
 use Rattle.street_base.specs.declared.command.Command.{Command}
-use Rattle.street_base.specs.declared.command.Reply.{Reply}
-use Rattle.street_base.specs.declared.command.Outcome.{Outcome}
+use Rattle.street_base.specs.declared.reply.Reply.{Reply}
+use Rattle.street_base.specs.declared.reply.Outcome.{Outcome}
 use Rattle.street_base.specs.State.{State}
 use Rattle.street_base.specs.Outcomes.{Answers}
 use Rattle.street_base.specs.Run.{Runs}

@@ -3,9 +3,10 @@ use Rattle.std.specs.Prelude.{ℕ, ◌≡◌, ◌≤◌, List, [], ◌∷◌, le
 use Rattle.std.specs.List.{range_with_len}
 use Rattle.street_base.specs.declared.net.NetSpec.{NetSpec}
 use Rattle.street_base.specs.declared.net.LinkSpec.{LinkSpec}
-use Rattle.street_base.specs.declared.command.End.{End}
-use Rattle.street_base.specs.declared.command.Whereabouts.{Whereabouts}
-use Rattle.street_base.specs.Network.{last_clock, Place}
+use Rattle.street_base.specs.declared.reply.End.{End}
+use Rattle.street_base.specs.declared.reply.Whereabouts.{Whereabouts}
+use Rattle.street_base.specs.Network.{Place}
+use Rattle.street_base.specs.Limits.{last_clock}
 use Rattle.street_base.specs.Faults.{network_fault}
 use Rattle.street_base.specs.Vehicle.{Vehicle, is_on_last}
 use Rattle.street_base.specs.Lane.{vehicle_at}

@@ -1,16 +1,20 @@
 //! Commands over what is loaded: refusals in their order, then what is done.
+//!
+//! Source: this profile.
 ghost use Rattle.std.specs.Prelude.{◌≡◌, List, Some, option_map};
 ghost use Rattle.street_base.specs.declared.command.Command.TheVariants.{Load, Enter, Advance, Vehicle};
-ghost use Rattle.street_base.specs.declared.command.Outcome.TheVariants.{Whole};
+ghost use Rattle.street_base.specs.declared.reply.Outcome.TheVariants.{Whole};
 ghost use Rattle.street_base.specs.Machine.{not_yet as refused_yet};
 ghost use Rattle.street_base.specs.Outcomes.{Answers};
 
 use crate::streets::Streets;
 use std::alloc::Global;
-use street_base::{CarNo, Command, LAST_CLOCK, NetSpec, Outcome, Refusal, Reply, Whereabouts};
+use street_base::{
+    CarNo, Command, LAST_CLOCK, NetSpec, Outcome, Refusal, Reply, Step, Whereabouts,
+};
 use street_net::{NetFault, PlanFault};
 
-const MOST_VEHICLES: u64 = 1_000_000;
+const MOST_VEHICLES: CarNo = 1_000_000;
 
 const MOST_STEPS: u64 = 10_000;
 
@@ -32,7 +36,7 @@ pub(crate) fn serve(
             *depart,
         ),
         Command::Advance { steps } => advance(state, *steps),
-        Command::Vehicle { car } => tell(alloc, state, *car),
+        Command::Vehicle { car } => vehicle(alloc, state, *car),
         Command::Signal { .. }
         | Command::CloseLane { .. }
         | Command::ReopenLane { .. }
@@ -99,10 +103,10 @@ fn enter(
     match checked {
         Err(PlanFault::Bad { at }) => (Reply::Refused(Refusal::BadPlan { at }), Outcome::Whole),
         Err(PlanFault::Lane) => (Reply::Refused(Refusal::NoLane), Outcome::Whole),
-        _ if depart > LAST_CLOCK => (Reply::Refused(Refusal::BadRange), Outcome::Whole),
+        _ if depart > u64::from(LAST_CLOCK) => (Reply::Refused(Refusal::BadRange), Outcome::Whole),
         Err(PlanFault::Starved) => (Reply::Starved, Outcome::Starved),
-        Ok(links) => match streets.enter(links, lane, depart) {
-            Ok(()) => (Reply::Entered { car }, Outcome::Whole),
+        Ok(links) => match streets.admit(alloc, links, lane, depart as Step) {
+            Ok(()) => (Reply::Entered { car: car as u64 }, Outcome::Whole),
             Err(_) => (Reply::Starved, Outcome::Starved),
         },
     }
@@ -117,28 +121,29 @@ fn advance(state: &mut Option<Streets>, steps: u64) -> (Reply, Outcome)
     if steps > MOST_STEPS {
         return (Reply::Refused(Refusal::BadCount), Outcome::Whole);
     }
-    let clock = streets.clock() + steps;
-    if clock > LAST_CLOCK {
+    let clock = u64::from(streets.clock()) + steps;
+    if clock > u64::from(LAST_CLOCK) {
         return (Reply::Refused(Refusal::ClockEnd), Outcome::Whole);
     }
-    streets.advance(steps);
+    streets.steps(steps);
     (Reply::Clock { clock }, Outcome::Whole)
 }
 
-fn tell(alloc: Global, state: &Option<Streets>, car: CarNo) -> (Reply, Outcome)
+fn vehicle(alloc: Global, state: &Option<Streets>, car: u64) -> (Reply, Outcome)
     ensures { Answers state.now (Vehicle car) result.0 result.1 state.now }
 {
     let Some(streets) = state else {
         return (Reply::Refused(Refusal::NotLoaded), Outcome::Whole);
     };
-    if car >= streets.admitted() {
+    if car >= u64::from(streets.admitted()) {
         return (Reply::Refused(Refusal::NoVehicle), Outcome::Whole);
     }
-    if let Some(end) = streets.end_of(car) {
+    let number = car as CarNo;
+    if let Some(end) = streets.end_of(number) {
         let whereabouts = Whereabouts::Ended(end);
         return (Reply::Vehicle { car, whereabouts }, Outcome::Whole);
     }
-    match streets.find(alloc, car) {
+    match streets.find(alloc, number) {
         Ok(Some(whereabouts)) => (Reply::Vehicle { car, whereabouts }, Outcome::Whole),
         Ok(None) => (Reply::Refused(Refusal::NoVehicle), Outcome::Whole),
         Err(_) => (Reply::Starved, Outcome::Starved),

@@ -1,4 +1,6 @@
 //! One lane: its cells and its waiting vehicles.
+//!
+//! Source: cells by Nagel and Schreckenberg 1992; departures are this profile.
 ghost use Rattle.std.specs.Prelude.{◌≡◌, ℕ, ◌+◌, ◌<◌, ◌≤◌, length, Bool, false, ◌==◌, [], Some, None, option_map, map, find, position, IfOk, OnOk, OnErr};
 ghost use Rattle.std.specs.Option.{ForSome, option_map_or, option_copied};
 ghost use Rattle.street_base.specs.Vehicle.{Vehicle, vehicle_of, remaining_plan};
@@ -13,7 +15,7 @@ ghost use Rattle.street_engine.specs.LaneView.{IsExit, waiting_of};
 use crate::motion::{Dawdling, drive_cells};
 use std::alloc::{AllocError, Global};
 use std::marker::Model;
-use street_base::{Car, CarNo, CellNo, LinkIx, Listing, NetSpec, Speed, Step, Whereabouts};
+use street_base::{Car, CarNo, LinkIx, Listing, NetSpec, Speed, Step, Whereabouts};
 
 /// One lane of a link: its cells, which of them are closed, and its waiting vehicles in order of their numbers.
 #[derive(Drop)]
@@ -158,8 +160,8 @@ impl Lane {
         Ok(Some(Whereabouts::Cell {
             link: link_id(net, link),
             lane: 0,
-            cell: cell as CellNo,
-            speed: car.speed,
+            cell: cell as u64,
+            speed: car.speed as u64,
             plan: remaining_ids(alloc, net, car)?,
         }))
     }
@@ -180,7 +182,7 @@ impl Lane {
             Some(car) => Ok(Some(Whereabouts::Waiting {
                 link: link_id(net, link),
                 lane: 0,
-                depart: car.step,
+                depart: car.step as u64,
                 plan: remaining_ids(alloc, net, car)?,
             })),
             None => Ok(None),
@@ -254,7 +256,7 @@ fn remaining_plan(car: &Car) -> &[LinkIx]
     ensures { result.now ≡ remaining_plan (vehicle_of car.now) }
 {
     let plan = car.plan.as_slice();
-    &plan[car.at.min(plan.len())..]
+    &plan[usize::from(car.at).min(plan.len())..]
 }
 
 /// The identifiers of the remaining plan of a car.
@@ -310,13 +312,14 @@ mod tests {
     }
 
     fn waiting_car(alloc: Global, number: CarNo) -> Result<Car, AllocError> {
+        let plan = Listing::from_vec(Vec::from_slice(alloc, &[LinkIx::new(0)])?);
         Ok(Car {
+            plan: Box::new(alloc, plan)?,
             number,
-            speed: 0,
             cell: 0,
             step: 3,
-            plan: Listing::from_vec(Vec::from_slice(alloc, &[LinkIx::new(0)])?),
             at: 0,
+            speed: 0,
         })
     }
 

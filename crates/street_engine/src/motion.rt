@@ -1,4 +1,6 @@
 //! The motion of one lane.
+//!
+//! Source: motion by Nagel and Schreckenberg 1992; exits and closed cells are this profile.
 ghost use Rattle.std.specs.Prelude.{◌≡◌, ℕ, ◌+◌, ◌-◌, ◌<◌, ◌≤◌, length, Bool, None, option_map, unwrap_or, if◌then◌else◌};
 ghost use Rattle.std.specs.Option.{ForSome};
 ghost use Rattle.street_base.specs.Vehicle.{Vehicle, vehicle_of};
@@ -23,7 +25,11 @@ pub fn new_speed(speed: Speed, limit: Speed, gap: u64, dawdles: bool) -> Speed
     ensures { result ≡ speed_after limit gap dawdles speed }
 {
     let wish = if speed < limit { speed + 1 } else { limit };
-    let safe = wish.min(gap);
+    let safe = if gap < u64::from(wish) {
+        gap as Speed
+    } else {
+        wish
+    };
     if dawdles {
         safe.saturating_sub(1)
     } else {

@@ -1,8 +1,10 @@
 //! The traffic on a loaded network.
+//!
+//! Source: all vehicles at once from the old cells by Nagel and Schreckenberg 1992; the phases are this profile.
 ghost use Rattle.std.specs.Prelude.{◌≡◌, ℕ, ◌+◌, ◌<◌, ◌≤◌, All, List, [], length, map, filter_map, Option, Some, None, option_map, slice_get, slice_set, slice_index_or, IfOk, IfErr, OnOk, OnErr};
 ghost use Rattle.std.specs.Option.{option_map_or};
 ghost use Rattle.std.specs.List.{zip};
-ghost use Rattle.street_base.specs.declared.command.End.TheVariants.{Arrived};
+ghost use Rattle.street_base.specs.declared.reply.End.TheVariants.{Arrived};
 ghost use Rattle.street_base.specs.Network.{link_at};
 ghost use Rattle.street_base.specs.Faults.{network_fault};
 ghost use Rattle.street_base.specs.Vehicle.{vehicle_of};
@@ -18,7 +20,7 @@ use crate::motion::Dawdling;
 use std::alloc::{AllocError, Global};
 use std::marker::Model;
 use street_base::{
-    Car, CarNo, End, LAST_CLOCK, LaneNo, LinkIx, LinkSpec, NetSpec, Plan, Step, Whereabouts,
+    Car, CarNo, End, LAST_CLOCK, LinkIx, LinkSpec, NetSpec, Plan, Speed, Step, Whereabouts,
 };
 use street_net::{NetFault, Network};
 
@@ -65,7 +67,7 @@ fn note_arrival(ends: &mut [Option<End>], gone: Option<Car>, clock: Step)
     if let Some(car) = gone {
         let number = car.number as usize;
         if number < ends.len() {
-            ends[number] = Some(End::Arrived { step: clock });
+            ends[number] = Some(End::Arrived { step: clock as u64 });
         }
     }
 }
@@ -79,7 +81,7 @@ fn drive_lanes(links: &[LinkSpec], lanes: &mut [Lane], ends: &mut [Option<End>],
         ≡ with_arrivals clock (filter_map gone_number (zip links.now lanes.old)) ends.old }
 {
     for i in 0..lanes.len() {
-        let gone = lanes[i].drive(links[i].limit, true, &Steady);
+        let gone = lanes[i].drive(links[i].limit as Speed, true, &Steady);
         note_arrival(ends, gone, clock);
     }
 }
@@ -100,10 +102,11 @@ fn find_in(
     lanes: &[Lane],
     car: CarNo,
 ) -> Result<Option<Whereabouts>, AllocError>
+    requires { length lanes.now ≤ 4096 }
     ensures { IfOk result (λ found. found ≡ seen_from net.now lanes.now car 0 (length lanes.now)) }
 {
     for i in 0..lanes.len() {
-        let found = lanes[i].find(alloc, net, LinkIx::new(i), car)?;
+        let found = lanes[i].find(alloc, net, LinkIx::new(i as u16), car)?;
         if found.is_some() {
             return Ok(found);
         }
@@ -128,7 +131,7 @@ impl Streets {
         };
         Ok(Streets {
             network,
-            clock: net.start,
+            clock: net.start as Step,
             lanes,
             ends: Vec::new(alloc),
         })
@@ -154,14 +157,20 @@ impl Streets {
         ensures count { result ≡ length self.now.ends }
         ensures in_number { length self.now.ends ≤ 1000000 }
     {
-        self.ends.len() as u64
+        self.ends.len() as CarNo
     }
 
     /// One more vehicle, with a plan of one link, waits on that link's lane. Fewer than 1,000,000 were admitted before it.
     ///
     /// # Errors
     /// Memory was refused; the streets are as they were.
-    pub fn enter(&mut self, plan: Plan, lane: LaneNo, depart: Step) -> Result<(), AllocError>
+    pub fn admit(
+        &mut self,
+        alloc: Global,
+        plan: Plan,
+        lane: u64,
+        depart: Step,
+    ) -> Result<(), AllocError>
         requires one { length plan ≡ 1 }
         requires there { lane < (link_at self.old.network (slice_index_or plan 0 0)).lanes }
         requires room { length self.old.ends < 1000000 }
@@ -171,12 +180,12 @@ impl Streets {
     {
         let link = plan.as_slice()[0].position();
         let car = Car {
-            number: self.ends.len() as u64,
-            speed: 0,
+            plan: Box::new(alloc, plan)?,
+            number: self.ends.len() as CarNo,
             cell: 0,
             step: depart,
-            plan,
             at: 0,
+            speed: 0,
         };
         self.ends.reserve(1)?;
         let lane = &mut self.lanes[link];
@@ -219,7 +228,7 @@ impl Streets {
     }
 
     /// Several steps.
-    pub fn advance(&mut self, count: u64)
+    pub fn steps(&mut self, count: u64)
         requires { self.old.clock + count ≤ LAST_CLOCK }
         ensures { self.new ≡ steps count self.old }
     {

@@ -1,5 +1,5 @@
-pub mod Lines
-pub mod Sent
-pub mod Tallies
-pub mod Runs
-pub mod Speaking
+pub mod LineLemmas
+pub mod TallyLemmas
+pub mod RunLemmas
+pub mod FaultLemmas
+pub mod EngineLemmas

@@ -2,7 +2,7 @@
 use Rattle.std.proofs.Common.{◌≡◌, refl}
 use Rattle.std.specs.Prelude.{Option, Some, None}
 use Rattle.street_base.specs.declared.net.NetSpec.{NetSpec}
-use Rattle.street_base.specs.declared.command.Part.TheVariants.{Nodes, Links, Turns, Values}
+use Rattle.street_base.specs.declared.refusal.Part.TheVariants.{Nodes, Links, Turns, Values}
 use Rattle.street_base.specs.Faults.{Fault, in_part, nodes_fault, links_fault, turns_fault, values_fault, network_fault}
 use Rattle.street_net.specs.declared.faults.NetFault.{NetFault}
 use Rattle.street_net.specs.declared.faults.NetFault.TheVariants.{Bad, Starved}

@@ -1,10 +1,8 @@
 -- The keys by which the entries of a load are told apart.
-use Rattle.std.specs.Prelude.{◌≡◌, ℕ, List, None, map}
+use Rattle.std.specs.Prelude.{ℕ, List, map}
 use Rattle.street_base.specs.declared.net.NodeSpec.{NodeSpec}
 use Rattle.street_base.specs.declared.net.LinkSpec.{LinkSpec}
 use Rattle.street_base.specs.declared.net.TurnSpec.{TurnSpec}
-use Rattle.street_base.specs.declared.net.NetSpec.{NetSpec}
-use Rattle.street_base.specs.Faults.{network_fault}
 
 abbrev pub ids_of_nodes : List NodeSpec → List ℕ
 ids_of_nodes nodes = map (λ node. node.id) nodes
@@ -18,9 +16,3 @@ turn_key t = (t.link, t.lane, t.next)
 
 abbrev pub keys_of_turns : List TurnSpec → List (ℕ × ℕ × ℕ)
 keys_of_turns turns = map turn_key turns
-
--- a load without faults, with its identifiers in order
-pub record IsChecked (net : NetSpec) (nodes links : List ℕ) : Type 0 where
-  pub nodes_listed : nodes ≡ ids_of_nodes net.nodes
-  pub links_listed : links ≡ ids_of_links net.links
-  pub faultless : network_fault net ≡ None

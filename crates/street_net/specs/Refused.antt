@@ -1,8 +1,9 @@
 -- What a refused load or plan tells.
-use Rattle.std.specs.Prelude.{◌≡◌, ℕ, ◌<◌, ◌≤◌, List, Option, Some, None}
+use Rattle.std.specs.Prelude.{◌≡◌, ℕ, ◌<◌, ◌≤◌, nat_le, List, Option, Some, None, if◌then◌else◌}
+use Rattle.std.specs.Option.{option_map_or}
 use Rattle.street_base.specs.declared.net.NetSpec.{NetSpec}
 use Rattle.street_base.specs.Network.{link_at}
-use Rattle.street_base.specs.Faults.{Fault, plan_fault}
+use Rattle.street_base.specs.Faults.{Fault, plan_fault, whole_plan_fault}
 use Rattle.street_base.specs.Machine.{entry_of}
 use Rattle.street_net.specs.declared.faults.NetFault.{NetFault}
 use Rattle.street_net.specs.declared.faults.NetFault.TheVariants.{Bad as BadLoad, Starved as StarvedLoad}
@@ -23,3 +24,19 @@ abbrev pub TellsPlanFault : NetSpec → List ℕ → ℕ → PlanFault → Type 
 TellsPlanFault net plan lane (BadPlan at) = plan_fault net plan ≡ Some at
 TellsPlanFault net plan lane Lane = (plan_fault net plan ≡ None) × (entry_lanes net plan lane ≤ lane)
 TellsPlanFault net plan lane StarvedPlan = (plan_fault net plan ≡ None) × (lane < entry_lanes net plan lane)
+
+-- ---- plans of several links
+
+-- why a plan is refused that has no bad entry: its first link has not the lane
+abbrev pub lane_refusal : NetSpec → List ℕ → ℕ → Option PlanFault
+lane_refusal net plan lane = if nat_le (entry_lanes net plan lane) lane then Some Lane else None
+
+-- why a plan is refused: its first bad entry, or else the lane
+abbrev pub plan_refusal : NetSpec → List ℕ → ℕ → Option PlanFault
+plan_refusal net plan lane = option_map_or (λ at. Some (BadPlan at)) (whole_plan_fault net plan) (lane_refusal net plan lane)
+
+-- a plan without such a reason is refused only for want of memory, and any other for its reason
+abbrev pub TellsRefusal : Option PlanFault → PlanFault → Type 0
+TellsRefusal reason StarvedPlan = reason ≡ None
+TellsRefusal reason (BadPlan at) = reason ≡ Some (BadPlan at)
+TellsRefusal reason Lane = reason ≡ Some Lane

@@ -1,17 +1,20 @@
 //! The checked network.
-ghost use Rattle.std.specs.Prelude.{◌≡◌, ◌∷◌, ◌<◌, [], None, Some, length, IfOk, IfErr, OnOk};
-ghost use Rattle.street_base.specs.Network.{link_at, link_of, node_of};
+ghost use Rattle.std.specs.Prelude.{◌≡◌, ◌∷◌, ◌<◌, [], None, Some, length, map, option_map, slice_get, IfOk, IfErr, IfSome, OnOk};
+ghost use Rattle.street_base.specs.Network.{Place, link_at, link_of, node_of, end_node, turn, serves};
 ghost use Rattle.street_base.specs.Faults.{network_fault, plan_fault};
 ghost use Rattle.street_base.specs.Machine.{plan_links};
+ghost use Rattle.street_net.specs.Tables.{place_of, in_places, turn_by_position};
 ghost use Rattle.street_net.specs.Refused.{TellsFault, TellsPlanFault, entry_lanes};
 
 use crate::faults::{NetFault, PlanFault};
 use crate::keys::{find_link, find_node};
+use crate::lanes::{LaneId, ends_of_links, lanes_by_end};
 use crate::lists::{read_links, read_nodes, read_turns, values_fault};
+use crate::turns::{LISTS, list_of, turn_to, turns_by_lane};
 use indexmap::IndexSet;
 use std::alloc::{AllocError, Global};
 use std::marker::Model;
-use street_base::{LinkIx, Listing, NetSpec, NodeIx, Part, Plan};
+use street_base::{LaneNo, LinkIx, Listing, NetSpec, NodeIx, Part, Plan, Speed, Turn};
 
 /// A network without faults, with constant-time look-ups of identifiers. Contracts see what it was loaded from.
 #[derive(Drop)]
@@ -19,6 +22,9 @@ pub struct Network {
     spec: NetSpec,
     node_ids: IndexSet<u64>,
     link_ids: IndexSet<u64>,
+    ends: Vec<NodeIx>,
+    in_lanes: Vec<Vec<LaneId>>,
+    turns: Vec<Vec<Turn>>,
 }
 
 impl Model for Network {
@@ -26,11 +32,11 @@ impl Model for Network {
 
     ghost Value = { NetSpec };
 
-    ghost use Rattle.street_net.specs.Keys.{IsChecked};
+    ghost use Rattle.street_net.specs.Tables.{IsChecked};
 
     ghost view = { λ n. n.spec };
 
-    ghost invariant = { λ n. IsChecked n.spec n.node_ids.keys n.link_ids.keys };
+    ghost invariant = { λ n. IsChecked n.spec n.node_ids.keys n.link_ids.keys n.ends.items n.in_lanes.items n.turns.items };
 }
 
 /// A load that equals `spec`.
@@ -70,10 +76,16 @@ impl Network {
                 at,
             });
         }
+        let ends = ends_of_links(alloc, spec, &node_ids)?;
+        let in_lanes = lanes_by_end(alloc, spec, &ends)?;
+        let turns = turns_by_lane(alloc, spec, &link_ids)?;
         Ok(Network {
             spec: copy_spec(alloc, spec)?,
             node_ids,
             link_ids,
+            ends,
+            in_lanes,
+            turns,
         })
     }
 
@@ -87,18 +99,66 @@ impl Network {
 
     /// The position of the link with an identifier.
     pub fn link_of(&self, id: u64) -> Option<LinkIx>
-        ensures { result ≡ link_of self.now id }
+        ensures position { result ≡ link_of self.now id }
+        ensures within { IfSome result (λ link. link < length self.now.links) }
     {
         let position = find_link(&self.spec, &self.link_ids, id)?;
-        Some(LinkIx::new(position))
+        Some(LinkIx::new(position as u16))
     }
 
     /// The position of the node with an identifier.
     pub fn node_of(&self, id: u64) -> Option<NodeIx>
-        ensures { result ≡ node_of self.now id }
+        ensures position { result ≡ node_of self.now id }
+        ensures within { IfSome result (λ node. node < length self.now.nodes) }
     {
         let position = find_node(&self.spec, &self.node_ids, id)?;
-        Some(NodeIx::new(position))
+        Some(NodeIx::new(position as u16))
+    }
+
+    /// The node that a link runs to.
+    pub fn end_of(&self, link: LinkIx) -> NodeIx
+        requires { link < length self.now.links }
+        ensures position { node_of self.now (link_at self.now link).to ≡ Some result }
+        ensures within { result < length self.now.nodes }
+        ensures node { end_node self.now link ≡ slice_get self.now.nodes result }
+    {
+        self.ends[link.position()]
+    }
+
+    /// The lanes that run to a node, in the order in which their buffers are released: by the position of the link, then by
+    /// the lane.
+    pub fn in_lanes(&self, node: NodeIx) -> &[LaneId]
+        requires { node < length self.now.nodes }
+        ensures { map place_of result.now ≡ in_places self.now node }
+    {
+        &self.in_lanes[node.position()]
+    }
+
+    /// The turn from a lane to a next link, if there is one; found among the lane's own turns.
+    pub fn turn(&self, link: LinkIx, lane: LaneNo, next: LinkIx) -> Option<Turn>
+        ensures { let place : Place = record { link = link; lane = lane } in
+            result ≡ option_map (turn_by_position place next) (turn self.now place next) }
+    {
+        if link.position() >= self.ends.len() || usize::from(lane) >= LISTS {
+            return None;
+        }
+        turn_to(&self.turns[list_of(link, lane)], next)
+    }
+
+    /// Whether a lane has a turn to a next link.
+    pub fn serves(&self, link: LinkIx, lane: LaneNo, next: LinkIx) -> bool
+        ensures { let place : Place = record { link = link; lane = lane } in
+            result ≡ serves self.now place next }
+    {
+        self.turn(link, lane, next).is_some()
+    }
+
+    /// The speed limit of a link.
+    pub fn limit_of(&self, link: LinkIx) -> Speed
+        requires { link < length self.now.links }
+        ensures { result ≡ (link_at self.now link).limit }
+    {
+        self.spec.links.as_slice()[link.position()].limit as Speed
     }
 
     /// The one link of a plan of identifiers, or the position of the plan's first fault.
@@ -119,11 +179,11 @@ impl Network {
     }
 
     /// How many lanes the link at a position has.
-    fn lanes_of(&self, link: LinkIx) -> u64
+    pub(crate) fn lanes_of(&self, link: LinkIx) -> LaneNo
         requires { link < length self.now.links }
         ensures { result ≡ (link_at self.now link).lanes }
     {
-        self.spec.links.as_slice()[link.position()].lanes
+        self.spec.links.as_slice()[link.position()].lanes as LaneNo
     }
 
     /// The links of a plan of identifiers, for a vehicle that enters on a lane of the first.
@@ -143,7 +203,7 @@ impl Network {
             Ok(link) => link,
             Err(at) => return Err(PlanFault::Bad { at }),
         };
-        if lane >= self.lanes_of(link) {
+        if lane >= u64::from(self.lanes_of(link)) {
             return Err(PlanFault::Lane);
         }
         let links = Vec::from_slice(alloc, &[link])?;

@@ -8,9 +8,13 @@ mod checked;
 mod entries;
 mod faults;
 mod keys;
+mod lanes;
 mod lists;
+mod plans;
 #[cfg(test)]
 mod tests;
+mod turns;
 
 pub use checked::Network;
 pub use faults::{NetFault, PlanFault};
+pub use lanes::LaneId;

@@ -1,7 +1,7 @@
 //! The parts of a load, each read once.
 ghost use Rattle.std.specs.Prelude.{◌≡◌, None, IfOk, IfErr, OnOk};
 ghost use Rattle.street_base.specs.Faults.{in_part, nodes_fault, links_fault, turns_fault, values_fault};
-ghost use Rattle.street_base.specs.declared.command.Part.TheVariants.{Nodes, Links, Turns, Values};
+ghost use Rattle.street_base.specs.declared.refusal.Part.TheVariants.{Nodes, Links, Turns, Values};
 ghost use Rattle.street_net.specs.Keys.{ids_of_nodes, ids_of_links};
 ghost use Rattle.street_net.specs.Refused.{TellsFault};
 
@@ -118,7 +118,7 @@ pub(crate) fn values_fault(spec: &NetSpec) -> Option<u64>
         Some(1)
     } else if spec.change > MOST_CHANGE {
         Some(2)
-    } else if spec.start > LAST_CLOCK {
+    } else if spec.start > u64::from(LAST_CLOCK) {
         Some(3)
     } else {
         None

@@ -1,148 +1,218 @@
 use crate::{NetFault, Network, PlanFault};
 use std::alloc::{AllocError, Global};
 use std::test::Fail;
-use street_base::{LinkSpec, Listing, NetSpec, NodeSpec, Part, TurnSpec};
+use street_base::{LinkIx, LinkSpec, Listing, NetSpec, NodeIx, NodeSpec, Part, Plan, TurnSpec};
 
-/// One number of a good load that is another.
+/// A load of two nodes, two links and two turns.
 #[derive(Clone, Copy)]
-struct Change {
-    place: u64,
-    number: u64,
+struct Small {
+    nodes: (NodeSpec, NodeSpec),
+    links: (LinkSpec, LinkSpec),
+    turns: (TurnSpec, TurnSpec),
+    zone: u64,
+    dawdle: u64,
+    change: u64,
+    start: u64,
 }
 
-/// No number is another.
-const NONE: Change = Change {
-    place: 99,
-    number: 0,
+/// Nodes 7 and 9; links 30 and 40, from and to node 7; from link 30 to link 40, and to itself.
+const GOOD: Small = Small {
+    nodes: (
+        NodeSpec {
+            id: 7,
+            residence: 60,
+            capacity: 1,
+        },
+        NodeSpec {
+            id: 9,
+            residence: 1,
+            capacity: 64,
+        },
+    ),
+    links: (
+        LinkSpec {
+            id: 30,
+            from: 7,
+            to: 7,
+            lanes: 1,
+            length: 1,
+            limit: 1,
+        },
+        LinkSpec {
+            id: 40,
+            from: 7,
+            to: 7,
+            lanes: 1,
+            length: 1_000,
+            limit: 5,
+        },
+    ),
+    turns: (
+        TurnSpec {
+            link: 30,
+            lane: 0,
+            next: 40,
+            next_lane: 0,
+        },
+        TurnSpec {
+            link: 30,
+            lane: 0,
+            next: 30,
+            next_lane: 0,
+        },
+    ),
+    zone: 1_000,
+    dawdle: 0,
+    change: 0,
+    start: 1_000_000_000,
 };
 
-impl Change {
-    fn at(self, place: u64, good: u64) -> u64 {
-        if place == self.place {
-            self.number
-        } else {
-            good
+impl Small {
+    fn with_second_node(id: u64, residence: u64, capacity: u64) -> Small {
+        Small {
+            nodes: (
+                GOOD.nodes.0,
+                NodeSpec {
+                    id,
+                    residence,
+                    capacity,
+                },
+            ),
+            ..GOOD
         }
     }
-}
 
-/// Nodes 7 and 9.
-fn nodes_of(alloc: Global, change: Change) -> Result<Listing<NodeSpec>, AllocError> {
-    let first = NodeSpec {
-        id: change.at(0, 7),
-        residence: 60,
-        capacity: 1,
-    };
-    let second = NodeSpec {
-        id: change.at(1, 9),
-        residence: change.at(2, 1),
-        capacity: change.at(3, 64),
-    };
-    Ok(Listing::from_vec(Vec::from_slice(alloc, &[first, second])?))
-}
+    fn with_second_link(second: LinkSpec) -> Small {
+        Small {
+            links: (GOOD.links.0, second),
+            ..GOOD
+        }
+    }
 
-/// Links 30 and 40, from and to node 7.
-fn links_of(alloc: Global, change: Change) -> Result<Listing<LinkSpec>, AllocError> {
-    let first = LinkSpec {
-        id: 30,
-        from: 7,
-        to: 7,
-        lanes: 1,
-        length: 1,
-        limit: 1,
-    };
-    let second = LinkSpec {
-        id: change.at(4, 40),
-        from: change.at(5, 7),
-        to: change.at(6, 7),
-        lanes: change.at(7, 1),
-        length: change.at(8, 1_000),
-        limit: change.at(9, 5),
-    };
-    Ok(Listing::from_vec(Vec::from_slice(alloc, &[first, second])?))
-}
+    fn with_second_turn(next: u64, next_lane: u64) -> Small {
+        let second = TurnSpec {
+            next,
+            next_lane,
+            ..GOOD.turns.1
+        };
+        Small {
+            turns: (GOOD.turns.0, second),
+            ..GOOD
+        }
+    }
 
-/// From link 30 to link 40, and to itself.
-fn turns_of(alloc: Global, change: Change) -> Result<Listing<TurnSpec>, AllocError> {
-    let first = TurnSpec {
-        link: 30,
-        lane: 0,
-        next: 40,
-        next_lane: 0,
-    };
-    let second = TurnSpec {
-        link: 30,
-        lane: 0,
-        next: change.at(10, 30),
-        next_lane: change.at(11, 0),
-    };
-    Ok(Listing::from_vec(Vec::from_slice(alloc, &[first, second])?))
-}
-
-fn load(alloc: Global, change: Change) -> Result<NetSpec, AllocError> {
-    Ok(NetSpec {
-        nodes: nodes_of(alloc, change)?,
-        links: links_of(alloc, change)?,
-        turns: turns_of(alloc, change)?,
-        zone: change.at(12, 1_000),
-        dawdle: change.at(13, 0),
-        change: change.at(14, 0),
-        seed: u64::MAX,
-        start: change.at(15, 1_000_000_000),
-    })
-}
-
-/// What is changed, and the fault then.
-fn row(number: u64) -> (u64, u64, Part, u64) {
-    match number {
-        0 => (1, 7, Part::Nodes, 1),
-        1 => (1, 1 << 32, Part::Nodes, 1),
-        2 => (2, 61, Part::Nodes, 1),
-        3 => (3, 0, Part::Nodes, 1),
-        4 => (0, 8, Part::Links, 0),
-        5 => (4, 30, Part::Links, 1),
-        6 => (5, 8, Part::Links, 1),
-        7 => (6, 8, Part::Links, 1),
-        8 => (7, 2, Part::Links, 1),
-        9 => (8, 1_001, Part::Links, 1),
-        10 => (9, 6, Part::Links, 1),
-        11 => (5, 9, Part::Turns, 0),
-        12 => (10, 40, Part::Turns, 1),
-        13 => (11, 1, Part::Turns, 1),
-        14 => (12, 1_001, Part::Values, 0),
-        15 => (13, 1, Part::Values, 1),
-        16 => (14, 1, Part::Values, 2),
-        _ => (15, 1_000_000_001, Part::Values, 3),
+    fn load(&self, alloc: Global) -> Result<NetSpec, AllocError> {
+        let nodes = Vec::from_slice(alloc, &[self.nodes.0, self.nodes.1])?;
+        let links = Vec::from_slice(alloc, &[self.links.0, self.links.1])?;
+        let turns = Vec::from_slice(alloc, &[self.turns.0, self.turns.1])?;
+        Ok(NetSpec {
+            nodes: Listing::from_vec(nodes),
+            links: Listing::from_vec(links),
+            turns: Listing::from_vec(turns),
+            zone: self.zone,
+            dawdle: self.dawdle,
+            change: self.change,
+            seed: u64::MAX,
+            start: self.start,
+        })
     }
 }
 
-/// Why no network is built.
-fn fault_of(alloc: Global, spec: &NetSpec) -> Option<NetFault> {
-    Network::build(alloc, spec).err()
+/// Where the first fault of a load is.
+fn first_fault(alloc: Global, load: Small) -> Result<(Part, u64), Fail> {
+    match Network::build(alloc, &load.load(alloc)?).err() {
+        Some(NetFault::Bad { part, at }) => Ok((part, at)),
+        _ => Err(Fail::from("no fault is told")),
+    }
 }
 
 #[test]
-fn finds_first_faults(rt: HostRuntime) -> Result<(), Fail> {
-    for k in 0..18 {
-        let (place, number, part, at) = row(k);
-        let spec = load(rt.alloc(), Change { place, number })?;
-        let Some(
-            NetFault::Bad {
-                part: bad,
-                at: here,
-            },
-        ) = fault_of(rt.alloc(), &spec)
-        else {
-            return Err(Fail::from("no fault is told"));
-        };
-        assert_eq!(rt; (bad, here), (part, at), "in row {k}");
+fn finds_first_bad_nodes(rt: HostRuntime) -> Result<(), Fail> {
+    let bad = [
+        Small::with_second_node(7, 1, 64),
+        Small::with_second_node(1 << 32, 1, 64),
+        Small::with_second_node(9, 61, 64),
+        Small::with_second_node(9, 1, 0),
+    ];
+    for load in bad {
+        assert_eq!(rt; first_fault(rt.alloc(), load)?, (Part::Nodes, 1));
+    }
+    Ok(())
+}
+
+#[test]
+fn finds_first_bad_links(rt: HostRuntime) -> Result<(), Fail> {
+    let good = GOOD.links.1;
+    let bad = [
+        LinkSpec { id: 30, ..good },
+        LinkSpec { from: 8, ..good },
+        LinkSpec { to: 8, ..good },
+        LinkSpec { lanes: 3, ..good },
+        LinkSpec {
+            length: 1_000_001,
+            ..good
+        },
+        LinkSpec { limit: 6, ..good },
+    ];
+    for second in bad {
+        assert_eq!(rt;
+            first_fault(rt.alloc(), Small::with_second_link(second))?,
+            (Part::Links, 1)
+        );
+    }
+    Ok(())
+}
+
+#[test]
+fn finds_first_bad_turns(rt: HostRuntime) -> Result<(), Fail> {
+    let apart = LinkSpec {
+        from: 9,
+        ..GOOD.links.1
+    };
+    assert_eq!(rt;
+        first_fault(rt.alloc(), Small::with_second_link(apart))?,
+        (Part::Turns, 0)
+    );
+    assert_eq!(rt;
+        first_fault(rt.alloc(), Small::with_second_turn(40, 0))?,
+        (Part::Turns, 1)
+    );
+    assert_eq!(rt;
+        first_fault(rt.alloc(), Small::with_second_turn(30, 1))?,
+        (Part::Turns, 1)
+    );
+    Ok(())
+}
+
+#[test]
+fn finds_first_bad_values(rt: HostRuntime) -> Result<(), Fail> {
+    let bad = [
+        Small {
+            zone: 1_001,
+            ..GOOD
+        },
+        Small {
+            dawdle: 1_001,
+            ..GOOD
+        },
+        Small {
+            change: 1_001,
+            ..GOOD
+        },
+        Small {
+            start: 1_000_000_001,
+            ..GOOD
+        },
+    ];
+    for (at, load) in bad.iter().enumerate() {
+        assert_eq!(rt; first_fault(rt.alloc(), *load)?, (Part::Values, at as u64));
     }
     Ok(())
 }
 
 /// The seed of a good network, and where node 9 and link 40 stand.
 fn found(alloc: Global) -> Result<(u64, Option<usize>, Option<usize>), NetFault> {
-    let net = Network::build(alloc, &load(alloc, NONE)?)?;
+    let net = Network::build(alloc, &GOOD.load(alloc)?)?;
     let node = net.node_of(9).map(|node| node.position());
     let link = net.link_of(40).map(|link| link.position());
     Ok((net.spec().seed, node, link))
@@ -154,28 +224,225 @@ fn looks_up(rt: HostRuntime) -> Result<(), Fail> {
     Ok(())
 }
 
-/// Where a plan is bad, or its first link where it is taken, or 99 where it is refused for its lane.
-fn answer(net: &Network, alloc: Global, plan: &[u64], lane: u64) -> Result<usize, usize> {
-    match net.check_plan(alloc, plan, lane) {
-        Ok(links) => Ok(links.as_slice().first().map_or(99, |link| link.position())),
-        Err(PlanFault::Bad { at }) => Err(at as usize),
-        Err(_) => Err(99),
+/// What is answered to a plan.
+#[derive(Debug, PartialEq, Eq, Drop)]
+enum Answer {
+    /// It is taken, and begins with the link at this position.
+    From(usize),
+    /// It is taken, and is empty.
+    Nowhere,
+    /// It is bad at this position.
+    Bad(u64),
+    /// The first link has no such lane.
+    NoLane,
+    /// Memory was wanting.
+    Starved,
+}
+
+/// What is told of a refused plan.
+fn refusal(fault: PlanFault) -> Answer {
+    match fault {
+        PlanFault::Bad { at } => Answer::Bad(at),
+        PlanFault::Lane => Answer::NoLane,
+        PlanFault::Starved => Answer::Starved,
+    }
+}
+
+fn told(outcome: Result<Plan, PlanFault>) -> Answer {
+    match outcome {
+        Ok(links) => match links.as_slice().first() {
+            Some(link) => Answer::From(link.position()),
+            None => Answer::Nowhere,
+        },
+        Err(fault) => refusal(fault),
     }
 }
 
 /// The answers to four plans.
-fn answers(alloc: Global) -> Result<[Result<usize, usize>; 4], NetFault> {
-    let net = Network::build(alloc, &load(alloc, NONE)?)?;
+fn answers(alloc: Global) -> Result<[Answer; 4], NetFault> {
+    let net = Network::build(alloc, &GOOD.load(alloc)?)?;
     Ok([
-        answer(&net, alloc, &[40], 0),
-        answer(&net, alloc, &[], 1),
-        answer(&net, alloc, &[40, 40], 1),
-        answer(&net, alloc, &[40], 1),
+        told(net.check_plan(alloc, &[40], 0)),
+        told(net.check_plan(alloc, &[], 1)),
+        told(net.check_plan(alloc, &[40, 40], 1)),
+        told(net.check_plan(alloc, &[40], 1)),
     ])
 }
 
 #[test]
 fn plans(rt: HostRuntime) -> Result<(), Fail> {
-    assert_eq!(rt; answers(rt.alloc())?, [Ok(1), Err(0), Err(1), Err(99)]);
+    let wanted = [
+        Answer::From(1),
+        Answer::Bad(0),
+        Answer::Bad(1),
+        Answer::NoLane,
+    ];
+    assert_eq!(rt; answers(rt.alloc())?, wanted);
+    Ok(())
+}
+
+fn link(id: u64, from: u64, to: u64, length: u64) -> LinkSpec {
+    LinkSpec {
+        id,
+        from,
+        to,
+        lanes: 1,
+        length,
+        limit: 5,
+    }
+}
+
+/// Nodes 1 to 4; links 10 and 20 run to node 3, and link 30 from there to node 4; both turn into it.
+fn two_into_one(alloc: Global) -> Result<NetSpec, AllocError> {
+    let node = |id: u64| NodeSpec {
+        id,
+        residence: 1,
+        capacity: 2,
+    };
+    let turn = |link: u64| TurnSpec {
+        link,
+        lane: 0,
+        next: 30,
+        next_lane: 0,
+    };
+    let links = [link(10, 1, 3, 10), link(20, 2, 3, 6), link(30, 3, 4, 10)];
+    Ok(NetSpec {
+        nodes: Listing::from_vec(Vec::from_slice(alloc, &[node(1), node(2), node(3), node(4)])?),
+        links: Listing::from_vec(Vec::from_slice(alloc, &links)?),
+        turns: Listing::from_vec(Vec::from_slice(alloc, &[turn(20), turn(10)])?),
+        zone: 0,
+        dawdle: 0,
+        change: 0,
+        seed: 0,
+        start: 0,
+    })
+}
+
+#[test]
+fn turns_lead_on(rt: HostRuntime) -> Result<(), Fail> {
+    let net = Network::build(rt.alloc(), &two_into_one(rt.alloc())?)?;
+    let (first, second, third) = (LinkIx::new(0), LinkIx::new(1), LinkIx::new(2));
+    let Some(turn) = net.turn(second, 0, third) else {
+        return Err(Fail::from("there is a turn"));
+    };
+    assert_eq!(rt;
+        (
+            turn.link.position(),
+            turn.lane,
+            turn.next.position(),
+            turn.next_lane
+        ),
+        (1, 0, 2, 0)
+    );
+    assert!(rt; net.serves(first, 0, third));
+    assert!(rt; !net.serves(first, 0, second));
+    assert!(rt; !net.serves(first, 1, third));
+    assert!(rt; !net.serves(LinkIx::new(3), 0, third));
+    Ok(())
+}
+
+#[test]
+fn lanes_run_to_nodes(rt: HostRuntime) -> Result<(), Fail> {
+    let net = Network::build(rt.alloc(), &two_into_one(rt.alloc())?)?;
+    let (Some(begin), Some(middle), Some(link)) = (net.node_of(1), net.node_of(3), net.link_of(30))
+    else {
+        return Err(Fail::from("they are there"));
+    };
+    let lanes = net
+        .in_lanes(middle)
+        .iter()
+        .map(|lane| (lane.link.position(), lane.lane));
+    assert!(rt; lanes.eq([(0, 0), (1, 0)]));
+    assert_eq!(rt; net.in_lanes(begin).len(), 0);
+    assert_eq!(rt; net.end_of(link).position(), 3);
+    assert_eq!(rt; net.limit_of(link), 5);
+    Ok(())
+}
+
+/// Nodes 1, 2 and 3; link 10 from 1 to 2, and link 20 from there to 3; lane 0 of the first turns into the second.
+fn one_after_another(alloc: Global) -> Result<Network, NetFault> {
+    let node = |id: u64| NodeSpec {
+        id,
+        residence: 1,
+        capacity: 2,
+    };
+    let turn = TurnSpec {
+        link: 10,
+        lane: 0,
+        next: 20,
+        next_lane: 0,
+    };
+    let links = [link(10, 1, 2, 10), link(20, 2, 3, 10)];
+    let load = NetSpec {
+        nodes: Listing::from_vec(Vec::from_slice(alloc, &[node(1), node(2), node(3)])?),
+        links: Listing::from_vec(Vec::from_slice(alloc, &links)?),
+        turns: Listing::from_vec(Vec::from_slice(alloc, &[turn])?),
+        zone: 0,
+        dawdle: 0,
+        change: 0,
+        seed: 0,
+        start: 0,
+    };
+    Network::build(alloc, &load)
+}
+
+#[test]
+fn whole_plans(rt: HostRuntime) -> Result<(), Fail> {
+    let net = one_after_another(rt.alloc())?;
+    let links = net.check_whole_plan(rt.alloc(), &[10, 20], 0)?;
+    let positions = links.as_slice().iter().map(|link| link.position());
+    assert!(rt; positions.eq([0, 1]));
+    assert!(rt; net.plan_refusal(&[10, 20], 0).is_none());
+    Ok(())
+}
+
+/// The answers to six whole plans.
+fn whole_answers(alloc: Global) -> Result<[Answer; 6], NetFault> {
+    let net = one_after_another(alloc)?;
+    Ok([
+        told(net.check_whole_plan(alloc, &[20], 0)),
+        told(net.check_whole_plan(alloc, &[], 1)),
+        told(net.check_whole_plan(alloc, &[30], 0)),
+        told(net.check_whole_plan(alloc, &[10, 10], 1)),
+        told(net.check_whole_plan(alloc, &[20, 10, 30], 0)),
+        told(net.check_whole_plan(alloc, &[10, 20], 1)),
+    ])
+}
+
+#[test]
+fn refuses_whole_plans(rt: HostRuntime) -> Result<(), Fail> {
+    let wanted = [
+        Answer::From(1),
+        Answer::Bad(0),
+        Answer::Bad(0),
+        Answer::Bad(1),
+        Answer::Bad(1),
+        Answer::NoLane,
+    ];
+    assert_eq!(rt; whole_answers(rt.alloc())?, wanted);
+    Ok(())
+}
+
+/// A plan that goes around link 30 so many times.
+fn around(alloc: Global, times: u64) -> Result<Vec<u64>, AllocError> {
+    (0..times).map(|_| 30).collect(alloc)
+}
+
+/// How many links the longest plan has, and the answer to one of a link more.
+fn longest(alloc: Global) -> Result<(usize, Answer), NetFault> {
+    let net = Network::build(alloc, &GOOD.load(alloc)?)?;
+    let links = match net.check_whole_plan(alloc, &around(alloc, 1_024)?, 0) {
+        Ok(links) => links.as_slice().len(),
+        Err(_) => 0,
+    };
+    Ok((
+        links,
+        told(net.check_whole_plan(alloc, &around(alloc, 1_025)?, 0)),
+    ))
+}
+
+#[test]
+fn whole_plans_have_at_most_1_024_links(rt: HostRuntime) -> Result<(), Fail> {
+    assert_eq!(rt; longest(rt.alloc())?, (1_024, Answer::Bad(1_024)));
     Ok(())
 }

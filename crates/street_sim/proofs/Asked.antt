@@ -17,12 +17,12 @@ use Rattle.clap.specs.Faults.{fault_of}
 use Rattle.clap.specs.Simple.{App, new_app, with_rule}
 use Rattle.clap.specs.declared.builder.value_parser.ValueParser.{ValueParser}
 use Rattle.clap.specs.declared.builder.value_parser.ValueParser.TheVariants as parser
-use Rattle.street_sim.specs.Words.{Answers, AsksFor, Gives, workers_of, workers_rule, wrongs}
+use Rattle.street_sim.specs.Words.{IsParsed, AsksFor, HasWorkers, workers_of, workers_rule, wrongs}
 use Rattle.street_sim.specs.declared.words.Options.{Options}
 use Rattle.street_sim.specs.declared.words.WordsFault.{WordsFault}
 use Rattle.street_sim.specs.declared.words.WordsFault.TheVariants.{Bad, Help, Starved}
 
-gives : (words : List Text) (n : ℕ) (r : Result Options WordsFault) → Answers words r → wrongs words ≡ [] → workers_of words ≡ Some n → Gives n r
+gives : (words : List Text) (n : ℕ) (r : Result Options WordsFault) → IsParsed words r → wrongs words ≡ [] → workers_of words ≡ Some n → HasWorkers n r
 gives words n (Ok found) a none is =
     let given = a.1 in
     cc
@@ -47,7 +47,7 @@ short_map f [] short = omega arith
 short_map f (x ∷ []) short = omega arith
 short_map f (x ∷ y ∷ rest) short = absurd (omega arith)
 
-pub gives_alone : {X : Type 0} (f : X → Text) (xs : List X) (r : Result Options WordsFault) → Answers (map f xs) r → length xs ≤ 1 → Gives 1 r
+pub gives_alone : {X : Type 0} (f : X → Text) (xs : List X) (r : Result Options WordsFault) → IsParsed (map f xs) r → length xs ≤ 1 → HasWorkers 1 r
 gives_alone f xs r a short =
     let few = short_map f xs short in
     gives (map f xs) 1 r a (none_wrong_alone (map f xs) few) (one_alone (map f xs) few)
@@ -103,7 +103,7 @@ number_asked : (program digits : Text) → strip_byte 45 digits ≡ None → byt
 unfolding workers_of clap_on_literals
 number_asked program digits hyphen dashes = simp (dashes, hyphen)
 
-pub gives_asked : (words : List Text) (r : Result Options WordsFault) → Answers words r → (n : ℕ) → 1 ≤ n → n ≤ 64 → AsksFor words n → Gives n r
+pub gives_asked : (words : List Text) (r : Result Options WordsFault) → IsParsed words r → (n : ℕ) → 1 ≤ n → n ≤ 64 → AsksFor words n → HasWorkers n r
 gives_asked words r a n low high asks =
     let digits = asks.1 in
     let numeral = asks.3 in

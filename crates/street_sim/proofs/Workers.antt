@@ -24,7 +24,7 @@ use Rattle.clap.specs.declared.builder.value_parser.ValueParser.TheVariants as p
 use Rattle.clap.specs.declared.error.Error.{Error}
 use Rattle.clap.specs.declared.parser.matches.ArgMatches.{ArgMatches}
 use Rattle.street_sim.proofs.Defaults.{IsOption, default_reads}
-use Rattle.street_sim.specs.Words.{Answers, IsWorkers, TellsOf, ToldOf, streetsim, workers_of, wrongs}
+use Rattle.street_sim.specs.Words.{IsParsed, IsWorkers, TellsOf, ToldOf, streetsim, workers_of, wrongs}
 use Rattle.street_sim.specs.declared.words.Options.{Options}
 use Rattle.street_sim.specs.declared.words.WordsFault.{WordsFault}
 use Rattle.street_sim.specs.declared.words.WordsFault.TheVariants.{Bad, Help, Starved}
@@ -147,7 +147,7 @@ tells kinds e (Help text) told (inr among) =
     (rw (← told.1) among, rw told.0 told.1)
 tells kinds e Starved told has = tt
 
-pub told_fault : (words : List Text) (e : Error) (r : Result Options WordsFault) → IsErrAnd r (ToldOf e) → HasKind (wrongs words) e → Answers words r
+pub told_fault : (words : List Text) (e : Error) (r : Result Options WordsFault) → IsErrAnd r (ToldOf e) → HasKind (wrongs words) e → IsParsed words r
 told_fault words e (Ok x) told has = absurd told
 told_fault words e (Err f) told has = tells (wrongs words) e f told has
 

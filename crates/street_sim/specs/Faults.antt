@@ -1,7 +1,7 @@
 -- How the program tells its faults.
 use Rattle.std.specs.Prelude.{ℕ, List, codes}
-use Rattle.street_line.specs.declared.tally.FaultKind.{FaultKind}
-use Rattle.street_line.specs.declared.tally.FaultKind.TheVariants as kind
+use Rattle.street_ends.specs.declared.tally.FaultKind.{FaultKind}
+use Rattle.street_ends.specs.declared.tally.FaultKind.TheVariants as kind
 use Rattle.street_sim.specs.declared.fault.Fault.{Fault}
 use Rattle.street_sim.specs.declared.fault.Fault.TheVariants.{BadArguments, Endless, Input, OutOfMemory, Output}
 

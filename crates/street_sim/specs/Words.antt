@@ -57,14 +57,14 @@ TellsOf kinds (Help text) = IsAmong DisplayHelp kinds × (kind_of text ≡ Displ
 TellsOf kinds Starved = ⊤
 
 -- options where nothing is wrong, with the number asked for; else what is wrong
-abbrev pub Answers : List Text → Result Options WordsFault → Type 0
-Answers words result = MatchResult result
+abbrev pub IsParsed : List Text → Result Options WordsFault → Type 0
+IsParsed words result = MatchResult result
     (λ found. (wrongs words ≡ []) × (workers_of words ≡ Some found.workers))
     (TellsOf (wrongs words))
 
 -- so many workers, unless memory is refused
-abbrev pub Gives : ℕ → Result Options WordsFault → Type 0
-Gives n result = MatchResult result (λ found. found.workers ≡ n) (λ fault. fault ≡ Starved)
+abbrev pub HasWorkers : ℕ → Result Options WordsFault → Type 0
+HasWorkers n result = MatchResult result (λ found. found.workers ≡ n) (λ fault. fault ≡ Starved)
 
 -- the words are the program's name, `--workers` and n in digits
 abbrev pub AsksFor : List Text → ℕ → Type 0

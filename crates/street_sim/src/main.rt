@@ -10,9 +10,10 @@ mod tests;
 mod words;
 
 use fault::Fault;
-use session::serve;
+use session::run_session;
 use std::process::ExitCode;
 use std::{env, io};
+use street_line::Counted;
 use words::WordsFault;
 
 fn main(rt: HostRuntime) -> ExitCode {
@@ -30,9 +31,9 @@ fn run(rt: &HostRuntime) -> Result<(), Fault> {
     let words = program_words(rt)?;
     match options::options(rt.alloc(), words.as_slice()) {
         Ok(options) => {
-            let mut reader = rt.reader();
-            let mut writer = io::writer(rt);
-            serve(rt.alloc(), options.workers, &mut reader, &mut writer)
+            let mut reader = Counted::new(rt.reader());
+            let mut writer = Counted::new(io::writer(rt));
+            run_session(rt.alloc(), options.workers, &mut reader, &mut writer)
         }
         Err(WordsFault::Help(help)) => help.print(rt).map_err(|_| Fault::Output),
         Err(WordsFault::Bad) => Err(Fault::BadArguments),

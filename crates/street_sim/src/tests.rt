@@ -1,9 +1,10 @@
 //! Whole sessions over bytes in memory. What is wanted was worked out by hand from the rules of lines and of motion.
 
-use crate::session::serve;
+use crate::session::run_session;
 use std::alloc::{AllocError, Global};
 use std::process::Abort;
 use std::test::Fail;
+use street_line::Counted;
 
 /// One link of 10 cells that vehicles leave at its end, and a link after it.
 const TEN_CELLS: &str =
@@ -48,10 +49,10 @@ fn text_of(alloc: Global, parts: &[(&[u8], u32)]) -> Result<Vec<u8>, AllocError>
 
 /// What is written to these lines where nothing is loaded at first.
 fn replies(alloc: Global, session: &[u8]) -> Result<Vec<u8>, Fail> {
-    let mut reader = session;
-    let mut output = Vec::new(alloc);
-    serve(alloc, 1, &mut reader, &mut output)?;
-    Ok(output)
+    let mut reader = Counted::new(session);
+    let mut writer = Counted::new(Vec::new(alloc));
+    run_session(alloc, 1, &mut reader, &mut writer)?;
+    Ok(writer.end)
 }
 
 /// A session of these parts is answered by those.

@@ -10,7 +10,7 @@ use thiserror::Error;
 /// What the words ask for.
 #[derive(Clone, Copy, Debug, PartialEq, Eq, Drop)]
 pub struct Options {
-    /// How many threads work on a step, 1 to 64.
+    /// How many workers share the links, 1 to 64; so far one thread does all.
     pub workers: u32,
 }
 

@@ -1,6 +1,3 @@
-pub mod Entries
-pub mod Texts
-pub mod Items
-pub mod Floats
 pub mod Plain
 pub mod CommandData
+pub mod Again

@@ -1,22 +1,17 @@
-//! Texts: from the bytes of a line to a command, from a command to its text, and from a reply to its line.
+//! Texts: a command's text, and that each command is read from its own text.
 //!
-//! A line is one JSON object. What it says is `reading` of `specs/Reading`; what a command prints as is `text_of` of
-//! `specs/CommandTexts`; what a reply prints as is `reply_line`, and what answers a faulty line is `fault_line`, of
-//! `specs/Printing`.
+//! Reading stands in `street_reading` and the printing of replies in `street_printing`; this crate shows both. What a
+//! command prints as is `text_of` of `specs/CommandTexts`; what answers a faulty line is `fault_line` of `specs/FaultLines`.
 #![tactic(auto)]
 
-mod command_texts;
-mod errors;
-mod fault;
-mod lists;
-mod orders;
-mod reading;
-mod replies;
+mod commands;
+mod faults;
+mod laws;
 #[cfg(test)]
 mod tests;
 
-pub use command_texts::{command_reads_back, command_text};
-pub use errors::{error_text, fault_text};
-pub use fault::LineFault;
-pub use orders::{LONGEST_LINE, read_command};
-pub use replies::reply_text;
+pub use commands::{command_text, command_value};
+pub use faults::fault_text;
+pub use laws::command_reads_back;
+pub use street_printing::{error_text, reply_text};
+pub use street_reading::{LONGEST_LINE, LineFault, command_of, read_command};

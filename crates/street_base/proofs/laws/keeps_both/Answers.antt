@@ -1,4 +1,4 @@
-use Rattle.street_base.proofs.Weaving.{weaving-keeps}
+use Rattle.street_base.proofs.LaneChangeLemmas.{weaving-keeps}
 use Rattle.street_base.proofs.laws.keeps_both.Goals as goal
 
 pub returns : goal.returns

@@ -1,11 +1,11 @@
 use Rattle.std.proofs.Common.{◌≡◌, ◌∙◌, ap, refl, sym, subst, inl, inr}
 use Rattle.std.specs.Prelude.{Some, None, option_map}
 use Rattle.street_base.specs.declared.command.Command.{Command}
-use Rattle.street_base.specs.declared.command.Refusal.{Refusal}
-use Rattle.street_base.specs.declared.command.Refusal.TheVariants.{NotLoaded, NotYet}
-use Rattle.street_base.specs.declared.command.Reply.{Reply}
-use Rattle.street_base.specs.declared.command.Reply.TheVariants.{Refused}
-use Rattle.street_base.specs.declared.command.Outcome.TheVariants.{Whole}
+use Rattle.street_base.specs.declared.refusal.Refusal.{Refusal}
+use Rattle.street_base.specs.declared.refusal.Refusal.TheVariants.{NotLoaded, NotYet}
+use Rattle.street_base.specs.declared.reply.Reply.{Reply}
+use Rattle.street_base.specs.declared.reply.Reply.TheVariants.{Refused}
+use Rattle.street_base.specs.declared.reply.Outcome.TheVariants.{Whole}
 use Rattle.street_base.specs.State.{State}
 use Rattle.street_base.specs.Machine.{refusal, not_yet}
 use Rattle.street_base.specs.Outcomes.{Answers, state_of_whole, reply_of_whole}

@@ -1,5 +1,5 @@
 use Rattle.std.proofs.Common.{arith}
-use Rattle.street_base.proofs.Faultless.{good_link}
+use Rattle.street_base.proofs.FaultLemmas.{good_link}
 use Rattle.street_engine.proofs.streets.empty_lanes.Goals as goal
 
 pub new-requires-clause-some : goal.new-requires-clause-some

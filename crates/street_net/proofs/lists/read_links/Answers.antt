@@ -3,7 +3,7 @@ use Rattle.std.specs.List.{list_any}
 use Rattle.std.proofs.lemmas.Bool.{or_parts}
 use Rattle.street_base.specs.declared.net.LinkSpec.{LinkSpec}
 use Rattle.street_base.specs.declared.net.NetSpec.{NetSpec}
-use Rattle.street_base.specs.declared.command.Part.TheVariants.{Links}
+use Rattle.street_base.specs.declared.refusal.Part.TheVariants.{Links}
 use Rattle.street_base.specs.Faults.{is_bad_link, in_part}
 use Rattle.street_base.specs.Network.{no_link}
 use Rattle.street_net.proofs.Searching.{keys-more, eqb-sym}

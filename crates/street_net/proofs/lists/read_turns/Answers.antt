@@ -3,7 +3,7 @@ use Rattle.std.specs.List.{list_any}
 use Rattle.std.proofs.lemmas.Bool.{or_parts}
 use Rattle.street_base.specs.declared.net.TurnSpec.{TurnSpec}
 use Rattle.street_base.specs.declared.net.NetSpec.{NetSpec}
-use Rattle.street_base.specs.declared.command.Part.TheVariants.{Turns}
+use Rattle.street_base.specs.declared.refusal.Part.TheVariants.{Turns}
 use Rattle.street_base.specs.Faults.{is_bad_turn, in_part, is_same_turn}
 use Rattle.street_net.specs.Keys.{turn_key}
 use Rattle.street_net.proofs.Searching.{keys-more, is_same_key}

@@ -1,6 +1,10 @@
 use Rattle.street_engine.proofs.Seeing.{seen-one}
-use Rattle.street_base.proofs.Faultless.{good_link}
+use Rattle.std.proofs.Common.{arith}
+use Rattle.street_base.proofs.FaultLemmas.{few_links, good_link}
 use Rattle.street_engine.proofs.streets.Streets.find.Goals as goal
+
+pub find_in-requires : goal.find_in-requires
+find_in-requires c = omega (arith, few_links c.self.inside.network c.self.invariant.faultless, c.self.invariant.a_lane_each)
 
 pub returns : goal.returns
 returns c =

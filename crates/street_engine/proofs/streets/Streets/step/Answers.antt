@@ -3,9 +3,10 @@ use Rattle.std.specs.Vec.{with_items}
 use Rattle.std.proofs.lemmas.List.{with_items_is}
 use Rattle.std.proofs.lemmas.List.Elements.{All-from_get_or}
 use Rattle.street_base.specs.declared.net.LinkSpec.{LinkSpec}
-use Rattle.street_base.specs.Network.{no_link, last_clock}
+use Rattle.street_base.specs.Network.{no_link}
+use Rattle.street_base.specs.Limits.{last_clock}
 use Rattle.street_base.specs.State.{Traffic}
-use Rattle.street_base.proofs.Faultless.{good_link}
+use Rattle.street_base.proofs.FaultLemmas.{good_link}
 use Rattle.street_engine.proofs.OneStep.{step-is, stepped-simple}
 use Rattle.street_engine.proofs.streets.Streets.step.Goals as goal
 

@@ -1,8 +1,8 @@
-use Rattle.std.proofs.Common.{◌≡◌, ◌∙◌, ap, sym, None}
+use Rattle.std.proofs.Common.{◌≡◌, ◌∙◌, ap, sym, subst, None}
 use Rattle.std.proofs.lemmas.Result.{err_from_is_err_and}
-use Rattle.street_base.specs.declared.command.Part.TheVariants.{Values}
+use Rattle.street_base.specs.declared.refusal.Part.TheVariants.{Values}
 use Rattle.street_base.specs.Faults.{in_part, network_fault}
-use Rattle.street_net.specs.Keys.{ids_of_nodes, ids_of_links}
+use Rattle.street_net.specs.Tables.{IsChecked}
 use Rattle.street_net.proofs.Telling.{tells-nodes, tells-links, tells-turns, values-tell}
 use Rattle.street_net.proofs.checked.Network.build.Goals as goal
 
@@ -26,6 +26,21 @@ returns-in-Some-clause-fault c =
     values-tell c.args.spec.now c.in_ok-node_ids.ensures.faultless c.in_ok-link_ids.ensures.faultless c.in_ok-read_turns.ensures.faultless
     ∙ ap (in_part Values) (sym c.in-Some.ensures)
 
+pub ends_of_links-requires-clause-faultless : goal.ends_of_links-requires-clause-faultless
+ends_of_links-requires-clause-faultless c =
+    values-tell c.args.spec.now c.in_ok-node_ids.ensures.faultless c.in_ok-link_ids.ensures.faultless c.in_ok-read_turns.ensures.faultless
+    ∙ ap (in_part Values) (sym c.in_default.ensures)
+
+pub lanes_by_end-requires-clause-faultless : goal.lanes_by_end-requires-clause-faultless
+lanes_by_end-requires-clause-faultless c =
+    values-tell c.args.spec.now c.in_ok-node_ids.ensures.faultless c.in_ok-link_ids.ensures.faultless c.in_ok-read_turns.ensures.faultless
+    ∙ ap (in_part Values) (sym c.in_default.ensures)
+
+pub turns_by_lane-requires-clause-faultless : goal.turns_by_lane-requires-clause-faultless
+turns_by_lane-requires-clause-faultless c =
+    values-tell c.args.spec.now c.in_ok-node_ids.ensures.faultless c.in_ok-link_ids.ensures.faultless c.in_ok-read_turns.ensures.faultless
+    ∙ ap (in_part Values) (sym c.in_default.ensures)
+
 pub returns-clause-faultless : goal.returns-clause-faultless
 returns-clause-faultless c =
     values-tell c.args.spec.now c.in_ok-node_ids.ensures.faultless c.in_ok-link_ids.ensures.faultless c.in_ok-read_turns.ensures.faultless
@@ -37,8 +52,11 @@ invariant_of-result c =
     let faultless : network_fault c.args.spec.now ≡ None =
     values-tell c.args.spec.now c.in_ok-node_ids.ensures.faultless c.in_ok-link_ids.ensures.faultless c.in_ok-read_turns.ensures.faultless
     ∙ ap (in_part Values) (sym c.in_default.ensures) in
-    record {
-      nodes_listed = c.in_ok-node_ids.ensures.keys ∙ ap (λ net. ids_of_nodes net.nodes) (sym same);
-      links_listed = c.in_ok-link_ids.ensures.keys ∙ ap (λ net. ids_of_links net.links) (sym same);
-      faultless = ap network_fault same ∙ faultless;
-    }
+    subst (λ net. IsChecked net c.in_ok-node_ids.node_ids.keys c.in_ok-link_ids.link_ids.keys c.in_ok-ends.ends.items c.in_ok-in_lanes.in_lanes.items c.in_ok-turns.turns.items) (sym same) (record {
+      faultless = faultless;
+      nodes_listed = c.in_ok-node_ids.ensures.keys;
+      links_listed = c.in_ok-link_ids.ensures.keys;
+      ends_kept = c.in_ok-ends.ensures;
+      in_lanes_kept = c.in_ok-in_lanes.ensures;
+      turns_kept = c.in_ok-turns.ensures;
+    })

@@ -1,0 +1,19 @@
+-- Worked rows: examples computed on the definitions.
+pub mod States
+pub mod Unfolded
+pub mod Driving
+pub mod Junction
+pub mod Change
+pub mod Detector
+pub mod LaneChange
+pub mod Zone
+pub mod Closed
+pub mod Release
+pub mod Departure
+pub mod Signal
+pub mod Draw
+pub mod Commands
+pub mod Served
+pub mod Outcomes
+pub mod OnTheWay
+pub mod Faults

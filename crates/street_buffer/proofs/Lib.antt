@@ -1,0 +1,7 @@
+mod Joining
+mod Queues
+mod Walking
+mod Landing
+mod Sending
+mod Releasing
+mod Steps

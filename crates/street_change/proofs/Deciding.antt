@@ -1,0 +1,70 @@
+-- What a driver decides, from what the code has looked up.
+use Rattle.std.proofs.Common.{◌≡◌, ℕ, ◌+◌, ◌<◌, ◌≤◌, Bool, true, false, List, [], ◌∷◌, ◌++◌, length, Option, Some, None, refl, sym, ap, subst, ◌∙◌, arith}
+use Rattle.std.specs.Prelude.{MatchOption, ◌&&◌}
+use Rattle.std.specs.Option.{option_map, unwrap_or}
+use Rattle.street_base.specs.declared.car.Car.{Car}
+use Rattle.street_base.specs.Vehicle.{Vehicle, vehicle_of, next_link}
+use Rattle.street_base.specs.Lane.{Track, is_closed}
+use Rattle.street_base.specs.LaneChange.{Weave}
+use Rattle.street_yard.specs.Yard.{Yard, list_at, car_of, first_or, last_or, IsWhole}
+use Rattle.street_yard.specs.Listed.{cell_at, vehicle_with, IsFalling, IsLane, AllAbove}
+use Rattle.street_yard.proofs.Callers.{cell_is}
+use Rattle.street_yard.proofs.Placed.{falling-split}
+use Rattle.street_gap.specs.Closed.{is_in, closed_marks, IsWithin}
+use Rattle.street_gap.proofs.Marks.{closed_marks-length, closed_marks-at}
+use Rattle.street_change.specs.Road.{RoadLane, IsRoadLane, track_of}
+use Rattle.street_change.specs.Places.{IsUpTo, IsPlace, IsNext}
+use Rattle.street_change.specs.Sight.{gap_up, gap_down, has_room, has_room_between, wishes_with, decision}
+use Rattle.street_change.proofs.Sights.{room-is}
+
+-- a place is one from which on to search
+pub place-up_to : (y : Yard) (n cell : ℕ) (place : Option ℕ) → IsPlace y n cell place → IsUpTo y n cell place
+place-up_to y n cell place p = record { up = p.up; down = p.down; split = p.split; at_place = p.at_place; above = p.above }
+
+-- the vehicles below the place fall from the cell on
+under : (y : Yard) (count cell : ℕ) (up down : List ℕ) → IsFalling (cell_at y) count (up ++ down) → MatchOption (first_or down None) (Unit {0}) (λ k. cell_at y k ≤ cell) → IsFalling (cell_at y) (cell + 1) down
+under y count cell up [] f b = tt
+under y count cell up (d ∷ down) f b = (let h : cell_at y d ≤ cell = b in let r = falling-split (cell_at y) count up d down f in ((let g : cell_at y d < cell + 1 = omega arith in g), r.2))
+
+-- whether there is room beside a cell, by the cells of the place there and of the key behind it
+pub room-beside : (y : Yard) (count : ℕ) (lane : RoadLane) (cell speed : ℕ) (place below : Option ℕ) → IsWhole y → IsRoadLane y count lane → IsPlace y lane.list cell place → IsNext y lane.list place below
+    → (above_cell below_cell : Option ℕ) → above_cell ≡ option_map (cell_at y) place → below_cell ≡ option_map (cell_at y) below
+    → has_room_between (closed_marks lane.closed count) (is_in lane.closed cell) above_cell below_cell cell speed ≡ has_room (track_of y count lane) cell speed
+room-beside y count lane cell speed place below whole ok p next above_cell below_cell above_is below_is =
+    let a : above_cell ≡ option_map (cell_at y) (last_or p.up None) = above_is ∙ ap (option_map (cell_at y)) p.at_place in
+    let b : below_cell ≡ option_map (cell_at y) (first_or p.down None) = below_is ∙ ap (option_map (cell_at y)) (next p.up p.down p.split p.at_place) in
+    ap (λ o. has_room_between (closed_marks lane.closed count) (is_in lane.closed cell) o below_cell cell speed) a
+    ∙ ap (λ o. has_room_between (closed_marks lane.closed count) (is_in lane.closed cell) (option_map (cell_at y) (last_or p.up None)) o cell speed) b
+    ∙ room-is y lane.list count whole ok.stands p.up p.down p.split cell p.above (under y count cell p.up p.down (subst (IsFalling (cell_at y) count) p.split ok.stands) p.below)
+    (closed_marks lane.closed count) (is_in lane.closed cell) speed (closed_marks-length lane.closed count) (sym (closed_marks-at lane.closed count cell ok.within))
+
+-- the gap ahead, and the room beside, on a lane of the road
+pub gap-by : (count : ℕ) (lane seen : RoadLane) (ahead : Option ℕ) (cell r : ℕ) → seen ≡ lane → IsWithin lane.closed count
+    → ((n : ℕ) → IsWithin seen.closed n → r ≡ gap_up (closed_marks seen.closed n) ahead cell) → r ≡ gap_up (closed_marks lane.closed count) ahead cell
+gap-by count lane seen ahead cell r same within is =
+    is count (subst (λ (l : RoadLane). IsWithin l.closed count) (sym same) within) ∙ ap (λ (l : RoadLane). gap_up (closed_marks l.closed count) ahead cell) same
+
+pub room-by : (y : Yard) (count : ℕ) (lane seen : RoadLane) (cell speed : ℕ) (r : Bool) → seen ≡ lane → IsRoadLane y count lane
+    → ((n : ℕ) → IsRoadLane y n seen → r ≡ has_room (track_of y n seen) cell speed) → r ≡ has_room (track_of y count lane) cell speed
+room-by y count lane seen cell speed r same ok is =
+    is count (subst (IsRoadLane y count) (sym same) ok) ∙ ap (λ l. has_room (track_of y count l) cell speed) same
+
+-- the same car
+some-vehicle : (car : Car) (v : Vehicle) (o : Option Car) → o ≡ Some car → option_map vehicle_of o ≡ Some v → vehicle_of car ≡ v
+some-vehicle car v o e f = (let s : ◌≡◌ {A = Option Vehicle} (Some (vehicle_of car)) (Some v) = sym (ap (option_map vehicle_of) e) ∙ f in cc)
+
+-- what is read of a car apart from the rest
+pub field-is : (get : Car → ℕ) (car : Car) (o : Option Car) (n : ℕ) → o ≡ Some car → option_map get o ≡ Some n → n ≡ get car
+field-is get car o n e f = (let s : ◌≡◌ {A = Option ℕ} (Some n) (Some (get car)) = sym f ∙ ap (option_map get) e in cc)
+
+-- the decision by its parts: the wish, and room with the draw
+pub decided-by : (weave : Weave) (lane count : ℕ) (closed : List Bool) (ahead : Option ℕ) (other : Track) (y : Yard) (key : ℕ) (car : Car) (v : Vehicle) (cell speed gap : ℕ) (wish goes : Bool)
+    → car_of y key ≡ Some car → vehicle_with y key ≡ Some v → cell ≡ car.cell → speed ≡ car.speed → gap ≡ gap_up closed ahead cell → wish ≡ wishes_with weave lane count gap cell speed (next_link (vehicle_of car))
+    → goes ≡ (wish && (has_room other cell speed && weave.may_change car.number)) → goes ≡ decision weave lane count closed ahead other (cell_at y key) v
+decided-by weave lane count closed ahead other y key car v cell speed gap wish goes is seen cell_here speed_here gap_is wish_is goes_is =
+    goes_is
+    ∙ ap (λ w. w && (has_room other cell speed && weave.may_change car.number)) (wish_is ∙ ap (λ g. wishes_with weave lane count g cell speed (next_link (vehicle_of car))) gap_is)
+    ∙ ap (λ x. wishes_with weave lane count (gap_up closed ahead x) x speed (next_link (vehicle_of car)) && (has_room other x speed && weave.may_change car.number)) cell_here
+    ∙ ap (λ s. wishes_with weave lane count (gap_up closed ahead car.cell) car.cell s (next_link (vehicle_of car)) && (has_room other car.cell s && weave.may_change car.number)) speed_here
+    ∙ ap (λ x. decision weave lane count closed ahead other x (vehicle_of car)) (sym (cell_is y key car is))
+    ∙ ap (decision weave lane count closed ahead other (cell_at y key)) (some-vehicle car v (car_of y key) is seen)

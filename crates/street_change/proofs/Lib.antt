@@ -1,0 +1,10 @@
+mod Seeking
+mod Carrying
+mod Relinking
+mod Weaving
+mod Sights
+mod Deciding
+mod Roads
+mod Marking
+mod Passing
+mod Whole

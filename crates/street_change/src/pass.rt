@@ -1,0 +1,60 @@
+//! The lane pass: first who goes is marked, then the marked ones go.
+ghost use Rattle.std.specs.Prelude.{◌≡◌, ℕ, ◌<◌, ◌≤◌, ◌-◌, length};
+ghost use Rattle.street_base.specs.LaneChange.{changes};
+ghost use Rattle.street_change.specs.Road.{lane_of, length_of, track_of, lists_of, IsRoad};
+ghost use Rattle.street_change.specs.Sight.{odds_of, weave_of};
+ghost use Rattle.street_change.specs.Marks.{Marks};
+ghost use Rattle.street_change.specs.Changed.{Changes, KeepsRest};
+
+use crate::relink::relink;
+use crate::road::Road;
+use crate::sight::decide;
+use street_base::{LaneNo, Step};
+use street_draw::Dice;
+use street_yard::Yard;
+
+/// Marks each vehicle of one lane that goes to the other, and takes the mark of each that stays.
+fn mark_pass(yard: &mut Yard, road: &Road<'_>, lane: LaneNo, step: Step, dice: &mut Dice)
+    requires lanes { length road.now.lanes ≡ 2 }
+    requires lane { lane ≤ 1 }
+    requires road { IsRoad yard.old road.now }
+    requires dice { dice.old ≡ odds_of road.now.network }
+    ensures marks { Marks yard.old yard.new (lane_of road.now lane).list (changes (weave_of road.now step) lane (track_of yard.old (length_of road.now) (lane_of road.now lane)) (track_of yard.old (length_of road.now) (lane_of road.now (1 - lane)))) }
+    ensures dice { dice.new ≡ dice.old }
+{
+    let own = road.lane(lane).list;
+    let mut above = None;
+    let mut ahead = None;
+    let mut cursor = yard.list_front(own);
+    while let Some(key) = cursor {
+        let decision = decide(yard, road, lane, key, ahead, above, step, dice);
+        above = decision.above;
+        ahead = Some(yard.cell(key));
+        yard.mark(key, decision.goes);
+        cursor = yard.behind(key);
+    }
+}
+
+/// The lane changes of one link in one step, all decided from where the vehicles stood before. On a link of one lane nobody
+/// changes. Takes no memory, and time in proportion to the vehicles on the link.
+///
+/// `dice` are those of the road's network.
+pub fn lane_pass(yard: &mut Yard, road: &Road<'_>, step: Step, dice: &mut Dice)
+    requires road { IsRoad yard.old road.now }
+    requires dice { dice.old ≡ odds_of road.now.network }
+    ensures changes { Changes yard.old yard.new road.now step }
+    ensures road { IsRoad yard.new road.now }
+    ensures rest { KeepsRest yard.old yard.new (lists_of road.now) }
+    ensures dice { dice.new ≡ dice.old }
+{
+    yard.whole();
+    if road.lanes() < 2 || road.network().spec().change == 0 {
+        return;
+    }
+    let first = road.lane(0).list;
+    let second = road.lane(1).list;
+    mark_pass(yard, road, 0, step, dice);
+    mark_pass(yard, road, 1, step, dice);
+    relink(yard, first, second);
+    relink(yard, second, first);
+}

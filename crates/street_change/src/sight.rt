@@ -1,0 +1,185 @@
+//! What a driver sees on both lanes, and whether they wish to change and have room for it.
+//!
+//! Rule by Rickert, Nagel, Schreckenberg and Latour 1996, with this profile's turn zone and closed cells.
+ghost use Rattle.std.specs.Prelude.{◌≡◌, ℕ, ◌<◌, ◌≤◌, ◌-◌, length, Some, option_map};
+ghost use Rattle.street_base.specs.Vehicle.{Vehicle, vehicle_of, next_link};
+ghost use Rattle.street_yard.specs.Yard.{place_of};
+ghost use Rattle.street_yard.specs.Listed.{cell_at, vehicle_with};
+ghost use Rattle.street_gap.specs.Closed.{IsWithin, closed_marks, is_in};
+ghost use Rattle.street_gap.specs.Sight.{lesser};
+ghost use Rattle.street_change.specs.Road.{length_of, lane_of, track_of, lane_seen, IsRoadLane, IsRoad};
+ghost use Rattle.street_change.specs.Places.{IsUpTo, IsPlace};
+ghost use Rattle.street_change.specs.Sight.{odds_of, weave_of, gap_up, gap_down, is_at, wishes_with, has_room, has_room_between, decision};
+
+use crate::places::{cell_of, last_above, next};
+use crate::road::{Road, RoadLane};
+use street_base::{Car, CellNo, LaneNo, LinkIx, Speed, Step};
+use street_draw::Dice;
+use street_gap::Closures;
+use street_yard::{Key, Yard};
+
+#[cfg(test)]
+mod tests;
+
+/// The gap where nothing is in sight.
+const FAR: CellNo = 16;
+
+/// The gap behind must be longer than this.
+const CLOSE_BEHIND: CellNo = 5;
+
+/// The lesser, where both are there.
+fn lesser(vehicle: Option<CellNo>, entrance: Option<CellNo>) -> Option<CellNo>
+    ensures { result ≡ lesser vehicle entrance }
+{
+    match (vehicle, entrance) {
+        (Some(vehicle), Some(entrance)) => Some(vehicle.min(entrance)),
+        (Some(vehicle), None) => Some(vehicle),
+        (None, entrance) => entrance,
+    }
+}
+
+/// The gap from a cell up to the vehicle ahead or to an entrance, or 16.
+fn gap_ahead(closures: &Closures, ahead: Option<CellNo>, cell: CellNo) -> CellNo
+    ensures { (count : ℕ) → IsWithin closures.now count → result ≡ gap_up (closed_marks closures.now count) ahead cell }
+{
+    match lesser(ahead, closures.entrance_after(cell)) {
+        Some(obstacle) => obstacle.saturating_sub(cell).saturating_sub(1),
+        None => FAR,
+    }
+}
+
+/// The gap from a cell down to the vehicle behind, or 16.
+fn gap_behind(behind: Option<CellNo>, cell: CellNo) -> CellNo
+    ensures { result ≡ gap_down behind cell }
+{
+    match behind {
+        Some(behind) => cell.saturating_sub(behind).saturating_sub(1),
+        None => FAR,
+    }
+}
+
+/// Whether this is the cell.
+fn is_at(place: Option<CellNo>, cell: CellNo) -> bool
+    ensures { result ≡ is_at place cell }
+{
+    match place {
+        Some(place) => place == cell,
+        None => false,
+    }
+}
+
+/// The link after the present one.
+fn next_link(car: &Car) -> Option<LinkIx>
+    ensures { result ≡ next_link (vehicle_of car.now) }
+{
+    car.plan.as_slice().get(usize::from(car.at) + 1).copied()
+}
+
+/// Whether a vehicle with this gap ahead wants the other lane: as it is slow, or in the turn zone for its next link.
+fn wishes(road: &Road<'_>, lane: LaneNo, gap: CellNo, cell: CellNo, speed: Speed, car: &Car) -> bool
+    requires { lane ≤ 1 }
+    ensures { (step : ℕ) → result ≡ wishes_with (weave_of road.now step) lane (length_of road.now) gap cell speed (next_link (vehicle_of car.now)) }
+{
+    let slow = gap < CellNo::from(speed) + 1;
+    if road.network().spec().zone < u64::from(road.length().saturating_sub(cell)) {
+        return slow;
+    }
+    match next_link(car) {
+        None => slow,
+        Some(next) => {
+            let network = road.network();
+            if !network.serves(road.link(), lane, next) {
+                return true;
+            }
+            slow && network.serves(road.link(), 1 - lane, next)
+        }
+    }
+}
+
+/// Whether a vehicle fits beside, by the cells of the vehicles above the cell beside, and at it or below.
+fn fits(
+    closures: &Closures,
+    above: Option<CellNo>,
+    below: Option<CellNo>,
+    cell: CellNo,
+    speed: Speed,
+) -> bool
+    ensures { (count : ℕ) → IsWithin closures.now count → result ≡ has_room_between (closed_marks closures.now count) (is_in closures.now cell) above below cell speed }
+{
+    !is_at(below, cell)
+        && !closures.is_closed(cell)
+        && CellNo::from(speed) + 1 < gap_ahead(closures, above, cell)
+        && CLOSE_BEHIND < gap_behind(below, cell)
+}
+
+/// Looks for room on another lane beside a cell: the last key there whose vehicle is above the cell, sought from such a key
+/// on, and whether there is room.
+fn look_beside(
+    yard: &Yard,
+    other: RoadLane<'_>,
+    from: Option<Key>,
+    cell: CellNo,
+    speed: Speed,
+) -> (Option<Key>, bool)
+    requires from { IsUpTo yard.now other.list.0 cell (option_map (λ k. k.0) from) }
+    requires listed { other.list.0 < length yard.now.lists }
+    ensures place { IsPlace yard.now other.entry.list.0 cell (option_map (λ k. k.0) result.0) }
+    ensures room { (count : ℕ) → IsRoadLane yard.now count (lane_seen other.entry) → result.1 ≡ has_room (track_of yard.now count (lane_seen other.entry)) cell speed }
+{
+    yard.whole();
+    let above = last_above(yard, other.list, from, cell);
+    let below = next(yard, other.list, above);
+    let above_cell = cell_of(yard, other.list, above);
+    let below_cell = cell_of(yard, other.list, below);
+    (
+        above,
+        fits(other.closures, above_cell, below_cell, cell, speed),
+    )
+}
+
+/// What a driver decides, and where they have looked.
+#[derive(Clone, Copy)]
+pub(crate) struct Decision {
+    /// The last key of the other lane that was looked at; its vehicle is above the cell beside.
+    pub(crate) above: Option<Key>,
+    /// Whether the vehicle goes to the other lane.
+    pub(crate) goes: bool,
+}
+
+/// Whether the vehicle of a key goes to the other lane. `ahead` is the cell of the vehicle ahead; `above` is a key of the
+/// other lane whose vehicle is above the cell beside, from which on to look there. The draw is asked last.
+pub(crate) fn decide(
+    yard: &Yard,
+    road: &Road<'_>,
+    lane: LaneNo,
+    key: Key,
+    ahead: Option<CellNo>,
+    above: Option<Key>,
+    step: Step,
+    dice: &mut Dice,
+) -> Decision
+    requires lanes { length road.now.lanes ≡ 2 }
+    requires lane { lane ≤ 1 }
+    requires road { IsRoad yard.now road.now }
+    requires dice { dice.old ≡ odds_of road.now.network }
+    requires key { place_of yard.now key.0 ≡ Some (lane_of road.now lane).list }
+    requires above { IsUpTo yard.now (lane_of road.now (1 - lane)).list (cell_at yard.now key.0) (option_map (λ k. k.0) above) }
+    ensures above { IsUpTo yard.now (lane_of road.now (1 - lane)).list (cell_at yard.now key.0) (option_map (λ k. k.0) result.above) }
+    ensures goes { (v : Vehicle) → vehicle_with yard.now key.0 ≡ Some v → result.goes ≡ decision (weave_of road.now step) lane (length_of road.now) (closed_marks (lane_of road.now lane).closed (length_of road.now)) ahead (track_of yard.now (length_of road.now) (lane_of road.now (1 - lane))) (cell_at yard.now key.0) v }
+    ensures dice { dice.new ≡ dice.old }
+{
+    let cell = yard.cell(key);
+    let speed = yard.speed(key);
+    let car = yard.car(key);
+    let gap = gap_ahead(road.lane(lane).closures, ahead, cell);
+    if !wishes(road, lane, gap, cell, speed, car) {
+        return Decision { above, goes: false };
+    }
+    let other = road.lane(1 - lane);
+    let (above, has_room) = look_beside(yard, other, above, cell, speed);
+    if !has_room {
+        return Decision { above, goes: false };
+    }
+    let goes = dice.may_change(key.index(), step, car.number);
+    Decision { above, goes }
+}

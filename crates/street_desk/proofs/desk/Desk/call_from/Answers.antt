@@ -1,0 +1,33 @@
+use Rattle.std.proofs.Common.{ℕ, ap, ◌∙◌, subst, false, ◌++◌, ◌∷◌, []}
+use Rattle.street_desk.specs.History.{IsLegal, entry}
+use Rattle.street_desk.specs.Steps.{Sat, with_turn}
+use Rattle.street_desk.proofs.Told.{answered, rests_after}
+use Rattle.street_desk.proofs.desk.Desk.call_from.Goals as goal
+
+pub returns-then-grab-clause-told : goal.returns-then-grab-clause-told
+returns-then-grab-clause-told g c =
+    let i = c.loop.invariant in
+    let done = c.turn-reply.ensures.done in
+    let by = c.requires.session in
+    let g = c.grab.new.seat.me.0 in
+    answered c.args.seat.now.me.0 c.loop.seat.me.0 c.look-found.new.seat.me.0 g c.turn-reply.new.seat.me.0 c.look-found.result c.grab.new.seat.me.1 c.args.command done.0
+    c.args.seat.now.table_id c.turn-reply.new.seat.table_id c.turn-reply.result
+    (c.turn-reply.ensures.same.0 ∙ (c.if-grab.ensures.same.0 ∙ (c.look-found.ensures.same.0 ∙ i.0)))
+    i.3 c.look-found.ensures.looks c.if-grab.ensures.grabs done.1
+    (subst (λ (k : ℕ). IsLegal (g.seen ++ entry k c.args.command done.0 ∷ [])) by done.2)
+    (ap (λ (m : Sat). m.0) done.3 ∙ ap (λ (k : ℕ). with_turn g (g.seen ++ entry k c.args.command done.0 ∷ []) false) by)
+
+pub returns-then-grab-clause-same : goal.returns-then-grab-clause-same
+returns-then-grab-clause-same g c =
+    let i = c.loop.invariant in
+    let done = c.turn-reply.ensures.done in
+    let by = c.requires.session in
+    let g = c.grab.new.seat.me.0 in (
+      c.turn-reply.ensures.same.0 ∙ (c.if-grab.ensures.same.0 ∙ (c.look-found.ensures.same.0 ∙ i.0)),
+      c.turn-reply.ensures.same.1 ∙ (c.if-grab.ensures.same.1 ∙ (c.look-found.ensures.same.1 ∙ i.1)),
+      ap (λ (m : Sat). m.1) done.3,
+      rests_after c.args.seat.now.me.0 c.loop.seat.me.0 c.look-found.new.seat.me.0 g c.turn-reply.new.seat.me.0 c.look-found.result c.grab.new.seat.me.1 c.args.command done.0
+          i.3 c.look-found.ensures.looks c.if-grab.ensures.grabs
+          (subst (λ (k : ℕ). IsLegal (g.seen ++ entry k c.args.command done.0 ∷ [])) by done.2)
+          (ap (λ (m : Sat). m.0) done.3 ∙ ap (λ (k : ℕ). with_turn g (g.seen ++ entry k c.args.command done.0 ∷ []) false) by),
+    )

@@ -1,0 +1,88 @@
+-- What each step at the desk's table does to a view, and what it tells.
+-- Source: this profile.
+use Rattle.std.specs.Prelude.{◌≡◌, ◌≢◌, ℕ, ◌+◌, ◌-◌, ◌*◌, ◌%◌, ◌/◌, ◌<◌, ◌≤◌, List, [], ◌∷◌, length, Bool, true, false, leb, if◌then◌else◌, Option, Some}
+use Rattle.atomic_table.specs.Table.{Me, Step}
+use Rattle.street_desk.specs.declared.journal.Entry.{Entry}
+use Rattle.street_desk.specs.declared.view.View.{View}
+use Rattle.street_desk.specs.History.{IsLegal, AllBelow, BeginsWith, calls_of}
+use Rattle.street_desk.specs.Rule.{Recorded, recorded}
+
+-- a seat: its view, and the slots that it holds
+abbrev pub Sat : Type 0
+Sat = Me (Option Recorded) View
+
+-- ---- a load and a turn
+
+-- the view after a load
+abbrev pub looked : View → List Entry → ℕ → View
+looked v seen count = record { seen = seen; also = []; count = count; turn = v.turn; owns = v.owns; least = v.least; greatest = v.greatest; calls = v.calls; sessions = v.sessions; live = v.live }
+
+-- the view as a turn begins or ends
+abbrev pub with_turn : View → List Entry → Bool → View
+with_turn v seen turn = record { seen = seen; also = []; count = v.count; turn = turn; owns = v.owns; least = v.least; greatest = v.greatest; calls = v.calls; sessions = v.sessions; live = v.live }
+
+-- what is seen afterwards is legal and begins with what was seen and heard, with no new call of its own
+pub record Sees (v : View) (history : List Entry) : Type 0 where
+  pub legal : IsLegal history
+  pub below : v.live ≡ true → AllBelow v.sessions history
+  pub inside : v.owns ≡ true → v.live ≡ true → v.least < v.sessions
+  pub seen : BeginsWith history v.seen
+  pub also : BeginsWith history v.also
+  pub own : v.owns ≡ true → calls_of v.least history ≡ calls_of v.least v.seen
+  pub unused : v.owns ≡ true → (n : ℕ) → v.least < n → n ≤ v.greatest → calls_of n history ≡ []
+
+-- a load found the word n: half of it is the count, and an even word shows the whole history
+pub record Looks (v : View) (n : ℕ) (w : View) : Type 0 where
+  pub is : w ≡ looked v w.seen (n / 2)
+  pub sees : Sees v w.seen
+  pub count : v.count ≤ n / 2
+  pub long : length w.seen ≤ n / 2
+  pub even : n % 2 ≡ 0 → 2 * length w.seen ≡ n
+  pub limit : v.live ≡ true → n ≤ 2 * v.calls + 1
+
+abbrev pub look : Step (Option Recorded) → Sat → ℕ → Sat → Type 0
+look st m n m' = (m'.1 ≡ m.1) × Looks m.0 n m'.0
+
+-- a compare-exchange won at the word n: the turn, the whole history, and the engine in hand
+pub record Grabs (v : View) (n : ℕ) (w : View) (slots : List (ℕ × Option Recorded)) : Type 0 where
+  pub is : w ≡ with_turn v w.seen true
+  pub sees : Sees v w.seen
+  pub count : v.count ≤ length w.seen
+  pub word : 2 * length w.seen ≡ n
+  pub taken : slots ≡ (0, Some (recorded w.seen v.calls)) ∷ []
+
+-- one that loses changes nothing
+abbrev pub grab : Step (Option Recorded) → Sat → ℕ → Sat → Type 0
+grab st m n m' = (n ≡ st.first → Grabs m.0 n m'.0 m'.1) × (n ≢ st.first → m' ≡ m)
+
+-- the store that ends a turn: the engine is at home again, and the journal is the history
+abbrev pub release : Step (Option Recorded) → Sat → ℕ → Sat → Type 0
+release st m n m' = (r : Recorded) → m.1 ≡ (0, Some r) ∷ [] → m' ≡ (with_turn m.0 r.history false, [])
+
+-- ---- seats split and joined
+
+-- a pass without its greatest session
+abbrev pub less_one : View → View
+less_one v = record { seen = v.seen; also = []; count = v.count; turn = false; owns = v.owns; least = v.least; greatest = v.greatest - 1; calls = v.calls; sessions = v.sessions; live = v.live }
+
+-- a pass that has seen the same and owns that session
+abbrev pub last_one : View → View
+last_one v = record { seen = v.seen; also = []; count = v.count; turn = false; owns = v.owns; least = v.greatest; greatest = v.greatest; calls = v.calls; sessions = v.sessions; live = v.live }
+
+-- a note has seen the same and owns none
+abbrev pub noted : View → View
+noted v = record { seen = v.seen; also = []; count = v.count; turn = false; owns = false; least = 0; greatest = 0; calls = v.calls; sessions = v.sessions; live = v.live }
+
+abbrev pub longer : List Entry → List Entry → List Entry
+longer a b = if leb (length b) (length a) then a else b
+
+abbrev pub most : ℕ → ℕ → ℕ
+most a b = if leb b a then a else b
+
+-- the hearer keeps both lists until it loads, and takes the greater count
+abbrev pub heard : View → View → View
+heard v w = record { seen = v.seen; also = w.seen; count = most v.count w.count; turn = false; owns = v.owns; least = v.least; greatest = v.greatest; calls = v.calls; sessions = v.sessions; live = v.live }
+
+-- what the note is left with
+abbrev pub spent_view : View
+spent_view = record { seen = []; also = []; count = 0; turn = false; owns = false; least = 0; greatest = 0; calls = 0; sessions = 0; live = false }

@@ -1,0 +1,308 @@
+//! The desk and its calls.
+ghost use Rattle.std.specs.Prelude.{◌≡◌, ◌+◌, ◌*◌, ◌/◌, ◌%◌, ◌^◌, ◌<◌, ◌≤◌, [], ◌∷◌, ◌++◌, length, true, false, Some, None, MatchBool, MatchResult, IfOk, IfErr, IsOk};
+ghost use Rattle.street_base.specs.declared.reply.Outcome.{Outcome};
+ghost use Rattle.street_base.specs.Outcomes.{reply_to};
+ghost use Rattle.street_engine.specs.Refines.{StandsFor};
+ghost use Rattle.street_desk.specs.declared.faults.SplitFault.TheVariants.{Single};
+ghost use Rattle.street_desk.specs.History.{entry, state_of, IsLegal};
+ghost use Rattle.street_desk.specs.Rule.{recorded};
+ghost use Rattle.street_desk.specs.Steps.{Looks, Grabs, with_turn};
+ghost use Rattle.street_desk.specs.Passes.{desk_view, pass_view, Rests, first_pass, without_last, of_last, Answered, Filled, Served, OwnsUnused, Heard, Finished};
+
+use crate::faults::{Full, SplitFault, Torn};
+use crate::journal::{Journal, Recorder};
+use crate::pass::{Chair, Note, Pass};
+use crate::view::{Grab, Hearsay, Last, Limits, Look, Release, Turns, View};
+use atomic_table::Table;
+use std::alloc::{AllocError, Global};
+use std::marker::Model;
+use std::sync::Wait;
+use std::sync::atomic::{AtomicU64, Ordering};
+use std::thread;
+use street_base::{Command, Reply, Starved};
+use street_engine::{Engine, Gate};
+
+/// How often a caller that finds the turn taken only gives way, before it sleeps.
+const TRIES: u32 = 64;
+
+/// An engine that many threads call in turn, each with a pass of its own.
+#[derive(Drop)]
+pub struct Desk<G: Gate + Drop + Send> {
+    table: Table<Option<Recorder<G>>, View, Limits, Turns, Global>,
+    calls: u64,
+    sleepers: AtomicU64,
+}
+
+impl<G: Gate + Drop + Send> Model for Desk<G> {
+    ghost use Rattle.std.specs.Prelude.{◌≡◌, ◌≤◌};
+    ghost use Rattle.street_desk.specs.Passes.{DeskView};
+
+    ghost Value = { DeskView };
+
+    ghost view = { λ d. record {
+      table = d.table.shared.table_id;
+      calls = d.table.shared.key.calls;
+      sessions = d.table.shared.key.sessions;
+    } };
+
+    ghost invariant = { λ d. (d.calls ≡ d.table.shared.key.calls)
+        × (d.calls ≤ 1000000)
+        × (d.table.shared.table_id.words ≡ 1)
+        × (d.table.shared.table_id.slots ≡ 1) };
+}
+
+impl<G: Gate + Drop + Send> Desk<G> {
+    /// A load of the turn word.
+    fn look(&self, seat: &mut Chair<G>) -> u64
+        requires { seat.old.table_id ≡ self.now.table }
+        ensures same { (seat.new.table_id ≡ seat.old.table_id) × (seat.new.id ≡ seat.old.id) × (seat.new.me.1 ≡ seat.old.me.1) }
+        ensures looks { Looks seat.old.me.0 result seat.new.me.0 }
+    {
+        self.table.shared.load::<Look>(seat, 0)
+    }
+
+    /// Takes the turn where the word is as it was found. Answers whether it did.
+    fn grab(&self, seat: &mut Chair<G>, at: u64) -> bool
+        requires desk { seat.old.table_id ≡ self.now.table }
+        requires rests { (seat.old.me.1 ≡ []) × (seat.old.me.0.live ≡ true) }
+        requires even { (at % 2 ≡ 0) × (at < 2 ^ 63) }
+        ensures same { (seat.new.table_id ≡ seat.old.table_id) × (seat.new.id ≡ seat.old.id) }
+        ensures grabs { MatchBool result
+            (Grabs seat.old.me.0 at seat.new.me.0 seat.new.me.1)
+            (seat.new.me ≡ seat.old.me) }
+    {
+        self.table
+            .shared
+            .compare_exchange::<Grab>(seat, 0, at, at + 1)
+            == at
+    }
+
+    /// Uses the turn of a seat that has it, and gives it back: the engine is taken out, called, and put back.
+    fn turn(&self, seat: &mut Chair<G>, at: u64, session: u64, command: Command) -> Reply
+        requires desk { seat.old.table_id ≡ self.now.table }
+        requires turn { (seat.old.me.0.turn ≡ true) × (seat.old.me.0.owns ≡ true) × (seat.old.me.0.live ≡ true) }
+        requires slot { seat.old.me.1 ≡ (0, Some (recorded seat.old.me.0.seen seat.old.me.0.calls)) ∷ [] }
+        requires room { length seat.old.me.0.seen < seat.old.me.0.calls }
+        requires word { (at ≡ 2 * length seat.old.me.0.seen) × (at < 2 ^ 63) }
+        requires session { session ≡ seat.old.me.0.least }
+        ensures same { (seat.new.table_id ≡ seat.old.table_id) × (seat.new.id ≡ seat.old.id) }
+        ensures done { let seen = seat.old.me.0.seen in (o : Outcome)
+            × (result ≡ reply_to (state_of seen) command o)
+            × IsLegal (seen ++ entry session command o ∷ [])
+            × (seat.new.me ≡ (with_turn seat.old.me.0 (seen ++ entry session command o ∷ []) false, [])) }
+    {
+        match self.table.shared.exchange(seat, 0, None) {
+            Some(mut recorder) => {
+                let (reply, _) = recorder.call(session, command);
+                self.table.shared.exchange(seat, 0, Some(recorder));
+                self.table.shared.store::<Release>(seat, 0, at + 2);
+                reply
+            }
+            None => unreachable!(),
+        }
+    }
+
+    /// Lets others go on while one of them has the turn: gives way at first, and from then on sleeps until the word is no
+    /// more as it was found. It may also return sooner.
+    fn give_way<R: Wait>(&self, rt: &R, tries: &mut u32, found: u64)
+        requires { found < 2 ^ 32 }
+    {
+        if *tries < TRIES {
+            *tries += 1;
+            thread::yield_now();
+            return;
+        }
+        self.sleepers.fetch_add(1, Ordering::SeqCst);
+        self.table.shared.park(rt, 0, found as u32);
+        self.sleepers.fetch_sub(1, Ordering::SeqCst);
+    }
+
+    /// Wakes one of those that sleep. Who sleeps was counted before it looked at the word, so that nobody sleeps through.
+    fn wake(&self) {
+        if self.sleepers.load(Ordering::SeqCst) > 0 {
+            self.table.shared.wake_one(0);
+        }
+    }
+
+    /// A call by a seat.
+    fn call_from<R: Wait>(
+        &self,
+        rt: &R,
+        seat: &mut Chair<G>,
+        session: u64,
+        command: Command,
+    ) -> Result<Reply, Full>
+        requires desk { desk_view seat.old.table_id seat.old.me.0 ≡ self.now }
+        requires rests { (seat.old.me.1 ≡ []) × Rests seat.old.me.0 }
+        requires session { session ≡ seat.old.me.0.least }
+        ensures same { (seat.new.table_id ≡ seat.old.table_id) × (seat.new.id ≡ seat.old.id) × (seat.new.me.1 ≡ []) × Rests seat.new.me.0 }
+        ensures told { let before = pass_view seat.old.table_id seat.old.me.0 in
+            let after = pass_view seat.new.table_id seat.new.me.0 in
+            MatchResult result
+            (λ r. Answered before command r after)
+            (λ f. (f.command ≡ command) × (f.served ≡ self.now.calls) × Filled before after) }
+    {
+        let mut tries = 0;
+        for _ in rt.forever() {
+            let found = self.look(seat);
+            if found % 2 == 0 {
+                if found == 2 * self.calls {
+                    self.wake();
+                    return Err(Full {
+                        command,
+                        served: self.calls,
+                    });
+                }
+                if self.grab(seat, found) {
+                    let reply = self.turn(seat, found, session, command);
+                    self.wake();
+                    return Ok(reply);
+                }
+            } else {
+                self.give_way(rt, &mut tries, found);
+            }
+        }
+        unreachable!()
+    }
+
+    /// A desk for an engine with nothing loaded, and the pass that has seen the empty history and owns every session, 0 to
+    /// `sessions` less 1. The room for all calls is taken here. `calls` is 1 to 1,000,000, `sessions` 1 to 1,024.
+    ///
+    /// # Errors
+    ///
+    /// Memory was refused; the engine is dropped.
+    pub fn start(
+        alloc: Global,
+        engine: Engine<G>,
+        calls: u64,
+        sessions: u64,
+    ) -> Result<(Desk<G>, Pass<G>), Starved>
+        requires engine { StandsFor engine None }
+        requires counts { (1 ≤ calls) × (calls ≤ 1000000) × (1 ≤ sessions) × (sessions ≤ 1024) }
+        ensures { IfOk result (λ r. (r.0.calls ≡ calls) × (r.0.sessions ≡ sessions) × (r.1 ≡ first_pass r.0)) }
+    {
+        let recorder = Recorder::new(alloc, engine, calls)?;
+        let mut slots = Vec::with_capacity(alloc, 1)?;
+        slots.push_reserved(Some(recorder));
+        let limits = Limits { calls, sessions };
+        let Ok((table, seat)) = Table::new(alloc, &[0], slots, &limits) else {
+            return Err(Starved);
+        };
+        let desk = Desk {
+            table,
+            calls,
+            sleepers: AtomicU64::new(0),
+        };
+        let pass = Pass {
+            seat,
+            least: 0,
+            greatest: sessions - 1,
+        };
+        Ok((desk, pass))
+    }
+
+    /// Gives the greatest session of a pass, which no call bears, to a new pass that has seen the same and knows the same
+    /// count. Waits for nobody and takes no memory.
+    ///
+    /// # Errors
+    ///
+    /// `Single` where the pass owns one session alone; it is then unchanged.
+    pub fn split(&self, pass: &mut Pass<G>) -> Result<Pass<G>, SplitFault>
+        requires { pass.old.desk ≡ self.now }
+        ensures ok { IfOk result (λ p. (pass.old.least < pass.old.greatest)
+            × (pass.new ≡ without_last pass.old)
+            × (p ≡ of_last pass.old)
+            × OwnsUnused p) }
+        ensures err { IfErr result (λ fault. (fault ≡ Single)
+            × (pass.old.least ≡ pass.old.greatest)
+            × (pass.new ≡ pass.old)) }
+    {
+        if pass.least == pass.greatest {
+            return Err(SplitFault::Single);
+        }
+        let number = pass.greatest;
+        let seat = self.table.shared.split_seat::<Last>(&mut pass.seat);
+        pass.greatest -= 1;
+        Ok(Pass {
+            seat,
+            least: number,
+            greatest: number,
+        })
+    }
+
+    /// Takes the turn, applies the command, writes it into the journal and gives the turn back. It may wait for the turn;
+    /// outside the engine it takes no memory.
+    ///
+    /// The pass has then seen a legal history that begins with all that it had seen and ends with this call; the reply is
+    /// the machine's at that point, and of the pass's own session the history has one call more, this one.
+    ///
+    /// # Errors
+    ///
+    /// The journal has no place left. The command was not applied and comes back; the pass has then seen the whole history,
+    /// with its own calls as before.
+    pub fn call<R: Wait>(&self, rt: &R, pass: &mut Pass<G>, command: Command) -> Result<Reply, Full>
+        requires { pass.old.desk ≡ self.now }
+        ensures answered { IfOk result (λ reply. Answered pass.old command reply pass.new) }
+        ensures full { IfErr result (λ full. (full.command ≡ command)
+            × (full.served ≡ self.now.calls)
+            × Filled pass.old pass.new) }
+    {
+        let least = pass.least;
+        self.call_from(rt, &mut pass.seat, least, command)
+    }
+
+    /// The number of finished calls, which the pass then knows. Waits for nobody.
+    pub fn served(&self, pass: &mut Pass<G>) -> u64
+        requires { pass.old.desk ≡ self.now }
+        ensures { Served pass.old result pass.new }
+    {
+        self.look(&mut pass.seat) / 2
+    }
+
+    /// A note of what the pass has seen and of the count that it knows. Waits for nobody and takes no memory: it is never
+    /// starved so far.
+    pub fn note(&self, pass: &mut Pass<G>) -> Result<Note<G>, Starved>
+        requires { pass.old.desk ≡ self.now }
+        ensures same { pass.new ≡ pass.old }
+        ensures given { IsOk result }
+        ensures note { IfOk result (λ note. (note.desk ≡ self.now)
+            × (note.seen ≡ pass.old.seen)
+            × (note.count ≡ pass.old.count)) }
+    {
+        let seat = self.table.shared.split_seat::<Hearsay>(&mut pass.seat);
+        Ok(Note { seat })
+    }
+
+    /// The pass has then seen what it had and what the note's maker had. Waits for nobody.
+    pub fn hear(&self, pass: &mut Pass<G>, note: Note<G>)
+        requires { (pass.old.desk ≡ self.now) × (note.desk ≡ self.now) }
+        ensures { Heard pass.old note pass.new }
+    {
+        let Note { seat } = note;
+        self.table.shared.join_seat::<Hearsay>(&mut pass.seat, seat);
+        self.look(&mut pass.seat);
+    }
+
+    /// The engine and the journal: a legal history that begins with what the pass had seen and has no calls of its session
+    /// but those; the engine stands for the state that it leaves.
+    ///
+    /// # Errors
+    ///
+    /// The turn word was odd, which no call that returned leaves.
+    pub fn finish(self, pass: Pass<G>) -> Result<(Engine<G>, Journal), Torn>
+        requires { pass.desk ≡ self }
+        ensures whole { IfOk result (λ r. Finished pass r.1 × StandsFor r.0 (state_of r.1)) }
+        ensures torn { IfErr result (λ t. (t.word % 2 ≡ 1) × (pass.count ≤ t.word / 2)) }
+    {
+        let Desk { table, .. } = self;
+        let Pass { seat, .. } = pass;
+        let mut closed = table.close_with(seat);
+        let word = closed.word(0);
+        let slot = closed.take(0);
+        closed.free();
+        match slot {
+            Some(recorder) if word % 2 == 0 => Ok(recorder.into_parts()),
+            _ => Err(Torn { word }),
+        }
+    }
+}

@@ -1,0 +1,127 @@
+//! The journal, and the engine that writes it.
+ghost use Rattle.std.specs.Prelude.{◌≡◌, ◌<◌, [], ◌∷◌, ◌++◌, length, IfOk, None, slice_get, option_copied};
+ghost use Rattle.street_base.specs.Outcomes.{Allows, reply_to};
+ghost use Rattle.street_engine.specs.Refines.{StandsFor};
+ghost use Rattle.street_desk.specs.History.{entry, state_of, IsLegal};
+
+use std::alloc::{AllocError, Global};
+use std::marker::Model;
+use street_base::{Command, Outcome, Reply};
+use street_engine::{Engine, Gate};
+
+/// One call of the history.
+#[derive(Drop)]
+pub struct Entry {
+    /// The session that called.
+    pub session: u64,
+    /// What it called.
+    pub command: Command,
+    /// Whether the command was done.
+    pub outcome: Outcome,
+}
+
+/// The calls of a desk, in the order in which they had the turn.
+#[derive(Drop)]
+pub struct Journal {
+    entries: Vec<Entry>,
+}
+
+impl Model for Journal {
+    ghost use Rattle.std.specs.Prelude.{List};
+    ghost use Rattle.street_desk.specs.declared.journal.Entry.{Entry};
+
+    ghost Value = { List Entry };
+
+    ghost view = { λ j. j.entries.items };
+}
+
+impl Journal {
+    /// How many calls.
+    pub fn len(&self) -> usize
+        ensures { result ≡ length self.now }
+    {
+        self.entries.len()
+    }
+
+    /// The call at a position, counted from 0.
+    pub fn entry(&self, at: usize) -> Option<&Entry>
+        ensures { option_copied result ≡ slice_get self.now at }
+    {
+        self.entries.get(at)
+    }
+}
+
+/// An engine with the journal of all that it was called for: the journal is legal, the engine stands for the state that it
+/// leaves, and there is room for so many calls.
+#[derive(Drop)]
+pub(crate) struct Recorder<G: Gate + Drop> {
+    engine: Engine<G>,
+    entries: Vec<Entry>,
+    calls: u64,
+}
+
+impl<G: Gate + Drop> Model for Recorder<G> {
+    ghost use Rattle.std.specs.Prelude.{◌≤◌, vec_capacity};
+    ghost use Rattle.street_engine.specs.Refines.{StandsFor};
+    ghost use Rattle.street_desk.specs.History.{state_of, IsLegal};
+    ghost use Rattle.street_desk.specs.Rule.{Recorded};
+
+    ghost Value = { Recorded };
+
+    ghost view = { λ r. record { history = r.entries.items; calls = r.calls } };
+
+    ghost invariant = { λ r. IsLegal r.entries.items
+        × StandsFor r.engine (state_of r.entries.items)
+        × (r.calls ≤ vec_capacity r.entries) };
+}
+
+impl<G: Gate + Drop> Recorder<G> {
+    /// An engine with nothing loaded, and room for so many calls.
+    pub(crate) fn new(
+        alloc: Global,
+        engine: Engine<G>,
+        calls: u64,
+    ) -> Result<Recorder<G>, AllocError>
+        requires { StandsFor engine None }
+        ensures { IfOk result (λ r. (r.history ≡ []) × (r.calls ≡ calls)) }
+    {
+        let entries = Vec::with_capacity(alloc, calls as usize)?;
+        Ok(Recorder {
+            engine,
+            entries,
+            calls,
+        })
+    }
+
+    /// Applies a command and writes it down. The journal takes no memory.
+    pub(crate) fn call(&mut self, session: u64, command: Command) -> (Reply, Outcome)
+        requires { length self.old.history < self.old.calls }
+        ensures allowed { Allows (state_of self.old.history) command result.1 }
+        ensures reply { result.0 ≡ reply_to (state_of self.old.history) command result.1 }
+        ensures history { self.new.history ≡ self.old.history ++ entry session command result.1 ∷ [] }
+        ensures room { self.new.calls ≡ self.old.calls }
+        ensures legal { IsLegal self.new.history }
+    {
+        let (reply, outcome) = self.engine.apply(&command);
+        self.entries.push_reserved(Entry {
+            session,
+            command,
+            outcome,
+        });
+        (reply, outcome)
+    }
+
+    /// The engine and the journal.
+    pub(crate) fn into_parts(self) -> (Engine<G>, Journal)
+        ensures history { result.1 ≡ self.history }
+        ensures legal { IsLegal result.1 }
+        ensures state { StandsFor result.0 (state_of result.1) }
+    {
+        let Recorder {
+            engine,
+            entries,
+            calls: _,
+        } = self;
+        (engine, Journal { entries })
+    }
+}

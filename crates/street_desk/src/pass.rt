@@ -1,0 +1,50 @@
+//! What a caller holds: a pass, and notes of what a pass has seen.
+
+use crate::journal::Recorder;
+use crate::view::View;
+use atomic_table::Seat;
+use std::marker::Model;
+use street_engine::Gate;
+
+/// A seat at the desk's table.
+pub(crate) type Chair<G> = Seat<Option<Recorder<G>>, View>;
+
+/// What one caller knows of a desk, and the session numbers that it owns. It calls as the least of them.
+#[derive(Drop)]
+pub struct Pass<G: Gate + Drop> {
+    pub(crate) seat: Chair<G>,
+    pub(crate) least: u64,
+    pub(crate) greatest: u64,
+}
+
+impl<G: Gate + Drop> Model for Pass<G> {
+    ghost use Rattle.std.specs.Prelude.{◌≡◌, ◌≤◌, [], ◌∷◌};
+    ghost use Rattle.street_desk.specs.Passes.{PassView, pass_view, Rests};
+
+    ghost Value = { PassView };
+
+    ghost view = { λ p. pass_view p.seat.table_id p.seat.me.0 };
+
+    ghost invariant = { λ p. (p.seat.me.1 ≡ [])
+        × Rests p.seat.me.0
+        × (p.least ≡ p.seat.me.0.least)
+        × (p.greatest ≡ p.seat.me.0.greatest)
+        × (p.least ≤ p.greatest) };
+}
+
+/// What a pass had seen, for another to hear.
+#[derive(Drop)]
+pub struct Note<G: Gate + Drop> {
+    pub(crate) seat: Chair<G>,
+}
+
+impl<G: Gate + Drop> Model for Note<G> {
+    ghost use Rattle.std.specs.Prelude.{◌≡◌, [], ◌∷◌};
+    ghost use Rattle.street_desk.specs.Passes.{NoteView, note_view};
+
+    ghost Value = { NoteView };
+
+    ghost view = { λ n. note_view n.seat.table_id n.seat.me.0 };
+
+    ghost invariant = { λ n. n.seat.me.1 ≡ [] };
+}

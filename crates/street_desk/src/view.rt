@@ -1,0 +1,108 @@
+//! What a seat at the desk's table knows, and the steps on its word.
+//!
+//! The table has one word, twice the number of finished calls and one more during a turn, and one slot, in which the engine
+//! lies with its journal while nobody has the turn.
+
+use crate::journal::{Entry, Recorder};
+use atomic_table::{Join, Play, Split, TableRule};
+use std::collections::LinkedList;
+use street_engine::Gate;
+
+/// What a seat knows. No value of it is made.
+pub struct View {
+    /// The history seen.
+    pub seen: LinkedList<Entry>,
+    /// What was heard of the history, until the next load.
+    pub also: LinkedList<Entry>,
+    /// The number of finished calls that was told.
+    pub count: u64,
+    /// Whether it has the turn.
+    pub turn: bool,
+    /// Whether it owns session numbers: those from `least` to `greatest`.
+    pub owns: bool,
+    /// The session that it calls as.
+    pub least: u64,
+    /// The greatest session number that it owns.
+    pub greatest: u64,
+    /// How many calls the desk takes.
+    pub calls: u64,
+    /// How many sessions it has.
+    pub sessions: u64,
+    /// Whether it is not spent.
+    pub live: bool,
+}
+
+/// How many calls a desk takes, and how many sessions it has.
+#[derive(Clone, Copy, Drop)]
+pub struct Limits {
+    pub calls: u64,
+    pub sessions: u64,
+}
+
+/// The rule of the table.
+pub struct Turns;
+
+impl<G: Gate + Drop> TableRule<Option<Recorder<G>>, View, Limits> for Turns {
+    ghost use Rattle.street_desk.specs.Rule.{Kept, first_view};
+
+    ghost holds = { λ k. Kept k.calls k.sessions };
+
+    ghost first = { λ k. first_view k.calls k.sessions };
+}
+
+/// A load.
+pub(crate) struct Look;
+
+impl<G: Gate + Drop> Play<Option<Recorder<G>>, View> for Look {
+    ghost use Rattle.street_desk.specs.Steps.{look};
+
+    ghost then = { look };
+}
+
+/// A compare-exchange, which may take the turn.
+pub(crate) struct Grab;
+
+impl<G: Gate + Drop> Play<Option<Recorder<G>>, View> for Grab {
+    ghost use Rattle.street_desk.specs.Steps.{grab};
+
+    ghost then = { grab };
+}
+
+/// The store that gives the turn back.
+pub(crate) struct Release;
+
+impl<G: Gate + Drop> Play<Option<Recorder<G>>, View> for Release {
+    ghost use Rattle.street_desk.specs.Steps.{release};
+
+    ghost then = { release };
+}
+
+/// The greatest session number goes to a pass of its own.
+pub(crate) struct Last;
+
+impl Split<View> for Last {
+    ghost use Rattle.street_desk.specs.Steps.{less_one, last_one};
+
+    ghost left = { less_one };
+
+    ghost right = { last_one };
+}
+
+/// A note is made, and heard.
+pub(crate) struct Hearsay;
+
+impl Split<View> for Hearsay {
+    ghost use Rattle.street_desk.specs.Steps.{noted};
+
+    ghost left = { λ v. v };
+
+    ghost right = { noted };
+}
+
+impl Join<View> for Hearsay {
+    ghost use Rattle.street_desk.specs.Steps.{heard, spent_view};
+
+    ghost both = { heard };
+
+    ghost spent = { spent_view };
+}

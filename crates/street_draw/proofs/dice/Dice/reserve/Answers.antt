@@ -1,0 +1,9 @@
+use Rattle.std.proofs.lemmas.List.Elements.{All-append, All-replicate}
+use Rattle.street_draw.specs.Kept.{IsKept}
+use Rattle.street_draw.proofs.dice.Dice.reserve.Goals as goal
+
+pub invariant_of-self : goal.invariant_of-self
+invariant_of-self c = rw (c.drawn-first.ensures.key, c.grow.ensures.1) (record {
+  of_seed = c.self.invariant.of_seed;
+  each = All-append (IsKept c.self.inside.rng.key c.self.inside.dawdle c.self.inside.change) _ _ c.self.invariant.each (All-replicate (IsKept c.self.inside.rng.key c.self.inside.dawdle c.self.inside.change) c.grow.ensures.0 _ c.drawn-first.ensures.kept);
+})

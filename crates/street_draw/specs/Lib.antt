@@ -1,0 +1,2 @@
+pub mod Odds
+pub mod Kept

@@ -1,0 +1,200 @@
+//! The dice of a network, with what was drawn lately kept.
+
+ghost use Rattle.std.specs.Prelude.{◌≡◌, ℕ, ◌+◌, ◌-◌, ◌*◌, ◌/◌, ◌%◌, ◌^◌, ◌<◌, ◌==◌, ◌++◌, nat_lt, replicate, IfOk, if◌then◌else◌};
+ghost use Rattle.street_base.specs.Draw.{key_of_seed, lane_draw, dawdle_draw};
+ghost use Rattle.street_draw.specs.Odds.{Odds};
+ghost use Rattle.street_draw.specs.Kept.{IsKept};
+
+use crate::draws::{generator, scaled};
+use rand_chacha::ChaCha20Rng;
+use rand_core::utils::NextWord;
+use std::alloc::Global;
+use std::marker::Model;
+use street_base::{CarNo, Starved, Step};
+
+/// The draws of one vehicle in 32 steps, from `32 * block` on: a bit each for whether it dawdles, and for whether it may
+/// change lane, the first step's the highest.
+#[derive(Clone, Copy)]
+struct KeptDraws {
+    number: CarNo,
+    block: u32,
+    dawdles: u32,
+    changes: u32,
+}
+
+/// The dice of a network, whose vehicles dawdle and change lane so many times in 1,000.
+///
+/// A contract sees the seed and the odds. What is kept is not seen: an answer is the same whatever is kept.
+#[derive(Drop)]
+pub struct Dice {
+    rng: ChaCha20Rng,
+    seed: u64,
+    dawdle: u16,
+    change: u16,
+    kept: Vec<KeptDraws>,
+}
+
+impl Model for Dice {
+    ghost use Rattle.street_draw.specs.Odds.{Odds};
+    ghost use Rattle.street_draw.specs.Kept.{IsSound};
+
+    ghost Value = { Odds };
+
+    ghost view = { λ d. record { seed = d.seed; dawdle = d.dawdle; change = d.change } };
+
+    ghost invariant = { λ d. IsSound d.rng.key d.seed d.dawdle d.change d.kept.items };
+}
+
+/// Whether the draw of a word is below the odds.
+fn is_below(word: u32, odds: u16) -> bool
+    ensures { result ≡ nat_lt (word * 1000 / 2 ^ 32) odds }
+{
+    scaled(word) < odds
+}
+
+/// The bit of a step within its block.
+fn bit(bits: u32, at: u32) -> bool
+    requires { at < 32 }
+    ensures { result ≡ (bits / 2 ^ (31 - at) % 2 == 1) }
+{
+    (bits >> (31 - at)) % 2 == 1
+}
+
+/// The bits with one more, the lowest.
+fn with_bit(bits: u32, answer: bool) -> u32
+    requires { bits < 2 ^ 31 }
+    ensures { result ≡ bits * 2 + (if answer then 1 else 0) }
+{
+    if answer { bits * 2 + 1 } else { bits * 2 }
+}
+
+/// Draws for a vehicle in a block of 32 steps: 64 words, asked from a multiple of 64 on, are one call of the cipher.
+fn drawn(rng: &mut ChaCha20Rng, number: CarNo, block: u32, dawdle: u16, change: u16) -> KeptDraws
+    ensures kept { IsKept rng.old.key dawdle change result }
+    ensures number { result.number ≡ number }
+    ensures block { result.block ≡ block }
+    ensures key { rng.new.key ≡ rng.old.key }
+{
+    rng.set_stream(u64::from(number));
+    rng.set_word_pos(u128::from(block) * 64);
+    let mut dawdles = 0u32;
+    let mut changes = 0u32;
+    for i in 0..32u32 {
+        let lane = rng.next_word();
+        let slow = rng.next_word();
+        changes = with_bit(changes, is_below(lane, change));
+        dawdles = with_bit(dawdles, is_below(slow, dawdle));
+    }
+    KeptDraws {
+        number,
+        block,
+        dawdles,
+        changes,
+    }
+}
+
+/// Adds more of the same up to so many places.
+fn grow(kept: &mut Vec<KeptDraws>, first: KeptDraws, places: usize) -> Result<(), Starved>
+    ensures { (n : ℕ) × (kept.new.items ≡ kept.old.items ++ replicate n first) }
+{
+    for _ in kept.len()..places {
+        kept.push(first)?;
+    }
+    Ok(())
+}
+
+impl Dice {
+    /// The dice of a network of this seed, dawdle and change (both per mille), with room to keep the draws of so many
+    /// vehicles.
+    ///
+    /// # Errors
+    ///
+    /// `Starved` where memory was refused.
+    pub fn new(
+        alloc: Global,
+        seed: u64,
+        dawdle: u16,
+        change: u16,
+        places: usize,
+    ) -> Result<Dice, Starved>
+        ensures { IfOk result (λ dice. let odds : Odds = record { seed = seed; dawdle = dawdle; change = change } in dice ≡ odds) }
+    {
+        let mut rng = generator(seed);
+        let first = drawn(&mut rng, 0, 0, dawdle, change);
+        let kept = vec![in alloc; first; places]?;
+        Ok(Dice {
+            rng,
+            seed,
+            dawdle,
+            change,
+            kept,
+        })
+    }
+
+    /// Makes room to keep the draws of so many vehicles. Every answer stays what it was.
+    ///
+    /// # Errors
+    ///
+    /// `Starved` where memory was refused.
+    pub fn reserve(&mut self, places: usize) -> Result<(), Starved>
+        ensures { self.new ≡ self.old }
+    {
+        if places <= self.kept.len() {
+            return Ok(());
+        }
+        let first = drawn(&mut self.rng, 0, 0, self.dawdle, self.change);
+        grow(&mut self.kept, first, places)
+    }
+
+    /// The draws of a vehicle in the step's block, kept from now on at a place that the caller names.
+    fn look(&mut self, at: usize, step: Step, number: CarNo) -> KeptDraws
+        ensures kept { IsKept (key_of_seed self.old.seed) self.old.dawdle self.old.change result }
+        ensures number { result.number ≡ number }
+        ensures block { result.block ≡ step / 32 }
+        ensures same { self.new ≡ self.old }
+    {
+        let block = step / 32;
+        if at < self.kept.len() {
+            let kept = self.kept[at];
+            if kept.number == number && kept.block == block {
+                return kept;
+            }
+        }
+        let kept = drawn(&mut self.rng, number, block, self.dawdle, self.change);
+        if at < self.kept.len() {
+            self.kept[at] = kept;
+        }
+        kept
+    }
+
+    /// Whether the vehicle dawdles in the step. Its draws are kept at the place `at`, where there is such a place: any
+    /// number that is seldom another vehicle's serves, as its key or its number. Takes no memory.
+    pub fn dawdles(&mut self, at: usize, step: Step, number: CarNo) -> bool
+        ensures value { result ≡ nat_lt (dawdle_draw self.old.seed number step) self.old.dawdle }
+        ensures same { self.new ≡ self.old }
+    {
+        if self.dawdle == 0 {
+            return false;
+        }
+        if self.dawdle >= 1000 {
+            return true;
+        }
+        let kept = self.look(at, step, number);
+        bit(kept.dawdles, step % 32)
+    }
+
+    /// Whether the draw of a step lets the vehicle change lane. Its draws are kept as those of `dawdles` are. Takes no memory.
+    pub fn may_change(&mut self, at: usize, step: Step, number: CarNo) -> bool
+        ensures value { result ≡ nat_lt (lane_draw self.old.seed number step) self.old.change }
+        ensures same { self.new ≡ self.old }
+    {
+        if self.change == 0 {
+            return false;
+        }
+        if self.change >= 1000 {
+            return true;
+        }
+        let kept = self.look(at, step, number);
+        bit(kept.changes, step % 32)
+    }
+}

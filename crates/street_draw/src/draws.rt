@@ -1,0 +1,36 @@
+//! Draws, as words of the cipher say them.
+
+ghost use Rattle.std.specs.Prelude.{◌≡◌, ◌*◌, ◌/◌, ◌^◌, ◌<◌};
+ghost use Rattle.street_base.specs.Draw.{draw, key_of_seed};
+
+use rand_chacha::ChaCha20Rng;
+use rand_core::SeedableRng;
+use rand_core::utils::NextWord;
+use street_base::CarNo;
+
+/// The draw of a word, from 0 to 999.
+pub(crate) fn scaled(word: u32) -> u16
+    ensures { result ≡ word * 1000 / 2 ^ 32 }
+{
+    (u64::from(word) * 1000 / 4_294_967_296) as u16
+}
+
+/// The generator of a seed.
+pub(crate) fn generator(seed: u64) -> ChaCha20Rng
+    ensures { result.key ≡ key_of_seed seed }
+{
+    let mut bytes = [0u8; 32];
+    bytes[..8].copy_from_slice(&seed.to_le_bytes());
+    ChaCha20Rng::from_seed(bytes)
+}
+
+/// The draw, from 0 to 999, of a network's seed at a place of a vehicle's stream: at `2 * step` the one by which it changes
+/// lane or does not, at `2 * step + 1` the one by which it dawdles or does not.
+pub fn draw(seed: u64, car: CarNo, place: u64) -> u16
+    ensures { result ≡ draw seed car place }
+{
+    let mut rng = generator(seed);
+    rng.set_stream(u64::from(car));
+    rng.set_word_pos(u128::from(place));
+    scaled(rng.next_word())
+}

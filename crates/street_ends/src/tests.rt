@@ -1,0 +1,127 @@
+use crate::{Counted, FaultKind, PartialLine, Tally, flush_out, write_reply, write_text};
+use std::io;
+use std::io::{Read, Write};
+use std::process::Abort;
+use std::test::Fail;
+
+/// Takes bytes while there is room, three at most at a time, and then fails or takes none.
+#[derive(Drop)]
+struct SlowWriter {
+    taken: Vec<u8>,
+    room: usize,
+    fails: bool,
+}
+
+impl Write for SlowWriter {
+    fn write(&mut self, bytes: &[u8]) -> io::Result<usize> {
+        for (count, byte) in bytes.iter().enumerate().take(3) {
+            if self.taken.len() >= self.room {
+                return match count {
+                    0 if self.fails => Err(io::Error::from(io::ErrorKind::BrokenPipe)),
+                    _ => Ok(count),
+                };
+            }
+            self.taken.push(*byte)?;
+        }
+        Ok(bytes.len().min(3))
+    }
+
+    fn flush(&mut self) -> io::Result<()> {
+        if self.fails {
+            return Err(io::Error::from(io::ErrorKind::BrokenPipe));
+        }
+        Ok(())
+    }
+}
+
+#[test]
+fn replies_go_out_in_parts(rt: HostRuntime) -> Result<(), Fail> {
+    for (room, fails, sent, calls, failures, empty_writes) in [
+        (7, false, None, 3, 0, 0),
+        (6, true, Some(6), 3, 1, 0),
+        (6, false, Some(6), 3, 0, 1),
+        (4, true, Some(4), 3, 1, 0),
+        (0, false, Some(0), 1, 0, 1),
+    ] {
+        let mut writer = Counted::new(SlowWriter {
+            taken: Vec::new(rt.alloc()),
+            room,
+            fails,
+        });
+        assert_eq!(rt;
+            write_text(&mut writer, b"{\"a\":1}").err(),
+            sent,
+            "at {room}"
+        );
+        assert_eq!(rt; writer.calls(), calls, "at {room}");
+        assert_eq!(rt; writer.failures(), failures, "at {room}");
+        assert_eq!(rt; writer.empty_writes(), empty_writes, "at {room}");
+        assert_eq!(rt;
+            writer.end.taken.as_slice(),
+            &b"{\"a\":1}"[..room],
+            "at {room}"
+        );
+    }
+    Ok(())
+}
+
+#[test]
+fn replies_are_counted(rt: HostRuntime) -> Result<(), Fail> {
+    let mut tally = Tally {
+        lines: 2,
+        calls: 1,
+        replies: 1,
+        bytes: 5,
+    };
+    let mut writer = Counted::new(SlowWriter {
+        taken: Vec::new(rt.alloc()),
+        room: 8,
+        fails: true,
+    });
+    assert_eq!(rt; write_reply(&mut writer, b"{\"a\":1}", &mut tally), Ok(()));
+    assert_eq!(rt;
+        (tally.lines, tally.calls, tally.replies, tally.bytes),
+        (2, 1, 2, 12)
+    );
+    assert_eq!(rt;
+        write_reply(&mut writer, b"{\"a\":1}", &mut tally),
+        Err(FaultKind::Write)
+    );
+    assert_eq!(rt;
+        (tally.lines, tally.calls, tally.replies, tally.bytes),
+        (2, 1, 2, 13)
+    );
+    assert_eq!(rt; flush_out(&mut writer), Err(FaultKind::Write));
+    assert_eq!(rt; writer.failures(), 2);
+    Ok(())
+}
+
+#[test]
+fn reads_are_counted(rt: HostRuntime) -> Result<(), Fail> {
+    let mut reader = Counted::new(b"abc".as_slice());
+    let mut buffer = [0u8; 2];
+    assert_eq!(rt; reader.read(&mut buffer).or(Err("a fault"))?, 2);
+    assert_eq!(rt; reader.read(&mut buffer).or(Err("a fault"))?, 1);
+    assert_eq!(rt; reader.read(&mut buffer).or(Err("a fault"))?, 0);
+    assert_eq!(rt;
+        (reader.calls(), reader.failures(), reader.empty_writes()),
+        (3, 0, 0)
+    );
+    Ok(())
+}
+
+#[test]
+fn one_byte_more_is_kept(rt: HostRuntime) -> Result<(), Fail> {
+    let mut part = PartialLine::new(rt.alloc(), 3);
+    for byte in b" \t\r\r\r" {
+        part.push(*byte)?;
+    }
+    assert!(rt; part.is_blank());
+    assert_eq!(rt; part.as_slice(), b" \t\r\r".as_slice());
+    part.push(b'x')?;
+    assert!(rt; !part.is_blank());
+    part.clear();
+    assert!(rt; part.is_blank());
+    assert!(rt; part.as_slice().is_empty());
+    Ok(())
+}

@@ -1,0 +1,10 @@
+use Rattle.std.proofs.Common.{◌≡◌, ◌+◌, ◌-◌, ◌≤◌}
+use Rattle.street_base.specs.Limits.{last_clock}
+use Rattle.street_base.specs.Step.{steps}
+use Rattle.street_engine.proofs.streets.Streets.steps.Given as goal
+
+abbrev pub invariant-loop-done : goal.invariant-loop-done
+invariant-loop-done l = record {
+  rest : steps (l.count - l.done) l.self ≡ steps l.count l.fn.self;
+  in_time : l.self.clock + (l.count - l.done) ≤ last_clock;
+}

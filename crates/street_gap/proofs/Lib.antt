@@ -1,0 +1,11 @@
+pub mod Stretches
+pub mod Cuts
+pub mod Closing
+pub mod Opening
+pub mod Marks
+pub mod Searching
+pub mod Entrances
+pub mod Edits
+pub mod Sights
+pub mod Counts
+pub mod Uniqueness

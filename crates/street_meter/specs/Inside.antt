@@ -1,0 +1,45 @@
+-- What the fields of a meter stand for, and its next rows.
+use Rattle.std.specs.Prelude.{◌≡◌, ℕ, ◌+◌, ◌*◌, ◌^◌, ◌<◌, ◌≤◌}
+use Rattle.street_base.specs.declared.reply.MeterRow.{MeterRow}
+use Rattle.street_base.specs.declared.reply.RunningRow.{RunningRow}
+use Rattle.street_meter.specs.declared.meter.Meter.TheInside.{Inside}
+use Rattle.street_meter.specs.Meter.{Meter}
+
+abbrev pub shown : Inside → Meter
+shown m = record {
+  place = record { link = m.place.link; lane = m.place.lane };
+  cell = m.place.cell;
+  period = m.period;
+  start = m.start;
+  rows = m.rows.items;
+  running = m.running;
+}
+
+-- the running row is not full, its sums are those of so many steps, and 32 full rows have room
+pub record IsSound (m : Inside) : Type 0 where
+  pub some : 1 ≤ m.period
+  pub short : m.period ≤ 100000
+  pub steps : m.running.steps < m.period
+  pub clock : m.running.start + m.running.steps ≤ 1000000000
+  pub passes : m.running.passes ≤ m.running.steps * 2 ^ 32
+  pub speeds : m.running.speeds ≤ m.running.steps * 2 ^ 32
+  pub occupied : m.running.occupied ≤ m.running.steps * 2 ^ 32
+  pub room : m.rows.capacity ≡ 32
+
+-- the running row with one step more
+abbrev pub row_with : RunningRow → ℕ → ℕ → ℕ → RunningRow
+row_with row passes speeds occupied = record {
+  start = row.start;
+  steps = row.steps + 1;
+  passes = row.passes + passes;
+  speeds = row.speeds + speeds;
+  occupied = row.occupied + occupied;
+}
+
+-- the running row as one that is full
+abbrev pub row_full : RunningRow → MeterRow
+row_full row = record { start = row.start; passes = row.passes; speeds = row.speeds; occupied = row.occupied }
+
+-- a running row of no steps
+abbrev pub row_from : ℕ → RunningRow
+row_from start = record { start = start; steps = 0; passes = 0; speeds = 0; occupied = 0 }

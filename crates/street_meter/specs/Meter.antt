@@ -1,0 +1,49 @@
+-- What a contract sees of a meter, and the triples that it stands for.
+-- Source: this profile.
+use Rattle.std.specs.Prelude.{◌≡◌, ℕ, ◌+◌, List, map}
+use Rattle.street_base.specs.declared.reply.MeterRow.{MeterRow}
+use Rattle.street_base.specs.declared.reply.RunningRow.{RunningRow}
+use Rattle.street_base.specs.Network.{Place}
+use Rattle.street_base.specs.State.{Triple, Detector}
+use Rattle.street_base.specs.Detector.{Row, full_rows, running_row}
+
+-- a lane and a cell of it, how many steps a row sums, the first step noted, the rows of the last full periods, at most 32, and the running one
+pub record Meter : Type 0 where
+  pub place : Place
+  pub cell : ℕ
+  pub period : ℕ
+  pub start : ℕ
+  pub rows : List MeterRow
+  pub running : RunningRow
+
+-- the sums of a row that is answered
+abbrev pub row_seen : MeterRow → Row
+row_seen row = record { start = row.start; passes = row.passes; speeds = row.speeds; occupied = row.occupied }
+
+-- the sums of the running row, and how many steps it has
+abbrev pub running_seen : RunningRow → Row × ℕ
+running_seen row = (record { start = row.start; passes = row.passes; speeds = row.speeds; occupied = row.occupied }, row.steps)
+
+-- the detector at the meter's place that has noted these triples
+abbrev pub detector_of : Meter → List Triple → Detector
+detector_of m triples = record { place = m.place; cell = m.cell; period = m.period; start = m.start; triples = triples }
+
+-- these are the rows of the detector, and this its running row
+pub record IsRead (rows : List MeterRow) (running : RunningRow) (detector : Detector) : Type 0 where
+  pub full : map row_seen rows ≡ full_rows detector
+  pub now : running_seen running ≡ running_row detector
+
+-- the meter stands for these triples: it shows what a detector that noted them answers
+abbrev pub Stands : Meter → List Triple → Type 0
+Stands m triples = IsRead m.rows m.running (detector_of m triples)
+
+-- the step that is noted next
+abbrev pub next_step : Meter → ℕ
+next_step m = m.running.start + m.running.steps
+
+-- the meter has the place, the period and the start of the other
+pub record IsPlacedAs (new old : Meter) : Type 0 where
+  pub place : new.place ≡ old.place
+  pub cell : new.cell ≡ old.cell
+  pub period : new.period ≡ old.period
+  pub start : new.start ≡ old.start

@@ -1,0 +1,169 @@
+//! A detector as sums.
+ghost use Rattle.std.specs.Prelude.{◌≡◌, ℕ, ◌+◌, ◌*◌, ◌^◌, ◌<◌, ◌≤◌, List, [], ◌∷◌, ◌++◌, IfOk};
+ghost use Rattle.street_base.specs.State.{Triple};
+ghost use Rattle.street_meter.specs.Meter.{Stands, IsRead, IsPlacedAs, detector_of, next_step};
+ghost use Rattle.street_meter.specs.Inside.{row_with, row_full, row_from};
+
+use circular_buffer::HeapCircularBuffer;
+use std::alloc::Global;
+use std::marker::Model;
+use street_base::{CellNo, LaneNo, LinkIx, Listing, MeterRow, RunningRow, Starved, Step};
+
+/// How many rows of full periods a meter keeps.
+const KEPT_ROWS: usize = 32;
+
+/// Where a meter is.
+#[derive(Clone, Copy)]
+pub struct Place {
+    /// The link.
+    pub link: LinkIx,
+    /// The lane of it.
+    pub lane: LaneNo,
+    /// The cell of the lane.
+    pub cell: CellNo,
+}
+
+/// The rows of a meter.
+#[derive(Drop)]
+pub struct Rows {
+    /// The running period.
+    pub running: RunningRow,
+    /// The last full periods, at most 32, the oldest first.
+    pub full: Listing<MeterRow>,
+}
+
+/// What a cell's detector has noted, summed by periods: the running one and the last 32 full ones.
+#[derive(Drop)]
+pub struct Meter {
+    place: Place,
+    period: u32,
+    start: Step,
+    running: RunningRow,
+    rows: HeapCircularBuffer<MeterRow>,
+}
+
+impl Model for Meter {
+    ghost use Rattle.street_meter.specs.Meter.{Meter as Seen};
+
+    ghost Value = { Seen };
+
+    ghost use Rattle.street_meter.specs.Inside.{shown, IsSound};
+
+    ghost view = { shown };
+
+    ghost invariant = { IsSound };
+}
+
+/// A running row of no steps.
+fn begun_at(start: u64) -> RunningRow
+    ensures { result ≡ row_from start }
+{
+    RunningRow {
+        start,
+        steps: 0,
+        passes: 0,
+        speeds: 0,
+        occupied: 0,
+    }
+}
+
+/// The running row as one that is full.
+fn ended(row: RunningRow) -> MeterRow
+    ensures { result ≡ row_full row }
+{
+    MeterRow {
+        start: row.start,
+        passes: row.passes,
+        speeds: row.speeds,
+        occupied: row.occupied,
+    }
+}
+
+/// The running row with one step more.
+fn with_step(row: RunningRow, passes: u32, speeds: u32, occupied: u32) -> RunningRow
+    requires steps { row.steps < 100000 }
+    requires passes { row.passes ≤ row.steps * 2 ^ 32 }
+    requires speeds { row.speeds ≤ row.steps * 2 ^ 32 }
+    requires occupied { row.occupied ≤ row.steps * 2 ^ 32 }
+    ensures { result ≡ row_with row passes speeds occupied }
+{
+    RunningRow {
+        start: row.start,
+        steps: row.steps + 1,
+        passes: row.passes + u64::from(passes),
+        speeds: row.speeds + u64::from(speeds),
+        occupied: row.occupied + u64::from(occupied),
+    }
+}
+
+impl Meter {
+    /// A meter that has noted nothing. The period is 1 to 100,000 steps; the first step noted is `start`, at most
+    /// `LAST_CLOCK`.
+    ///
+    /// # Errors
+    /// Memory for the rows was wanting.
+    pub fn new(alloc: Global, place: Place, period: u32, start: Step) -> Result<Meter, Starved>
+        requires some { 1 ≤ period }
+        requires short { period ≤ 100000 }
+        requires start { start ≤ 1000000000 }
+        ensures place { IfOk result (λ m. (m.place ≡ record { link = place.link; lane = place.lane }) × (m.cell ≡ place.cell)) }
+        ensures period { IfOk result (λ m. (m.period ≡ period) × (m.start ≡ start)) }
+        ensures next { IfOk result (λ m. next_step m ≡ start) }
+        ensures stands { IfOk result (λ m. Stands m []) }
+    {
+        let rows = HeapCircularBuffer::with_capacity(alloc, KEPT_ROWS)?;
+        Ok(Meter {
+            place,
+            period,
+            start,
+            running: begun_at(u64::from(start)),
+            rows,
+        })
+    }
+
+    /// Notes a step: how many vehicles passed, the sum of their speeds, and 1 if the cell was occupied at its end. The step
+    /// lies before `LAST_CLOCK`. Takes no memory.
+    pub fn note(&mut self, passes: u32, speeds: u32, occupied: u32)
+        requires { next_step self.old < 1000000000 }
+        ensures placed { IsPlacedAs self.new self.old }
+        ensures stands { (triples : List Triple) → Stands self.old triples → Stands self.new (triples ++ record { passes = passes; speeds = speeds; occupied = occupied } ∷ []) }
+        ensures next { next_step self.new ≡ next_step self.old + 1 }
+    {
+        let row = with_step(self.running, passes, speeds, occupied);
+        if row.steps == u64::from(self.period) {
+            self.rows.push_back(ended(row));
+            self.running = begun_at(row.start + row.steps);
+        } else {
+            self.running = row;
+        }
+    }
+
+    /// The running row, and the rows of the last 32 full periods.
+    ///
+    /// # Errors
+    /// Memory for the rows was wanting.
+    pub fn rows(&self, alloc: Global) -> Result<Rows, Starved>
+        ensures { IfOk result (λ r. (triples : List Triple) → Stands self.now triples → IsRead r.full r.running (detector_of self.now triples)) }
+    {
+        let full = self.rows.to_vec(alloc)?;
+        Ok(Rows {
+            running: self.running,
+            full: Listing::from_vec(full),
+        })
+    }
+
+    /// Where the meter is.
+    pub fn place(&self) -> Place
+        ensures lane { self.now.place ≡ record { link = result.link; lane = result.lane } }
+        ensures cell { self.now.cell ≡ result.cell }
+    {
+        self.place
+    }
+
+    /// How many steps a row sums.
+    pub fn period(&self) -> u32
+        ensures { result ≡ self.now.period }
+    {
+        self.period
+    }
+}

@@ -1,0 +1,76 @@
+-- What a network keeps beside its lists, so that a step searches for nothing in them.
+-- Source: the order of release is this profile's.
+use Rattle.std.specs.Prelude.{◌≡◌, ℕ, ◌+◌, ◌*◌, ◌<◌, ◌==◌, List, map, filter, length, Bool, false, ◌&&◌, Some, None, Vec, unwrap_or, slice_index_or}
+use Rattle.std.specs.Option.{option_map_or}
+use Rattle.std.specs.declared.alloc.Global.{Global}
+use Rattle.std.specs.List.Sorted.{IsPermutation, IsNonDecreasingBy}
+use Rattle.street_base.specs.declared.net.NetSpec.{NetSpec}
+use Rattle.street_base.specs.declared.net.TurnSpec.{TurnSpec}
+use Rattle.street_base.specs.declared.net.Turn.{Turn}
+use Rattle.street_base.specs.Network.{Place, names_link, link_of, link_at, node_of, places}
+use Rattle.street_base.specs.Faults.{network_fault}
+use Rattle.street_net.specs.Keys.{ids_of_nodes, ids_of_links}
+use Rattle.street_net.specs.declared.lanes.LaneId.{LaneId}
+
+-- the lane that an identifier of the code names
+abbrev pub place_of : LaneId → Place
+place_of id = record { link = id.link; lane = id.lane }
+
+-- ---- the lanes that run to a node
+
+-- the lane's link runs to the node at this position
+abbrev pub ends_at : NetSpec → ℕ → Place → Bool
+ends_at net node place = option_map_or (λ end. end == node) (node_of net (link_at net place.link).to) false
+
+-- the lanes that run to a node, in the order of release: by the position of the link, then by the lane
+abbrev pub in_places : NetSpec → ℕ → List Place
+in_places net node = filter (ends_at net node) (places net)
+
+-- for each link the node that it runs to
+pub record AreEnds (net : NetSpec) (nodes : List ℕ) : Type 0 where
+  pub one_each : length nodes ≡ length net.links
+  pub ends : (link : ℕ) → link < length net.links → node_of net (link_at net link).to ≡ Some (slice_index_or nodes link 0)
+
+-- for each node the lanes that run to it
+pub record AreInLanes (net : NetSpec) (listed : List (Vec LaneId Global)) : Type 0 where
+  pub one_each : length listed ≡ length net.nodes
+  pub lists : (node : ℕ) (d : Vec LaneId Global) → node < length net.nodes → map place_of (slice_index_or listed node d).items ≡ in_places net node
+
+-- ---- the turns from a lane
+
+-- a turn from this lane to this next link, by the positions of its links
+abbrev pub turn_by_position : Place → ℕ → TurnSpec → Turn
+turn_by_position place next t = record { link = place.link; lane = place.lane; next = next; next_lane = t.next_lane }
+
+-- a turn of the load, by the positions of its links
+abbrev pub seen_turn : NetSpec → TurnSpec → Turn
+seen_turn net t = record { link = unwrap_or (link_of net t.link) 0; lane = t.lane; next = unwrap_or (link_of net t.next) 0; next_lane = t.next_lane }
+
+-- a turn leaves this lane
+abbrev pub is_from : NetSpec → Place → TurnSpec → Bool
+is_from net place t = names_link net t.link place.link && (t.lane == place.lane)
+
+-- those of these turns that leave a lane
+abbrev pub turns_from : NetSpec → Place → List TurnSpec → List Turn
+turns_from net place turns = map (seen_turn net) (filter (is_from net place) turns)
+
+-- the turns from a lane, by the positions of their next links
+pub record AreTurnsFrom (net : NetSpec) (place : Place) (turns : List Turn) : Type 0 where
+  pub same : IsPermutation (turns_from net place net.turns) turns
+  pub rising : IsNonDecreasingBy (λ t. t.next) turns
+
+-- for each link two lists of turns, one a lane
+pub record IsTurnTable (net : NetSpec) (table : List (Vec Turn Global)) : Type 0 where
+  pub two_each : length table ≡ 2 * length net.links
+  pub lists : (place : Place) (d : Vec Turn Global) → place.link < length net.links → place.lane < 2 → AreTurnsFrom net place (slice_index_or table (2 * place.link + place.lane) d).items
+
+-- ---- a network
+
+-- a load without faults, with its identifiers in order and its tables
+pub record IsChecked (net : NetSpec) (nodes links ends : List ℕ) (in_lanes : List (Vec LaneId Global)) (turns : List (Vec Turn Global)) : Type 0 where
+  pub faultless : network_fault net ≡ None
+  pub nodes_listed : nodes ≡ ids_of_nodes net.nodes
+  pub links_listed : links ≡ ids_of_links net.links
+  pub ends_kept : AreEnds net ends
+  pub in_lanes_kept : AreInLanes net in_lanes
+  pub turns_kept : IsTurnTable net turns

@@ -1,0 +1,113 @@
+//! Plans of several links: the first bad entry, and the links by their positions.
+//!
+//! Source: this profile. An entry is good if it is a link, and the first or one to which a lane of the link before has a turn.
+ghost use Rattle.std.specs.Prelude.{◌≡◌, ◌-◌, ◌<◌, ℕ, true, false, None, Some, length, IfOk, IfErr, OnOk, MatchOption, slice_index};
+ghost use Rattle.std.specs.List.{list_any, range_with_len};
+ghost use Rattle.street_base.specs.Network.{Place, link_at, link_of, serves};
+ghost use Rattle.street_base.specs.Faults.{is_bad_entry, whole_plan_fault};
+ghost use Rattle.street_base.specs.Machine.{plan_links};
+ghost use Rattle.street_net.specs.Refused.{TellsRefusal, plan_refusal};
+
+use crate::checked::Network;
+use crate::faults::PlanFault;
+use std::alloc::Global;
+use street_base::{LinkIx, Plan};
+
+/// How many links a plan has at most.
+pub(crate) const MOST_PLAN: usize = 1_024;
+
+impl Network {
+    /// Whether a lane of a link has a turn to a next link.
+    fn leads_to(&self, link: LinkIx, next: LinkIx) -> bool
+        requires { link < length self.now.links }
+        ensures { result ≡ list_any (λ lane. let place : Place = record { link = link; lane = lane } in serves self.now place next)
+            (range_with_len 0 (link_at self.now link).lanes) }
+    {
+        (0..self.lanes_of(link)).any(|lane| self.serves(link, lane, next))
+    }
+
+    /// The link of a later entry of a plan, if the entry is good. `before` is the link of the entry before it.
+    fn later_link(&self, plan: &[u64], at: usize, before: LinkIx) -> Option<LinkIx>
+        requires later { 0 < at }
+        requires within { at < length plan.now }
+        requires before { link_of self.now (slice_index plan.now (at - 1)) ≡ Some before }
+        requires is_link { before < length self.now.links }
+        ensures entry { MatchOption result
+            (is_bad_entry self.now plan.now at (slice_index plan.now at) ≡ true)
+            (λ link. is_bad_entry self.now plan.now at (slice_index plan.now at) ≡ false) }
+        ensures link { MatchOption result Unit (λ link. link_of self.now (slice_index plan.now at) ≡ Some link) }
+        ensures is_link { MatchOption result Unit (λ link. link < length self.now.links) }
+    {
+        if at >= MOST_PLAN {
+            return None;
+        }
+        let link = self.link_of(plan[at])?;
+        self.leads_to(before, link).then_some(link)
+    }
+
+    /// The first link of a plan, or the position of the plan's first bad entry. Takes no memory.
+    fn first_link(&self, plan: &[u64]) -> Result<LinkIx, u64>
+        ensures link { IfOk result (λ link. link_of self.now (slice_index plan.now 0) ≡ Some link) }
+        ensures is_link { IfOk result (λ link. link < length self.now.links) }
+        ensures some { OnOk result (0 < length plan.now) }
+        ensures faultless { OnOk result (whole_plan_fault self.now plan.now ≡ None) }
+        ensures fault { IfErr result (λ at. whole_plan_fault self.now plan.now ≡ Some at) }
+    {
+        let Some(id) = plan.first() else {
+            return Err(0);
+        };
+        let Some(first) = self.link_of(*id) else {
+            return Err(0);
+        };
+        let mut before = first;
+        for at in 1..plan.len() {
+            match self.later_link(plan, at, before) {
+                Some(link) => before = link,
+                None => return Err(at as u64),
+            }
+        }
+        Ok(first)
+    }
+
+    /// Why a plan is refused to a vehicle that enters on a lane of the plan's first link: `Bad` with the position of the
+    /// first bad entry, else `Lane` where the first link has no such lane. Looks at 1,024 entries at most, and takes no
+    /// memory.
+    pub fn plan_refusal(&self, plan: &[u64], lane: u64) -> Option<PlanFault>
+        ensures { result ≡ plan_refusal self.now plan.now lane }
+    {
+        match self.first_link(plan) {
+            Ok(first) if lane < u64::from(self.lanes_of(first)) => None,
+            Ok(_) => Some(PlanFault::Lane),
+            Err(at) => Some(PlanFault::Bad { at }),
+        }
+    }
+
+    /// The links of a plan of identifiers, for a vehicle that enters on a lane of the first. Takes memory for the plan's
+    /// length.
+    ///
+    /// # Errors
+    ///
+    /// What [`Network::plan_refusal`] tells; else `Starved` where memory was refused.
+    pub fn check_whole_plan(
+        &self,
+        alloc: Global,
+        plan: &[u64],
+        lane: u64,
+    ) -> Result<Plan, PlanFault>
+        ensures links { IfOk result (λ links. links ≡ plan_links self.now plan.now) }
+        ensures some { IfOk result (λ links. 0 < length links) }
+        ensures faultless { OnOk result (plan_refusal self.now plan.now lane ≡ None) }
+        ensures fault { IfErr result (TellsRefusal (plan_refusal self.now plan.now lane)) }
+    {
+        if let Some(fault) = self.plan_refusal(plan, lane) {
+            return Err(fault);
+        }
+        let mut links = Vec::with_capacity(alloc, plan.len())?;
+        for id in plan {
+            if let Some(link) = self.link_of(*id) {
+                links.push(link)?;
+            }
+        }
+        Ok(Plan::from_vec(links))
+    }
+}

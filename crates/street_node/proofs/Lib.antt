@@ -1,0 +1,4 @@
+pub mod Finding
+pub mod Showing
+pub mod Judging
+pub mod Building

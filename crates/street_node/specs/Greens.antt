@@ -1,0 +1,61 @@
+-- How a signal plan is kept, and what it shows.
+-- Source: this profile.
+use Rattle.std.specs.Prelude.{◌≡◌, ℕ, ◌-◌, ◌<◌, nat_lt, List, [], ◌∷◌, map, Bool, false, Option, Some, None, slice_index_or, if◌then◌else◌}
+use Rattle.std.specs.declared.cmp.Ordering.{Ordering}
+use Rattle.std.specs.Ordering.{nat_cmp, is_lt, then_cmp, on}
+use Rattle.std.specs.List.Sorted.{IsPermutation, IsSortedBy}
+use Rattle.street_base.specs.declared.net.NetSpec.{NetSpec}
+use Rattle.street_base.specs.Network.{Place}
+use Rattle.street_base.specs.Signal.{Green, Phase, SignalPlan, cycle, lists, is_green}
+use Rattle.street_node.specs.declared.phase.GreenTurn.{GreenTurn}
+use Rattle.street_node.specs.declared.faults.SignalFault.{SignalFault}
+use Rattle.street_node.specs.declared.faults.SignalFault.TheVariants.{Bad, Starved}
+
+-- turns by their links, then by their lanes, then by their next links
+abbrev pub turn_cmp : GreenTurn → GreenTurn → Ordering
+turn_cmp = then_cmp (on (λ t. t.link) nat_cmp) (then_cmp (on (λ t. t.lane) nat_cmp) (on (λ t. t.next) nat_cmp))
+
+-- the turns stand in this order
+abbrev pub IsInOrder : List GreenTurn → Type 0
+IsInOrder turns = IsSortedBy (λ a b. is_lt (turn_cmp a b)) turns
+
+-- a green turn of the definitions
+abbrev pub green_seen : GreenTurn → Green
+green_seen t = record { link = t.link; lane = t.lane; next = t.next }
+
+-- a phase of the definitions
+abbrev pub phase_seen : ℕ → List GreenTurn → Phase
+phase_seen duration turns = record { duration = duration; greens = map green_seen turns }
+
+-- a plan of the definitions
+abbrev pub plan_seen : ℕ → List Phase → SignalPlan
+plan_seen offset phases = record { offset = offset; phases = phases }
+
+-- the cycle that is kept is that of the phases, and the offset lies in it
+pub record IsCycle (offset kept : ℕ) (phases : List Phase) : Type 0 where
+  pub cycle_is : kept ≡ cycle (plan_seen offset phases)
+  pub within : offset < kept
+
+-- a phase lasts as long as another and has the same green turns
+pub record IsSamePhase (phase other : Phase) : Type 0 where
+  pub duration : phase.duration ≡ other.duration
+  pub greens : IsPermutation other.greens phase.greens
+
+-- a plan shows the same turns green as another, in every step
+pub record ShowsAs (plan other : SignalPlan) : Type 0 where
+  pub cycle_is : cycle plan ≡ cycle other
+  pub green_is : (place : Place) (next step : ℕ) → is_green (Some plan) place next step ≡ is_green (Some other) place next step
+
+-- whether the phase at a time shows a turn green, phase after phase
+abbrev pub shown : Place → ℕ → List Phase → ℕ → Bool
+shown place next [] time = false
+shown place next (phase ∷ phases) time = if nat_lt time phase.duration then lists phase place next else shown place next phases (time - phase.duration)
+
+-- the identifier of the node at a position
+abbrev pub node_id : NetSpec → ℕ → ℕ
+node_id net node = (slice_index_or net.nodes node (record { id = 0; residence = 0; capacity = 0 })).id
+
+-- what a refused plan tells: its first fault; want of memory only where there is none
+abbrev pub TellsSignalFault : Option ℕ → SignalFault → Type 0
+TellsSignalFault first (Bad at) = first ≡ Some at
+TellsSignalFault first Starved = first ≡ None

@@ -1,0 +1,108 @@
+//! Whether a signal plan is bad.
+ghost use Rattle.std.specs.Prelude.{◌≡◌, ◌*◌, ◌≤◌, None, length};
+ghost use Rattle.std.specs.List.{list_all};
+ghost use Rattle.street_base.specs.Faults.{first_bad, is_turn_to, is_bad_phase, cycle_of, signal_fault};
+
+use street_base::{GreenSpec, LaneNo, PhaseSpec};
+use street_net::Network;
+
+/// How many lanes a link has at most.
+const MOST_LANES: u64 = 2;
+
+/// How many phases a plan has at most.
+const MOST_PHASES: usize = 16;
+
+/// The longest duration of a phase, in steps.
+const MOST_DURATION: u64 = 600;
+
+/// How many green turns a phase lists at most.
+const MOST_GREENS: usize = 32_768;
+
+/// Whether this is a turn of the network whose link runs to the node with an identifier.
+fn is_turn_to(net: &Network, node: u64, green: &GreenSpec) -> bool
+    ensures { result ≡ is_turn_to net.now node green.now }
+{
+    let links = net.spec().links.as_slice();
+    let Some(link) = net.link_of(green.link) else {
+        return false;
+    };
+    let Some(next) = net.link_of(green.next) else {
+        return false;
+    };
+    if green.lane >= MOST_LANES {
+        return false;
+    }
+    if !net.serves(link, green.lane as LaneNo, next) {
+        return false;
+    }
+    links[link.position()].to == node
+}
+
+/// Whether all these are turns of the network whose links run to the node.
+fn are_turns_to(net: &Network, node: u64, greens: &[GreenSpec]) -> bool
+    ensures { result ≡ list_all (is_turn_to net.now node) greens.now }
+{
+    for green in greens {
+        if !is_turn_to(net, node, green) {
+            return false;
+        }
+    }
+    true
+}
+
+/// Whether a phase is bad at its position.
+fn is_bad_phase(net: &Network, node: u64, at: usize, phase: &PhaseSpec) -> bool
+    ensures { result ≡ is_bad_phase net.now node at phase.now }
+{
+    let greens = phase.greens.as_slice();
+    let lasts = 1 <= phase.duration && phase.duration <= MOST_DURATION;
+    at >= MOST_PHASES || !lasts || greens.len() > MOST_GREENS || !are_turns_to(net, node, greens)
+}
+
+/// The position of the first bad phase.
+fn phases_fault(net: &Network, node: u64, phases: &[PhaseSpec]) -> Option<u64>
+    ensures { result ≡ first_bad (is_bad_phase net.now node) phases.now }
+{
+    for (at, phase) in phases.iter().enumerate() {
+        if is_bad_phase(net, node, at, phase) {
+            return Some(at as u64);
+        }
+    }
+    None
+}
+
+/// How long phases last together, none of which is bad.
+pub(crate) fn cycle_of(net: &Network, node: u64, phases: &[PhaseSpec]) -> u64
+    requires { first_bad (is_bad_phase net.now node) phases.now ≡ None }
+    ensures cycle { result ≡ cycle_of phases.now }
+    ensures small { result ≤ 600 * length phases.now }
+    ensures few { length phases.now ≤ 16 }
+{
+    let mut cycle = 0;
+    for phase in phases {
+        cycle += phase.duration;
+    }
+    cycle
+}
+
+/// The first fault of a signal plan for the node with an identifier: its phases, then its offset.
+pub(crate) fn signal_fault(
+    net: &Network,
+    node: u64,
+    offset: u64,
+    phases: &[PhaseSpec],
+) -> Option<u64>
+    ensures { result ≡ signal_fault net.now node offset phases.now }
+{
+    if phases.is_empty() {
+        return Some(0);
+    }
+    if let Some(at) = phases_fault(net, node, phases) {
+        return Some(at);
+    }
+    if offset < cycle_of(net, node, phases) {
+        None
+    } else {
+        Some(phases.len() as u64)
+    }
+}

@@ -1,0 +1,82 @@
+//! A phase of a signal plan, its green turns in order.
+ghost use Rattle.std.specs.Prelude.{◌≡◌, map};
+ghost use Rattle.std.specs.List.Sorted.{IsPermutation};
+ghost use Rattle.street_base.specs.Network.{Place};
+ghost use Rattle.street_base.specs.Signal.{lists};
+ghost use Rattle.street_node.specs.Greens.{turn_cmp, green_seen};
+
+use std::cmp::Ordering;
+use std::marker::Model;
+use street_base::{LaneNo, LinkIx, Step, Turn};
+
+/// A turn that is green: from a lane to a next link.
+#[derive(Clone, Copy)]
+pub(crate) struct GreenTurn {
+    pub(crate) link: LinkIx,
+    pub(crate) next: LinkIx,
+    pub(crate) lane: LaneNo,
+}
+
+/// How long a phase lasts, and its green turns, in the order of `in_order`.
+#[derive(Drop)]
+pub(crate) struct KeptPhase {
+    duration: Step,
+    greens: Vec<GreenTurn>,
+}
+
+impl Model for KeptPhase {
+    ghost use Rattle.street_base.specs.Signal.{Phase};
+
+    ghost Value = { Phase };
+
+    ghost use Rattle.street_node.specs.Greens.{phase_seen, IsInOrder};
+
+    ghost view = { λ p. phase_seen p.duration p.greens.items };
+
+    ghost invariant = { λ p. IsInOrder p.greens.items };
+}
+
+/// The order of turns: by the link, then by the lane, then by the next link.
+fn in_order(turn: &GreenTurn, other: &GreenTurn) -> Ordering
+    ensures { result ≡ turn_cmp turn.now other.now }
+{
+    let by_link = turn.link.position().cmp(&other.link.position());
+    let by_lane = turn.lane.cmp(&other.lane);
+    let by_next = turn.next.position().cmp(&other.next.position());
+    by_link.then(by_lane.then(by_next))
+}
+
+impl KeptPhase {
+    /// A phase of these green turns, which it puts into order.
+    pub(crate) fn new(duration: Step, greens: Vec<GreenTurn>) -> KeptPhase
+        ensures duration { result.duration ≡ duration }
+        ensures greens { IsPermutation (map green_seen greens.items) result.greens }
+    {
+        let mut greens = greens;
+        greens.sort_unstable_by(|turn, other| in_order(turn, other));
+        KeptPhase { duration, greens }
+    }
+
+    /// How many steps it lasts.
+    pub(crate) fn duration(&self) -> Step
+        ensures { result ≡ self.now.duration }
+    {
+        self.duration
+    }
+
+    /// Whether it shows a turn green; found by a search among its green turns.
+    pub(crate) fn shows(&self, turn: &Turn) -> bool
+        ensures { let place : Place = record { link = turn.now.link; lane = turn.now.lane } in
+            result ≡ lists self.now place turn.now.next }
+    {
+        let wanted = GreenTurn {
+            link: turn.link,
+            next: turn.next,
+            lane: turn.lane,
+        };
+        let greens = self.greens.as_slice();
+        greens
+            .binary_search_by(|green| in_order(green, &wanted))
+            .is_ok()
+    }
+}

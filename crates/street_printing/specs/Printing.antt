@@ -1,0 +1,153 @@
+-- The lines that answer: a reply, or an error that has no place.
+-- Source: this profile. Keys stand in byte order, and no more is written than the object.
+use Rattle.std.specs.Prelude.{ℕ, List, [], ◌∷◌, ◌++◌, true, codes}
+use Rattle.serde_json.specs.Data.{Data, boolean, number, unsigned, string, array, object, Items, no_items, item, Members, no_members, member}
+use Rattle.serde_json.specs.Written.{compact_text}
+use Rattle.street_base.specs.declared.reply.BufferEntry.{BufferEntry}
+use Rattle.street_base.specs.declared.reply.CellEntry.{CellEntry}
+use Rattle.street_base.specs.declared.reply.End.TheVariants.{Arrived, Taken}
+use Rattle.street_base.specs.declared.reply.MeterRow.{MeterRow}
+use Rattle.street_base.specs.declared.refusal.Refusal.{Refusal}
+use Rattle.street_base.specs.declared.refusal.Refusal.TheVariants.{BadNetwork, BadPlan, BadSignal}
+use Rattle.street_base.specs.declared.reply.Reply.{Reply}
+use Rattle.street_base.specs.declared.reply.Reply.TheVariants.{Loaded, Signalled, Entered, Clock, Short, Closed, Placed, Rows, Vehicle, Lane, Census, Refused, Starved}
+use Rattle.street_base.specs.declared.reply.RunningRow.{RunningRow}
+use Rattle.street_base.specs.declared.reply.Stretch.{Stretch}
+use Rattle.street_base.specs.declared.reply.WaitingEntry.{WaitingEntry}
+use Rattle.street_base.specs.declared.reply.Whereabouts.{Whereabouts}
+use Rattle.street_base.specs.declared.reply.Whereabouts.TheVariants.{Cell, Buffer, Waiting, Ended}
+use Rattle.street_base.specs.declared.command.GreenSpec.{GreenSpec}
+use Rattle.street_base.specs.declared.command.PhaseSpec.{PhaseSpec}
+use Rattle.street_base.specs.declared.net.NodeSpec.{NodeSpec}
+use Rattle.street_base.specs.declared.net.LinkSpec.{LinkSpec}
+use Rattle.street_base.specs.declared.net.TurnSpec.{TurnSpec}
+use Rattle.street_base.specs.Refusals.{number_of, name_of, part_name}
+
+-- ---- lists
+
+-- each entry of a list, in order
+abbrev pub items_from : {T : Type 0} → (T → Data) → List T → Items
+items_from one [] = no_items
+items_from one (x ∷ xs) = item (one x) (items_from one xs)
+
+abbrev pub number_data : ℕ → Data
+number_data n = number (unsigned n)
+
+abbrev pub numbers : List ℕ → Items
+numbers ns = items_from number_data ns
+
+-- ---- rows
+
+abbrev pub meter_data : MeterRow → Data
+meter_data r = array (numbers (r.start ∷ r.passes ∷ r.speeds ∷ r.occupied ∷ []))
+
+abbrev pub running_data : RunningRow → Data
+running_data r = array (numbers (r.start ∷ r.steps ∷ r.passes ∷ r.speeds ∷ r.occupied ∷ []))
+
+abbrev pub buffer_data : BufferEntry → Data
+buffer_data e = array (numbers (e.car ∷ e.speed ∷ e.ready ∷ []))
+
+abbrev pub cell_data : CellEntry → Data
+cell_data e = array (numbers (e.car ∷ e.cell ∷ e.speed ∷ []))
+
+abbrev pub stretch_data : Stretch → Data
+stretch_data s = array (numbers (s.first ∷ s.last ∷ []))
+
+abbrev pub waiting_data : WaitingEntry → Data
+waiting_data e = array (numbers (e.car ∷ e.depart ∷ []))
+
+-- ---- entries of a command
+
+abbrev pub node_data : NodeSpec → Data
+node_data n = array (numbers (n.id ∷ n.residence ∷ n.capacity ∷ []))
+
+abbrev pub link_data : LinkSpec → Data
+link_data l = array (numbers (l.id ∷ l.from ∷ l.to ∷ l.lanes ∷ l.length ∷ l.limit ∷ []))
+
+abbrev pub turn_data : TurnSpec → Data
+turn_data t = array (numbers (t.link ∷ t.lane ∷ t.next ∷ t.next_lane ∷ []))
+
+abbrev pub green_data : GreenSpec → Data
+green_data g = array (numbers (g.link ∷ g.lane ∷ g.next ∷ []))
+
+abbrev pub phase_data : PhaseSpec → Data
+phase_data p = array (item (number_data p.duration) (item (array (items_from green_data p.greens)) no_items))
+
+-- ---- members
+
+abbrev pub number_at : List ℕ → ℕ → Members → Members
+number_at key n more = member key (number (unsigned n)) more
+
+abbrev pub text_at : List ℕ → List ℕ → Members → Members
+text_at key text more = member key (string text) more
+
+abbrev pub list_at : {T : Type 0} → List ℕ → (T → Data) → List T → Members → Members
+list_at key one list more = member key (array (items_from one list)) more
+
+abbrev pub plan_at : List ℕ → Members → Members
+plan_at plan more = list_at (codes "plan") number_data plan more
+
+-- ---- objects, their keys in byte order
+
+-- the number and the name of an error
+abbrev pub error_at : ℕ → List ℕ → Members → Members
+error_at n name more = number_at (codes "error") n (text_at (codes "name") name more)
+
+abbrev pub refusal_at : Refusal → Members → Members
+refusal_at r more = error_at (number_of r) (name_of r) more
+
+-- an error without a place
+abbrev pub error_data : ℕ → List ℕ → Data
+error_data n name = object (error_at n name no_members)
+
+abbrev pub refused_data : Refusal → Data
+refused_data (BadNetwork part at) =
+    object (number_at (codes "at") at (refusal_at (BadNetwork part at) (text_at (codes "part") (part_name part) no_members)))
+refused_data (BadPlan at) = object (number_at (codes "at") at (refusal_at (BadPlan at) no_members))
+refused_data (BadSignal at) = object (number_at (codes "at") at (refusal_at (BadSignal at) no_members))
+refused_data refusal = object (refusal_at refusal no_members)
+
+abbrev pub ended_data : ℕ → List ℕ → ℕ → Data
+ended_data car state step = object (number_at (codes "car") car (text_at (codes "state") state (number_at (codes "step") step no_members)))
+
+abbrev pub vehicle_data : ℕ → Whereabouts → Data
+vehicle_data car (Cell link lane cell speed plan) =
+    object (number_at (codes "car") car (number_at (codes "cell") cell (number_at (codes "lane") lane (number_at (codes "link") link
+    (plan_at plan (number_at (codes "speed") speed (text_at (codes "state") (codes "cell") no_members)))))))
+vehicle_data car (Buffer link lane ready speed plan) =
+    object (number_at (codes "car") car (number_at (codes "lane") lane (number_at (codes "link") link (plan_at plan
+    (number_at (codes "ready") ready (number_at (codes "speed") speed (text_at (codes "state") (codes "buffer") no_members)))))))
+vehicle_data car (Waiting link lane depart plan) =
+    object (number_at (codes "car") car (number_at (codes "depart") depart (number_at (codes "lane") lane (number_at (codes "link") link
+    (plan_at plan (text_at (codes "state") (codes "waiting") no_members))))))
+vehicle_data car (Ended (Arrived step)) = ended_data car (codes "arrived") step
+vehicle_data car (Ended (Taken step)) = ended_data car (codes "taken") step
+
+abbrev pub reply_data : Reply → Data
+reply_data (Loaded links nodes turns) = object (number_at (codes "links") links (number_at (codes "nodes") nodes (number_at (codes "turns") turns no_members)))
+reply_data (Signalled cycle) = object (number_at (codes "cycle") cycle no_members)
+reply_data (Entered car) = object (number_at (codes "car") car no_members)
+reply_data (Clock clock) = object (number_at (codes "clock") clock no_members)
+reply_data (Short clock short) = object (number_at (codes "clock") clock (number_at (codes "short") short no_members))
+reply_data (Closed closed) = object (number_at (codes "closed") closed no_members)
+reply_data (Reply.Taken taken) = object (number_at (codes "taken") taken no_members)
+reply_data (Placed meter) = object (number_at (codes "meter") meter no_members)
+reply_data (Rows now rows) = object (member (codes "now") (running_data now) (list_at (codes "rows") meter_data rows no_members))
+reply_data (Vehicle car whereabouts) = vehicle_data car whereabouts
+reply_data (Lane buffer cells closed waiting) =
+    object (list_at (codes "buffer") buffer_data buffer (list_at (codes "cells") cell_data cells
+    (list_at (codes "closed") stretch_data closed (list_at (codes "waiting") waiting_data waiting no_members))))
+reply_data (Census admitted arrived buffers cells clock taken waiting) =
+    object (number_at (codes "admitted") admitted (number_at (codes "arrived") arrived (number_at (codes "buffers") buffers (number_at (codes "cells") cells
+    (number_at (codes "clock") clock (number_at (codes "taken") taken (number_at (codes "waiting") waiting no_members)))))))
+reply_data (Refused refusal) = refused_data refusal
+reply_data Starved = object (member (codes "starved") (boolean true) no_members)
+
+-- ---- lines
+
+-- the line of an object, with its end
+abbrev pub line_of : Data → List ℕ
+line_of d = compact_text d ++ 10 ∷ []
+
+unfoldable pub reply_line : Reply → List ℕ
+reply_line r = line_of (reply_data r)

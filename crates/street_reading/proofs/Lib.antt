@@ -1,0 +1,2 @@
+pub mod ListEntries
+pub mod Texts

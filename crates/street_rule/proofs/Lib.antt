@@ -1,0 +1,8 @@
+mod Nearest
+mod Sights
+mod Agree
+mod Steps
+mod Watching
+mod Passing
+mod Turns
+pub mod Others

@@ -1,0 +1,31 @@
+-- How the code reckons a vehicle's new speed: from the old cell of the one ahead and the least entrance above. The rule
+-- itself stands in street_base's Motion.
+use Rattle.std.specs.Prelude.{◌≡◌, ℕ, ◌-◌, nat_lt, Bool, cond, List, Option, Some, None, if◌then◌else◌}
+use Rattle.std.specs.Option.{option_map, unwrap_or}
+use Rattle.street_base.specs.declared.car.Car.{Car}
+use Rattle.street_base.specs.Draw.{dawdle_draw}
+use Rattle.street_base.specs.Motion.{speed_after}
+use Rattle.street_draw.specs.Odds.{Odds}
+use Rattle.street_gap.specs.declared.closures.Stretch.{Stretch}
+use Rattle.street_gap.specs.Closed.{closed_marks, entrance_after}
+use Rattle.street_yard.specs.Yard.{Yard, car_of}
+use Rattle.street_rule.specs.declared.course.Course.{Course}
+use Rattle.street_rule.specs.declared.course.Advance.{Advance}
+
+-- the lesser, where both are there
+abbrev pub nearest : Option ℕ → Option ℕ → Option ℕ
+nearest None q = q
+nearest (Some p) None = Some p
+nearest (Some p) (Some q) = cond (nat_lt p q) (Some p) (Some q)
+
+-- the gap in motion to a known obstacle
+abbrev pub gap_to : Option ℕ → ℕ → ℕ → Bool → ℕ
+gap_to obstacle x count is_open = unwrap_or (option_map (λ y. y - x - 1) obstacle) (if is_open then 16 else count - 1 - x)
+
+-- the advance of the car that a key has
+pub record Reckons (course : Course) (odds : Odds) (closed : List Stretch) (y : Yard) (key : ℕ) (ahead : Option ℕ) (advance : Advance) : Type 0 where
+  pub car : Car
+  pub is : car_of y key ≡ Some car
+  pub cell : advance.cell ≡ car.cell
+  pub speed : advance.speed ≡ car.speed
+  pub new_speed : advance.new_speed ≡ speed_after course.limit (gap_to (nearest ahead (entrance_after (closed_marks closed course.count) car.cell)) car.cell course.count course.is_open) (nat_lt (dawdle_draw odds.seed car.number course.step) odds.dawdle) car.speed

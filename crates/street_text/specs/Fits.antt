@@ -1,0 +1,45 @@
+-- Commands of numbers of 64 bits.
+-- Source: this profile.
+use Rattle.std.specs.Prelude.{ℕ, ◌<◌, ◌^◌, All}
+use Rattle.street_base.specs.declared.command.Command.{Command}
+use Rattle.street_base.specs.declared.command.Command.TheVariants.{Load, Enter, Signal, Advance, CloseLane, ReopenLane, TakeOut, PlaceMeter, ReadMeter, Vehicle, Lane, Count}
+use Rattle.street_base.specs.declared.command.GreenSpec.{GreenSpec}
+use Rattle.street_base.specs.declared.command.PhaseSpec.{PhaseSpec}
+use Rattle.street_base.specs.declared.net.NodeSpec.{NodeSpec}
+use Rattle.street_base.specs.declared.net.LinkSpec.{LinkSpec}
+use Rattle.street_base.specs.declared.net.TurnSpec.{TurnSpec}
+
+-- a number of 64 bits
+abbrev pub IsWord : ℕ → Type 0
+IsWord n = n < 2 ^ 64
+
+abbrev pub NodeFits : NodeSpec → Type 0
+NodeFits n = IsWord n.id × IsWord n.residence × IsWord n.capacity
+
+abbrev pub LinkFits : LinkSpec → Type 0
+LinkFits l = IsWord l.id × IsWord l.from × IsWord l.to × IsWord l.lanes × IsWord l.length × IsWord l.limit
+
+abbrev pub TurnFits : TurnSpec → Type 0
+TurnFits t = IsWord t.link × IsWord t.lane × IsWord t.next × IsWord t.next_lane
+
+abbrev pub GreenFits : GreenSpec → Type 0
+GreenFits g = IsWord g.link × IsWord g.lane × IsWord g.next
+
+abbrev pub PhaseFits : PhaseSpec → Type 0
+PhaseFits p = IsWord p.duration × All GreenFits p.greens
+
+-- each number of the command is one of 64 bits
+abbrev pub Fits : Command → Type 0
+Fits (Load net) =
+    All NodeFits net.nodes × All LinkFits net.links × All TurnFits net.turns × IsWord net.zone × IsWord net.dawdle × IsWord net.change × IsWord net.seed × IsWord net.start
+Fits (Enter plan lane depart) = All IsWord plan × IsWord lane × IsWord depart
+Fits (Signal node offset phases) = IsWord node × IsWord offset × All PhaseFits phases
+Fits (Advance steps) = IsWord steps
+Fits (CloseLane link lane first last) = IsWord link × IsWord lane × IsWord first × IsWord last
+Fits (ReopenLane link lane first last) = IsWord link × IsWord lane × IsWord first × IsWord last
+Fits (TakeOut car) = IsWord car
+Fits (PlaceMeter link lane cell period) = IsWord link × IsWord lane × IsWord cell × IsWord period
+Fits (ReadMeter meter) = IsWord meter
+Fits (Vehicle car) = IsWord car
+Fits (Lane link lane) = IsWord link × IsWord lane
+Fits Count = Unit {0}

@@ -1,0 +1,172 @@
+//! From a command to its text.
+//! Source: this profile.
+ghost use Rattle.std.specs.Prelude.{◌≡◌, ◌≤◌, IfOk, Ok, length};
+ghost use Rattle.serde_json.specs.View.{view};
+ghost use Rattle.street_base.specs.declared.command.Command.TheVariants.{Load, Enter, Signal, Advance, PlaceMeter, ReadMeter, Lane, Count};
+ghost use Rattle.street_reading.specs.Reading.{longest_line, reading};
+ghost use Rattle.street_text.specs.CommandTexts.{stretch_data_of, car_data_of, command_data, text_of};
+
+#[cfg(test)]
+mod tests;
+
+use serde_json::{Value, json};
+use std::alloc::{AllocError, Global};
+use street_base::{Command, NetSpec, PhaseSpec, Starved};
+use street_printing::list_value;
+
+fn load_value(alloc: Global, net: &NetSpec) -> Result<Value, AllocError>
+    ensures { IfOk result (λ v. view v ≡ command_data (Load net.now)) }
+{
+    let links = list_value(alloc, net.links.as_slice())?;
+    let nodes = list_value(alloc, net.nodes.as_slice())?;
+    let turns = list_value(alloc, net.turns.as_slice())?;
+    json!(in alloc; {
+        "change": net.change,
+        "cmd": "load",
+        "dawdle": net.dawdle,
+        "links": links,
+        "nodes": nodes,
+        "seed": net.seed,
+        "start": net.start,
+        "turns": turns,
+        "zone": net.zone
+    })
+}
+
+fn enter_value(alloc: Global, plan: &[u64], lane: u64, depart: u64) -> Result<Value, AllocError>
+    ensures { IfOk result (λ v. view v ≡ command_data (Enter plan.now lane depart)) }
+{
+    let plan = list_value(alloc, plan)?;
+    json!(in alloc; {"cmd": "enter", "depart": depart, "lane": lane, "plan": plan})
+}
+
+fn signal_value(
+    alloc: Global,
+    node: u64,
+    offset: u64,
+    phases: &[PhaseSpec],
+) -> Result<Value, AllocError>
+    ensures { IfOk result (λ v. view v ≡ command_data (Signal node offset phases.now)) }
+{
+    let phases = list_value(alloc, phases)?;
+    json!(in alloc; {"cmd": "signal", "node": node, "offset": offset, "phases": phases})
+}
+
+/// Cells of a lane, from the first to the last.
+fn stretch_value(
+    alloc: Global,
+    name: &str,
+    link: u64,
+    lane: u64,
+    first: u64,
+    last: u64,
+) -> Result<Value, AllocError>
+    ensures { IfOk result (λ v. view v ≡ stretch_data_of name.now link lane first last) }
+{
+    json!(in alloc; {"cmd": name, "first": first, "lane": lane, "last": last, "link": link})
+}
+
+fn advance_value(alloc: Global, steps: u64) -> Result<Value, AllocError>
+    ensures { IfOk result (λ v. view v ≡ command_data (Advance steps)) }
+{
+    json!(in alloc; {"cmd": "advance", "steps": steps})
+}
+
+/// What is asked of one vehicle.
+fn car_value(alloc: Global, name: &str, car: u64) -> Result<Value, AllocError>
+    ensures { IfOk result (λ v. view v ≡ car_data_of name.now car) }
+{
+    json!(in alloc; {"car": car, "cmd": name})
+}
+
+fn place_meter_value(
+    alloc: Global,
+    link: u64,
+    lane: u64,
+    cell: u64,
+    period: u64,
+) -> Result<Value, AllocError>
+    ensures { IfOk result (λ v. view v ≡ command_data (PlaceMeter link lane cell period)) }
+{
+    json!(in alloc; {"cell": cell, "cmd": "meter", "lane": lane, "link": link, "period": period})
+}
+
+fn read_meter_value(alloc: Global, meter: u64) -> Result<Value, AllocError>
+    ensures { IfOk result (λ v. view v ≡ command_data (ReadMeter meter)) }
+{
+    json!(in alloc; {"cmd": "read", "meter": meter})
+}
+
+fn lane_value(alloc: Global, link: u64, lane: u64) -> Result<Value, AllocError>
+    ensures { IfOk result (λ v. view v ≡ command_data (Lane link lane)) }
+{
+    json!(in alloc; {"cmd": "lane", "lane": lane, "link": link})
+}
+
+fn count_value(alloc: Global) -> Result<Value, AllocError>
+    ensures { IfOk result (λ v. view v ≡ command_data Count) }
+{
+    json!(in alloc; {"cmd": "count"})
+}
+
+/// The JSON value of a command.
+///
+/// # Errors
+///
+/// `AllocError` where there was no memory for it.
+pub fn command_value(alloc: Global, command: &Command) -> Result<Value, AllocError>
+    ensures { IfOk result (λ v. view v ≡ command_data command.now) }
+{
+    match command {
+        Command::Load(net) => load_value(alloc, net),
+        Command::Enter { plan, lane, depart } => enter_value(
+            alloc,
+            plan.as_slice(),
+            *lane,
+            *depart,
+        ),
+        Command::Signal {
+            node,
+            offset,
+            phases,
+        } => signal_value(alloc, *node, *offset, phases.as_slice()),
+        Command::Advance { steps } => advance_value(alloc, *steps),
+        Command::CloseLane {
+            link,
+            lane,
+            first,
+            last,
+        } => stretch_value(alloc, "close", *link, *lane, *first, *last),
+        Command::ReopenLane {
+            link,
+            lane,
+            first,
+            last,
+        } => stretch_value(alloc, "reopen", *link, *lane, *first, *last),
+        Command::TakeOut { car } => car_value(alloc, "takeout", *car),
+        Command::PlaceMeter {
+            link,
+            lane,
+            cell,
+            period,
+        } => place_meter_value(alloc, *link, *lane, *cell, *period),
+        Command::ReadMeter { meter } => read_meter_value(alloc, *meter),
+        Command::Vehicle { car } => car_value(alloc, "vehicle", *car),
+        Command::Lane { link, lane } => lane_value(alloc, *link, *lane),
+        Command::Count => count_value(alloc),
+    }
+}
+
+/// The text of a command: one JSON object with all its fields, its keys in byte order, and no line end. It reads as the
+/// command, if it is no longer than a line may be.
+///
+/// # Errors
+///
+/// `Starved` where there was no memory for it.
+pub fn command_text(alloc: Global, command: &Command) -> Result<Vec<u8>, Starved>
+    ensures text { IfOk result (λ text. text.items ≡ text_of command.now) }
+    ensures reads { IfOk result (λ text. length text.items ≤ longest_line → reading text.items ≡ Ok command.now) }
+{
+    let text = command_value(alloc, command)?.to_vec(alloc)?;
+    Ok(text)
+}

@@ -1,0 +1,23 @@
+//! The line that answers a faulty line.
+//! Source: this profile.
+ghost use Rattle.std.specs.Prelude.{◌≡◌, IfOk, Some};
+ghost use Rattle.street_text.specs.FaultLines.{fault_line};
+
+use std::alloc::Global;
+use street_base::Starved;
+use street_printing::error_text;
+use street_reading::LineFault;
+
+/// The line that answers a faulty line. Want of memory has none: it is answered by itself.
+///
+/// # Errors
+///
+/// `Starved` where there was no memory for it, and for want of memory in reading.
+pub fn fault_text(alloc: Global, fault: LineFault) -> Result<Vec<u8>, Starved>
+    ensures { IfOk result (λ text. fault_line fault ≡ Some text.items) }
+{
+    match fault.number() {
+        Some(number) => error_text(alloc, number, fault.name()),
+        None => Err(Starved),
+    }
+}

@@ -1,0 +1,21 @@
+use Rattle.std.proofs.Common.{◌≡◌, Option, Some, refl, sym, ap, subst, ◌∙◌}
+use Rattle.std.specs.Prelude.{option_copied, is_some, IsSome}
+use Rattle.street_yard.specs.declared.yard.Place.{Place}
+use Rattle.street_yard.proofs.Fields.{car-read, seen_named}
+use Rattle.street_yard.proofs.yard.Yard.car.Goals as goal
+
+pub index-requires : goal.index-requires
+index-requires c =
+    let p = seen_named c.self.inside c.args.self.now c.args.key.0 c.self.invariant c.self.view_is c.requires in
+    subst IsSome (sym p.2) refl
+
+pub unwrap-requires : goal.unwrap-requires
+unwrap-requires c =
+    let p = seen_named c.self.inside c.args.self.now c.args.key.0 c.self.invariant c.self.view_is c.requires in
+    let same : c.index.result.now ≡ p.0 = let both : ◌≡◌ {A = Option Place} (Some c.index.result.now) (Some p.0) = sym c.index.ensures ∙ p.2 in cc in
+    c.as_ref.ensures.variant ∙ ap is_some (ap (λ (x : Place). x.car) same ∙ p.3)
+
+pub returns : goal.returns
+returns c =
+    let same : c.index.result.now.car ≡ Some c.unwrap.result.now = sym c.as_ref.ensures.value ∙ ap option_copied c.unwrap.ensures in
+    car-read c.self.inside c.args.self.now c.args.key.0 c.self.invariant c.self.view_is c.index.result.now c.index.ensures c.unwrap.result.now same

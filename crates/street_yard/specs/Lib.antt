@@ -1,0 +1,5 @@
+pub mod Yard
+pub mod Neighbour
+pub mod Thread
+pub mod Inside
+pub mod Listed

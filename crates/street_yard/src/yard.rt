@@ -1,0 +1,432 @@
+//! The arena.
+ghost use Rattle.std.specs.Option.{option_map};
+ghost use Rattle.std.specs.Prelude.{◌≡◌, ◌+◌, ◌<◌, ◌≤◌, ◌↔◌, length, [], ◌∷◌, ◌++◌, IsTrue, Some, None, IsSome, false, OnOk, IfOk, if◌then◌else◌, is_ok, slice_set, replicate};
+
+use crate::hot::{Hot, NOBODY, Neighbour};
+use crate::names::{Key, ListId, list_named};
+use crate::relink::{next_behind, set_ahead, set_behind, set_links};
+use slab::Slab;
+use std::alloc::Global;
+use std::marker::Model;
+use street_base::{Car, CellNo, Speed, Starved, Step};
+
+/// A place of the arena: a car and the list that it is on, or nothing.
+#[derive(Drop)]
+pub(crate) struct Place {
+    pub(crate) car: Option<Car>,
+    pub(crate) list: Option<u32>,
+}
+
+impl Place {
+    ghost use Rattle.street_yard.specs.Inside.{with_car};
+
+    fn set_cell(&mut self, cell: CellNo)
+        ensures { self.new ≡ with_car (λ c. record c { cell = cell }) self.old }
+    {
+        if let Some(car) = &mut self.car {
+            car.cell = cell;
+        }
+    }
+
+    fn set_speed(&mut self, speed: Speed)
+        ensures { self.new ≡ with_car (λ c. record c { speed = speed }) self.old }
+    {
+        if let Some(car) = &mut self.car {
+            car.speed = speed;
+        }
+    }
+
+    fn drive(&mut self, cell: CellNo, speed: Speed)
+        ensures { self.new ≡ with_car (λ c. record c { cell = cell; speed = speed }) self.old }
+    {
+        if let Some(car) = &mut self.car {
+            car.cell = cell;
+            car.speed = speed;
+        }
+    }
+
+    fn set_step(&mut self, step: Step)
+        ensures { self.new ≡ with_car (λ c. record c { step = step }) self.old }
+    {
+        if let Some(car) = &mut self.car {
+            car.step = step;
+        }
+    }
+
+    fn set_at(&mut self, at: u16)
+        ensures { self.new ≡ with_car (λ c. record c { at = at }) self.old }
+    {
+        if let Some(car) = &mut self.car {
+            car.at = at;
+        }
+    }
+}
+
+/// The first and the last key of a list, and how many it has.
+#[derive(Clone, Copy)]
+pub(crate) struct Ends {
+    pub(crate) front: Neighbour,
+    pub(crate) back: Neighbour,
+    pub(crate) count: u32,
+}
+
+/// Cars by key, and lists of keys.
+///
+/// The slab keeps the places, each with its key; a place that a car has left is used again. What walks read of a car lies
+/// beside it in `hots`.
+#[derive(Drop)]
+pub struct Yard {
+    places: Slab<Place>,
+    hots: Vec<Hot>,
+    // The places without a car, the next to be used last.
+    spare: Vec<u32>,
+    // Every car that there ever was had a key below this.
+    reached: usize,
+    ends: Vec<Ends>,
+}
+
+impl Model for Yard {
+    ghost use Rattle.street_yard.specs.Yard.{Yard as Lists};
+
+    ghost Value = { Lists };
+
+    ghost use Rattle.street_yard.specs.Inside.{seen, IsSound};
+
+    ghost view = { seen };
+
+    ghost invariant = { IsSound };
+}
+
+impl Yard {
+    ghost use Rattle.street_yard.specs.Yard.{list_at, entry_at, car_of, mark_of, place_of, without, put_behind, place_set, car_set, mark_set, IsLoose, IsOnList, IsAhead, IsBehind, IsWhole, Updates, first_or, last_or, Has};
+
+    /// So many lists without keys.
+    pub fn new(alloc: Global, lists: usize) -> Result<Yard, Starved>
+        ensures lists { IfOk result (λ y. y.lists ≡ replicate lists []) }
+        ensures kept { IfOk result (λ y. y.kept ≡ []) }
+    {
+        if lists > NOBODY as usize {
+            return Err(Starved);
+        }
+        let empty = Ends {
+            front: Neighbour::nobody(),
+            back: Neighbour::nobody(),
+            count: 0,
+        };
+        let ends = vec![in alloc; empty; lists]?;
+        Ok(Yard {
+            places: Slab::new(alloc),
+            hots: Vec::new(alloc),
+            spare: Vec::new(alloc),
+            reached: 0,
+            ends,
+        })
+    }
+
+    /// Makes room for `count` admissions.
+    pub fn reserve(&mut self, count: usize) -> Result<(), Starved>
+        ensures room { OnOk result (count ≤ self.new.room) }
+        ensures grows { self.old.room ≤ self.new.room }
+        ensures rest_kept { self.new ≡ record self.old { room = self.new.room } }
+    {
+        while self.room() < count {
+            self.add_place()?;
+        }
+        Ok(())
+    }
+
+    /// How many cars can be admitted with no memory.
+    pub fn room(&self) -> usize
+        ensures { result ≡ self.now.room }
+    {
+        self.spare.len()
+    }
+
+    // Makes one more place.
+    //
+    // The slab gives its keys in turn while none is given back; that no place has another key, and that keys stay below
+    // `NOBODY`, is tested here.
+    fn add_place(&mut self) -> Result<(), Starved>
+        ensures room { self.new.room ≡ (if is_ok result then self.old.room + 1 else self.old.room) }
+        ensures rest_kept { self.new ≡ record self.old { room = self.new.room } }
+    {
+        let index = self.hots.len();
+        if index >= NOBODY as usize || self.places.vacant_key() != index {
+            return Err(Starved);
+        }
+        self.places.reserve(1)?;
+        self.hots.reserve(1)?;
+        let used = index - self.spare.len();
+        self.spare.reserve(used + 1)?;
+        self.places.insert_reserved(Place {
+            car: None,
+            list: None,
+        });
+        self.hots.push_reserved(Hot {
+            ahead: Neighbour::nobody(),
+            behind: Neighbour::nobody(),
+            cell: 0,
+            speed: 0,
+            mark: false,
+        });
+        self.spare.push_reserved(index as u32);
+        Ok(())
+    }
+
+    /// Admits a car, which is loose and has no mark.
+    pub fn admit_reserved(&mut self, car: Car) -> Key
+        requires { 1 ≤ self.old.room }
+        ensures was_vacant { entry_at self.old result.0 ≡ None }
+        ensures updates { Updates self.old self.new result.0 (Some (record { car = car; mark = false; list = None })) }
+        ensures lists { self.new.lists ≡ self.old.lists }
+        ensures room { self.new.room + 1 ≡ self.old.room }
+    {
+        let key = self.spare.pop().unwrap();
+        let index = key as usize;
+        self.hots[index] = Hot {
+            ahead: Neighbour::nobody(),
+            behind: Neighbour::nobody(),
+            cell: car.cell,
+            speed: car.speed,
+            mark: false,
+        };
+        let place = &mut self.places[index];
+        place.car = Some(car);
+        if self.reached <= index {
+            self.reached = index + 1;
+        }
+        Key(key)
+    }
+
+    /// The first key of a list.
+    pub fn list_front(&self, list: ListId) -> Option<Key>
+        requires { list.0 < length self.now.lists }
+        ensures front { option_map (λ k. k.0) result ≡ first_or (list_at self.now list.0) None }
+        ensures whole { IsWhole self.now }
+    {
+        self.ends[list.0].front.key()
+    }
+
+    /// The last key of a list.
+    pub fn list_back(&self, list: ListId) -> Option<Key>
+        requires { list.0 < length self.now.lists }
+        ensures { option_map (λ k. k.0) result ≡ last_or (list_at self.now list.0) None }
+    {
+        self.ends[list.0].back.key()
+    }
+
+    /// How many keys a list has.
+    pub fn list_len(&self, list: ListId) -> usize
+        requires { list.0 < length self.now.lists }
+        ensures { result ≡ length (list_at self.now list.0) }
+    {
+        self.ends[list.0].count as usize
+    }
+
+    /// The key ahead of this one on its list.
+    pub fn ahead(&self, key: Key) -> Option<Key>
+        requires { IsSome (place_of self.now key.0) }
+        ensures { IsAhead self.now key.0 (option_map (λ k. k.0) result) }
+    {
+        self.hots[key.0 as usize].ahead.key()
+    }
+
+    /// The key behind this one on its list.
+    pub fn behind(&self, key: Key) -> Option<Key>
+        requires { IsSome (place_of self.now key.0) }
+        ensures { IsBehind self.now key.0 (option_map (λ k. k.0) result) }
+    {
+        self.hots[key.0 as usize].behind.key()
+    }
+
+    /// Takes the key off its list, which is answered; the key is then loose.
+    pub fn unlink(&mut self, key: Key) -> ListId
+        requires { IsSome (place_of self.old key.0) }
+        ensures list { place_of self.old key.0 ≡ Some result.0 }
+        ensures after { self.new ≡ record self.old { lists = slice_set self.old.lists result.0 (without key.0 (list_at self.old result.0)); kept = place_set self.old.kept key.0 None } }
+    {
+        let place = &mut self.places[key.0 as usize];
+        let list = place.list.unwrap() as usize;
+        place.list = None;
+        let hot = self.hots[key.0 as usize];
+        let ends = &mut self.ends[list];
+        ends.count -= 1;
+        set_behind(&mut self.hots, ends, hot.ahead, hot.behind);
+        set_ahead(&mut self.hots, ends, hot.behind, hot.ahead);
+        set_links(
+            &mut self.hots,
+            key,
+            Neighbour::nobody(),
+            Neighbour::nobody(),
+        );
+        ListId(list)
+    }
+
+    /// The loose key comes last on the list.
+    pub fn push_back(&mut self, list: ListId, key: Key)
+        requires list { list.0 < length self.old.lists }
+        requires loose { IsLoose self.old key.0 }
+        ensures { self.new ≡ record self.old { lists = slice_set self.old.lists list.0 (list_at self.old list.0 ++ key.0 ∷ []); kept = place_set self.old.kept key.0 (Some list.0) } }
+    {
+        let place = &mut self.places[key.0 as usize];
+        place.list = Some(list.0 as u32);
+        let last = Neighbour::of(Some(key));
+        let ends = &mut self.ends[list.0];
+        let ahead = ends.back;
+        ends.count += 1;
+        set_behind(&mut self.hots, ends, ahead, last);
+        set_ahead(&mut self.hots, ends, Neighbour::nobody(), last);
+        set_links(&mut self.hots, key, ahead, Neighbour::nobody());
+    }
+
+    /// The loose key comes right behind `at`, or first.
+    pub fn insert_behind(&mut self, list: ListId, at: Option<Key>, key: Key)
+        requires list { list.0 < length self.old.lists }
+        requires at { IsOnList self.old list.0 (option_map (λ k. k.0) at) }
+        requires loose { IsLoose self.old key.0 }
+        ensures { self.new ≡ record self.old { lists = slice_set self.old.lists list.0 (put_behind (option_map (λ k. k.0) at) key.0 (list_at self.old list.0)); kept = place_set self.old.kept key.0 (Some list.0) } }
+    {
+        let place = &mut self.places[key.0 as usize];
+        place.list = Some(list.0 as u32);
+        let new = Neighbour::of(Some(key));
+        let ahead = Neighbour::of(at);
+        let ends = &mut self.ends[list.0];
+        let behind = next_behind(&self.hots, ends, ahead);
+        ends.count += 1;
+        set_behind(&mut self.hots, ends, ahead, new);
+        set_ahead(&mut self.hots, ends, behind, new);
+        set_links(&mut self.hots, key, ahead, behind);
+    }
+
+    /// Takes a loose car out.
+    pub fn take(&mut self, key: Key) -> Car
+        requires { IsLoose self.old key.0 }
+        ensures car { car_of self.old key.0 ≡ Some result }
+        ensures after { self.new ≡ record self.old { kept = slice_set self.old.kept key.0 None; room = self.old.room + 1 } }
+    {
+        let place = &mut self.places[key.0 as usize];
+        let car = place.car.take().unwrap();
+        self.spare.push_reserved(key.0);
+        car
+    }
+
+    /// The car of a key.
+    pub fn car(&self, key: Key) -> &Car
+        requires { IsSome (entry_at self.now key.0) }
+        ensures { car_of self.now key.0 ≡ Some result.now }
+    {
+        self.places[key.0 as usize].car.as_ref().unwrap()
+    }
+
+    /// The cell of a car, read without the rest of it.
+    pub fn cell(&self, key: Key) -> CellNo
+        requires { IsSome (entry_at self.now key.0) }
+        ensures { option_map (λ c. c.cell) (car_of self.now key.0) ≡ Some result }
+    {
+        self.hots[key.0 as usize].cell
+    }
+
+    /// The speed of a car, read without the rest of it.
+    pub fn speed(&self, key: Key) -> Speed
+        requires { IsSome (entry_at self.now key.0) }
+        ensures { option_map (λ c. c.speed) (car_of self.now key.0) ≡ Some result }
+    {
+        self.hots[key.0 as usize].speed
+    }
+
+    /// Whether the key has the mark.
+    pub fn is_marked(&self, key: Key) -> bool
+        requires { IsSome (entry_at self.now key.0) }
+        ensures { mark_of self.now key.0 ≡ Some result }
+    {
+        self.hots[key.0 as usize].mark
+    }
+
+    /// Writes the cell of a car.
+    pub fn set_cell(&mut self, key: Key, cell: CellNo)
+        requires { IsSome (entry_at self.old key.0) }
+        ensures { self.new ≡ record self.old { kept = car_set self.old.kept key.0 (λ c. record c { cell = cell }) } }
+    {
+        let hot = &mut self.hots[key.0 as usize];
+        hot.cell = cell;
+        let place = &mut self.places[key.0 as usize];
+        place.set_cell(cell);
+    }
+
+    /// Writes the speed of a car.
+    pub fn set_speed(&mut self, key: Key, speed: Speed)
+        requires { IsSome (entry_at self.old key.0) }
+        ensures { self.new ≡ record self.old { kept = car_set self.old.kept key.0 (λ c. record c { speed = speed }) } }
+    {
+        let hot = &mut self.hots[key.0 as usize];
+        hot.speed = speed;
+        let place = &mut self.places[key.0 as usize];
+        place.set_speed(speed);
+    }
+
+    /// Writes the cell and the speed of a car.
+    pub fn drive(&mut self, key: Key, cell: CellNo, speed: Speed)
+        requires { IsSome (entry_at self.old key.0) }
+        ensures { self.new ≡ record self.old { kept = car_set self.old.kept key.0 (λ c. record c { cell = cell; speed = speed }) } }
+    {
+        let hot = &mut self.hots[key.0 as usize];
+        hot.cell = cell;
+        hot.speed = speed;
+        let place = &mut self.places[key.0 as usize];
+        place.drive(cell, speed);
+    }
+
+    /// Writes the step of a car.
+    pub fn set_step(&mut self, key: Key, step: Step)
+        requires { IsSome (entry_at self.old key.0) }
+        ensures { self.new ≡ record self.old { kept = car_set self.old.kept key.0 (λ c. record c { step = step }) } }
+    {
+        let place = &mut self.places[key.0 as usize];
+        place.set_step(step);
+    }
+
+    /// Writes the position that a car has reached in its plan.
+    pub fn set_at(&mut self, key: Key, at: u16)
+        requires { IsSome (entry_at self.old key.0) }
+        ensures { self.new ≡ record self.old { kept = car_set self.old.kept key.0 (λ c. record c { at = at }) } }
+    {
+        let place = &mut self.places[key.0 as usize];
+        place.set_at(at);
+    }
+
+    /// Sets the mark of a key, or clears it.
+    pub fn mark(&mut self, key: Key, mark: bool)
+        requires { IsSome (entry_at self.old key.0) }
+        ensures { self.new ≡ record self.old { kept = mark_set self.old.kept key.0 mark } }
+    {
+        let hot = &mut self.hots[key.0 as usize];
+        hot.mark = mark;
+    }
+
+    /// The list that the key is on, if there is one.
+    pub fn list_of(&self, key: Key) -> Option<ListId>
+        ensures { option_map (λ k. k.0) result ≡ place_of self.now key.0 }
+    {
+        match self.places.get(key.0 as usize) {
+            Some(place) => list_named(place.list),
+            None => None,
+        }
+    }
+
+    /// Whether the key has a car that is on no list.
+    pub fn is_loose(&self, key: Key) -> bool
+        ensures { IsTrue result ↔ IsLoose self.now key.0 }
+    {
+        match self.places.get(key.0 as usize) {
+            Some(place) => place.car.is_some() && place.list.is_none(),
+            None => false,
+        }
+    }
+
+    /// Each key stands once on the list that it names, and nowhere else: a call learns it, and does nothing.
+    pub fn whole(&self)
+        ensures { IsWhole self.now }
+    {
+        let _ = &self.places;
+    }
+}
