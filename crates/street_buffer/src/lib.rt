@@ -7,6 +7,8 @@
 
 mod buffers;
 mod release;
+#[cfg(test)]
+mod tests;
 
 pub use buffers::Buffers;
 pub use release::Released;
