@@ -1,0 +1,309 @@
+"""A client of streetsim: starts the program, sends commands as lines and gives typed replies."""
+import fcntl
+import json
+import os
+import shutil
+import subprocess
+import tempfile
+from dataclasses import dataclass
+from pathlib import Path
+
+from . import limits
+
+PROGRAM = str(Path(__file__).resolve().parents[2] / "streetsim")
+CHUNK = 60_000      # bytes: fits in an empty pipe, so the two sides never wait for each other
+
+
+class Refused(Exception):
+    """A command that was refused; it changed nothing. Each refusal is a class of its own below this one."""
+    number = 0
+
+    def __init__(self, at=None, part=None):
+        self.at, self.part = at, part
+        place = f" at {at}" if part is None else f" at {at} of {part}"
+        super().__init__(f"{self.number} {type(self).__name__}{'' if at is None else place}")
+
+    def __eq__(self, other):
+        return type(self) is type(other) and (self.at, self.part) == (other.at, other.part)
+
+    __hash__ = Exception.__hash__
+
+
+def refusal(number, name, words):
+    return type(name, (Refused,), {"number": number, "__doc__": words, "__module__": __name__})
+
+
+NotLoaded = refusal(1, "NotLoaded", "No network is loaded.")
+AlreadyLoaded = refusal(2, "AlreadyLoaded", "A network is loaded.")
+BadNetwork = refusal(3, "BadNetwork", "The network has a fault, at `at` of `part`.")
+NoNode = refusal(4, "NoNode", "No node has this identifier.")
+NoLink = refusal(5, "NoLink", "No link has this identifier.")
+NoLane = refusal(6, "NoLane", "The link has no such lane.")
+BadRange = refusal(7, "BadRange", "A number is out of its range.")
+BadPlan = refusal(8, "BadPlan", "The plan has a fault, at `at`.")
+BadSignal = refusal(9, "BadSignal", "The signal plan has a fault, at `at`.")
+NoVehicle = refusal(10, "NoVehicle", "No vehicle has this number.")
+Gone = refusal(11, "Gone", "The vehicle has ended.")
+NoMeter = refusal(12, "NoMeter", "No detector has this number.")
+TooMany = refusal(13, "TooMany", "As many as there may be were admitted or placed.")
+BadCount = refusal(14, "BadCount", "Too many steps, or a period out of its range.")
+ClockEnd = refusal(15, "ClockEnd", "The steps lead past the greatest clock.")
+NotYet = refusal(19, "NotYet", "This command is not served yet.")
+NotJson = refusal(20, "NotJson", "The line is not JSON.")
+BadCommand = refusal(21, "BadCommand", "The value is no command.")
+LineTooLong = refusal(22, "LineTooLong", "The line is too long.")
+Full = refusal(23, "Full", "The run has no calls left.")
+REFUSALS = {kind.number: kind for kind in Refused.__subclasses__()}
+
+
+class Starved(Exception):
+    """Memory was wanting: the command was not done and may be sent again."""
+
+    def __eq__(self, other):
+        return type(self) is type(other)
+
+    __hash__ = Exception.__hash__
+
+
+class ProgramEnded(Exception):
+    """The program ended before it replied."""
+
+    def __init__(self, status, stderr):
+        self.status, self.stderr = status, stderr
+        super().__init__(f"the program ended with status {status}: {stderr.strip() or 'nothing on standard error'}")
+
+
+@dataclass(slots=True, frozen=True)
+class Loaded:
+    links: int
+    nodes: int
+    turns: int
+
+
+@dataclass(slots=True, frozen=True)
+class Short:
+    """An advance that made `short` of its steps."""
+    clock: int
+    short: int
+
+
+@dataclass(slots=True, frozen=True)
+class Vehicle:
+    """Where a vehicle is: state is waiting, cell, buffer, arrived or taken, and tells which of the rest there are."""
+    car: int
+    state: str
+    link: int | None = None
+    lane: int | None = None
+    cell: int | None = None
+    speed: int | None = None      # cells a step
+    plan: tuple = ()              # what remains, the present link included
+    depart: int | None = None
+    ready: int | None = None
+    step: int | None = None       # of arriving, or the clock at taking out
+
+
+@dataclass(slots=True, frozen=True)
+class Lane:
+    cells: tuple       # of (car, cell, speed), the greatest cell first
+    buffer: tuple      # of (car, speed, ready), from the front
+    waiting: tuple     # of (car, depart)
+    closed: tuple      # of (first, last)
+
+
+@dataclass(slots=True, frozen=True)
+class Row:
+    """What a detector noted from `start` on, in `steps` steps."""
+    start: int
+    steps: int
+    passes: int
+    speeds: int
+    occupied: int
+
+    @property
+    def flow(self):
+        """Vehicles a step."""
+        return self.passes / self.steps if self.steps else 0.0
+
+    @property
+    def density(self):
+        """The share of steps with a vehicle on the cell: vehicles a cell."""
+        return self.occupied / self.steps if self.steps else 0.0
+
+    @property
+    def mean_speed(self):
+        """Cells a step, over the vehicles that passed; none if none did."""
+        return self.speeds / self.passes if self.passes else None
+
+
+@dataclass(slots=True, frozen=True)
+class Rows:
+    now: Row           # the running period, with the steps it has so far
+    rows: tuple        # the last full periods, at most 32, the oldest first
+
+
+@dataclass(slots=True, frozen=True)
+class Census:
+    admitted: int
+    arrived: int
+    buffers: int
+    cells: int
+    clock: int
+    taken: int
+    waiting: int
+
+
+def reply_of(value):
+    """The typed reply of a JSON object; a refusal or Starved is given as a value. Plain numbers answer enter, advance, signal, close, takeout and meter."""
+    if "error" in value:
+        return REFUSALS[value["error"]](value.get("at"), value.get("part"))
+    if "starved" in value:
+        return Starved()
+    if "state" in value:
+        return Vehicle(**{**value, "plan": tuple(value.get("plan", ()))})
+    if "admitted" in value:
+        return Census(**value)
+    if "buffer" in value:
+        return Lane(*(tuple(map(tuple, value[key])) for key in ("cells", "buffer", "waiting", "closed")))
+    if "now" in value:
+        now = Row(*value["now"])
+        rows = [Row(start, 0, *rest) for start, *rest in value["rows"]]
+        period = now.start - rows[-1].start if rows else 0
+        return Rows(now, tuple(Row(row.start, period, row.passes, row.speeds, row.occupied) for row in rows))
+    if "links" in value:
+        return Loaded(**value)
+    if "short" in value:
+        return Short(**value)
+    [number] = value.values()
+    return number
+
+
+def line_of(command):
+    """The line of a command: a dictionary, or a line that is ready (with or without its end)."""
+    if isinstance(command, dict):
+        return json.dumps(command, separators=(",", ":")).encode() + b"\n"
+    return (command.encode() if isinstance(command, str) else command).rstrip(b"\n") + b"\n"
+
+
+def most_calls(program):
+    """The most calls that a run of the program may have, if its help says that it counts them; else 0."""
+    told = subprocess.run([program, "--help"], capture_output=True, text=True, check=False).stdout
+    return limits.CALLS if "--calls" in told else 0
+
+
+class Client:
+    """One run of the program, over pipes. Methods raise what was refused; `batch` gives refusals as values.
+
+    Where the program counts calls, as many as there may be are asked for: polling uses many.
+    """
+
+    def __init__(self, program=PROGRAM, workers=1, calls=None):
+        program = shutil.which(program) or os.path.abspath(program)
+        self.calls = most_calls(program) if calls is None else calls
+        words = [program, *(["--workers", str(workers)] if workers != 1 else []), *(["--calls", str(self.calls)] if self.calls else [])]
+        self.errors = tempfile.TemporaryFile()
+        self.process = subprocess.Popen(words, stdin=subprocess.PIPE, stdout=subprocess.PIPE, stderr=self.errors, bufsize=1 << 16)
+        self.chunk = min(CHUNK, fcntl.fcntl(self.process.stdin.fileno(), fcntl.F_GETPIPE_SZ) * 9 // 10)
+
+    def __enter__(self):
+        return self
+
+    def __exit__(self, kind, *_):
+        if kind is None:
+            self.close()
+        else:
+            self.process.kill()
+            self.end()
+
+    def close(self):
+        """Ends the input and waits for the program; raises if its status is not 0."""
+        status, told = self.end()
+        if status:
+            raise ProgramEnded(status, told)
+
+    def end(self):
+        for pipe in (self.process.stdin, self.process.stdout):
+            try:
+                pipe.close()
+            except OSError:
+                pass
+        status = self.process.wait()
+        self.errors.seek(0)
+        return status, self.errors.read().decode(errors="replace")
+
+    def exchange(self, lines):
+        """Sends lines and gives their replies as bytes. Chunks fit in the pipe; a longer line goes alone."""
+        chunk, count, size = [], 0, 0
+        for line in lines:
+            if size + len(line) > self.chunk and chunk:
+                yield from self.turn(chunk)
+                chunk, size = [], 0
+            chunk.append(line)
+            size += len(line)
+        if chunk:
+            yield from self.turn(chunk)
+
+    def turn(self, chunk):
+        try:
+            self.process.stdin.write(b"".join(chunk))
+            self.process.stdin.flush()
+            replies = [self.process.stdout.readline() for _ in chunk]
+        except OSError:
+            replies = [b""]
+        if not replies[-1].endswith(b"\n"):
+            raise ProgramEnded(*self.end())
+        return replies
+
+    def batch(self, commands):
+        """Sends many commands, dictionaries or ready lines, and gives all replies; refusals stand among them as values."""
+        return [reply_of(json.loads(reply)) for reply in self.exchange(map(line_of, commands))]
+
+    def ask(self, cmd, **fields):
+        [reply] = self.batch([{"cmd": cmd, **fields}])
+        if isinstance(reply, Exception):
+            raise reply
+        return reply
+
+    def load(self, nodes, links, turns, zone=0, dawdle=0, change=0, seed=0, start=0):
+        return self.ask("load", nodes=nodes, links=links, turns=turns, zone=zone, dawdle=dawdle, change=change, seed=seed, start=start)
+
+    def signal(self, node, phases, offset=0):
+        """Sets a node's plan, phases of (duration, [(link, lane, next), ..]); gives the cycle."""
+        return self.ask("signal", node=node, offset=offset, phases=phases)
+
+    def enter(self, plan, lane=0, depart=0):
+        """Gives the vehicle's number."""
+        return self.ask("enter", plan=plan, lane=lane, depart=depart)
+
+    def advance(self, steps=1):
+        """Makes the steps, asking again for those that a short reply left, and gives the clock."""
+        reply = self.ask("advance", steps=steps)
+        while isinstance(reply, Short):
+            steps -= reply.short
+            reply = self.ask("advance", steps=steps)
+        return reply
+
+    def close_lane(self, link, lane, first, last):
+        """Closes cells; gives how many of the lane are closed."""
+        return self.ask("close", link=link, lane=lane, first=first, last=last)
+
+    def reopen_lane(self, link, lane, first, last):
+        return self.ask("reopen", link=link, lane=lane, first=first, last=last)
+
+    def takeout(self, car):
+        return self.ask("takeout", car=car)
+
+    def meter(self, link, lane, cell, period):
+        """Places a detector; gives its number."""
+        return self.ask("meter", link=link, lane=lane, cell=cell, period=period)
+
+    def read(self, meter):
+        return self.ask("read", meter=meter)
+
+    def vehicle(self, car):
+        return self.ask("vehicle", car=car)
+
+    def lane(self, link, lane):
+        return self.ask("lane", link=link, lane=lane)
+
+    def count(self):
+        return self.ask("count")

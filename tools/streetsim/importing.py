@@ -1,0 +1,107 @@
+"""streetsim-import: SUMO networks and routes to streetsim's commands."""
+import argparse
+import json
+import sys
+from collections import Counter
+
+from . import limits
+from .files import Fault, whole_file
+from .mapping import map_of
+from .network import Network, Options
+from .report import Report, some
+from .sumo_demand import Demand, enters
+from .sumo_net import read_additional, read_net
+from .sumo_signals import signals
+
+
+def parser():
+    made = argparse.ArgumentParser(prog="streetsim-import", description="Makes load, signal and enter lines, and a map of the names, of a SUMO network and its routes.")
+    made.add_argument("net", help="the network (.net.xml, .net.xml.gz)")
+    made.add_argument("additional", nargs="*", help="additional files with signal programs, the last of a light counts")
+    made.add_argument("--routes", nargs="+", default=[], metavar="FILE", help="vehicles, flows and routes (.rou.xml)")
+    made.add_argument("-o", "--output", required=True, help="the run: lines of JSON (.jsonl, .jsonl.gz)")
+    made.add_argument("--map", required=True, help="the map of names to write (.json)")
+    made.add_argument("--classes", default="passenger", help="keep lanes that allow one of these vehicle classes, with commas between")
+    made.add_argument("--turns", choices=["both", "strict"], default="both", help="both: each lane of two leads to each next link; strict: SUMO's connections alone")
+    made.add_argument("--strict", action="store_true", help="end with status 1 where vehicles were skipped")
+    made.add_argument("--begin", type=int, default=0, metavar="S", help="the clock at the start; vehicles before it are skipped")
+    for name, most, words in (("dawdle", 1000, "chance of slowing down, of 1,000"), ("change", 1000, "chance of changing lane, of 1,000"), ("zone", 1000, "turn zone in cells"),
+                              ("seed", 2**64 - 1, "of all draws"), ("residence", limits.RESIDENCE, "steps in a buffer at signals and real junctions"), ("buffer", limits.BUFFER, "vehicles in a buffer")):
+        made.add_argument(f"--{name}", type=within(1 if name in ("residence", "buffer") else 0, most), default=getattr(Options(), name), help=f"{words} (default %(default)s)")
+    made.add_argument("--permissive", type=float, default=0.7, metavar="SHARE", help="the last share of each permissive green that is shown (default %(default)s)")
+    return made
+
+
+def within(least, most):
+    def number(text):
+        if not text.isdecimal() or not least <= int(text) <= most:
+            raise argparse.ArgumentTypeError(f"{text!r} is not {least} to {most:,}")
+        return int(text)
+    return number
+
+
+def options_of(words):
+    if not 0 <= words.permissive <= 1:
+        raise Fault("--permissive is a share from 0 to 1")
+    if not 0 <= words.begin <= limits.CLOCK:
+        raise Fault(f"--begin is 0 to {limits.CLOCK:,}")
+    return Options(tuple(words.classes.split(",")), words.turns == "strict", words.dawdle, words.change, words.zone, words.seed, words.residence, words.buffer, words.permissive, words.begin)
+
+
+def main(arguments):
+    words = parser().parse_args(arguments)
+    report, options = Report(), options_of(words)
+    network, lights, commands, names = convert(words.net, words.additional, words.routes, options, report)
+    lines = [json.dumps(command, separators=(",", ":")) for command in commands]
+    refuse_over_limits(network, lines[0], names)
+    with whole_file(words.output) as run, whole_file(words.map) as mapped:
+        run.writelines(line + "\n" for line in lines)
+        json.dump(map_of(network, lights, names, report).written(), mapped, separators=(",", ":"))
+    print(*report.lines(), sep="\n", end="\n" if any(report.lines()) else "", file=sys.stderr)
+    print(f"{len(network.nodes):,} nodes, {len(network.links):,} links, {len(network.turns):,} turns, {len(lights):,} signals, {len(names):,} vehicles", file=sys.stderr)
+    return 1 if words.strict and report.skipped else 0
+
+
+def convert(net_path, additional, routes, options, report):
+    """The network, its lights, the commands of the run and the names of its vehicles."""
+    net = read_net(net_path, options.classes, report)
+    for path in additional:
+        read_additional(path, net, report)
+    network = Network(net, options, report)
+    demand = Demand(net, options.seed, report)
+    for path in routes:
+        demand.read(path)
+    entered, names = enters(demand.finish(), net, network, report)
+    warn_of_rules(net, network, report)
+    made = signals(net, network, report)
+    lights = [[light, command["node"]] for light, command in made]
+    return network, lights, [network.load(), *(command for _, command in made), *entered], names
+
+
+def refuse_over_limits(network, load, names):
+    over = list(network.over_limits())
+    if len(names) > limits.VEHICLES:
+        over.append(f"{len(names):,} vehicles, at most {limits.VEHICLES:,}")
+    if len(load) > limits.LINE:
+        over.append(f"a load line of {len(load):,} bytes, at most {limits.LINE:,}")
+    if over:
+        raise Fault(f"too large for streetsim: {'; '.join(over)}. Nothing was written")
+
+
+def warn_of_rules(net, network, report):
+    """What is other here than in SUMO, as far as it concerns this network."""
+    short = sorted({link.edge for link in network.links if link.metres < limits.CELL_METRES})
+    if short:
+        report.warn(f"{len(short)} edges are shorter than a cell of {limits.CELL_METRES} m and get one: {some(short)}")
+    for (speed, limit), count in sorted(Counter((link.speed, link.limit) for link in network.links).items()):
+        free = (limit - network.options.dawdle / 1000) * limits.CELL_METRES
+        if abs(free - speed) > 0.1 * speed:
+            report.warn(f"{speed * 3.6:.0f} km/h becomes {limit} cells a step, {free * 3.6:.0f} km/h when free: {count} links")
+    minor = sum(connection.state == "m" and not connection.light for connection in net.connections)
+    if minor:
+        report.warn(f"{minor} connections have to give way in SUMO; here nobody yields")
+    if network.joined:
+        report.warn(f"{len(network.joined)} turns between parallel links added for routes that change between them")
+    split = sum(len(links) > 1 for links in network.links_of.values())
+    if split:
+        report.warn(f"{split} edges of three lanes or more became parallel links")

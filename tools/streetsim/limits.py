@@ -1,0 +1,21 @@
+"""What streetsim takes at most, and its units."""
+CELL_METRES = 7.5
+CELL_KMH = 27                # one cell a step of one second
+NODES = 4_096
+LINKS = 4_096
+TURNS = 32_768
+CELLS = 1_000                # of a link
+LIMIT = 5                    # cells a step
+RESIDENCE = 60
+BUFFER = 64
+PLAN = 1_024
+VEHICLES = 1_000_000
+CLOCK = 1_000_000_000
+STEPS = 10_000               # of one advance
+PHASES = 16
+PHASE_STEPS = 600
+METERS = 1_024
+PERIOD = 100_000
+ROWS = 32                    # that a detector keeps
+LINE = 1_048_576             # bytes
+CALLS = 1_000_000            # of one run, where the program counts them

@@ -1,0 +1,77 @@
+"""The map file: which SUMO names the numbers of a run stand for."""
+from dataclasses import asdict, dataclass, field
+
+from .files import read_json
+
+KEYS = ("nodes", "links", "turns", "signals", "cars", "options", "warnings")
+
+
+@dataclass(slots=True, frozen=True)
+class MapLink:
+    edge: str
+    lanes: tuple       # SUMO's lane indexes
+    begin: int         # nodes
+    end: int
+    cells: int
+    limit: int         # cells a step
+    metres: float
+    shape: tuple       # of (x, y)
+
+
+@dataclass(slots=True, frozen=True)
+class MapTurn:
+    link: int
+    lane: int
+    next: int
+    next_lane: int
+    light: str | None
+    index: int         # in the light's state
+    added: bool        # not SUMO's
+
+
+@dataclass(slots=True)
+class Map:
+    nodes: list                                   # [junction, x, y, residence]
+    links: list
+    turns: list
+    signals: list                                 # [light, node]
+    cars: list                                    # SUMO's vehicle names, by number
+    options: dict
+    warnings: list
+    links_of: dict = field(default_factory=dict)  # edge: links
+
+    def __post_init__(self):
+        for number, link in enumerate(self.links):
+            self.links_of.setdefault(link.edge, []).append(number)
+
+    def lane_name(self, link, lane):
+        """SUMO's name of a lane: edge_index."""
+        return f"{self.links[link].edge}_{self.links[link].lanes[lane]}"
+
+    def lanes(self):
+        """All (link, lane)."""
+        return [(number, lane) for number, link in enumerate(self.links) for lane in range(len(link.lanes))]
+
+    def written(self):
+        """The file's content."""
+        return {"nodes": self.nodes, "links": [list(asdict(link).values()) for link in self.links], "turns": [list(asdict(turn).values()) for turn in self.turns],
+                "signals": self.signals, "cars": self.cars, "options": self.options, "warnings": self.warnings}
+
+
+def map_of(network, lights, names, report):
+    """The map of an import."""
+    options = asdict(network.options)
+    return Map(nodes=[[name, *place, residence] for name, place, residence in zip(network.nodes, network.places, network.residences, strict=True)],
+               links=[MapLink(link.edge, link.lanes, link.begin, link.end, link.cells, link.limit, link.metres, tuple(link.shape)) for link in network.links],
+               turns=[MapTurn(link, lane, following, turn.next_lane, turn.light, turn.index, turn.added) for (link, lane, following), turn in network.turns.items()],
+               signals=lights, cars=names, options=options, warnings=list(report.lines()))
+
+
+def read_map(path):
+    return map_from(read_json(path, KEYS))
+
+
+def map_from(value):
+    """The map of a file's content."""
+    return Map(nodes=value["nodes"], links=[MapLink(*link) for link in value["links"]], turns=[MapTurn(*turn) for turn in value["turns"]],
+               signals=value["signals"], cars=value["cars"], options=value["options"], warnings=value["warnings"])

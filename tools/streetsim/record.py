@@ -1,0 +1,191 @@
+"""Runs a run file: sends its lines in time, polls, rescues, and keeps what the tables are made of."""
+import json
+from collections import Counter
+from dataclasses import dataclass, field
+
+from . import limits
+from .client import Lane, NotYet, Rows
+from .files import Fault
+
+MINUTE = 60
+
+
+@dataclass(slots=True)
+class Settings:
+    until: int
+    every: int = 10           # between polls of the lanes
+    period: int = 900         # of the counts
+    rescue: int = 300         # after so many steps of standing at a stop line; 0: never
+    edges: tuple = ()         # those to poll; all where it is empty
+
+
+@dataclass(slots=True)
+class Records:
+    counts: dict = field(default_factory=dict)      # (link, lane): rows by their begin
+    uncounted: int = 0                              # lanes without a detector, as there are more than 1,024
+    queues: list = field(default_factory=list)      # (clock, link, lane, vehicles)
+    censuses: list = field(default_factory=list)
+    ends: list = field(default_factory=list)        # for each vehicle of the file its last reply, or none if it never entered
+    rescues: Counter = field(default_factory=Counter)   # by vehicle
+    clock: int = 0
+
+
+class Recorder:
+    """Drives a run from its load to the end."""
+
+    def __init__(self, sim, run, mapping, settings, lanes_file, progress):
+        self.sim, self.run, self.mapping, self.settings, self.lanes_file, self.progress = sim, run, mapping, settings, lanes_file, progress
+        self.records = Records(clock=run.start())
+        self.polled = [(link, lane) for link, lane in mapping.lanes() if not settings.edges or mapping.links[link].edge in settings.edges]
+        self.meters = []                 # (link, lane), by number of detector
+        self.owners = []                 # the vehicle of the file, by car number
+        self.entered = self.sent = 0     # of the run's enters, of its timed lines
+        self.standing = {}               # (car, link): the clock since which it stands at that link's end
+
+    def calls(self, every):
+        """How many calls the run makes at most, if nobody is rescued."""
+        steps = self.settings.until - self.records.clock
+        minutes = steps // MINUTE + 1
+        polls = steps // every * len(self.polled) + (minutes * len(self.mapping.lanes()) if self.settings.rescue else 0)
+        reads = min(limits.METERS, len(self.mapping.lanes())) * (steps // (self.settings.period * limits.ROWS) + 2)
+        lines = 1 + len(self.run.first) + len(self.run.timed) + 2 * len(self.run.enters)
+        return lines + polls + reads + minutes + steps // every + steps // limits.STEPS
+
+    def check_budget(self, most):
+        """Refuses a run that needs more calls than the program takes, before it begins."""
+        if most and self.calls(self.settings.every) > most:
+            fitting = next((every for every in (1, 2, 5, 10, 15, 20, 30, 60, 120, 300, 600, 900, 1800, 3600) if every > self.settings.every and self.calls(every) <= most), None)
+            advice = f"--every {fitting}" if fitting else "a shorter run, or fewer edges"
+            raise Fault(f"the run needs {self.calls(self.settings.every):,} calls and the program takes {most:,}: try {advice}")
+
+    def record(self):
+        """Makes the whole run."""
+        self.check_budget(self.sim.calls)
+        self.send([self.run.load, *self.run.first])
+        self.place_meters()
+        clock = self.records.clock
+        while clock < self.settings.until:
+            self.send_timed(clock)
+            clock = self.advance(clock)
+            self.poll(clock)
+            self.progress.show(clock, self.records)
+        self.read_meters()
+        self.find_ends()
+        return self.records
+
+    def send(self, lines):
+        """Sends lines of the run; a refused one ends it."""
+        for line, reply in zip(lines, self.sim.batch(line.text for line in lines), strict=True):
+            if isinstance(reply, Exception):
+                more = f": this program does not serve {line.command['cmd']!r} yet" if isinstance(reply, NotYet) else ""
+                raise Fault(f"{self.run.path}: line {line.number} ({line.command['cmd']}) was refused: {reply}{more}")
+
+    def send_timed(self, clock):
+        due = []
+        while self.sent < len(self.run.timed) and self.run.timed[self.sent][0] <= clock:
+            due.append(self.run.timed[self.sent][1])
+            self.sent += 1
+        self.send(due)
+
+    def advance(self, clock):
+        """Goes on to the next clock at which something is due; those who depart until then enter before."""
+        settings = self.settings
+        target = min(settings.until, *((clock // every + 1) * every for every in (settings.every, MINUTE, settings.period * limits.ROWS)))
+        if self.sent < len(self.run.timed):
+            target = min(target, self.run.timed[self.sent][0])
+        last = self.entered
+        while last < len(self.run.enters) and self.run.needed[last] < target:
+            last += 1
+        self.send(self.run.enters[self.entered:last])
+        self.owners += range(self.entered, last)
+        self.entered = last
+        self.records.clock = self.sim.advance(target - clock)
+        return target
+
+    def poll(self, clock):
+        settings = self.settings
+        if clock % settings.every == 0:
+            self.note_lanes(clock, self.lanes(self.polled))
+        if clock % MINUTE == 0 or clock == settings.until:
+            self.records.censuses.append(self.sim.count())
+        if settings.rescue and clock % MINUTE == 0:
+            self.rescue(clock, self.lanes(self.mapping.lanes()))
+        if clock % (settings.period * limits.ROWS) == 0:
+            self.read_meters()
+
+    def lanes(self, places):
+        """What stands on lanes, of those where anything is."""
+        replies = self.sim.batch({"cmd": "lane", "link": link, "lane": lane} for link, lane in places)
+        refused = [reply for reply in replies if not isinstance(reply, Lane)]
+        if refused:
+            raise Fault(f"a poll of the lanes was refused: {refused[0]}")
+        return [(link, lane, reply) for (link, lane), reply in zip(places, replies, strict=True) if reply.cells or reply.buffer or reply.closed]
+
+    def note_lanes(self, clock, lanes):
+        shown = []
+        for link, lane, reply in lanes:
+            queue = standing(reply.cells, self.mapping.links[link].cells)
+            if queue:
+                self.records.queues.append((clock, link, lane, queue))
+            cells = [(self.owners[car], cell, speed) for car, cell, speed in reply.cells]
+            shown.append([link, lane, cells, [self.owners[car] for car, _, _ in reply.buffer], reply.closed])
+        self.lanes_file.write(json.dumps({"clock": clock, "lanes": shown}, separators=(",", ":")) + "\n")
+
+    def rescue(self, clock, lanes):
+        """Takes out who has stood at a stop line, or in front of a buffer, for too long, and enters it on the rest of its plan."""
+        standing_now = {}
+        for link, _, reply in lanes:
+            if reply.buffer:
+                standing_now[reply.buffer[0][0], link] = reply.buffer[0][2]
+            if reply.cells and reply.cells[0][1:] == (self.mapping.links[link].cells - 1, 0):
+                place = reply.cells[0][0], link
+                standing_now[place] = self.standing.get(place, clock)
+        self.standing = standing_now
+        for car in [car for (car, _), since in standing_now.items() if clock - since >= self.settings.rescue]:
+            rest = self.sim.vehicle(car).plan[1:]
+            if rest:
+                self.sim.takeout(car)
+                self.sim.enter(list(rest), self.departure_lane(rest), clock)
+                self.owners.append(self.owners[car])
+                self.records.rescues[self.owners[car]] += 1
+
+    def departure_lane(self, plan):
+        """A lane of the first link that leads to the second."""
+        return next((turn.lane for turn in self.mapping.turns if len(plan) > 1 and (turn.link, turn.next) == plan[:2]), 0)
+
+    def place_meters(self):
+        """A detector at the last cell of each lane; where there are too many lanes, of those on most plans."""
+        lanes = self.mapping.lanes()
+        if len(lanes) > limits.METERS:
+            use = Counter(link for line in self.run.enters for link in line.command["plan"])
+            lanes = sorted(lanes, key=lambda place: -use[place[0]])[:limits.METERS]
+        self.records.uncounted = len(self.mapping.lanes()) - len(lanes)
+        replies = self.sim.batch({"cmd": "meter", "link": link, "lane": lane, "cell": self.mapping.links[link].cells - 1, "period": self.settings.period} for link, lane in lanes)
+        refused = [reply for reply in replies if isinstance(reply, Exception)]
+        if refused:
+            raise Fault(f"a detector was refused: {refused[0]}")
+        self.meters = lanes
+
+    def read_meters(self):
+        replies = self.sim.batch({"cmd": "read", "meter": meter} for meter in range(len(self.meters)))
+        for place, reply in zip(self.meters, replies, strict=True):
+            if not isinstance(reply, Rows):
+                raise Fault(f"reading a detector was refused: {reply}")
+            rows = self.records.counts.setdefault(place, {})
+            rows.update({row.start: row for row in (*reply.rows, reply.now) if row.steps})
+
+    def find_ends(self):
+        """Where each vehicle of the file is at the end, by the last number that it had."""
+        last = {owner: car for car, owner in enumerate(self.owners)}
+        replies = self.sim.batch({"cmd": "vehicle", "car": last[owner]} for owner in range(self.entered))
+        self.records.ends = replies + [None] * (len(self.run.enters) - self.entered)
+
+
+def standing(cells, length):
+    """How many vehicles stand without a gap from the stop line; cells from the greatest."""
+    count = 0
+    for _, cell, speed in cells:
+        if speed or cell != length - 1 - count:
+            break
+        count += 1
+    return count

@@ -1,0 +1,174 @@
+"""Reads SUMO vehicles, flows and routes (.rou.xml) and makes enter commands of them."""
+import math
+import random
+from collections import Counter
+from dataclasses import dataclass
+
+from . import limits
+from .files import Fault, attribute, elements, number, seconds, told
+
+WITHOUT_EFFECT = ("departPos", "departLane", "departSpeed", "arrivalPos", "arrivalLane", "arrivalSpeed")
+NOT_DRIVEN = {"trip": "a trip", "person": "a person", "personFlow": "a flow of persons", "container": "a container", "containerFlow": "a flow of containers"}
+ROUTED_FIRST = "has no route; let SUMO's duarouter compute routes first"
+
+
+@dataclass(slots=True)
+class Vehicle:
+    name: str
+    depart: float     # seconds
+    edges: tuple
+
+
+class Demand:
+    """The vehicles of route files, and the routes that they name."""
+
+    def __init__(self, net, seed, report):
+        self.net, self.report = net, report
+        self.random = random.Random(seed)
+        self.routes = {}       # name: edges
+        self.vehicles = []
+        self.later = []        # (vehicle, file and element, route's name): routes may be told after the vehicles
+
+    def read(self, path):
+        readers = {"route": self.read_route, "vehicle": self.read_vehicle, "flow": self.read_flow, "vType": self.read_type, "vTypeDistribution": self.read_type}
+        for element in elements(path, ["routes", "additional", "add"]):
+            if element.tag == "trip":
+                raise Fault(f"{told(path, element)} {ROUTED_FIRST}")
+            if element.tag in NOT_DRIVEN:
+                self.report.skipped[f"{NOT_DRIVEN[element.tag]}, which streetsim does not have"] += 1
+            elif element.tag in readers:
+                readers[element.tag](path, element)
+            else:
+                self.report.ignored[f"<{element.tag}> of route files"] += 1
+
+    def read_type(self, _path, element):
+        self.report.ignored["vehicle types"] += sum(1 for inner in element.iter() if inner.tag == "vType")
+
+    def read_route(self, path, element):
+        name = attribute(path, element, "id")
+        if name in self.routes:
+            raise Fault(f"{told(path, element)}: a second route of this name")
+        self.routes[name] = self.edges(path, element, element)
+
+    def edges(self, path, owner, route):
+        """The edges of a route, each of which the network must have."""
+        names = tuple(attribute(path, route, "edges").split())
+        unknown = [name for name in names if name not in self.net.edges and name not in self.net.dropped]
+        if unknown or not names:
+            raise Fault(f"{told(path, owner)}: " + (f"the network has no edge {unknown[0]!r}" if unknown else "a route without edges"))
+        return names
+
+    def add(self, path, element, departs):
+        """Vehicles of an element, one for each (name, depart)."""
+        inner = element.find("route")
+        if inner is None and (element.find("routeDistribution") is not None or element.get("route") is None):
+            raise Fault(f"{told(path, element)} {ROUTED_FIRST}")
+        self.note_ignored(element)
+        edges = self.edges(path, element, inner) if inner is not None else None
+        for name, depart in departs:
+            vehicle = Vehicle(name, depart, edges)
+            self.vehicles.append(vehicle)
+            if edges is None:
+                self.later.append((vehicle, told(path, element), element.get("route")))
+
+    def note_ignored(self, element):
+        for name in WITHOUT_EFFECT:
+            self.report.ignored[f"{name} of vehicles"] += element.get(name) is not None
+        self.report.ignored["stops"] += sum(1 for _ in element.iter("stop"))
+        self.report.ignored["types of vehicles"] += element.get("type") is not None
+
+    def read_vehicle(self, path, element):
+        text = attribute(path, element, "depart")
+        if text in ("triggered", "containerTriggered", "now", "split", "begin"):
+            self.report.skipped[f"depart={text!r} is no time"] += 1
+        else:
+            self.add(path, element, [(attribute(path, element, "id"), attribute(path, element, "depart", seconds))])
+
+    def read_flow(self, path, element):
+        name = attribute(path, element, "id")
+        self.add(path, element, [(f"{name}.{at}", depart) for at, depart in enumerate(self.departs(path, element))])
+
+    def departs(self, path, element):
+        """Departures of a flow: begin + k * period while below the end; of probability and period="exp(rate)" by draws of the seed."""
+        begin = attribute(path, element, "begin", seconds) if element.get("begin") else 0.0
+        end = attribute(path, element, "end", seconds) if element.get("end") else (math.inf if element.get("number") else 86_400.0)
+        most = attribute(path, element, "number", int) if element.get("number") else limits.VEHICLES + 1
+        if element.get("probability"):
+            chance = attribute(path, element, "probability", number)
+            drawn = (begin + second for second in range(math.ceil(end - begin)) if self.random.random() < chance)
+            return [depart for _, depart in zip(range(most), drawn)]
+        if (element.get("period") or "").startswith("exp("):
+            return self.drawn_departs(attribute(path, element, "period", lambda text: number(text[4:].rstrip(")"))), begin, end, most)
+        period = self.period(path, element, begin, end, most)
+        return list(steady(begin, period, end, most))
+
+    def drawn_departs(self, rate, begin, end, most):
+        departs, clock = [], begin
+        while rate > 0 and len(departs) < most and (clock := clock + self.random.expovariate(rate)) < end:
+            departs.append(clock)
+        return departs
+
+    def period(self, path, element, begin, end, most):
+        for name in ("vehsPerHour", "perHour"):
+            if element.get(name):
+                hourly = attribute(path, element, name, number)
+                return 3600 / hourly if hourly > 0 else math.inf
+        if element.get("period"):
+            period = attribute(path, element, "period", seconds)
+        elif element.get("number") and end < math.inf:
+            period = (end - begin) / max(1, most)
+        else:
+            raise Fault(f"{told(path, element)}: no rate (number with end, period, vehsPerHour, perHour or probability)")
+        if period <= 0 and most > limits.VEHICLES:
+            raise Fault(f"{told(path, element)}: a period of {period} s")
+        return period
+
+    def finish(self):
+        """All vehicles, each with its route, in order of departure and file."""
+        for vehicle, where, name in self.later:
+            if name not in self.routes:
+                raise Fault(f"{where}: there is no route {name!r}")
+            vehicle.edges = self.routes[name]
+        names = Counter(vehicle.name for vehicle in self.vehicles)
+        double = next((name for name, count in names.items() if count > 1), None)
+        if double is not None:
+            raise Fault(f"two vehicles are named {double!r}")
+        return sorted(self.vehicles, key=lambda vehicle: vehicle.depart)
+
+
+def steady(begin, period, end, most):
+    for at in range(most):
+        depart = begin + at * period if at else begin
+        if depart >= end:
+            return
+        yield depart
+
+
+def enters(vehicles, net, network, report):
+    """Enter commands and the names of their vehicles; vehicles that can not drive are counted by reason."""
+    commands, names, used = [], [], Counter()
+    for vehicle in vehicles:
+        plan, why = plan_of(vehicle, net, network)
+        if plan is None:
+            report.skipped[why] += 1
+            continue
+        lanes = network.serves(plan[0], plan[1]) if len(plan) > 1 else range(len(network.links[plan[0]].lanes))
+        lane = lanes[used[plan[0]] % len(lanes)]
+        used[plan[0]] += 1
+        commands.append({"cmd": "enter", "plan": list(plan), "lane": lane, "depart": max(0, math.ceil(vehicle.depart))})
+        names.append(vehicle.name)
+    return commands, names
+
+
+def plan_of(vehicle, net, network):
+    """The links of a vehicle, or none and why."""
+    if any(edge in net.dropped for edge in vehicle.edges):
+        return None, "an edge of the route has no lane for the classes"
+    if len(vehicle.edges) > limits.PLAN:
+        return None, f"a route of more than {limits.PLAN:,} edges"
+    if vehicle.depart < network.options.begin:
+        return None, "departs before the begin"
+    if vehicle.depart > limits.CLOCK:
+        return None, f"departs after {limits.CLOCK:,} s"
+    plan = network.route(vehicle.edges)
+    return plan, None if plan else "two edges of the route have no connection"

@@ -1,0 +1,132 @@
+"""Reads a SUMO network (.net.xml, and signal programs of additional files)."""
+from dataclasses import dataclass, field
+
+from .files import Fault, attribute, elements, number, seconds, told
+
+INNER = ("internal", "walkingarea", "crossing")
+
+
+@dataclass(slots=True)
+class Lane:
+    index: int
+    speed: float      # metres a second
+    metres: float
+    shape: list       # of (x, y), metres
+
+
+@dataclass(slots=True)
+class Edge:
+    name: str
+    begin: str
+    end: str
+    priority: int
+    lanes: list       # those that one of the classes may use, from the right
+
+
+@dataclass(slots=True)
+class Connection:
+    source: str
+    target: str
+    source_lane: int
+    target_lane: int
+    light: str | None
+    index: int        # in the light's state
+    state: str        # M: major, m: minor, ..
+
+
+@dataclass(slots=True)
+class Program:
+    offset: float
+    phases: list      # of (seconds, state)
+    kind: str         # static, actuated, ..
+
+
+@dataclass(slots=True)
+class SumoNet:
+    junctions: dict = field(default_factory=dict)      # name: (x, y)
+    edges: dict = field(default_factory=dict)          # name: Edge
+    dropped: set = field(default_factory=set)          # edges without a lane for the classes
+    connections: list = field(default_factory=list)    # between kept lanes
+    roundabouts: set = field(default_factory=set)      # edges
+    programs: dict = field(default_factory=dict)       # light: Program, the last loaded
+
+
+def shape(text):
+    """A list of points; heights are left out."""
+    return [tuple(number(part) for part in point.split(",")[:2]) for point in text.split()]
+
+
+def allows(element, classes):
+    """Whether a lane or connection is open to one of the vehicle classes."""
+    if element.get("allow") is not None:
+        allowed = element.get("allow").split()
+        return "all" in allowed or any(name in allowed for name in classes)
+    closed = (element.get("disallow") or "").split()
+    return "all" not in closed and any(name not in closed for name in classes)
+
+
+def read_net(path, classes, report):
+    """The network of a .net.xml, with the lanes that one of the classes may use."""
+    net, named = SumoNet(), set()
+    readers = {"edge": read_edge, "junction": read_junction, "connection": read_connection, "roundabout": read_roundabout, "tlLogic": read_program}
+    for element in elements(path, ["net"]):
+        if element.tag in readers:
+            readers[element.tag](path, element, net, classes)
+            if element.tag == "edge":
+                named.update(name for lane in element.iter("lane") for name in (lane.get("allow") or "").split())
+        elif element.tag not in ("location", "type", "request"):
+            report.ignored[f"<{element.tag}> of the network"] += 1
+    if not net.edges:
+        raise Fault(f"{path}: no lane is open to {', '.join(classes)}; lanes are opened to: {', '.join(sorted(named)) or 'none by name'}")
+    return net
+
+
+def read_additional(path, net, report):
+    """Signal programs of an additional file; all else there is counted as ignored."""
+    for element in elements(path, ["additional", "add", "routes", "tlLogics"]):
+        if element.tag == "tlLogic":
+            read_program(path, element, net, ())
+        else:
+            report.ignored[f"<{element.tag}> of additional files"] += 1
+
+
+def read_edge(path, element, net, classes):
+    if element.get("function") in INNER:
+        return
+    name = attribute(path, element, "id")
+    if name in net.edges or name in net.dropped:
+        raise Fault(f"{told(path, element)}: a second edge of this name")
+    lanes = [Lane(attribute(path, lane, "index", int), attribute(path, lane, "speed", number), attribute(path, lane, "length", number), attribute(path, lane, "shape", shape))
+             for lane in element.iter("lane") if allows(lane, classes)]
+    if lanes:
+        net.edges[name] = Edge(name, attribute(path, element, "from"), attribute(path, element, "to"), attribute(path, element, "priority", int) if element.get("priority") else -1, lanes)
+    else:
+        net.dropped.add(name)
+
+
+def read_junction(path, element, net, _classes):
+    if element.get("type") != "internal":
+        net.junctions[attribute(path, element, "id")] = (attribute(path, element, "x", number), attribute(path, element, "y", number))
+
+
+def read_connection(path, element, net, classes):
+    source, target = attribute(path, element, "from"), attribute(path, element, "to")
+    if source not in net.edges or target not in net.edges or not allows(element, classes):
+        return
+    lanes = attribute(path, element, "fromLane", int), attribute(path, element, "toLane", int)
+    if all(any(lane.index == number for lane in net.edges[edge].lanes) for edge, number in zip((source, target), lanes, strict=True)):
+        light = element.get("tl")
+        index = attribute(path, element, "linkIndex", int) if light else -1
+        net.connections.append(Connection(source, target, *lanes, light, index, element.get("state", "M")))
+
+
+def read_roundabout(path, element, net, _classes):
+    net.roundabouts.update(attribute(path, element, "edges").split())
+
+
+def read_program(path, element, net, _classes):
+    phases = [(attribute(path, phase, "duration", seconds), attribute(path, phase, "state")) for phase in element.iter("phase")]
+    if any(duration < 0 for duration, _ in phases):
+        raise Fault(f"{told(path, element)}: a phase of negative duration")
+    offset = attribute(path, element, "offset", seconds) if element.get("offset") else 0.0
+    net.programs[attribute(path, element, "id")] = Program(offset, phases, element.get("type", "static"))
