@@ -24,17 +24,18 @@ def signals(net, network, report):
         if len(known) > 1:
             report.warn(f"junction {network.nodes[node]!r}: of its lights {', '.join(known)} the first alone is used")
         if known:
-            made.append((known[0], signal(node, turns, known[0], net.programs[known[0]], network, report)))
+            edges = {link: network.links[link].edge for link, *_ in turns}
+            made.append((known[0], signal(node, turns, edges, known[0], net.programs[known[0]], network.options.permissive, report)))
     for light in sorted({light for light, _ in made}):
         if net.programs[light].kind != "static":
             report.warn(f"light {light!r} is {net.programs[light].kind}: its listed durations are used")
     return made
 
 
-def signal(node, turns, light, program, network, report):
-    """The signal command of one node."""
+def signal(node, turns, edges, light, program, permissive, report):
+    """The signal command of one node, of its turns (link, lane, next link, with light and index) and the edges of their links."""
     states = each_second(light, program, report)
-    greens = green_seconds(light, turns, states, network.options.permissive)
+    greens = green_seconds(light, turns, states, permissive)
     phases = run_lengths(greens)
     if len(phases) > limits.PHASES:
         report.warn(f"light {light!r}: more than {limits.PHASES} phases, so permissive greens are green throughout")
@@ -42,7 +43,7 @@ def signal(node, turns, light, program, network, report):
     if len(phases) > limits.PHASES:
         report.warn(f"light {light!r}: still more than {limits.PHASES} phases; the shortest are joined to those before them")
         phases = joined(phases)
-    never = sorted({network.links[link].edge for link, lane, following, _ in turns if not any((link, lane, following) in green for _, green in phases)})
+    never = sorted({edges[link] for link, lane, following, _ in turns if not any((link, lane, following) in green for _, green in phases)})
     if never:
         report.warn(f"light {light!r}: a turn is never green on edges {some(never)}")
     cycle = sum(duration for duration, _ in phases)

@@ -1,0 +1,269 @@
+"""A run under SUMO's names and units (metres, metres a second, seconds), with TraCI's calls where one fits."""
+from . import limits
+from .client import PROGRAM, Client
+from .mapping import read_map
+from .report import Report
+from .runs import read_run
+from .sumo_net import Program
+from .sumo_signals import signal
+
+NOWHERE = -1073741824.0      # TraCI's value for a place that is not known
+ADVICE = {
+    "vehicle.setSpeed": "speeds follow the rules alone",
+    "vehicle.slowDown": "speeds follow the rules alone",
+    "vehicle.changeLane": "lanes are changed by the rules alone",
+    "vehicle.setRoute": "plans do not change on the way: remove the vehicle and add it anew",
+    "vehicle.changeTarget": "plans do not change on the way: remove the vehicle and add it anew",
+    "vehicle.rerouteTraveltime": "there is no router: compute routes before, with SUMO's duarouter",
+    "vehicle.getPosition": "use getLaneID and getLanePosition with the shapes of the map",
+    "trafficlight.setRedYellowGreenState": "send a whole cycle by setProgramLogic",
+    "trafficlight.setPhase": "send a whole cycle by setProgramLogic",
+    "inductionloop.getLastStepVehicleNumber": "add the detector with period 1 and use getLastIntervalVehicleNumber",
+    "simulation.getArrivedNumber": "use client.count().arrived, which counts from the start",
+    "simulation.saveState": "a run repeats exactly: keep the lines that were sent",
+}
+
+
+class NotHere(AttributeError):
+    """A call of TraCI that streetsim has nothing for; the text says what to do instead."""
+
+
+class Part:
+    """A domain of calls, as TraCI groups them."""
+
+    def __init__(self, scenario):
+        self.scenario = scenario
+
+    def __getattr__(self, name):
+        call = f"{type(self).__name__.lower()}.{name}"
+        raise NotHere(f"{call} is not here: {ADVICE.get(call, 'streetsim has nothing for it; see tools/README.md')}")
+
+
+class Scenario:
+    """A running simulation of a run file and its map: its network, signals and vehicles are loaded at once."""
+
+    def __init__(self, run, mapping, program=PROGRAM, workers=1):
+        self.map, source = read_map(mapping), read_run(run)
+        self.client = Client(program, workers)
+        self.clock = source.start()
+        self.cars, self.plans = {}, {}         # by name: number, links
+        self.going = {}                        # number: name, of vehicles that may be on their way
+        self.routes, self.detectors = {}, {}
+        self.lane_of = {self.map.lane_name(link, lane): (link, lane) for link, lane in self.map.lanes()}
+        for reply in self.client.batch(line.text for line in [source.load, *source.first]):
+            if isinstance(reply, Exception):
+                raise reply
+        names = iter(self.map.cars)
+        for line in source.enters:
+            self.enter(next(names, f"#{len(self.cars)}"), line.command["plan"], line.command["lane"], line.command["depart"])
+        self.simulation, self.vehicle, self.route = Simulation(self), Vehicle(self), Route(self)
+        self.lane, self.edge, self.inductionloop, self.trafficlight = Lane(self), Edge(self), InductionLoop(self), TrafficLight(self)
+
+    def __enter__(self):
+        return self
+
+    def __exit__(self, *fault):
+        self.client.__exit__(*fault)
+
+    def simulationStep(self, time=0):
+        """One step, or all steps until a time in seconds."""
+        target = max(self.clock + 1, int(time))
+        while self.clock < target:
+            self.clock = self.client.advance(min(limits.STEPS, target - self.clock))
+
+    def enter(self, name, plan, lane, depart):
+        if name in self.cars:
+            raise ValueError(f"there is a vehicle {name!r} already")
+        self.cars[name] = self.client.enter(plan, lane, depart)
+        self.plans[name] = tuple(plan)
+        self.going[self.cars[name]] = name
+
+    def plan(self, edges):
+        """Links along edges, each with a turn to the next; ValueError where there are none."""
+        if unknown := [edge for edge in edges if edge not in self.map.links_of]:
+            raise ValueError(f"the map has no edge {unknown[0]!r}")
+        turns = {(turn.link, turn.next) for turn in self.map.turns}
+        plans = {link: (link,) for link in self.map.links_of[edges[0]]} if edges else {}
+        for edge in edges[1:]:
+            plans = {link: (*plan, link) for link in self.map.links_of[edge] for last, plan in plans.items() if (last, link) in turns}
+        if not plans:
+            raise ValueError(f"no way along {' '.join(edges)}")
+        return next(iter(plans.values()))
+
+    def lane_state(self, name):
+        return self.client.lane(*self.lane_of[name])
+
+    def cells(self, name, begin, end):
+        """The cells of a lane from one place to another, in metres."""
+        link = self.map.links[self.lane_of[name][0]]
+        size = link.metres / link.cells
+        first = min(link.cells - 1, max(0, int(begin / size)))
+        return first, min(link.cells - 1, max(first, round(end / size) - 1))
+
+    def close(self, lane, begin=0.0, end=float(10**7)):
+        """Closes a lane from one place to another, in metres: road works."""
+        self.client.close_lane(*self.lane_of[lane], *self.cells(lane, begin, end))
+
+    def reopen(self, lane, begin=0.0, end=float(10**7)):
+        self.client.reopen_lane(*self.lane_of[lane], *self.cells(lane, begin, end))
+
+
+class Simulation(Part):
+    def getTime(self):
+        return float(self.scenario.clock)
+
+    def getMinExpectedNumber(self):
+        """Vehicles that have not ended."""
+        census = self.scenario.client.count()
+        return census.admitted - census.arrived - census.taken
+
+
+class Route(Part):
+    def add(self, name, edges):
+        self.scenario.routes[name] = self.scenario.plan(list(edges))
+
+
+class Vehicle(Part):
+    def add(self, name, route, depart=None):
+        """Adds a vehicle on a route that route.add told; it departs now or at a time in seconds."""
+        scenario = self.scenario
+        plan = scenario.routes[route]
+        lane = next((turn.lane for turn in scenario.map.turns if len(plan) > 1 and (turn.link, turn.next) == plan[:2]), 0)
+        scenario.enter(name, list(plan), lane, scenario.clock if depart is None else max(0, -int(-depart // 1)))
+
+    def remove(self, name):
+        self.scenario.client.takeout(self.scenario.cars[name])
+
+    def getIDList(self):
+        """Vehicles on lanes or in buffers."""
+        scenario = self.scenario
+        replies = scenario.client.batch({"cmd": "vehicle", "car": car} for car in scenario.going)
+        for reply in replies:
+            if reply.state in ("arrived", "taken"):
+                del scenario.going[reply.car]
+        return tuple(scenario.going[reply.car] for reply in replies if reply.state in ("cell", "buffer"))
+
+    def where(self, name):
+        return self.scenario.client.vehicle(self.scenario.cars[name])
+
+    def getRoadID(self, name):
+        """The edge; in a junction ':' and its name; '' before departure and after the end."""
+        reply, mapping = self.where(name), self.scenario.map
+        if reply.state == "buffer":
+            return f":{mapping.nodes[mapping.links[reply.link].end][0]}"
+        return mapping.links[reply.link].edge if reply.state == "cell" else ""
+
+    def getLaneIndex(self, name):
+        reply = self.where(name)
+        return self.scenario.map.links[reply.link].lanes[reply.lane] if reply.state == "cell" else int(NOWHERE)
+
+    def getLaneID(self, name):
+        reply = self.where(name)
+        return self.scenario.map.lane_name(reply.link, reply.lane) if reply.state == "cell" else ""
+
+    def getLanePosition(self, name):
+        """The front of the vehicle, in metres from the lane's begin."""
+        reply = self.where(name)
+        if reply.state != "cell":
+            return NOWHERE
+        link = self.scenario.map.links[reply.link]
+        return (reply.cell + 1) * link.metres / link.cells
+
+    def getSpeed(self, name):
+        """Metres a second."""
+        speed = self.where(name).speed
+        return NOWHERE if speed is None else speed * limits.CELL_METRES
+
+    def getRoute(self, name):
+        return tuple(self.scenario.map.links[link].edge for link in self.scenario.plans[name])
+
+
+class Lane(Part):
+    def getIDList(self):
+        return tuple(self.scenario.lane_of)
+
+    def getLastStepVehicleIDs(self, name):
+        """Vehicles on the lane, the rearmost first."""
+        names = {car: vehicle for vehicle, car in self.scenario.cars.items()}
+        return tuple(names[car] for car, _, _ in reversed(self.scenario.lane_state(name).cells))
+
+    def getLastStepVehicleNumber(self, name):
+        return len(self.scenario.lane_state(name).cells)
+
+    def getLastStepHaltingNumber(self, name):
+        return sum(speed == 0 for _, _, speed in self.scenario.lane_state(name).cells)
+
+    def getLastStepMeanSpeed(self, name):
+        """Metres a second; -1 where the lane is empty."""
+        speeds = [speed for _, _, speed in self.scenario.lane_state(name).cells]
+        return sum(speeds) / len(speeds) * limits.CELL_METRES if speeds else -1.0
+
+    def getLength(self, name):
+        return self.scenario.map.links[self.scenario.lane_of[name][0]].metres
+
+    def setDisallowed(self, name, classes):
+        """Closes the lane where the classes of the import (or all) are disallowed."""
+        if "all" in classes or set(self.scenario.map.options["classes"]) <= set(classes):
+            self.scenario.close(name)
+
+    def setAllowed(self, name, classes):
+        """Opens the lane again where one of the classes of the import (or all) is allowed."""
+        if "all" in classes or set(self.scenario.map.options["classes"]) & set(classes):
+            self.scenario.reopen(name)
+
+
+class Edge(Part):
+    def lanes(self, name):
+        return [self.scenario.client.lane(link, lane) for link in self.scenario.map.links_of[name] for lane in range(len(self.scenario.map.links[link].lanes))]
+
+    def getLastStepVehicleNumber(self, name):
+        return sum(len(lane.cells) for lane in self.lanes(name))
+
+    def getLastStepHaltingNumber(self, name):
+        return sum(speed == 0 for lane in self.lanes(name) for _, _, speed in lane.cells)
+
+
+class InductionLoop(Part):
+    def add(self, name, lane, place, period):
+        """A detector at a place of a lane, in metres, with rows of so many seconds."""
+        cell, _ = self.scenario.cells(lane, place, place)
+        self.scenario.detectors[name] = self.scenario.client.meter(*self.scenario.lane_of[lane], cell, period)
+
+    def getIDList(self):
+        return tuple(self.scenario.detectors)
+
+    def row(self, name):
+        """The last full period; none before its end."""
+        rows = self.scenario.client.read(self.scenario.detectors[name]).rows
+        return rows[-1] if rows else None
+
+    def getLastIntervalVehicleNumber(self, name):
+        row = self.row(name)
+        return row.passes if row else 0
+
+    def getLastIntervalMeanSpeed(self, name):
+        """Metres a second; -1 where nobody passed."""
+        row = self.row(name)
+        return row.mean_speed * limits.CELL_METRES if row and row.passes else -1.0
+
+    def getLastIntervalOccupancy(self, name):
+        """Percent of the time."""
+        row = self.row(name)
+        return row.density * 100 if row else 0.0
+
+
+class TrafficLight(Part):
+    def getIDList(self):
+        return tuple(sorted({light for light, _ in self.scenario.map.signals}))
+
+    def setProgramLogic(self, name, phases, offset=0):
+        """Sets a light's cycle: phases of (seconds, state), as a tlLogic has them, from the next step on. Gives what there is to warn of."""
+        mapping, report = self.scenario.map, Report()
+        program, permissive = Program(offset, [tuple(phase) for phase in phases], "static"), mapping.options["permissive"]
+        for light, node in mapping.signals:
+            if light == name:
+                turns = [(turn.link, turn.lane, turn.next, turn) for turn in mapping.turns if mapping.links[turn.link].end == node]
+                edges = {link: mapping.links[link].edge for link, *_ in turns}
+                command = signal(node, turns, edges, light, program, permissive, report)
+                self.scenario.client.signal(node, command["phases"], command["offset"])
+        return report.warnings
