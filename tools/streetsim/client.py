@@ -11,11 +11,12 @@ from pathlib import Path
 from . import limits
 
 PROGRAM = str(Path(__file__).resolve().parents[2] / "streetsim")
-CHUNK = 60_000      # bytes: fits in an empty pipe, so the two sides never wait for each other
+CHUNK = 60_000  # bytes: fits in an empty pipe, so the two sides never wait for each other
 
 
 class Refused(Exception):
     """A command that was refused; it changed nothing. Each refusal is a class of its own below this one."""
+
     number = 0
 
     def __init__(self, at=None, part=None):
@@ -83,6 +84,7 @@ class Loaded:
 @dataclass(slots=True, frozen=True)
 class Short:
     """An advance that made `short` of its steps."""
+
     clock: int
     short: int
 
@@ -90,29 +92,31 @@ class Short:
 @dataclass(slots=True, frozen=True)
 class Vehicle:
     """Where a vehicle is: state is waiting, cell, buffer, arrived or taken, and tells which of the rest there are."""
+
     car: int
     state: str
     link: int | None = None
     lane: int | None = None
     cell: int | None = None
-    speed: int | None = None      # cells a step
-    plan: tuple = ()              # what remains, the present link included
+    speed: int | None = None  # cells a step
+    plan: tuple = ()  # what remains, the present link included
     depart: int | None = None
     ready: int | None = None
-    step: int | None = None       # of arriving, or the clock at taking out
+    step: int | None = None  # of arriving, or the clock at taking out
 
 
 @dataclass(slots=True, frozen=True)
 class Lane:
-    cells: tuple       # of (car, cell, speed), the greatest cell first
-    buffer: tuple      # of (car, speed, ready), from the front
-    waiting: tuple     # of (car, depart)
-    closed: tuple      # of (first, last)
+    cells: tuple  # of (car, cell, speed), the greatest cell first
+    buffer: tuple  # of (car, speed, ready), from the front
+    waiting: tuple  # of (car, depart)
+    closed: tuple  # of (first, last)
 
 
 @dataclass(slots=True, frozen=True)
 class Row:
     """What a detector noted from `start` on, in `steps` steps."""
+
     start: int
     steps: int
     passes: int
@@ -137,8 +141,8 @@ class Row:
 
 @dataclass(slots=True, frozen=True)
 class Rows:
-    now: Row           # the running period, with the steps it has so far
-    rows: tuple        # the last full periods, at most 32, the oldest first
+    now: Row  # the running period, with the steps it has so far
+    rows: tuple  # the last full periods, at most 32, the oldest first
 
 
 @dataclass(slots=True, frozen=True)
@@ -153,7 +157,8 @@ class Census:
 
 
 def reply_of(value):
-    """The typed reply of a JSON object; a refusal or Starved is given as a value. Plain numbers answer enter, advance, signal, close, takeout and meter."""
+    """The typed reply of a JSON object; a refusal or Starved is given as a value. Plain numbers answer enter, advance,
+    signal, close, takeout and meter."""
     if "error" in value:
         return REFUSALS[value["error"]](value.get("at"), value.get("part"))
     if "starved" in value:
@@ -199,9 +204,15 @@ class Client:
     def __init__(self, program=PROGRAM, workers=1, calls=None):
         program = shutil.which(program) or os.path.abspath(program)
         self.calls = most_calls(program) if calls is None else calls
-        words = [program, *(["--workers", str(workers)] if workers != 1 else []), *(["--calls", str(self.calls)] if self.calls else [])]
-        self.errors = tempfile.TemporaryFile()
-        self.process = subprocess.Popen(words, stdin=subprocess.PIPE, stdout=subprocess.PIPE, stderr=self.errors, bufsize=1 << 16)
+        words = [
+            program,
+            *(["--workers", str(workers)] if workers != 1 else []),
+            *(["--calls", str(self.calls)] if self.calls else []),
+        ]
+        self.errors, self.ended = tempfile.TemporaryFile(), None
+        self.process = subprocess.Popen(
+            words, stdin=subprocess.PIPE, stdout=subprocess.PIPE, stderr=self.errors, bufsize=1 << 16
+        )
         self.chunk = min(CHUNK, fcntl.fcntl(self.process.stdin.fileno(), fcntl.F_GETPIPE_SZ) * 9 // 10)
 
     def __enter__(self):
@@ -221,6 +232,9 @@ class Client:
             raise ProgramEnded(status, told)
 
     def end(self):
+        """Waits for the program's end; gives its status and standard error."""
+        if self.ended is not None:
+            return self.ended
         for pipe in (self.process.stdin, self.process.stdout):
             try:
                 pipe.close()
@@ -228,11 +242,13 @@ class Client:
                 pass
         status = self.process.wait()
         self.errors.seek(0)
-        return status, self.errors.read().decode(errors="replace")
+        self.ended = status, self.errors.read().decode(errors="replace")
+        self.errors.close()
+        return self.ended
 
     def exchange(self, lines):
         """Sends lines and gives their replies as bytes. Chunks fit in the pipe; a longer line goes alone."""
-        chunk, count, size = [], 0, 0
+        chunk, size = [], 0
         for line in lines:
             if size + len(line) > self.chunk and chunk:
                 yield from self.turn(chunk)
@@ -254,7 +270,8 @@ class Client:
         return replies
 
     def batch(self, commands):
-        """Sends many commands, dictionaries or ready lines, and gives all replies; refusals stand among them as values."""
+        """Sends many commands, dictionaries or ready lines, and gives all replies; refusals stand among them as
+        values."""
         return [reply_of(json.loads(reply)) for reply in self.exchange(map(line_of, commands))]
 
     def ask(self, cmd, **fields):
@@ -264,7 +281,17 @@ class Client:
         return reply
 
     def load(self, nodes, links, turns, zone=0, dawdle=0, change=0, seed=0, start=0):
-        return self.ask("load", nodes=nodes, links=links, turns=turns, zone=zone, dawdle=dawdle, change=change, seed=seed, start=start)
+        return self.ask(
+            "load",
+            nodes=nodes,
+            links=links,
+            turns=turns,
+            zone=zone,
+            dawdle=dawdle,
+            change=change,
+            seed=seed,
+            start=start,
+        )
 
     def signal(self, node, phases, offset=0):
         """Sets a node's plan, phases of (duration, [(link, lane, next), ..]); gives the cycle."""

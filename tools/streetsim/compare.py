@@ -9,9 +9,18 @@ from .folder import read_folder
 
 
 def parser():
-    made = argparse.ArgumentParser(prog="streetsim-compare", description="Compares a run with SUMO's tripinfo and, if given, edgeData of the same periods.")
+    made = argparse.ArgumentParser(
+        prog="streetsim-compare",
+        description="Compares a run with SUMO's tripinfo and, if given, edgeData of the same periods.",
+    )
     made.add_argument("folder", help="what streetsim-run wrote")
-    made.add_argument("--sumo", nargs="+", required=True, metavar="FILE", help="tripinfo.xml, and edgedata.xml made with freq=900 (or the run's period)")
+    made.add_argument(
+        "--sumo",
+        nargs="+",
+        required=True,
+        metavar="FILE",
+        help="tripinfo.xml, and edgedata.xml made with freq=900 (or the run's period)",
+    )
     return made
 
 
@@ -60,13 +69,18 @@ def correlation(first, second):
     spread = [sum((value - mean) ** 2 for value in values) for values, mean in zip((first, second), means, strict=True)]
     if not all(spread):
         return None
-    return sum((one - means[0]) * (other - means[1]) for one, other in zip(first, second, strict=True)) / (spread[0] * spread[1]) ** 0.5
+    return (
+        sum((one - means[0]) * (other - means[1]) for one, other in zip(first, second, strict=True))
+        / (spread[0] * spread[1]) ** 0.5
+    )
 
 
 def greatest_gap(here, there, vehicles):
     """The greatest gap of two arrival curves, as a share of all vehicles."""
     here, there = sorted(here), sorted(there)
-    return max((abs(bisect_right(here, time) - bisect_right(there, time)) for time in {*here, *there}), default=0) / max(1, vehicles)
+    return max(
+        (abs(bisect_right(here, time) - bisect_right(there, time)) for time in {*here, *there}), default=0
+    ) / max(1, vehicles)
 
 
 def compare_trips(here, there, vehicles):
@@ -76,15 +90,19 @@ def compare_trips(here, there, vehicles):
     if both:
         durations = [[trips[name][1] - trips[name][0] for name in both] for trips in (here, there)]
         means = [fmean(values) for values in durations]
-        yield f"mean trip of these: {means[0]:.1f} s here, {means[1]:.1f} s in SUMO ({(means[0] / means[1] - 1) * 100:+.1f} %)"
+        more = (means[0] / means[1] - 1) * 100
+        yield f"mean trip of these: {means[0]:.1f} s here, {means[1]:.1f} s in SUMO ({more:+.1f} %)"
         r = correlation(*durations)
         yield "trip by trip: " + (f"r = {r:.2f}" if r is not None else "no r, as one side does not vary")
-        gap = greatest_gap([arrival for _, arrival in here.values()], [arrival for _, arrival in there.values()], vehicles)
+        gap = greatest_gap(
+            [arrival for _, arrival in here.values()], [arrival for _, arrival in there.values()], vehicles
+        )
         yield f"arrival curves: greatest gap {gap * 100:.1f} % of {vehicles:,} vehicles"
 
 
 def compare_counts(here, there, period):
-    """Lines on the counts of edges and periods that both have; an edge that SUMO does not list in a period had nobody."""
+    """Lines on the counts of edges and periods that both have; an edge that SUMO does not list in a period had nobody.
+    Lines on the counts of edges and periods that both have; an edge that SUMO does not list in a period had nobody."""
     periods = {key[:2] for key in here} & {key[:2] for key in there}
     edges = {key[2] for key in there}
     pairs = [(count, there.get(key, 0)) for key, count in here.items() if key[:2] in periods and key[2] in edges]
@@ -94,7 +112,9 @@ def compare_counts(here, there, period):
     hourly = 3600 / period
     good = sum(geh(one * hourly, other * hourly) < 5 for one, other in pairs)
     r = correlation(*zip(*pairs, strict=True))
-    yield f"counts: GEH below 5 for {good / len(pairs) * 100:.1f} % of {len(pairs):,} counts of {period} s" + (f", r = {r:.3f}" if r is not None else "")
+    yield f"counts: GEH below 5 for {good / len(pairs) * 100:.1f} % of {len(pairs):,} counts of {period} s" + (
+        f", r = {r:.3f}" if r is not None else ""
+    )
 
 
 def main(arguments):

@@ -14,7 +14,8 @@ class Fault(Exception):
 
 
 def open_text(path, mode="r"):
-    """Opens a text file; gzip where the name ends with .gz (without time or name inside, so that equal runs give equal bytes)."""
+    """Opens a text file; gzip where the name ends with .gz (without time or name inside, so that equal runs give equal
+    bytes)."""
     if not str(path).endswith(".gz"):
         return open(path, mode, encoding="utf-8", newline="")
     if mode == "r":
@@ -57,8 +58,9 @@ def reading(path):
 
 
 def elements(path, roots):
-    """The children of the root of an XML file, each whole, one after another; the root must have one of the given names."""
-    with reading(path), (gzip.open(path) if str(path).endswith(".gz") else open(path, "rb")) as file:
+    """The children of the root of an XML file, each whole, one after another; the root must have one of the given
+    names."""
+    with reading(path), gzip.open(path) if str(path).endswith(".gz") else open(path, "rb") as file:
         depth = 0
         for event, element in ElementTree.iterparse(file, ("start", "end")):
             depth += 1 if event == "start" else -1

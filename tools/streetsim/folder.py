@@ -13,7 +13,7 @@ NAME = "setting.json"
 class Folder:
     path: str
     mapping: Map
-    signals: list      # commands with the clock at which each was sent: [clock, command]
+    signals: list  # commands with the clock at which each was sent: [clock, command]
     dawdle: int
     every: int
     period: int
@@ -28,7 +28,8 @@ class Folder:
         return tables.read_table(f"{self.path}/queues.csv", tables.QUEUES)
 
     def polls(self):
-        """What stood on the lanes at each poll: {"clock", "lanes": [link, lane, [[car, cell, speed], ..], [cars in the buffer], closed stretches]}."""
+        """What stood on the lanes at each poll: {"clock", "lanes": [link, lane, [[car, cell, speed], ..], [cars in the
+        buffer], closed stretches]}."""
         path = f"{self.path}/lanes.jsonl.gz"
         with reading(path), open_text(path) as file:
             for line in file:
@@ -46,7 +47,17 @@ def write_setting(path, mapping, run, settings):
     signals = [[run.start(), line.command] for line in run.first if line.command["cmd"] == "signal"]
     signals += [[clock, line.command] for clock, line in run.timed if line.command["cmd"] == "signal"]
     with whole_file(f"{path}/{NAME}") as file:
-        json.dump({"map": mapping.written(), "signals": signals, "dawdle": run.load.command["dawdle"], "every": settings.every, "period": settings.period}, file, separators=(",", ":"))
+        json.dump(
+            {
+                "map": mapping.written(),
+                "signals": signals,
+                "dawdle": run.load.command["dawdle"],
+                "every": settings.every,
+                "period": settings.period,
+            },
+            file,
+            separators=(",", ":"),
+        )
 
 
 def read_folder(path):

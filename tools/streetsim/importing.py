@@ -15,20 +15,49 @@ from .sumo_signals import signals
 
 
 def parser():
-    made = argparse.ArgumentParser(prog="streetsim-import", description="Makes load, signal and enter lines, and a map of the names, of a SUMO network and its routes.")
+    made = argparse.ArgumentParser(
+        prog="streetsim-import",
+        description="Makes load, signal and enter lines, and a map of the names, of a SUMO network and its routes.",
+    )
     made.add_argument("net", help="the network (.net.xml, .net.xml.gz)")
     made.add_argument("additional", nargs="*", help="additional files with signal programs, the last of a light counts")
     made.add_argument("--routes", nargs="+", default=[], metavar="FILE", help="vehicles, flows and routes (.rou.xml)")
     made.add_argument("-o", "--output", required=True, help="the run: lines of JSON (.jsonl, .jsonl.gz)")
     made.add_argument("--map", required=True, help="the map of names to write (.json)")
-    made.add_argument("--classes", default="passenger", help="keep lanes that allow one of these vehicle classes, with commas between")
-    made.add_argument("--turns", choices=["both", "strict"], default="both", help="both: each lane of two leads to each next link; strict: SUMO's connections alone")
+    made.add_argument(
+        "--classes", default="passenger", help="keep lanes that allow one of these vehicle classes, with commas between"
+    )
+    made.add_argument(
+        "--turns",
+        choices=["both", "strict"],
+        default="both",
+        help="both: each lane of two leads to each next link; strict: SUMO's connections alone",
+    )
     made.add_argument("--strict", action="store_true", help="end with status 1 where vehicles were skipped")
-    made.add_argument("--begin", type=int, default=0, metavar="S", help="the clock at the start; vehicles before it are skipped")
-    for name, most, words in (("dawdle", 1000, "chance of slowing down, of 1,000"), ("change", 1000, "chance of changing lane, of 1,000"), ("zone", 1000, "turn zone in cells"),
-                              ("seed", 2**64 - 1, "of all draws"), ("residence", limits.RESIDENCE, "steps in a buffer at signals and real junctions"), ("buffer", limits.BUFFER, "vehicles in a buffer")):
-        made.add_argument(f"--{name}", type=within(1 if name in ("residence", "buffer") else 0, most), default=getattr(Options(), name), help=f"{words} (default %(default)s)")
-    made.add_argument("--permissive", type=float, default=0.7, metavar="SHARE", help="the last share of each permissive green that is shown (default %(default)s)")
+    made.add_argument(
+        "--begin", type=int, default=0, metavar="S", help="the clock at the start; vehicles before it are skipped"
+    )
+    for name, most, words in (
+        ("dawdle", 1000, "chance of slowing down, of 1,000"),
+        ("change", 1000, "chance of changing lane, of 1,000"),
+        ("zone", 1000, "turn zone in cells"),
+        ("seed", 2**64 - 1, "of all draws"),
+        ("residence", limits.RESIDENCE, "steps in a buffer at signals and real junctions"),
+        ("buffer", limits.BUFFER, "vehicles in a buffer"),
+    ):
+        made.add_argument(
+            f"--{name}",
+            type=within(1 if name in ("residence", "buffer") else 0, most),
+            default=getattr(Options(), name),
+            help=f"{words} (default %(default)s)",
+        )
+    made.add_argument(
+        "--permissive",
+        type=float,
+        default=0.7,
+        metavar="SHARE",
+        help="the last share of each permissive green that is shown (default %(default)s)",
+    )
     return made
 
 
@@ -37,6 +66,7 @@ def within(least, most):
         if not text.isdecimal() or not least <= int(text) <= most:
             raise argparse.ArgumentTypeError(f"{text!r} is not {least} to {most:,}")
         return int(text)
+
     return number
 
 
@@ -45,7 +75,18 @@ def options_of(words):
         raise Fault("--permissive is a share from 0 to 1")
     if not 0 <= words.begin <= limits.CLOCK:
         raise Fault(f"--begin is 0 to {limits.CLOCK:,}")
-    return Options(tuple(words.classes.split(",")), words.turns == "strict", words.dawdle, words.change, words.zone, words.seed, words.residence, words.buffer, words.permissive, words.begin)
+    return Options(
+        tuple(words.classes.split(",")),
+        words.turns == "strict",
+        words.dawdle,
+        words.change,
+        words.zone,
+        words.seed,
+        words.residence,
+        words.buffer,
+        words.permissive,
+        words.begin,
+    )
 
 
 def main(arguments):
@@ -58,7 +99,11 @@ def main(arguments):
         run.writelines(line + "\n" for line in lines)
         json.dump(map_of(network, lights, names, report).written(), mapped, separators=(",", ":"))
     print(*report.lines(), sep="\n", end="\n" if any(report.lines()) else "", file=sys.stderr)
-    print(f"{len(network.nodes):,} nodes, {len(network.links):,} links, {len(network.turns):,} turns, {len(lights):,} signals, {len(names):,} vehicles", file=sys.stderr)
+    print(
+        f"{len(network.nodes):,} nodes, {len(network.links):,} links, {len(network.turns):,} turns, "
+        f"{len(lights):,} signals, {len(names):,} vehicles",
+        file=sys.stderr,
+    )
     return 1 if words.strict and report.skipped else 0
 
 
@@ -96,7 +141,9 @@ def warn_of_rules(net, network, report):
     for (speed, limit), count in sorted(Counter((link.speed, link.limit) for link in network.links).items()):
         free = (limit - network.options.dawdle / 1000) * limits.CELL_METRES
         if abs(free - speed) > 0.1 * speed:
-            report.warn(f"{speed * 3.6:.0f} km/h becomes {limit} cells a step, {free * 3.6:.0f} km/h when free: {count} links")
+            report.warn(
+                f"{speed * 3.6:.0f} km/h becomes {limit} cells a step, {free * 3.6:.0f} km/h when free: {count} links"
+            )
     minor = sum(connection.state == "m" and not connection.light for connection in net.connections)
     if minor:
         report.warn(f"{minor} connections have to give way in SUMO; here nobody yields")

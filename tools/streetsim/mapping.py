@@ -9,13 +9,19 @@ KEYS = ("nodes", "links", "turns", "signals", "cars", "options", "warnings")
 @dataclass(slots=True, frozen=True)
 class MapLink:
     edge: str
-    lanes: tuple       # SUMO's lane indexes
-    begin: int         # nodes
+    lanes: tuple  # SUMO's lane indexes
+    begin: int  # nodes
     end: int
     cells: int
-    limit: int         # cells a step
+    limit: int  # cells a step
     metres: float
-    shape: tuple       # of (x, y)
+    shape: tuple  # of (x, y)
+
+    def cells_between(self, begin, end):
+        """The first and the last cell from one place to another, in metres."""
+        size = self.metres / self.cells
+        first = min(self.cells - 1, max(0, int(begin / size)))
+        return first, min(self.cells - 1, max(first, round(end / size) - 1))
 
 
 @dataclass(slots=True, frozen=True)
@@ -25,17 +31,17 @@ class MapTurn:
     next: int
     next_lane: int
     light: str | None
-    index: int         # in the light's state
-    added: bool        # not SUMO's
+    index: int  # in the light's state
+    added: bool  # not SUMO's
 
 
 @dataclass(slots=True)
 class Map:
-    nodes: list                                   # [junction, x, y, residence]
+    nodes: list  # [junction, x, y, residence]
     links: list
     turns: list
-    signals: list                                 # [light, node]
-    cars: list                                    # SUMO's vehicle names, by number
+    signals: list  # [light, node]
+    cars: list  # SUMO's vehicle names, by number
     options: dict
     warnings: list
     links_of: dict = field(default_factory=dict)  # edge: links
@@ -48,23 +54,48 @@ class Map:
         """SUMO's name of a lane: edge_index."""
         return f"{self.links[link].edge}_{self.links[link].lanes[lane]}"
 
+    def place_of(self, name):
+        """The (link, lane) of a lane that goes by SUMO's name, or none."""
+        return next((place for place in self.lanes() if self.lane_name(*place) == name), None)
+
     def lanes(self):
         """All (link, lane)."""
         return [(number, lane) for number, link in enumerate(self.links) for lane in range(len(link.lanes))]
 
     def written(self):
         """The file's content."""
-        return {"nodes": self.nodes, "links": [list(asdict(link).values()) for link in self.links], "turns": [list(asdict(turn).values()) for turn in self.turns],
-                "signals": self.signals, "cars": self.cars, "options": self.options, "warnings": self.warnings}
+        return {
+            "nodes": self.nodes,
+            "links": [list(asdict(link).values()) for link in self.links],
+            "turns": [list(asdict(turn).values()) for turn in self.turns],
+            "signals": self.signals,
+            "cars": self.cars,
+            "options": self.options,
+            "warnings": self.warnings,
+        }
 
 
 def map_of(network, lights, names, report):
     """The map of an import."""
     options = asdict(network.options)
-    return Map(nodes=[[name, *place, residence] for name, place, residence in zip(network.nodes, network.places, network.residences, strict=True)],
-               links=[MapLink(link.edge, link.lanes, link.begin, link.end, link.cells, link.limit, link.metres, tuple(link.shape)) for link in network.links],
-               turns=[MapTurn(link, lane, following, turn.next_lane, turn.light, turn.index, turn.added) for (link, lane, following), turn in network.turns.items()],
-               signals=lights, cars=names, options=options, warnings=list(report.lines()))
+    return Map(
+        nodes=[
+            [name, *place, residence]
+            for name, place, residence in zip(network.nodes, network.places, network.residences, strict=True)
+        ],
+        links=[
+            MapLink(link.edge, link.lanes, link.begin, link.end, link.cells, link.limit, link.metres, tuple(link.shape))
+            for link in network.links
+        ],
+        turns=[
+            MapTurn(link, lane, following, turn.next_lane, turn.light, turn.index, turn.added)
+            for (link, lane, following), turn in network.turns.items()
+        ],
+        signals=lights,
+        cars=names,
+        options=options,
+        warnings=list(report.lines()),
+    )
 
 
 def read_map(path):
@@ -73,5 +104,12 @@ def read_map(path):
 
 def map_from(value):
     """The map of a file's content."""
-    return Map(nodes=value["nodes"], links=[MapLink(*link) for link in value["links"]], turns=[MapTurn(*turn) for turn in value["turns"]],
-               signals=value["signals"], cars=value["cars"], options=value["options"], warnings=value["warnings"])
+    return Map(
+        nodes=value["nodes"],
+        links=[MapLink(*link) for link in value["links"]],
+        turns=[MapTurn(*turn) for turn in value["turns"]],
+        signals=value["signals"],
+        cars=value["cars"],
+        options=value["options"],
+        warnings=value["warnings"],
+    )

@@ -8,16 +8,25 @@ from .compare import read_tripinfo
 from .files import Fault
 from .folder import read_folder
 
-DPI, COLOURS = 100, 64
-SPEEDS = ((0, "standing", "#a50026", 2.2), (1, "1 cell a step (27 km/h)", "#f08000", 1.4), (2, "2 and more (54 km/h and more)", "#3b7fc4", 0.8))
+DPI, COLOURS = 95, 64
+SPEEDS = (
+    (0, "standing", "#a50026", 2.2),
+    (1, "1 cell a step (27 km/h)", "#f08000", 1.4),
+    (2, "2 and more (54 km/h and more)", "#3b7fc4", 0.8),
+)
 MOST_LANES = 25
 
 
 def parser():
     made = argparse.ArgumentParser(prog="streetsim-plot", description="Draws pictures of what streetsim-run wrote.")
     kinds = made.add_subparsers(dest="kind", required=True)
-    for kind, words in (("corridor", "ways of the vehicles along a path over time, with red signals; run with --every 1"), ("fundamental", "flow over density, of the counts or of a ring (--ring)"),
-                        ("map", "the streets by mean density"), ("queues", "queues at the stop lines over time"), ("arrivals", "departures and arrivals over time")):
+    for kind, words in (
+        ("corridor", "ways of the vehicles along a path over time, with red signals; run with --every 1"),
+        ("fundamental", "flow over density, of the counts or of a ring (--ring)"),
+        ("map", "the streets by mean density"),
+        ("queues", "queues at the stop lines over time"),
+        ("arrivals", "departures and arrivals over time"),
+    ):
         one = kinds.add_parser(kind, help=words, description=words)
         one.add_argument("folder", nargs="?" if kind == "fundamental" else None, help="what streetsim-run wrote")
         one.add_argument("-o", "--output", required=True, help="the picture (.png)")
@@ -27,8 +36,14 @@ def parser():
             one.add_argument("--first", type=int, default=0, metavar="S", help="the first second shown")
             one.add_argument("--last", type=int, default=600, metavar="S", help="the last second shown")
         if kind == "fundamental":
-            one.add_argument("--ring", metavar="DAWDLES", help="measure a ring for these chances of dawdling, of 1,000, with commas between")
-            one.add_argument("--limit", type=int, default=limits.LIMIT, help="of the ring, cells a step (default %(default)s)")
+            one.add_argument(
+                "--ring",
+                metavar="DAWDLES",
+                help="measure a ring for these chances of dawdling, of 1,000, with commas between",
+            )
+            one.add_argument(
+                "--limit", type=int, default=limits.LIMIT, help="of the ring, cells a step (default %(default)s)"
+            )
             one.add_argument("--program", default=PROGRAM, help="the simulator, for the ring")
         if kind == "arrivals":
             one.add_argument("--sumo", metavar="TRIPINFO", help="SUMO's trips of the same demand, drawn beside")
@@ -37,7 +52,13 @@ def parser():
 
 def main(arguments):
     words = parser().parse_args(arguments)
-    draw = {"corridor": draw_corridor, "fundamental": draw_fundamental, "map": draw_map, "queues": draw_queues, "arrivals": draw_arrivals}[words.kind]
+    draw = {
+        "corridor": draw_corridor,
+        "fundamental": draw_fundamental,
+        "map": draw_map,
+        "queues": draw_queues,
+        "arrivals": draw_arrivals,
+    }[words.kind]
     if words.folder is None and not words.ring:
         raise Fault("fundamental needs a folder or --ring")
     pyplot = drawing()
@@ -54,6 +75,7 @@ def drawing():
         raise Fault("pictures need matplotlib (Debian: apt install python3-matplotlib)") from None
     matplotlib.use("Agg")
     from matplotlib import pyplot
+
     pyplot.rcParams.update({"font.size": 9, "axes.grid": True, "grid.color": "#dddddd", "axes.axisbelow": True})
     return pyplot
 
@@ -61,6 +83,7 @@ def drawing():
 def save(figure, path):
     """A PNG of few colours, which keeps it small."""
     from PIL import Image
+
     raw = io.BytesIO()
     figure.savefig(raw, dpi=DPI, bbox_inches="tight", facecolor="white")
     try:
@@ -71,6 +94,7 @@ def save(figure, path):
 
 def draw_corridor(pyplot, folder, words):
     from matplotlib.collections import LineCollection
+
     edges = words.edges.split()
     if folder.every > 5:
         raise Fault(f"{folder.path} was polled every {folder.every} s: a corridor needs streetsim-run --every 1 (to 5)")
@@ -78,11 +102,26 @@ def draw_corridor(pyplot, folder, words):
     placed, length = series.stretches(folder, edges)
     figure, axes = pyplot.subplots(figsize=(10, 6))
     for least, label, colour, width in reversed(SPEEDS):
-        shown = [(begin, end) for begin, end, speed in pieces if speed == least or (speed > least and least == SPEEDS[-1][0])]
+        shown = [
+            (begin, end) for begin, end, speed in pieces if speed == least or (speed > least and least == SPEEDS[-1][0])
+        ]
         axes.add_collection(LineCollection(shown, colors=colour, linewidths=width, label=label))
     for at, (place, begin, end) in enumerate(series.reds(folder, edges, words.first, words.last)):
-        axes.plot((begin, end), (place, place), color="black", linewidth=4, solid_capstyle="butt", label="red" if at == 0 else None)
-    axes.set(xlim=(words.first, words.last), ylim=(0, length * 1.01), xlabel="time (s)", ylabel="place along the path (m)", title=f"From {edges[0]} to {edges[-1]}: each line is a vehicle")
+        axes.plot(
+            (begin, end),
+            (place, place),
+            color="black",
+            linewidth=4,
+            solid_capstyle="butt",
+            label="red" if at == 0 else None,
+        )
+    axes.set(
+        xlim=(words.first, words.last),
+        ylim=(0, length * 1.01),
+        xlabel="time (s)",
+        ylabel="place along the path (m)",
+        title=f"From {edges[0]} to {edges[-1]}: each line is a vehicle",
+    )
     handles, labels = axes.get_legend_handles_labels()
     axes.legend(handles, labels, loc="upper center", bbox_to_anchor=(0.5, -0.1), ncol=4, frameon=False)
     return figure
@@ -91,15 +130,34 @@ def draw_corridor(pyplot, folder, words):
 def draw_fundamental(pyplot, folder, words):
     figure, axes = pyplot.subplots(figsize=(7, 5))
     if words.ring:
-        axes.set(xlabel="density (vehicles a cell)", ylabel="flow (vehicles a step)", title=f"One lane in a ring, limit {words.limit} cells a step")
+        axes.set(
+            xlabel="density (vehicles a cell)",
+            ylabel="flow (vehicles a step)",
+            title=f"One lane in a ring, limit {words.limit} cells a step",
+        )
         for dawdle, marker in zip(words.ring.split(","), "osd^v*", strict=False):
-            points = [ring.measure(words.program, count, words.limit, int(dawdle)) for count in (20, 40, 60, 70, 80, 90, 110, 140, 180, 250, 350, 500, 700)]
-            axes.plot(*zip(*points, strict=True), marker=marker, markersize=4, label=f"dawdle {dawdle}")
+            points = [
+                ring.measure(words.program, count, words.limit, int(dawdle))
+                for count in (20, 40, 60, 70, 80, 90, 110, 140, 180, 250, 350, 500, 700)
+            ]
+            axes.plot(
+                [point.density for point in points],
+                [point.flow for point in points],
+                marker=marker,
+                markersize=4,
+                label=f"dawdle {dawdle}",
+            )
         axes.legend(frameon=False)
     else:
         points = series.flows(folder, words.edges.split())
-        axes.set(xlabel="density (vehicles/km and lane)", ylabel="flow (vehicles/h and lane)", title=f"Counts of {folder.period} s at the stop lines")
-        axes.scatter(*(zip(*points, strict=True) if points else ((), ())), s=10, color="#225588", alpha=0.6, linewidths=0)
+        axes.set(
+            xlabel="density (vehicles/km and lane)",
+            ylabel="flow (vehicles/h and lane)",
+            title=f"Counts of {folder.period} s at the stop lines",
+        )
+        axes.scatter(
+            *(zip(*points, strict=True) if points else ((), ())), s=10, color="#225588", alpha=0.6, linewidths=0
+        )
     axes.set_xlim(left=0)
     axes.set_ylim(bottom=0)
     return figure
@@ -107,11 +165,18 @@ def draw_fundamental(pyplot, folder, words):
 
 def draw_map(pyplot, folder, _words):
     from matplotlib.collections import LineCollection
+
     shown = sorted(zip(series.densities(folder), folder.mapping.links, strict=True), key=lambda pair: pair[0])
     most = next((most for most in (25, 50) if shown[-1][0] <= most), 100)
     figure, axes = pyplot.subplots(figsize=(9, 8))
     axes.add_collection(LineCollection([link.shape for _, link in shown], colors="#bbbbbb", linewidths=2.5))
-    lines = LineCollection([link.shape for _, link in shown], cmap="viridis_r", array=[density for density, _ in shown], clim=(0, most), linewidths=[1 + 5 * min(density, most) / most for density, _ in shown])
+    lines = LineCollection(
+        [link.shape for _, link in shown],
+        cmap="viridis_r",
+        array=[density for density, _ in shown],
+        clim=(0, most),
+        linewidths=[1 + 5 * min(density, most) / most for density, _ in shown],
+    )
     axes.add_collection(lines)
     axes.autoscale_view()
     axes.set(aspect="equal", xlabel="x (m)", ylabel="y (m)", title="Mean density: wider and darker is denser")
@@ -125,12 +190,20 @@ def draw_queues(pyplot, folder, _words):
         raise Fault(f"{folder.path}: no queues in this run")
     times = sorted({time for _, queue in lanes for time in queue})
     times = list(range(times[0], times[-1] + 1, folder.every))
-    figure, axes = pyplot.subplots(figsize=(10, 0.6 + 0.26 * max(4, len(lanes))))
+    figure, axes = pyplot.subplots(figsize=(10, 1 + 0.26 * max(4, len(lanes))))
     cells = [[queue.get(time, 0) * limits.CELL_METRES for time in times] for _, queue in lanes]
-    image = axes.imshow(cells, aspect="auto", cmap="magma_r", interpolation="nearest", extent=(times[0] / 60, (times[-1] + folder.every) / 60, len(lanes) - 0.5, -0.5))
+    image = axes.imshow(
+        cells,
+        aspect="auto",
+        cmap="magma_r",
+        interpolation="nearest",
+        extent=(times[0] / 60, (times[-1] + folder.every) / 60, len(lanes) - 0.5, -0.5),
+    )
     axes.set_yticks(range(len(lanes)), [name for name, _ in lanes])
     axes.grid(False)
-    axes.set(xlabel="time (min)", ylabel="lane", title=f"Queues at the stop lines: the {len(lanes)} longest of {count} lanes")
+    axes.set(
+        xlabel="time (min)", ylabel="lane", title=f"Queues at the stop lines: the {len(lanes)} longest of {count} lanes"
+    )
     figure.colorbar(image, ax=axes, label="queue (m)")
     return figure
 
@@ -140,9 +213,25 @@ def draw_arrivals(pyplot, folder, words):
     figure, axes = pyplot.subplots(figsize=(8, 5))
     curves = [(departs, "wished departures", "#888888", "--"), (arrivals, "arrivals here", "#225588", "-")]
     if words.sumo:
-        curves.append((sorted(arrival for _, arrival in read_tripinfo(words.sumo).values()), "arrivals in SUMO", "#d06000", ":"))
+        curves.append(
+            (sorted(arrival for _, arrival in read_tripinfo(words.sumo).values()), "arrivals in SUMO", "#d06000", ":")
+        )
     for times, label, colour, style in curves:
-        axes.step([time / 60 for time in times], range(1, len(times) + 1), where="post", label=label, color=colour, linestyle=style, linewidth=1.8)
-    axes.set(xlabel="time (min)", ylabel="vehicles", title=f"{len(arrivals):,} of {len(departs):,} vehicles arrived", xlim=(0, None), ylim=(0, None))
+        axes.step(
+            [time / 60 for time in times],
+            range(1, len(times) + 1),
+            where="post",
+            label=label,
+            color=colour,
+            linestyle=style,
+            linewidth=1.8,
+        )
+    axes.set(
+        xlabel="time (min)",
+        ylabel="vehicles",
+        title=f"{len(arrivals):,} of {len(departs):,} vehicles arrived",
+        xlim=(0, None),
+        ylim=(0, None),
+    )
     axes.legend(frameon=False)
     return figure

@@ -13,20 +13,20 @@ MINUTE = 60
 @dataclass(slots=True)
 class Settings:
     until: int
-    every: int = 10           # between polls of the lanes
-    period: int = 900         # of the counts
-    rescue: int = 300         # after so many steps of standing at a stop line; 0: never
-    edges: tuple = ()         # those to poll; all where it is empty
+    every: int = 10  # between polls of the lanes
+    period: int = 900  # of the counts
+    rescue: int = 300  # after so many steps of standing at a stop line; 0: never
+    edges: tuple = ()  # those to poll; all where it is empty
 
 
 @dataclass(slots=True)
 class Records:
-    counts: dict = field(default_factory=dict)      # (link, lane): rows by their begin
-    uncounted: int = 0                              # lanes without a detector, as there are more than 1,024
-    queues: list = field(default_factory=list)      # (clock, link, lane, vehicles)
+    counts: dict = field(default_factory=dict)  # (link, lane): rows by their begin
+    uncounted: int = 0  # lanes without a detector, as there are more than 1,024
+    queues: list = field(default_factory=list)  # (clock, link, lane, vehicles)
     censuses: list = field(default_factory=list)
-    ends: list = field(default_factory=list)        # for each vehicle of the file its last reply, or none if it never entered
-    rescues: Counter = field(default_factory=Counter)   # by vehicle
+    ends: list = field(default_factory=list)  # for each vehicle of the file its last reply, or none if it never entered
+    rescues: Counter = field(default_factory=Counter)  # by vehicle
     clock: int = 0
 
 
@@ -34,13 +34,24 @@ class Recorder:
     """Drives a run from its load to the end."""
 
     def __init__(self, sim, run, mapping, settings, lanes_file, progress):
-        self.sim, self.run, self.mapping, self.settings, self.lanes_file, self.progress = sim, run, mapping, settings, lanes_file, progress
+        self.sim, self.run, self.mapping, self.settings, self.lanes_file, self.progress = (
+            sim,
+            run,
+            mapping,
+            settings,
+            lanes_file,
+            progress,
+        )
         self.records = Records(clock=run.start())
-        self.polled = [(link, lane) for link, lane in mapping.lanes() if not settings.edges or mapping.links[link].edge in settings.edges]
-        self.meters = []                 # (link, lane), by number of detector
-        self.owners = []                 # the vehicle of the file, by car number
-        self.entered = self.sent = 0     # of the run's enters, of its timed lines
-        self.standing = {}               # (car, link): the clock since which it stands at that link's end
+        self.polled = [
+            (link, lane)
+            for link, lane in mapping.lanes()
+            if not settings.edges or mapping.links[link].edge in settings.edges
+        ]
+        self.meters = []  # (link, lane), by number of detector
+        self.owners = []  # the vehicle of the file, by car number
+        self.entered = self.sent = 0  # of the run's enters, of its timed lines
+        self.standing = {}  # (car, link): the clock since which it stands at that link's end
 
     def calls(self, every):
         """How many calls the run makes at most, if nobody is rescued."""
@@ -54,9 +65,18 @@ class Recorder:
     def check_budget(self, most):
         """Refuses a run that needs more calls than the program takes, before it begins."""
         if most and self.calls(self.settings.every) > most:
-            fitting = next((every for every in (1, 2, 5, 10, 15, 20, 30, 60, 120, 300, 600, 900, 1800, 3600) if every > self.settings.every and self.calls(every) <= most), None)
+            fitting = next(
+                (
+                    every
+                    for every in (1, 2, 5, 10, 15, 20, 30, 60, 120, 300, 600, 900, 1800, 3600)
+                    if every > self.settings.every and self.calls(every) <= most
+                ),
+                None,
+            )
             advice = f"--every {fitting}" if fitting else "a shorter run, or fewer edges"
-            raise Fault(f"the run needs {self.calls(self.settings.every):,} calls and the program takes {most:,}: try {advice}")
+            raise Fault(
+                f"the run needs {self.calls(self.settings.every):,} calls and the program takes {most:,}: try {advice}"
+            )
 
     def record(self):
         """Makes the whole run."""
@@ -78,7 +98,8 @@ class Recorder:
         for line, reply in zip(lines, self.sim.batch(line.text for line in lines), strict=True):
             if isinstance(reply, Exception):
                 more = f": this program does not serve {line.command['cmd']!r} yet" if isinstance(reply, NotYet) else ""
-                raise Fault(f"{self.run.path}: line {line.number} ({line.command['cmd']}) was refused: {reply}{more}")
+                where = f"line {line.number} ({line.command['cmd']})" if line.number else f"--close {line.text}"
+                raise Fault(f"{self.run.path}: {where} was refused: {reply}{more}")
 
     def send_timed(self, clock):
         due = []
@@ -90,13 +111,16 @@ class Recorder:
     def advance(self, clock):
         """Goes on to the next clock at which something is due; those who depart until then enter before."""
         settings = self.settings
-        target = min(settings.until, *((clock // every + 1) * every for every in (settings.every, MINUTE, settings.period * limits.ROWS)))
+        target = min(
+            settings.until,
+            *((clock // every + 1) * every for every in (settings.every, MINUTE, settings.period * limits.ROWS)),
+        )
         if self.sent < len(self.run.timed):
             target = min(target, self.run.timed[self.sent][0])
         last = self.entered
         while last < len(self.run.enters) and self.run.needed[last] < target:
             last += 1
-        self.send(self.run.enters[self.entered:last])
+        self.send(self.run.enters[self.entered : last])
         self.owners += range(self.entered, last)
         self.entered = last
         self.records.clock = self.sim.advance(target - clock)
@@ -119,7 +143,11 @@ class Recorder:
         refused = [reply for reply in replies if not isinstance(reply, Lane)]
         if refused:
             raise Fault(f"a poll of the lanes was refused: {refused[0]}")
-        return [(link, lane, reply) for (link, lane), reply in zip(places, replies, strict=True) if reply.cells or reply.buffer or reply.closed]
+        return [
+            (link, lane, reply)
+            for (link, lane), reply in zip(places, replies, strict=True)
+            if reply.cells or reply.buffer or reply.closed
+        ]
 
     def note_lanes(self, clock, lanes):
         shown = []
@@ -132,7 +160,8 @@ class Recorder:
         self.lanes_file.write(json.dumps({"clock": clock, "lanes": shown}, separators=(",", ":")) + "\n")
 
     def rescue(self, clock, lanes):
-        """Takes out who has stood at a stop line, or in front of a buffer, for too long, and enters it on the rest of its plan."""
+        """Takes out who has stood at a stop line, or in front of a buffer, for too long, and enters it on the rest of
+        its plan."""
         standing_now = {}
         for link, _, reply in lanes:
             if reply.buffer:
@@ -151,16 +180,27 @@ class Recorder:
 
     def departure_lane(self, plan):
         """A lane of the first link that leads to the second."""
-        return next((turn.lane for turn in self.mapping.turns if len(plan) > 1 and (turn.link, turn.next) == plan[:2]), 0)
+        return next(
+            (turn.lane for turn in self.mapping.turns if len(plan) > 1 and (turn.link, turn.next) == plan[:2]), 0
+        )
 
     def place_meters(self):
         """A detector at the last cell of each lane; where there are too many lanes, of those on most plans."""
         lanes = self.mapping.lanes()
         if len(lanes) > limits.METERS:
             use = Counter(link for line in self.run.enters for link in line.command["plan"])
-            lanes = sorted(lanes, key=lambda place: -use[place[0]])[:limits.METERS]
+            lanes = sorted(lanes, key=lambda place: -use[place[0]])[: limits.METERS]
         self.records.uncounted = len(self.mapping.lanes()) - len(lanes)
-        replies = self.sim.batch({"cmd": "meter", "link": link, "lane": lane, "cell": self.mapping.links[link].cells - 1, "period": self.settings.period} for link, lane in lanes)
+        replies = self.sim.batch(
+            {
+                "cmd": "meter",
+                "link": link,
+                "lane": lane,
+                "cell": self.mapping.links[link].cells - 1,
+                "period": self.settings.period,
+            }
+            for link, lane in lanes
+        )
         refused = [reply for reply in replies if isinstance(reply, Exception)]
         if refused:
             raise Fault(f"a detector was refused: {refused[0]}")

@@ -5,8 +5,8 @@ from collections import Counter
 class Report:
     def __init__(self):
         self.warnings = []
-        self.ignored = Counter()     # what is read and has no effect
-        self.skipped = Counter()     # vehicles that do not drive, by reason
+        self.ignored = Counter()  # what is read and has no effect
+        self.skipped = Counter()  # vehicles that do not drive, by reason
 
     def warn(self, text):
         if text not in self.warnings:

@@ -2,6 +2,7 @@
 import argparse
 import json
 import os
+import re
 import sys
 import time
 from concurrent.futures import ThreadPoolExecutor
@@ -15,20 +16,53 @@ from .folder import write_setting
 from .importing import within
 from .mapping import read_map
 from .record import Recorder, Settings
-from .runs import read_run
+from .runs import Line, read_run
 
 
 def parser():
-    made = argparse.ArgumentParser(prog="streetsim-run", description="Runs a file that streetsim-import made, and writes counts, trips, queues, a summary and what stood on the lanes.")
+    made = argparse.ArgumentParser(
+        prog="streetsim-run",
+        description="Runs a file that streetsim-import made, and writes counts, trips, queues, a summary "
+        "and what stood on the lanes.",
+    )
     made.add_argument("run", help="the run (.jsonl)")
     made.add_argument("--map", required=True, help="its map of names (.json)")
     made.add_argument("--until", required=True, type=within(1, limits.CLOCK), metavar="S", help="the clock at the end")
-    made.add_argument("--every", type=within(1, limits.CLOCK), default=10, metavar="S", help="seconds between polls of the lanes (default %(default)s)")
-    made.add_argument("--period", type=within(1, limits.PERIOD), default=900, metavar="S", help="seconds of a count (default %(default)s)")
+    made.add_argument(
+        "--every",
+        type=within(1, limits.CLOCK),
+        default=10,
+        metavar="S",
+        help="seconds between polls of the lanes (default %(default)s)",
+    )
+    made.add_argument(
+        "--period",
+        type=within(1, limits.PERIOD),
+        default=900,
+        metavar="S",
+        help="seconds of a count (default %(default)s)",
+    )
     made.add_argument("--edges", default="", help="edges whose lanes are polled, with spaces between (default: all)")
-    made.add_argument("--rescue", type=within(0, limits.CLOCK), default=300, metavar="S", help="take out who stood so long at a stop line and enter it on the next link; 0: never (default %(default)s)")
-    made.add_argument("--seeds", metavar="FIRST-LAST", help="run each of these seeds, side by side, into folders of their own")
-    made.add_argument("--jobs", type=within(1, 64), default=os.cpu_count() or 1, help="runs side by side (default %(default)s)")
+    made.add_argument(
+        "--rescue",
+        type=within(0, limits.CLOCK),
+        default=300,
+        metavar="S",
+        help="take out who stood so long at a stop line and enter it on the next link; 0: never (default %(default)s)",
+    )
+    made.add_argument(
+        "--seeds", metavar="FIRST-LAST", help="run each of these seeds, side by side, into folders of their own"
+    )
+    made.add_argument(
+        "--jobs", type=within(1, 64), default=os.cpu_count() or 1, help="runs side by side (default %(default)s)"
+    )
+    made.add_argument(
+        "--close",
+        action="append",
+        default=[],
+        metavar="LANE:METRES-METRES:S-S",
+        help="road works: close a lane (edge_index) between two places, from one second to another; may be repeated",
+    )
     made.add_argument("--out", required=True, metavar="DIR", help="the folder to write to")
     made.add_argument("--program", default=PROGRAM, help="the simulator (default: streetsim of this repository)")
     made.add_argument("--workers", type=within(1, 64), default=1, help="of the simulator (default %(default)s)")
@@ -48,8 +82,13 @@ class Progress:
         self.last, census = now, records.censuses[-1]
         bar = "#" * (30 * clock // self.until)
         end = "\n" if clock == self.until else ""
-        print(f"\r[{bar:30}] {clock:,} s, {census.cells + census.buffers:,} on their way, {census.arrived:,} arrived, {clock / max(0.001, now - self.begin):,.0f} steps/s ",
-              end=end, file=sys.stderr, flush=True)
+        print(
+            f"\r[{bar:30}] {clock:,} s, {census.cells + census.buffers:,} on their way, {census.arrived:,} arrived, "
+            f"{clock / max(0.001, now - self.begin):,.0f} steps/s ",
+            end=end,
+            file=sys.stderr,
+            flush=True,
+        )
 
 
 def main(arguments):
@@ -59,12 +98,33 @@ def main(arguments):
     unknown = [edge for edge in settings.edges if edge not in mapping.links_of]
     if unknown:
         raise Fault(f"--edges: the map has no edge {unknown[0]!r}")
+    for text in words.close:
+        run.timed += closure(text, mapping)
+    run.timed.sort(key=lambda pair: pair[0])
     if words.until <= run.start():
         raise Fault(f"--until {words.until}: the run starts at {run.start()}")
     if words.seeds:
         return run_seeds(words, run, mapping, settings)
     print(summary_line(one_run(words, run, mapping, settings, words.out, True)))
     return 0
+
+
+def closure(text, mapping):
+    """The timed lines of a --close."""
+    found = re.fullmatch(r"(.+):(\d+)-(\d+):(\d+)-(\d+)", text)
+    if not found or int(found[2]) >= int(found[3]) or int(found[4]) >= int(found[5]):
+        raise Fault(f"--close {text!r}: expected LANE:METRES-METRES:S-S, rising")
+    place = mapping.place_of(found[1])
+    if place is None:
+        raise Fault(f"--close {text!r}: the map has no lane {found[1]!r}")
+    first, last = mapping.links[place[0]].cells_between(int(found[2]), int(found[3]))
+    commands = [
+        {"cmd": name, "link": place[0], "lane": place[1], "first": first, "last": last} for name in ("close", "reopen")
+    ]
+    return [
+        (int(clock), Line(0, json.dumps(command), command))
+        for clock, command in zip(found.groups()[3:], commands, strict=True)
+    ]
 
 
 def one_run(words, run, mapping, settings, folder, shown):
@@ -82,9 +142,18 @@ def one_run(words, run, mapping, settings, folder, shown):
     tables.write_table(f"{folder}/summary.csv", tables.SUMMARY, tables.summary(records))
     write_setting(folder, mapping, run, settings)
     if records.uncounted:
-        print(f"counts: {records.uncounted:,} lanes have no detector, there are at most {limits.METERS:,}; those on most plans have one", file=sys.stderr)
+        print(
+            f"counts: {records.uncounted:,} lanes have no detector, there are at most {limits.METERS:,}; "
+            "those on most plans have one",
+            file=sys.stderr,
+        )
     durations = [trip[3] for trip in trips if trip[3] != ""]
-    return {"vehicles": len(trips), "arrived": len(durations), "mean_trip_s": fmean(durations) if durations else None, "rescues": records.rescues.total()}
+    return {
+        "vehicles": len(trips),
+        "arrived": len(durations),
+        "mean_trip_s": fmean(durations) if durations else None,
+        "rescues": records.rescues.total(),
+    }
 
 
 def summary_line(figures):
@@ -95,7 +164,9 @@ def summary_line(figures):
 def run_seeds(words, run, mapping, settings):
     """A run for each seed, side by side; prints and writes each mean trip, their mean and its 95 % interval."""
     first, _, last = words.seeds.partition("-")
-    if not (first.isdecimal() and (last or first).isdecimal()) or not int(first) <= int(last or first) < min(int(first) + 1000, 2**64):
+    if not (first.isdecimal() and (last or first).isdecimal()) or not int(first) <= int(last or first) < min(
+        int(first) + 1000, 2**64
+    ):
         raise Fault(f"--seeds {words.seeds!r}: expected FIRST-LAST, at most 1,000 of them")
     seeds = range(int(first), int(last or first) + 1)
 
@@ -103,6 +174,7 @@ def run_seeds(words, run, mapping, settings):
         command = {**run.load.command, "seed": seed}
         load = replace(run.load, command=command, text=json.dumps(command, separators=(",", ":")))
         return one_run(words, replace(run, load=load), mapping, settings, f"{words.out}/seed-{seed}", False)
+
     with ThreadPoolExecutor(words.jobs) as pool:
         figures = list(pool.map(seeded, seeds))
     rows = [(seed, *one.values()) for seed, one in zip(seeds, figures, strict=True)]
@@ -112,5 +184,8 @@ def run_seeds(words, run, mapping, settings):
     means = [one["mean_trip_s"] for one in figures if one["arrived"]]
     if means:
         mean, half = tables.interval(means)
-        print(f"mean trip {mean:.1f} s" + (f", 95 % interval {mean - half:.1f} to {mean + half:.1f} s" if half is not None else ""))
+        print(
+            f"mean trip {mean:.1f} s"
+            + (f", 95 % interval {mean - half:.1f} to {mean + half:.1f} s" if half is not None else "")
+        )
     return 0

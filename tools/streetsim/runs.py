@@ -1,4 +1,5 @@
-"""Run files: lines of commands, in order. A line may say with "at" at which clock it is sent (streetsim ignores that field)."""
+"""Run files: lines of commands, in order. A line may say with "at" at which clock it is sent (streetsim ignores that
+field)."""
 import json
 from dataclasses import dataclass, field
 from itertools import accumulate
@@ -8,7 +9,7 @@ from .files import Fault, open_text, reading
 
 @dataclass(slots=True)
 class Line:
-    number: int        # in the file, from 1
+    number: int  # in the file, from 1
     text: str
     command: dict
 
@@ -17,10 +18,10 @@ class Line:
 class Run:
     path: str
     load: Line
-    first: list = field(default_factory=list)     # sent after the load, before the first step
-    timed: list = field(default_factory=list)     # of (clock, Line), by clock
-    enters: list = field(default_factory=list)    # vehicles, by the order of lines
-    needed: list = field(default_factory=list)    # for each enter, the least depart of it and those after it
+    first: list = field(default_factory=list)  # sent after the load, before the first step
+    timed: list = field(default_factory=list)  # of (clock, Line), by clock
+    enters: list = field(default_factory=list)  # vehicles, by the order of lines
+    needed: list = field(default_factory=list)  # for each enter, the least depart of it and those after it
 
     def start(self):
         return self.load.command.get("start", 0)
@@ -51,8 +52,12 @@ def read_run(path):
 def line_of(path, number, text):
     try:
         command = json.loads(text)
-        if command["cmd"] == "enter" and not (isinstance(command["depart"], int) and command["plan"]) or not isinstance(command.get("at", 0), int):
-            raise ValueError("an enter needs a depart and a plan, and \"at\" is a clock")
+        if (
+            command["cmd"] == "enter"
+            and not (isinstance(command["depart"], int) and command["plan"])
+            or not isinstance(command.get("at", 0), int)
+        ):
+            raise ValueError('an enter needs a depart and a plan, and "at" is a clock')
         if command["cmd"] in ("advance", "takeout", "meter", "read"):
             raise ValueError(f"{command['cmd']} is sent by streetsim-run itself")
     except (ValueError, KeyError, TypeError, AttributeError) as fault:

@@ -7,7 +7,7 @@ from .runs import read_run
 from .sumo_net import Program
 from .sumo_signals import signal
 
-NOWHERE = -1073741824.0      # TraCI's value for a place that is not known
+NOWHERE = -1073741824.0  # TraCI's value for a place that is not known
 ADVICE = {
     "vehicle.setSpeed": "speeds follow the rules alone",
     "vehicle.slowDown": "speeds follow the rules alone",
@@ -46,8 +46,8 @@ class Scenario:
         self.map, source = read_map(mapping), read_run(run)
         self.client = Client(program, workers)
         self.clock = source.start()
-        self.cars, self.plans = {}, {}         # by name: number, links
-        self.going = {}                        # number: name, of vehicles that may be on their way
+        self.cars, self.plans = {}, {}  # by name: number, links
+        self.going = {}  # number: name, of vehicles that may be on their way
         self.routes, self.detectors = {}, {}
         self.lane_of = {self.map.lane_name(link, lane): (link, lane) for link, lane in self.map.lanes()}
         for reply in self.client.batch(line.text for line in [source.load, *source.first]):
@@ -55,9 +55,16 @@ class Scenario:
                 raise reply
         names = iter(self.map.cars)
         for line in source.enters:
-            self.enter(next(names, f"#{len(self.cars)}"), line.command["plan"], line.command["lane"], line.command["depart"])
+            self.enter(
+                next(names, f"#{len(self.cars)}"), line.command["plan"], line.command["lane"], line.command["depart"]
+            )
         self.simulation, self.vehicle, self.route = Simulation(self), Vehicle(self), Route(self)
-        self.lane, self.edge, self.inductionloop, self.trafficlight = Lane(self), Edge(self), InductionLoop(self), TrafficLight(self)
+        self.lane, self.edge, self.inductionloop, self.trafficlight = (
+            Lane(self),
+            Edge(self),
+            InductionLoop(self),
+            TrafficLight(self),
+        )
 
     def __enter__(self):
         return self
@@ -85,7 +92,12 @@ class Scenario:
         turns = {(turn.link, turn.next) for turn in self.map.turns}
         plans = {link: (link,) for link in self.map.links_of[edges[0]]} if edges else {}
         for edge in edges[1:]:
-            plans = {link: (*plan, link) for link in self.map.links_of[edge] for last, plan in plans.items() if (last, link) in turns}
+            plans = {
+                link: (*plan, link)
+                for link in self.map.links_of[edge]
+                for last, plan in plans.items()
+                if (last, link) in turns
+            }
         if not plans:
             raise ValueError(f"no way along {' '.join(edges)}")
         return next(iter(plans.values()))
@@ -95,10 +107,7 @@ class Scenario:
 
     def cells(self, name, begin, end):
         """The cells of a lane from one place to another, in metres."""
-        link = self.map.links[self.lane_of[name][0]]
-        size = link.metres / link.cells
-        first = min(link.cells - 1, max(0, int(begin / size)))
-        return first, min(link.cells - 1, max(first, round(end / size) - 1))
+        return self.map.links[self.lane_of[name][0]].cells_between(begin, end)
 
     def close(self, lane, begin=0.0, end=float(10**7)):
         """Closes a lane from one place to another, in metres: road works."""
@@ -128,7 +137,9 @@ class Vehicle(Part):
         """Adds a vehicle on a route that route.add told; it departs now or at a time in seconds."""
         scenario = self.scenario
         plan = scenario.routes[route]
-        lane = next((turn.lane for turn in scenario.map.turns if len(plan) > 1 and (turn.link, turn.next) == plan[:2]), 0)
+        lane = next(
+            (turn.lane for turn in scenario.map.turns if len(plan) > 1 and (turn.link, turn.next) == plan[:2]), 0
+        )
         scenario.enter(name, list(plan), lane, scenario.clock if depart is None else max(0, -int(-depart // 1)))
 
     def remove(self, name):
@@ -214,7 +225,11 @@ class Lane(Part):
 
 class Edge(Part):
     def lanes(self, name):
-        return [self.scenario.client.lane(link, lane) for link in self.scenario.map.links_of[name] for lane in range(len(self.scenario.map.links[link].lanes))]
+        return [
+            self.scenario.client.lane(link, lane)
+            for link in self.scenario.map.links_of[name]
+            for lane in range(len(self.scenario.map.links[link].lanes))
+        ]
 
     def getLastStepVehicleNumber(self, name):
         return sum(len(lane.cells) for lane in self.lanes(name))
@@ -257,12 +272,20 @@ class TrafficLight(Part):
         return tuple(sorted({light for light, _ in self.scenario.map.signals}))
 
     def setProgramLogic(self, name, phases, offset=0):
-        """Sets a light's cycle: phases of (seconds, state), as a tlLogic has them, from the next step on. Gives what there is to warn of."""
+        """Sets a light's cycle: phases of (seconds, state), as a tlLogic has them, from the next step on. Gives what
+        there is to warn of."""
         mapping, report = self.scenario.map, Report()
-        program, permissive = Program(offset, [tuple(phase) for phase in phases], "static"), mapping.options["permissive"]
+        program, permissive = (
+            Program(offset, [tuple(phase) for phase in phases], "static"),
+            mapping.options["permissive"],
+        )
         for light, node in mapping.signals:
             if light == name:
-                turns = [(turn.link, turn.lane, turn.next, turn) for turn in mapping.turns if mapping.links[turn.link].end == node]
+                turns = [
+                    (turn.link, turn.lane, turn.next, turn)
+                    for turn in mapping.turns
+                    if mapping.links[turn.link].end == node
+                ]
                 edges = {link: mapping.links[link].edge for link, *_ in turns}
                 command = signal(node, turns, edges, light, program, permissive, report)
                 self.scenario.client.signal(node, command["phases"], command["offset"])

@@ -9,13 +9,16 @@ def stretches(folder, edges):
     """Where the links of a path lie, as {link: (metres from the path's begin, metres, cells)}, and its length."""
     placed, begin = {}, 0.0
     for links in folder.links_along(edges):
-        placed.update({link: (begin, folder.mapping.links[link].metres, folder.mapping.links[link].cells) for link in links})
+        placed.update(
+            {link: (begin, folder.mapping.links[link].metres, folder.mapping.links[link].cells) for link in links}
+        )
         begin += folder.mapping.links[links[0]].metres
     return placed, begin
 
 
 def trajectories(folder, edges, first, last):
-    """Pieces of the vehicles' ways along a path between polls: ((second, metres), (second, metres), speed in cells a step)."""
+    """Pieces of the vehicles' ways along a path between polls: ((second, metres), (second, metres), speed in cells a
+    step)."""
     placed, _ = stretches(folder, edges)
     pieces, before = [], {}
     for poll in folder.polls():
@@ -40,7 +43,11 @@ def reds(folder, edges, first, last):
     found = []
     for here, following in zip(links, links[1:]):
         place = placed[here[0]][0] + placed[here[0]][1]
-        plans = [(clock, command) for clock, command in folder.signals if command["node"] == folder.mapping.links[here[0]].end]
+        plans = [
+            (clock, command)
+            for clock, command in folder.signals
+            if command["node"] == folder.mapping.links[here[0]].end
+        ]
         begin = None
         for second in range(first, last + 1):
             sent = [command for clock, command in plans if clock <= second]
@@ -72,11 +79,15 @@ def densities(folder):
             standing[link] += len(cells)
     if not polls:
         raise Fault(f"{folder.path}: nothing was polled")
-    return [standing[number] / polls / len(link.lanes) / (link.cells * limits.CELL_METRES / 1000) for number, link in enumerate(folder.mapping.links)]
+    return [
+        standing[number] / polls / len(link.lanes) / (link.cells * limits.CELL_METRES / 1000)
+        for number, link in enumerate(folder.mapping.links)
+    ]
 
 
 def longest_queues(folder, most):
-    """The lanes with the longest queues, the longest first: (edge_lane, {time: vehicles}); and how many lanes with queues there are."""
+    """The lanes with the longest queues, the longest first: (edge_lane, {time: vehicles}); and how many lanes with
+    queues there are."""
     by_lane = defaultdict(dict)
     for row in folder.queues():
         by_lane[f"{row['edge']}_{row['lane']}"][int(row["time"])] = int(row["vehicles"])
@@ -86,8 +97,13 @@ def longest_queues(folder, most):
 
 def flows(folder, edges):
     """(vehicles a kilometre, vehicles an hour) of each count of a whole period with traffic."""
-    return [(float(row["occupancy_percent"]) / 100 / limits.CELL_METRES * 1000, float(row["vehicles_per_hour"])) for row in folder.counts()
-            if (not edges or row["edge"] in edges) and int(row["vehicles"]) and int(row["end"]) - int(row["begin"]) == folder.period]
+    return [
+        (float(row["occupancy_percent"]) / 100 / limits.CELL_METRES * 1000, float(row["vehicles_per_hour"]))
+        for row in folder.counts()
+        if (not edges or row["edge"] in edges)
+        and int(row["vehicles"])
+        and int(row["end"]) - int(row["begin"]) == folder.period
+    ]
 
 
 def arrival_curves(folder):

@@ -8,14 +8,20 @@ from . import limits
 from .files import Fault, attribute, elements, number, seconds, told
 
 WITHOUT_EFFECT = ("departPos", "departLane", "departSpeed", "arrivalPos", "arrivalLane", "arrivalSpeed")
-NOT_DRIVEN = {"trip": "a trip", "person": "a person", "personFlow": "a flow of persons", "container": "a container", "containerFlow": "a flow of containers"}
+NOT_DRIVEN = {
+    "trip": "a trip",
+    "person": "a person",
+    "personFlow": "a flow of persons",
+    "container": "a container",
+    "containerFlow": "a flow of containers",
+}
 ROUTED_FIRST = "has no route; let SUMO's duarouter compute routes first"
 
 
 @dataclass(slots=True)
 class Vehicle:
     name: str
-    depart: float     # seconds
+    depart: float  # seconds
     edges: tuple
 
 
@@ -25,12 +31,18 @@ class Demand:
     def __init__(self, net, seed, report):
         self.net, self.report = net, report
         self.random = random.Random(seed)
-        self.routes = {}       # name: edges
+        self.routes = {}  # name: edges
         self.vehicles = []
-        self.later = []        # (vehicle, file and element, route's name): routes may be told after the vehicles
+        self.later = []  # (vehicle, file and element, route's name): routes may be told after the vehicles
 
     def read(self, path):
-        readers = {"route": self.read_route, "vehicle": self.read_vehicle, "flow": self.read_flow, "vType": self.read_type, "vTypeDistribution": self.read_type}
+        readers = {
+            "route": self.read_route,
+            "vehicle": self.read_vehicle,
+            "flow": self.read_flow,
+            "vType": self.read_type,
+            "vTypeDistribution": self.read_type,
+        }
         for element in elements(path, ["routes", "additional", "add"]):
             if element.tag == "trip":
                 raise Fault(f"{told(path, element)} {ROUTED_FIRST}")
@@ -55,7 +67,10 @@ class Demand:
         names = tuple(attribute(path, route, "edges").split())
         unknown = [name for name in names if name not in self.net.edges and name not in self.net.dropped]
         if unknown or not names:
-            raise Fault(f"{told(path, owner)}: " + (f"the network has no edge {unknown[0]!r}" if unknown else "a route without edges"))
+            raise Fault(
+                f"{told(path, owner)}: "
+                + (f"the network has no edge {unknown[0]!r}" if unknown else "a route without edges")
+            )
         return names
 
     def add(self, path, element, departs):
@@ -89,16 +104,23 @@ class Demand:
         self.add(path, element, [(f"{name}.{at}", depart) for at, depart in enumerate(self.departs(path, element))])
 
     def departs(self, path, element):
-        """Departures of a flow: begin + k * period while below the end; of probability and period="exp(rate)" by draws of the seed."""
+        """Departures of a flow: begin + k * period while below the end; of probability and period="exp(rate)" by draws
+        of the seed."""
         begin = attribute(path, element, "begin", seconds) if element.get("begin") else 0.0
-        end = attribute(path, element, "end", seconds) if element.get("end") else (math.inf if element.get("number") else 86_400.0)
+        end = (
+            attribute(path, element, "end", seconds)
+            if element.get("end")
+            else (math.inf if element.get("number") else 86_400.0)
+        )
         most = attribute(path, element, "number", int) if element.get("number") else limits.VEHICLES + 1
         if element.get("probability"):
             chance = attribute(path, element, "probability", number)
             drawn = (begin + second for second in range(math.ceil(end - begin)) if self.random.random() < chance)
             return [depart for _, depart in zip(range(most), drawn)]
         if (element.get("period") or "").startswith("exp("):
-            return self.drawn_departs(attribute(path, element, "period", lambda text: number(text[4:].rstrip(")"))), begin, end, most)
+            return self.drawn_departs(
+                attribute(path, element, "period", lambda text: number(text[4:].rstrip(")"))), begin, end, most
+            )
         period = self.period(path, element, begin, end, most)
         return list(steady(begin, period, end, most))
 
@@ -118,7 +140,9 @@ class Demand:
         elif element.get("number") and end < math.inf:
             period = (end - begin) / max(1, most)
         else:
-            raise Fault(f"{told(path, element)}: no rate (number with end, period, vehsPerHour, perHour or probability)")
+            raise Fault(
+                f"{told(path, element)}: no rate (number with end, period, vehsPerHour, perHour or probability)"
+            )
         if period <= 0 and most > limits.VEHICLES:
             raise Fault(f"{told(path, element)}: a period of {period} s")
         return period

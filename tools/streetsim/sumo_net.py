@@ -9,9 +9,9 @@ INNER = ("internal", "walkingarea", "crossing")
 @dataclass(slots=True)
 class Lane:
     index: int
-    speed: float      # metres a second
+    speed: float  # metres a second
     metres: float
-    shape: list       # of (x, y), metres
+    shape: list  # of (x, y), metres
 
 
 @dataclass(slots=True)
@@ -20,7 +20,7 @@ class Edge:
     begin: str
     end: str
     priority: int
-    lanes: list       # those that one of the classes may use, from the right
+    lanes: list  # those that one of the classes may use, from the right
 
 
 @dataclass(slots=True)
@@ -30,30 +30,33 @@ class Connection:
     source_lane: int
     target_lane: int
     light: str | None
-    index: int        # in the light's state
-    state: str        # M: major, m: minor, ..
+    index: int  # in the light's state
+    state: str  # M: major, m: minor, ..
 
 
 @dataclass(slots=True)
 class Program:
     offset: float
-    phases: list      # of (seconds, state)
-    kind: str         # static, actuated, ..
+    phases: list  # of (seconds, state)
+    kind: str  # static, actuated, ..
 
 
 @dataclass(slots=True)
 class SumoNet:
-    junctions: dict = field(default_factory=dict)      # name: (x, y)
-    edges: dict = field(default_factory=dict)          # name: Edge
-    dropped: set = field(default_factory=set)          # edges without a lane for the classes
-    connections: list = field(default_factory=list)    # between kept lanes
-    roundabouts: set = field(default_factory=set)      # edges
-    programs: dict = field(default_factory=dict)       # light: Program, the last loaded
+    junctions: dict = field(default_factory=dict)  # name: (x, y)
+    edges: dict = field(default_factory=dict)  # name: Edge
+    dropped: set = field(default_factory=set)  # edges without a lane for the classes
+    connections: list = field(default_factory=list)  # between kept lanes
+    roundabouts: set = field(default_factory=set)  # edges
+    programs: dict = field(default_factory=dict)  # light: Program, the last loaded
 
 
 def shape(text):
-    """A list of points; heights are left out."""
-    return [tuple(number(part) for part in point.split(",")[:2]) for point in text.split()]
+    """A list of two points or more; heights are left out."""
+    points = [tuple(number(part) for part in point.split(",")[:2]) for point in text.split()]
+    if len(points) < 2 or any(len(point) < 2 for point in points):
+        raise ValueError(text)
+    return points
 
 
 def allows(element, classes):
@@ -68,7 +71,13 @@ def allows(element, classes):
 def read_net(path, classes, report):
     """The network of a .net.xml, with the lanes that one of the classes may use."""
     net, named = SumoNet(), set()
-    readers = {"edge": read_edge, "junction": read_junction, "connection": read_connection, "roundabout": read_roundabout, "tlLogic": read_program}
+    readers = {
+        "edge": read_edge,
+        "junction": read_junction,
+        "connection": read_connection,
+        "roundabout": read_roundabout,
+        "tlLogic": read_program,
+    }
     for element in elements(path, ["net"]):
         if element.tag in readers:
             readers[element.tag](path, element, net, classes)
@@ -77,7 +86,10 @@ def read_net(path, classes, report):
         elif element.tag not in ("location", "type", "request"):
             report.ignored[f"<{element.tag}> of the network"] += 1
     if not net.edges:
-        raise Fault(f"{path}: no lane is open to {', '.join(classes)}; lanes are opened to: {', '.join(sorted(named)) or 'none by name'}")
+        raise Fault(
+            f"{path}: no lane is open to {', '.join(classes)}; "
+            f"lanes are opened to: {', '.join(sorted(named)) or 'none by name'}"
+        )
     return net
 
 
@@ -96,17 +108,34 @@ def read_edge(path, element, net, classes):
     name = attribute(path, element, "id")
     if name in net.edges or name in net.dropped:
         raise Fault(f"{told(path, element)}: a second edge of this name")
-    lanes = [Lane(attribute(path, lane, "index", int), attribute(path, lane, "speed", number), attribute(path, lane, "length", number), attribute(path, lane, "shape", shape))
-             for lane in element.iter("lane") if allows(lane, classes)]
+    lanes = [
+        Lane(
+            attribute(path, lane, "index", int),
+            attribute(path, lane, "speed", number),
+            attribute(path, lane, "length", number),
+            attribute(path, lane, "shape", shape),
+        )
+        for lane in element.iter("lane")
+        if allows(lane, classes)
+    ]
     if lanes:
-        net.edges[name] = Edge(name, attribute(path, element, "from"), attribute(path, element, "to"), attribute(path, element, "priority", int) if element.get("priority") else -1, lanes)
+        net.edges[name] = Edge(
+            name,
+            attribute(path, element, "from"),
+            attribute(path, element, "to"),
+            attribute(path, element, "priority", int) if element.get("priority") else -1,
+            lanes,
+        )
     else:
         net.dropped.add(name)
 
 
 def read_junction(path, element, net, _classes):
     if element.get("type") != "internal":
-        net.junctions[attribute(path, element, "id")] = (attribute(path, element, "x", number), attribute(path, element, "y", number))
+        net.junctions[attribute(path, element, "id")] = (
+            attribute(path, element, "x", number),
+            attribute(path, element, "y", number),
+        )
 
 
 def read_connection(path, element, net, classes):
@@ -114,7 +143,10 @@ def read_connection(path, element, net, classes):
     if source not in net.edges or target not in net.edges or not allows(element, classes):
         return
     lanes = attribute(path, element, "fromLane", int), attribute(path, element, "toLane", int)
-    if all(any(lane.index == number for lane in net.edges[edge].lanes) for edge, number in zip((source, target), lanes, strict=True)):
+    if all(
+        any(lane.index == number for lane in net.edges[edge].lanes)
+        for edge, number in zip((source, target), lanes, strict=True)
+    ):
         light = element.get("tl")
         index = attribute(path, element, "linkIndex", int) if light else -1
         net.connections.append(Connection(source, target, *lanes, light, index, element.get("state", "M")))
@@ -125,7 +157,10 @@ def read_roundabout(path, element, net, _classes):
 
 
 def read_program(path, element, net, _classes):
-    phases = [(attribute(path, phase, "duration", seconds), attribute(path, phase, "state")) for phase in element.iter("phase")]
+    phases = [
+        (attribute(path, phase, "duration", seconds), attribute(path, phase, "state"))
+        for phase in element.iter("phase")
+    ]
     if any(duration < 0 for duration, _ in phases):
         raise Fault(f"{told(path, element)}: a phase of negative duration")
     offset = attribute(path, element, "offset", seconds) if element.get("offset") else 0.0

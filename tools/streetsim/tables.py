@@ -6,10 +6,50 @@ from . import limits
 from .files import Fault, open_text, reading, whole_file
 
 # Quantiles of Student's t at 97.5 %, for 1 to 30 degrees of freedom.
-STUDENT = (12.706, 4.303, 3.182, 2.776, 2.571, 2.447, 2.365, 2.306, 2.262, 2.228, 2.201, 2.179, 2.160, 2.145, 2.131,
-           2.120, 2.110, 2.101, 2.093, 2.086, 2.080, 2.074, 2.069, 2.064, 2.060, 2.056, 2.052, 2.048, 2.045, 2.042)
+STUDENT = (
+    12.706,
+    4.303,
+    3.182,
+    2.776,
+    2.571,
+    2.447,
+    2.365,
+    2.306,
+    2.262,
+    2.228,
+    2.201,
+    2.179,
+    2.160,
+    2.145,
+    2.131,
+    2.120,
+    2.110,
+    2.101,
+    2.093,
+    2.086,
+    2.080,
+    2.074,
+    2.069,
+    2.064,
+    2.060,
+    2.056,
+    2.052,
+    2.048,
+    2.045,
+    2.042,
+)
 
-COUNTS = ("begin", "end", "edge", "link", "lane", "vehicles", "vehicles_per_hour", "mean_speed_kmh", "occupancy_percent")
+COUNTS = (
+    "begin",
+    "end",
+    "edge",
+    "link",
+    "lane",
+    "vehicles",
+    "vehicles_per_hour",
+    "mean_speed_kmh",
+    "occupancy_percent",
+)
 TRIPS = ("id", "depart", "arrival", "duration", "free_flow", "loss", "edges", "rescues", "state")
 QUEUES = ("time", "edge", "lane", "vehicles", "metres")
 SUMMARY = ("time", "entered", "waiting", "on_cells", "in_buffers", "arrived", "taken_out")
@@ -20,8 +60,17 @@ def counts(records, mapping):
     for (link, lane), rows in sorted(records.counts.items()):
         for row in rows.values():
             speed = f"{row.mean_speed * limits.CELL_KMH:.1f}" if row.passes else ""
-            yield (row.start, row.start + row.steps, mapping.links[link].edge, link, mapping.links[link].lanes[lane], row.passes,
-                   f"{row.flow * 3600:.1f}", speed, f"{row.density * 100:.1f}")
+            yield (
+                row.start,
+                row.start + row.steps,
+                mapping.links[link].edge,
+                link,
+                mapping.links[link].lanes[lane],
+                row.passes,
+                f"{row.flow * 3600:.1f}",
+                speed,
+                f"{row.density * 100:.1f}",
+            )
 
 
 def trips(records, run, mapping):
@@ -31,17 +80,22 @@ def trips(records, run, mapping):
         plan, depart = line.command["plan"], line.command["depart"]
         free = free_flow(plan, mapping, dawdle)
         arrival = end.step + 1 if end is not None and end.state == "arrived" else None
-        trip = (arrival, arrival - depart, f"{free:.1f}", f"{arrival - depart - free:.1f}") if arrival is not None else ("", "", f"{free:.1f}", "")
+        trip = (
+            (arrival, arrival - depart, f"{free:.1f}", f"{arrival - depart - free:.1f}")
+            if arrival is not None
+            else ("", "", f"{free:.1f}", "")
+        )
         yield (name, depart, *trip, len(plan), records.rescues[place], end.state if end else "not departed")
 
 
 def names(run, mapping):
     """SUMO's names of the vehicles; those that were added to the run file by hand go by their number."""
-    return [*mapping.cars, *(f"#{number}" for number in range(len(mapping.cars), len(run.enters)))][:len(run.enters)]
+    return [*mapping.cars, *(f"#{number}" for number in range(len(mapping.cars), len(run.enters)))][: len(run.enters)]
 
 
 def free_flow(plan, mapping, dawdle):
-    """Seconds that a plan takes where nobody is in the way: cells at the free speed, and the residence at each node crossed."""
+    """Seconds that a plan takes where nobody is in the way: cells at the free speed, and the residence at each node
+    crossed."""
     driving = sum(mapping.links[link].cells / max(0.001, mapping.links[link].limit - dawdle) for link in plan)
     return driving + sum(mapping.nodes[mapping.links[link].end][3] for link in plan[:-1])
 

@@ -1,0 +1,109 @@
+"""What the tests share: the simulator to test with, small SUMO networks, running a tool."""
+import os
+import subprocess
+import sys
+import tempfile
+import unittest
+from pathlib import Path
+
+TOOLS = Path(__file__).resolve().parents[1]
+DATA = Path(__file__).resolve().parent / "data"
+SCENARIOS = Path("/usr/share/sumo/tools/sumolib/scenario/scenarios/RealWorld")
+sys.path.insert(0, str(TOOLS))
+
+from streetsim.client import Client  # noqa: E402
+
+BUILT = TOOLS.parent / "crates/street_sim/out/street_sim"
+PROGRAM = os.environ.get("STREETSIM_PROGRAM") or (str(BUILT) if BUILT.exists() else None)
+
+
+def why_not():
+    """Why tests that run a simulation are skipped, or none."""
+    if PROGRAM is None:
+        return "no simulator: build streetsim, or set STREETSIM_PROGRAM"
+    with Client(PROGRAM) as sim:
+        sim.load([[0, 1, 1]], [], [])
+        reply = sim.batch([{"cmd": "count"}])[0]
+    return f"the simulator refuses count: {reply}" if isinstance(reply, Exception) else None
+
+
+REASON = why_not()
+needs_simulator = unittest.skipIf(REASON, REASON or "")
+
+# One link of 10 cells into another of 10, limit 5, nobody dawdles.
+STREET = {
+    "nodes": [[1, 1, 2], [2, 1, 2], [3, 1, 2]],
+    "links": [[10, 1, 2, 1, 10, 5], [20, 2, 3, 1, 10, 5]],
+    "turns": [[10, 0, 20, 0]],
+}
+
+# The same street with numbers from 0, its map, and red for ever between its links.
+NUMBERED = {
+    "nodes": [[0, 1, 2], [1, 1, 2], [2, 1, 2]],
+    "links": [[0, 0, 1, 1, 10, 5], [1, 1, 2, 1, 10, 5]],
+    "turns": [[0, 0, 1, 0]],
+    "zone": 0,
+    "dawdle": 0,
+    "change": 0,
+    "seed": 0,
+}
+MAP = {
+    "nodes": [["A", 0, 0, 1], ["B", 75, 0, 1], ["C", 150, 0, 1]],
+    "links": [["a", [0], 0, 1, 10, 5, 75.0, [[0, 0], [75, 0]]], ["b", [0], 1, 2, 10, 5, 75.0, [[75, 0], [150, 0]]]],
+    "turns": [[0, 0, 1, 0, "L", 0, False]],
+    "signals": [["L", 1]],
+    "cars": [],
+    "options": {"classes": ["passenger"], "permissive": 0.7},
+    "warnings": [],
+}
+RED = {"cmd": "signal", "node": 1, "offset": 0, "phases": [[600, []]]}
+
+
+class Case(unittest.TestCase):
+    """A test with a folder of its own."""
+
+    def setUp(self):
+        made = tempfile.TemporaryDirectory()
+        self.addCleanup(made.cleanup)
+        self.folder = Path(made.name)
+
+    def write(self, name, text):
+        path = self.folder / name
+        path.write_text(text, encoding="utf-8")
+        return str(path)
+
+    def tool(self, name, *words, status=0):
+        """Runs a tool; gives its standard output and error."""
+        done = subprocess.run(
+            [TOOLS / f"streetsim-{name}", *map(str, words)], capture_output=True, text=True, check=False
+        )
+        self.assertEqual(done.returncode, status, done.stderr)
+        return done.stdout, done.stderr
+
+
+def lane(edge, index, metres=75.0, speed=13.89, more=""):
+    return (
+        f'<lane id="{edge}_{index}" index="{index}" speed="{speed}" length="{metres}" shape="0,0 {metres},0" {more}/>'
+    )
+
+
+def net(edges, connections, programs=""):
+    """A .net.xml of edges (name, begin, end, [lanes]) and connections (from, lane, to, lane, more)."""
+    nodes = sorted({name for _, begin, end, _ in edges for name in (begin, end)})
+    parts = [
+        f'<edge id="{name}" from="{begin}" to="{end}" priority="1">{"".join(lanes)}</edge>'
+        for name, begin, end, lanes in edges
+    ]
+    parts += [programs] + [f'<junction id="{name}" type="priority" x="0" y="0"/>' for name in nodes]
+    parts += [
+        f'<connection from="{source}" to="{target}" fromLane="{lane}" toLane="{next_lane}" state="M" {more}/>'
+        for source, lane, target, next_lane, more in connections
+    ]
+    return f'<net version="1.9">{"".join(parts)}</net>'
+
+
+# A two-lane street that forks: the right lane goes to b, the left one to c.
+FORK = net(
+    [("a", "A", "B", [lane("a", 0), lane("a", 1)]), ("b", "B", "C", [lane("b", 0)]), ("c", "B", "D", [lane("c", 0)])],
+    [("a", 0, "b", 0, ""), ("a", 1, "c", 0, "")],
+)

@@ -1,0 +1,99 @@
+"""Vehicles, flows and routes; the departures of flows are those of SUMO 1.15."""
+import unittest
+
+from support import FORK, Case
+from streetsim.files import Fault
+from streetsim.importing import convert
+from streetsim.network import Options
+from streetsim.report import Report
+
+
+class Demand(Case):
+    def enters(self, *routes, report=None, **options):
+        net = self.write("x.net.xml", FORK)
+        paths = [self.write(f"r{at}.rou.xml", f"<routes>{text}</routes>") for at, text in enumerate(routes)]
+        _, _, commands, names = convert(net, [], paths, Options(**options), report or Report())
+        return [
+            (name, command["depart"])
+            for name, command in zip(names, (command for command in commands if command["cmd"] == "enter"), strict=True)
+        ]
+
+    def departs(self, text):
+        return [depart for _, depart in self.enters(text)]
+
+    def flow(self, more):
+        return self.departs(f'<flow id="f" {more}><route edges="a b"/></flow>')
+
+    def test_flows(self):
+        # 0, 14.29, 28.57, 42.86, 57.14, 71.43, 85.71: each enters in the next whole second.
+        self.assertEqual(self.flow('begin="0" end="100" number="7"'), [0, 15, 29, 43, 58, 72, 86])
+        self.assertEqual(self.flow('begin="3" end="100" vehsPerHour="300"'), [3, 15, 27, 39, 51, 63, 75, 87, 99])
+        self.assertEqual(self.flow('begin="0" end="50" period="9.5"'), [0, 10, 19, 29, 38, 48])
+        self.assertEqual(self.flow('begin="0" end="3" probability="1"'), [0, 1, 2])
+        self.assertEqual(self.flow('begin="5" period="10" number="3"'), [5, 15, 25])
+
+    def test_flow_by_draws_repeats(self):
+        drawn = self.flow('begin="0" end="1000" probability="0.1"')
+        self.assertEqual(drawn, self.flow('begin="0" end="1000" probability="0.1"'))
+        self.assertTrue(60 < len(drawn) < 140, len(drawn))
+
+    def test_depart_is_the_next_second(self):
+        self.assertEqual(self.departs('<vehicle id="v" depart="3.4"><route edges="a b"/></vehicle>'), [4])
+        self.assertEqual(self.departs('<vehicle id="v" depart="01:00:05"><route edges="a b"/></vehicle>'), [3605])
+
+    def test_order_is_by_departure_and_file(self):
+        text = (
+            '<vehicle id="late" depart="9"><route edges="a b"/></vehicle>'
+            '<vehicle id="one" depart="2" route="r"/><vehicle id="two" depart="2" route="r"/>'
+        )
+        self.assertEqual(self.enters(text, '<route id="r" edges="a c"/>'), [("one", 2), ("two", 2), ("late", 9)])
+
+    def test_departure_lanes_take_turns(self):
+        net, routes = self.write("x.net.xml", FORK), self.write(
+            "r.rou.xml", '<routes><flow id="f" begin="0" end="4" period="1"><route edges="a b"/></flow></routes>'
+        )
+        for strict, lanes in ((False, [0, 1, 0, 1]), (True, [0, 0, 0, 0])):
+            _, _, commands, _ = convert(net, [], [routes], Options(strict_turns=strict), Report())
+            self.assertEqual([command["lane"] for command in commands if command["cmd"] == "enter"], lanes)
+
+    def test_skipped_and_ignored_are_counted(self):
+        report = Report()
+        text = (
+            '<vehicle id="x" depart="0" departPos="5"><route edges="b c"/><stop lane="a_0"/></vehicle>'
+            '<person id="p" depart="0"/><vehicle id="y" depart="triggered"><route edges="a"/></vehicle>'
+        )
+        self.assertEqual(self.enters(text, report=report, strict_turns=True), [])
+        self.assertEqual(
+            list(report.lines()),
+            [
+                "ignored: 1 x departPos of vehicles",
+                "ignored: 1 x stops",
+                "skipped: 1 vehicles: a person, which streetsim does not have",
+                "skipped: 1 vehicles: depart='triggered' is no time",
+                "skipped: 1 vehicles: two edges of the route have no connection",
+            ],
+        )
+
+    def test_faults_name_file_and_element(self):
+        for text, words in (
+            ('<trip id="t" depart="0" from="a" to="b"/>', r"r0.rou.xml: <trip 't'> has no route; let SUMO's duarouter"),
+            (
+                '<vehicle id="v" depart="0"><route edges="a z"/></vehicle>',
+                r"r0.rou.xml: <vehicle 'v'>: the network has no edge 'z'",
+            ),
+            ('<vehicle id="v" depart="0" route="q"/>', r"r0.rou.xml: <vehicle 'v'>: there is no route 'q'"),
+            (
+                '<vehicle id="v" depart="soon"><route edges="a"/></vehicle>',
+                r"<vehicle 'v'>: depart='soon' cannot be read",
+            ),
+            ('<vehicle depart="0"><route edges="a"/></vehicle>', r"r0.rou.xml: <vehicle>: no attribute 'id'"),
+            ('<flow id="f" begin="0" end="9"><route edges="a"/></flow>', r"<flow 'f'>: no rate"),
+            ('<vehicle id="v" depart="0"><route edges="a"/></vehicle>' * 2, r"two vehicles are named 'v'"),
+            ('<vehicle id="v" depart="0"><route', r"r0.rou.xml: not XML"),
+        ):
+            with self.subTest(text), self.assertRaisesRegex(Fault, words):
+                self.enters(text)
+
+
+if __name__ == "__main__":
+    unittest.main()

@@ -1,0 +1,204 @@
+"""Networks: links, turns, values; faults and limits."""
+import json
+import unittest
+
+from support import FORK, PROGRAM, SCENARIOS, Case, lane, needs_simulator, net
+from streetsim.client import Client
+from streetsim.files import Fault
+from streetsim.importing import convert
+from streetsim.network import Options
+from streetsim.report import Report
+from streetsim.sumo_net import read_net
+
+
+class Networks(Case):
+    def network(self, text, routes=(), **options):
+        paths = [self.write(f"r{at}.rou.xml", f"<routes>{route}</routes>") for at, route in enumerate(routes)]
+        return convert(self.write("x.net.xml", text), [], paths, Options(**options), self.report())
+
+    def report(self):
+        self.said = Report()
+        return self.said
+
+    def one_street(self, **fields):
+        network, *_ = self.network(net([("a", "A", "B", [lane("a", 0, **fields)])], []))
+        return network.links[0]
+
+    def test_speeds_and_lengths(self):
+        # With dawdle 170 a limit of L cells gives (L - 0.17) * 27 km/h when free: 22, 49, 76, 103, 130.
+        for kmh, limit in ((30, 1), (50, 2), (70, 3), (100, 4), (120, 5), (200, 5), (5, 1)):
+            self.assertEqual(self.one_street(speed=kmh / 3.6).limit, limit, kmh)
+        for metres, cells in ((0.1, 1), (7.5, 1), (75, 10), (78.7, 10), (78.8, 11)):
+            self.assertEqual(self.one_street(metres=metres).cells, cells, metres)
+
+    def test_warnings_of_rules(self):
+        self.one_street(speed=30 / 3.6, metres=3)
+        self.assertEqual(
+            self.said.warnings,
+            [
+                "1 edges are shorter than a cell of 7.5 m and get one: a",
+                "30 km/h becomes 1 cells a step, 22 km/h when free: 1 links",
+            ],
+        )
+
+    def test_turns_for_both_lanes(self):
+        network, *_ = self.network(FORK)
+        self.assertEqual(
+            {key: turn.added for key, turn in network.turns.items()},
+            {(0, 0, 1): False, (0, 1, 2): False, (0, 0, 2): True, (0, 1, 1): True},
+        )
+        strict, *_ = self.network(FORK, strict_turns=True)
+        self.assertEqual(set(strict.turns), {(0, 0, 1), (0, 1, 2)})
+
+    def test_of_several_connections_the_same_lane_is_kept(self):
+        wide = net(
+            [("a", "A", "B", [lane("a", 0), lane("a", 1)]), ("b", "B", "C", [lane("b", 0), lane("b", 1)])],
+            [("a", 1, "b", 0, ""), ("a", 1, "b", 1, ""), ("a", 0, "b", 0, "")],
+        )
+        network, *_ = self.network(wide)
+        self.assertEqual({key: turn.next_lane for key, turn in network.turns.items()}, {(0, 1, 1): 1, (0, 0, 1): 0})
+
+    def test_three_lanes_are_two_parallel_links(self):
+        lanes = [lane("a", index) for index in range(3)]
+        ends = [(name, "B", name, [lane(name, 0)]) for name in "bcd"]
+        left_alone = [("a", 0, "b", 0, ""), ("a", 1, "b", 0, ""), ("a", 1, "c", 0, ""), ("a", 2, "d", 0, "")]
+        right_alone = [("a", 0, "b", 0, ""), ("a", 1, "c", 0, ""), ("a", 2, "c", 0, ""), ("a", 2, "d", 0, "")]
+        for connections, expected in ((left_alone, [(0, 1), (2,)]), (right_alone, [(0,), (1, 2)])):
+            network, *_ = self.network(net([("a", "A", "B", lanes), *ends], connections))
+            self.assertEqual([link.lanes for link in network.links if link.edge == "a"], expected)
+
+    def test_routes_share_parallel_links_by_lanes(self):
+        lanes = [[lane(name, index) for index in range(3)] for name in "ab"]
+        wide = net(
+            [("a", "A", "B", lanes[0]), ("b", "B", "C", lanes[1])], [("a", index, "b", index, "") for index in range(3)]
+        )
+        network, _, commands, _ = self.network(
+            wide, ['<flow id="f" begin="0" end="300" period="1"><route edges="a b"/></flow>']
+        )
+        use = [
+            sum(command["plan"][0] == link for command in commands if command["cmd"] == "enter")
+            for link in network.links_of["a"]
+        ]
+        self.assertEqual(use, [200, 100])
+        self.assertFalse(network.joined)
+
+    def test_a_change_between_parallel_links_adds_a_turn(self):
+        lanes = [[lane(name, index) for index in range(3)] for name in "ab"]
+        forced = net(
+            [("a", "A", "B", lanes[0]), ("b", "B", "C", lanes[1]), ("c", "C", "D", [lane("c", 0)])],
+            [("a", 0, "b", 0, ""), ("b", 2, "c", 0, "")],
+        )
+        network, *_ = self.network(forced, ['<vehicle id="v" depart="0"><route edges="a b c"/></vehicle>'])
+        self.assertEqual(len(network.joined), 1)
+        self.assertIn("1 turns between parallel links added for routes that change between them", self.said.warnings)
+
+    def test_residence(self):
+        # B has two edges in and three out: a real junction. A and the ends have not.
+        edges = [("a", "A", "B", [lane("a", 0)]), ("z", "Z", "B", [lane("z", 0)])] + [
+            (name, "B", name, [lane(name, 0)]) for name in "bcd"
+        ]
+        network, *_ = self.network(net(edges, []))
+        self.assertEqual(
+            dict(zip(network.nodes, network.residences, strict=True)), {"A": 1, "B": 3, "Z": 1, "b": 1, "c": 1, "d": 1}
+        )
+
+    def test_classes(self):
+        bus = net([("a", "A", "B", [lane("a", 0, more='allow="bus"'), lane("a", 1)])], [])
+        network, *_ = self.network(bus)
+        self.assertEqual(network.links[0].lanes, (1,))
+        with self.assertRaisesRegex(Fault, "no lane is open to passenger; lanes are opened to: bus"):
+            self.network(net([("a", "A", "B", [lane("a", 0, more='allow="bus"')])], []))
+
+    @needs_simulator
+    def test_two_side_by_side(self):
+        # Each needs the turn of the other's lane. With SUMO's turns alone they stand for ever; with the added ones
+        # both arrive.
+        for strict, arrived in ((True, 0), (False, 2)):
+            _, _, commands, _ = self.network(FORK, strict_turns=strict, dawdle=0)
+            with Client(PROGRAM) as sim:
+                sim.batch(commands)
+                sim.enter([0, 2], 0, 0)
+                sim.enter([0, 1], 1, 0)
+                sim.advance(10_000)
+                self.assertEqual(sim.count().arrived, arrived)
+
+
+class Tool(Case):
+    def run_tool(self, text, routes=None, more=(), status=2):
+        words = [
+            "import",
+            self.write("x.net.xml", text),
+            *more,
+            *(["--routes", self.write("r.rou.xml", routes)] if routes else []),
+        ]
+        self.output, self.mapped = self.folder / "run.jsonl", self.folder / "run.map.json"
+        return self.tool(*words, "-o", self.output, "--map", self.mapped, status=status)[1]
+
+    def refused(self, words, *arguments, **fields):
+        told = self.run_tool(*arguments, **fields)
+        self.assertIn(words, told)
+        self.assertEqual(told.count("\n"), 1)
+        self.assertFalse([path.name for path in self.folder.iterdir() if path.name.startswith("run.")])
+
+    def test_faults_leave_nothing(self):
+        self.refused("x.net.xml: not XML", FORK[:-20])
+        self.refused("no.add.xml: No such file", FORK, more=["no.add.xml"])
+        self.refused("x.net.xml: the root is <routes>, expected <net>", "<routes/>")
+        self.refused(
+            "<vehicle 'v'>: the network has no edge 'z'",
+            FORK,
+            '<routes><vehicle id="v" depart="0"><route edges="z"/></vehicle></routes>',
+        )
+        self.refused("no junction 'B'", FORK.replace('<junction id="B"', '<junction id="other"'))
+        self.refused("length='long' cannot be read", FORK.replace('length="75.0"', 'length="long"', 1))
+
+    def test_limits_are_told_before_anything_is_written(self):
+        edges = [(f"e{at}", "A", "B", [lane(f"e{at}", 0)]) for at in range(4097)]
+        self.refused("too large for streetsim: 4,097 links, at most 4,096", net(edges, []))
+        self.refused(
+            "1 links above 1,000 cells of 7.5 m: edges a", net([("a", "A", "B", [lane("a", 0, metres=7600)])], [])
+        )
+
+    def test_most_links_fit(self):
+        self.run_tool(net([(f"e{at}", "A", "B", [lane(f"e{at}", 0)]) for at in range(4096)], []), status=0)
+        self.assertLess(len(self.output.read_text().splitlines()[0]), 1_048_576)
+
+    def test_strict(self):
+        broken = '<routes><vehicle id="v" depart="0"><route edges="b c"/></vehicle></routes>'
+        self.assertIn("skipped: 1 vehicles", self.run_tool(FORK, broken, status=0))
+        self.run_tool(FORK, broken, more=["--strict"], status=1)
+
+    def test_map(self):
+        self.run_tool(FORK, '<routes><vehicle id="v" depart="0"><route edges="a c"/></vehicle></routes>', status=0)
+        mapped = json.loads(self.mapped.read_text())
+        self.assertEqual(
+            (mapped["cars"], [link[0] for link in mapped["links"]], [node[0] for node in mapped["nodes"]]),
+            (["v"], ["a", "b", "c"], ["A", "B", "C", "D"]),
+        )
+        load = json.loads(self.output.read_text().splitlines()[0])
+        self.assertEqual(load["links"], [[0, 0, 1, 2, 10, 2], [1, 1, 2, 1, 10, 2], [2, 1, 3, 1, 10, 2]])
+
+
+@unittest.skipUnless(SCENARIOS.exists(), "Debian's sumo-tools is not installed")
+class Shipped(Case):
+    def test_every_network_is_read(self):
+        """Each network that sumo-tools ships loads with all its signals, or is refused by the limit that it passes."""
+        for path in sorted(SCENARIOS.parents[3].rglob("*.net.xml")):
+            with self.subTest(path.name):
+                self.try_network(path)
+
+    def try_network(self, path):
+        try:
+            network, _, commands, _ = convert(str(path), [], [], Options(), Report())
+        except Fault as fault:
+            self.assertIn("no lane is open to passenger", str(fault))
+            self.assertRaises(Fault, read_net, str(path), ("passenger",), Report())
+            return
+        if list(network.over_limits()) or PROGRAM is None:
+            return
+        with Client(PROGRAM) as sim:
+            self.assertEqual([reply for reply in sim.batch(commands) if isinstance(reply, Exception)], [])
+
+
+if __name__ == "__main__":
+    unittest.main()

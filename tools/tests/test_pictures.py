@@ -1,0 +1,159 @@
+"""Pictures and the player: the numbers behind them, that they are there, and what the page shows at a step."""
+import gzip
+import html
+import json
+import re
+import shutil
+import subprocess
+import unittest
+
+from support import DATA, MAP, PROGRAM, Case, needs_simulator
+from streetsim import series
+from streetsim.folder import read_folder
+from streetsim.tables import COUNTS, QUEUES, TRIPS
+
+CHROMIUM = shutil.which("chromium") or shutil.which("chromium-browser")
+DRAWS = (
+    subprocess.run(["/usr/bin/python3", "-c", "import matplotlib, PIL"], capture_output=True, check=False).returncode
+    == 0
+)
+
+
+class Given(Case):
+    """A folder written by hand: two links of 10 cells, a signal between them that is red from 5 to 14."""
+
+    def setUp(self):
+        super().setUp()
+        signal = {"cmd": "signal", "node": 1, "offset": 0, "phases": [[5, [[0, 0, 1]]], [10, []], [5, [[0, 0, 1]]]]}
+        self.write(
+            "setting.json",
+            json.dumps(
+                {"map": {**MAP, "cars": ["v", "w"]}, "signals": [[0, signal]], "dawdle": 0, "every": 1, "period": 900}
+            ),
+        )
+        polls = [
+            {"clock": 1, "lanes": [[0, 0, [[0, 0, 0]], [], []]]},
+            {"clock": 2, "lanes": [[0, 0, [[0, 1, 1], [1, 0, 0]], [], []]]},
+            {"clock": 3, "lanes": [[0, 0, [[1, 1, 1]], [0], [[8, 9]]]]},
+            {"clock": 4, "lanes": [[1, 0, [[0, 0, 1]], [], []]]},
+        ]
+        with gzip.open(self.folder / "lanes.jsonl.gz", "wt") as file:
+            file.writelines(json.dumps(poll) + "\n" for poll in polls)
+        self.write("trips.csv", ",".join(TRIPS) + "\nv,0,30,30,4,26,2,0,arrived\nw,1,,,4,,2,0,cell\n")
+        self.write("queues.csv", ",".join(QUEUES) + "\n10,a,0,3,22.5\n20,a,0,1,7.5\n20,b,0,2,15\n")
+        self.write(
+            "counts.csv",
+            ",".join(COUNTS)
+            + "\n0,900,a,0,0,90,360.0,27.0,15.0\n900,1000,a,0,0,9,324.0,27.0,15.0\n0,900,b,1,0,0,0.0,,0.0\n",
+        )
+        self.given = read_folder(self.folder)
+
+
+class Numbers(Given):
+    def test_corridor(self):
+        # Between clocks 1 and 2 the first drives from the front of cell 0 (7.5 m) to that of cell 1 (15 m), and so the
+        # second a step later.
+        self.assertEqual(
+            series.trajectories(self.given, ["a", "b"], 0, 10), [((1, 7.5), (2, 15.0), 1), ((2, 7.5), (3, 15.0), 1)]
+        )
+        self.assertEqual(series.stretches(self.given, ["a", "b"]), ({0: (0.0, 75.0, 10), 1: (75.0, 75.0, 10)}, 150.0))
+        self.assertEqual(series.reds(self.given, ["a", "b"], 0, 40), [(75.0, 5, 15), (75.0, 25, 35)])
+
+    def test_map(self):
+        # Four polls find 1, 2, 1 and 0 vehicles on 75 m of the first link, and 0, 0, 0, 1 on the second.
+        self.assertEqual([round(value, 3) for value in series.densities(self.given)], [13.333, 3.333])
+
+    def test_queues(self):
+        self.assertEqual(series.longest_queues(self.given, 1), ([("a_0", {10: 3, 20: 1})], 2))
+
+    def test_fundamental(self):
+        # 15 % of the time a vehicle of 7.5 m: 20 a kilometre. The short last period and the empty lane are left out.
+        self.assertEqual(series.flows(self.given, []), [(20.0, 360.0)])
+
+    def test_arrivals(self):
+        self.assertEqual(series.arrival_curves(self.given), ([0, 1], [30]))
+
+
+@unittest.skipUnless(DRAWS, "Debian's python3-matplotlib is not installed")
+class Pictures(Given):
+    def test_each_is_drawn(self):
+        for kind, *words in (
+            ("corridor", self.folder, "--edges", "a b", "--last", 40),
+            ("map", self.folder),
+            ("queues", self.folder),
+            ("arrivals", self.folder),
+            ("fundamental", self.folder),
+        ):
+            with self.subTest(kind):
+                path = self.folder / f"{kind}.png"
+                self.tool("plot", kind, *words, "-o", path)
+                content = path.read_bytes()
+                self.assertEqual(content[:8], b"\x89PNG\r\n\x1a\n")
+                width, height = (int.from_bytes(content[at : at + 4], "big") for at in (16, 20))
+                self.assertTrue(500 < width < 1200 and 200 < height < 1000, (width, height))
+                self.assertLess(len(content), 110_000)
+
+    def test_faults(self):
+        self.assertIn(
+            "the map has no edge 'z'",
+            self.tool("plot", "corridor", self.folder, "--edges", "z", "-o", self.folder / "x.png", status=2)[1],
+        )
+        self.assertIn(
+            "setting.json: No such file",
+            self.tool("plot", "map", self.folder / "no", "-o", self.folder / "x.png", status=2)[1],
+        )
+        self.assertFalse((self.folder / "x.png").exists())
+
+
+class Player(Given):
+    def page(self):
+        path = self.folder / "play.html"
+        self.tool("play", self.folder, "-o", path)
+        return path
+
+    def test_nothing_from_outside(self):
+        self.assertFalse(re.search(r"https?:|src=|@import|<link", self.page().read_text()))
+
+    @unittest.skipUnless(CHROMIUM, "Debian's chromium is not installed")
+    def test_what_a_step_shows(self):
+        # At clock 3 one vehicle drives on the first link, one is in its buffer, and cells 8 and 9 are closed; the
+        # signal is green. At clock 2 both drive, one of them stands.
+        page = self.page()
+        self.assertEqual(
+            self.shown(page, 3), {"clock": 3, "vehicles": 1, "buffered": 1, "standing": 0, "red": 0, "closed": 1}
+        )
+        self.assertEqual(
+            self.shown(page, 2), {"clock": 2, "vehicles": 2, "buffered": 0, "standing": 1, "red": 0, "closed": 0}
+        )
+
+    def shown(self, page, step):
+        words = [
+            CHROMIUM,
+            "--headless",
+            "--no-sandbox",
+            "--disable-gpu",
+            f"--user-data-dir={self.folder}/profile",
+            f"--screenshot={self.folder}/shot.png",
+            "--dump-dom",
+            "--virtual-time-budget=5000",
+        ]
+        told = subprocess.run([*words, f"file://{page}#{step}"], capture_output=True, text=True, check=True).stdout
+        self.assertGreater((self.folder / "shot.png").stat().st_size, 1000)
+        return json.loads(html.unescape(re.search(r'data-shown="([^"]*)"', told)[1]))
+
+
+@needs_simulator
+class Whole(Case):
+    @unittest.skipUnless(DRAWS, "Debian's python3-matplotlib is not installed")
+    def test_a_run_is_drawn_and_played(self):
+        run, mapped, out = self.folder / "run.jsonl", self.folder / "map.json", self.folder / "out"
+        self.tool("import", DATA / "grid.net.xml.gz", "--routes", DATA / "grid.rou.xml.gz", "-o", run, "--map", mapped)
+        self.tool("run", run, "--map", mapped, "--until", 400, "--every", 2, "--out", out, "--program", PROGRAM)
+        self.tool(
+            "plot", "corridor", out, "--edges", "A0A1 A1A2 A2A3", "--last", 400, "-o", self.folder / "corridor.png"
+        )
+        self.assertEqual(self.tool("play", out, "-o", self.folder / "play.html")[0].split(",")[0], "200 steps")
+
+
+if __name__ == "__main__":
+    unittest.main()

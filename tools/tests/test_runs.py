@@ -1,0 +1,194 @@
+"""Runs and their tables, on streets small enough to be reckoned by hand."""
+import csv
+import gzip
+import json
+import subprocess
+import unittest
+
+from support import MAP, NUMBERED, PROGRAM, RED, Case, lane, needs_simulator, net
+from streetsim import tables
+from streetsim.files import Fault
+from streetsim.record import Recorder, Settings, standing
+from streetsim.runs import read_run
+
+
+class Runs(Case):
+    def given(self, *commands, cars=()):
+        lines = [{"cmd": "load", **NUMBERED}, *commands]
+        self.run_file = self.write("run.jsonl", "".join(json.dumps(line) + "\n" for line in lines))
+        self.map_file = self.write("run.map.json", json.dumps({**MAP, "cars": list(cars)}))
+
+    def run_tool(self, *words, out="out", status=0):
+        return self.tool(
+            "run",
+            self.run_file,
+            "--map",
+            self.map_file,
+            "--program",
+            PROGRAM,
+            "--out",
+            self.folder / out,
+            *words,
+            status=status,
+        )
+
+    def table(self, name, out="out"):
+        with open(self.folder / out / name, encoding="utf-8") as file:
+            return list(csv.reader(file))[1:]
+
+
+def enter(plan, depart=0):
+    return {"cmd": "enter", "plan": plan, "lane": 0, "depart": depart}
+
+
+@needs_simulator
+class Tables(Runs):
+    def test_one_vehicle(self):
+        # Cells 0, 1, 3, 6 after steps 0 to 3; in step 4 it leaves with speed 4 (108 km/h) and has arrived: 5 s after
+        # departure.
+        self.given(enter([0]), cars=["first"])
+        told, _ = self.run_tool("--until", 60, "--every", 1)
+        self.assertEqual(told, "1 vehicles, 1 arrived, mean trip 5.0 s, 0 rescues\n")
+        self.assertEqual(self.table("trips.csv"), [["first", "0", "5", "5", "2.0", "3.0", "1", "0", "arrived"]])
+        self.assertEqual(self.table("counts.csv")[0], ["0", "60", "a", "0", "0", "1", "60.0", "108.0", "0.0"])
+        self.assertEqual(self.table("summary.csv"), [["60", "1", "0", "0", "0", "1", "0"]])
+        self.assertEqual(self.table("queues.csv"), [])
+        with gzip.open(self.folder / "out/lanes.jsonl.gz", "rt") as file:
+            polls = [json.loads(line) for line in file]
+        self.assertEqual(len(polls), 60)
+        self.assertEqual(polls[3], {"clock": 4, "lanes": [[0, 0, [[0, 6, 3]], [], []]]})
+        self.assertEqual(polls[5], {"clock": 6, "lanes": []})
+
+    def test_queue_at_red(self):
+        self.given(RED, enter([0, 1]), enter([0, 1]), enter([0, 1]), enter([0], 1000), cars=["x", "y", "z", "later"])
+        self.run_tool("--until", 100, "--every", 100, "--rescue", 0)
+        self.assertEqual(self.table("queues.csv"), [["100", "a", "0", "3", "22.5"]])
+        self.assertEqual([row[-1] for row in self.table("trips.csv")], ["cell", "cell", "cell", "not departed"])
+
+    def test_rescue(self):
+        # At red for ever. It is first seen at the stop line at 60 s and so taken out at 180; entered then on the
+        # second link, it arrives in step 184.
+        self.given(RED, enter([0, 1]), cars=["v"])
+        told, _ = self.run_tool("--until", 300, "--rescue", 120)
+        self.assertIn("1 arrived, mean trip 185.0 s, 1 rescues", told)
+        self.assertEqual(
+            self.table("trips.csv")[0][2:4] + self.table("trips.csv")[0][-2:], ["185", "185", "1", "arrived"]
+        )
+
+    def test_lines_in_time(self):
+        # Closed from 0 to 100: the vehicle stands before the entrance at cell 5 until then.
+        close = {"cmd": "close", "link": 0, "lane": 0, "first": 5, "last": 9, "at": 0}
+        self.given(close, {**close, "cmd": "reopen", "at": 100}, enter([0]), cars=["v"])
+        self.run_tool("--until", 120, "--every", 50)
+        with gzip.open(self.folder / "out/lanes.jsonl.gz", "rt") as file:
+            self.assertEqual(json.loads(file.readline()), {"clock": 50, "lanes": [[0, 0, [[0, 4, 0]], [], [[5, 9]]]]})
+        # Cells 5, 7 and leaving with speed 3 in steps 100 to 102.
+        self.assertEqual(self.table("trips.csv")[0][2], "103")
+
+    def test_entering_in_time_is_as_entering_at_once(self):
+        self.given(*[enter([0, 1], depart) for depart in (0, 0, 3, 90, 91, 400)], cars="abcdef")
+        self.run_tool("--until", 500)
+        with open(self.run_file, encoding="utf-8") as lines:
+            text = (
+                lines.read()
+                + '{"cmd":"advance","steps":500}\n'
+                + "".join(f'{{"cmd":"vehicle","car":{car}}}\n' for car in range(6))
+            )
+        whole = subprocess.run([PROGRAM], input=text, capture_output=True, text=True, check=True).stdout.splitlines()[
+            -6:
+        ]
+        self.assertEqual(
+            [int(row[2]) for row in self.table("trips.csv")], [json.loads(line)["step"] + 1 for line in whole]
+        )
+
+    def test_counts_over_many_periods(self):
+        # A detector keeps 32 rows; all 100 are there.
+        self.given(enter([0]), enter([0], 950), cars="ab")
+        self.run_tool("--until", 1000, "--period", 10)
+        counted = {row[0]: row[5] for row in self.table("counts.csv") if row[2] == "a"}
+        self.assertEqual(
+            (len(counted), {begin for begin, count in counted.items() if count == "1"}), (100, {"0", "950"})
+        )
+
+    def test_same_seed_same_bytes(self):
+        self.given(*[enter([0, 1], depart) for depart in range(0, 200, 3)], cars=[f"v{number}" for number in range(67)])
+        for out, workers in (("one", 1), ("four", 4)):
+            self.run_tool("--until", 400, "--workers", workers, out=out)
+        for name in ("counts.csv", "trips.csv", "queues.csv", "summary.csv", "lanes.jsonl.gz"):
+            self.assertEqual(
+                (self.folder / "one" / name).read_bytes(), (self.folder / "four" / name).read_bytes(), name
+            )
+
+    def test_seeds(self):
+        self.given(*[enter([0, 1], depart) for depart in range(0, 200, 3)], cars=[f"v{number}" for number in range(67)])
+        told, _ = self.run_tool("--until", 400, "--seeds", "1-3")
+        self.assertEqual(
+            [line.split(",")[0] for line in told.splitlines()],
+            ["seed 1: 67 vehicles", "seed 2: 67 vehicles", "seed 3: 67 vehicles", told.splitlines()[3].split(",")[0]],
+        )
+        self.assertEqual([row[0] for row in self.table("seeds.csv")], ["1", "2", "3"])
+        self.assertTrue((self.folder / "out/seed-3/trips.csv").exists())
+
+    def test_refused_line_is_named(self):
+        self.given(enter([7]))
+        _, told = self.run_tool("--until", 60, status=2)
+        self.assertIn("run.jsonl: line 2 (enter) was refused: 8 BadPlan at 0", told)
+        self.assertFalse(list((self.folder / "out").iterdir()))
+
+
+class Reading(Runs):
+    def test_faults(self):
+        for text, words in (
+            ('{"cmd":"enter"}\n', "line 1 is no command of a run"),
+            ("x\n", "line 1 is no command of a run"),
+            ('{"cmd":"count"}\n', "the first line must be a load"),
+            (
+                '{"cmd":"load"}\n{"cmd":"advance","steps":3}\n',
+                "line 2 is no command of a run: advance is sent by streetsim-run itself",
+            ),
+        ):
+            with self.subTest(text), self.assertRaisesRegex(Fault, words):
+                read_run(self.write("run.jsonl", text))
+
+    def test_budget_is_checked_before_the_run(self):
+        self.given()
+        from streetsim.mapping import read_map
+
+        recorder = Recorder(
+            None, read_run(self.run_file), read_map(self.map_file), Settings(until=600_000, every=1), None, None
+        )
+        # Two lanes polled 600,000 times are above a million calls; every 2 s they are 600,000, and 10,001 minutes take
+        # 3 each.
+        with self.assertRaisesRegex(Fault, "try --every 2"):
+            recorder.check_budget(1_000_000)
+        recorder.check_budget(0)
+
+    def test_standing(self):
+        self.assertEqual(standing(((1, 9, 0), (2, 8, 0), (3, 6, 0)), 10), 2)
+        self.assertEqual(standing(((1, 9, 0), (2, 8, 1)), 10), 1)
+        self.assertEqual(standing(((1, 8, 0),), 10), 0)
+
+    def test_interval(self):
+        # Mean 2, standard deviation 1, three values: 4.303 / sqrt(3).
+        mean, half = tables.interval([1, 2, 3])
+        self.assertEqual((mean, round(half, 3)), (2, 2.484))
+        self.assertEqual(tables.interval([5]), (5, None))
+
+
+@needs_simulator
+class Imported(Case):
+    def test_from_network_to_tables(self):
+        """A net of one edge, by the tools alone: 10 cells, limit 2, dawdle 0: cells 0, 1, 3, 5, 7, 9, then out in step
+        6."""
+        network = self.write("x.net.xml", net([("a", "A", "B", [lane("a", 0)])], []))
+        routes = self.write("x.rou.xml", '<routes><vehicle id="v" depart="2.5"><route edges="a"/></vehicle></routes>')
+        run, mapped = self.folder / "run.jsonl", self.folder / "map.json"
+        self.tool("import", network, "--routes", routes, "-o", run, "--map", mapped, "--dawdle", 0)
+        told, _ = self.tool(
+            "run", run, "--map", mapped, "--until", 60, "--out", self.folder / "out", "--program", PROGRAM
+        )
+        self.assertEqual(told, "1 vehicles, 1 arrived, mean trip 7.0 s, 0 rescues\n")
+
+
+if __name__ == "__main__":
+    unittest.main()

@@ -1,0 +1,75 @@
+"""Sample networks against SUMO's own arrivals and counts of the same demand (SUMO 1.15, its defaults)."""
+import csv
+import unittest
+
+from support import DATA, PROGRAM, SCENARIOS, Case, needs_simulator
+from streetsim.compare import counts_of, geh, trips_of
+from streetsim.folder import read_folder
+
+QUARTERS = (900, 1800, 2700, 3600, 4500, 5400)
+
+
+def arrivals_of(name):
+    with open(DATA / "sumo-arrivals.csv", encoding="utf-8") as file:
+        row = next(row for row in csv.DictReader(file) if row["network"] == name)
+    return int(row["vehicles"]), float(row["mean_trip_s"]), [int(row[f"arrived_{quarter}"]) for quarter in QUARTERS]
+
+
+@needs_simulator
+class Samples(Case):
+    def compare(self, name, network, routes, *additional, counts=True):
+        run, mapped, out = self.folder / "run.jsonl", self.folder / "map.json", self.folder / "out"
+        self.tool("import", network, *additional, "--routes", routes, "-o", run, "--map", mapped, "--strict")
+        self.tool("run", run, "--map", mapped, "--until", 6000, "--every", 600, "--out", out, "--program", PROGRAM)
+        folder = read_folder(out)
+        self.check_trips(name, trips_of(folder))
+        if counts:
+            self.check_counts(name, counts_of(folder))
+
+    def check_trips(self, name, trips):
+        vehicles, mean, arrived = arrivals_of(name)
+        self.assertEqual(len(trips), vehicles)
+        self.assertAlmostEqual(
+            sum(arrival - depart for depart, arrival in trips.values()) / vehicles / mean, 1, delta=0.15
+        )
+        for quarter, expected in zip(QUARTERS, arrived, strict=True):
+            here = sum(arrival <= quarter for _, arrival in trips.values())
+            self.assertLessEqual(abs(here - expected) / vehicles, 0.03, quarter)
+
+    def check_counts(self, name, counts):
+        with open(DATA / f"sumo-counts-{name}.csv", encoding="utf-8") as file:
+            pairs = [
+                (counts.get((quarter - 900, quarter, row["edge"]), 0), int(row[f"count_{quarter - 900}"]))
+                for row in csv.DictReader(file)
+                for quarter in QUARTERS[:4]
+            ]
+        good = sum(geh(4 * here, 4 * there) < 5 for here, there in pairs)
+        self.assertGreaterEqual(good / len(pairs), 0.85)
+
+    def test_grid(self):
+        self.compare("grid", DATA / "grid.net.xml.gz", DATA / "grid.rou.xml.gz")
+
+    def test_town(self):
+        self.compare("town", DATA / "town.net.xml.gz", DATA / "town.rou.xml.gz")
+
+    @unittest.skipUnless(SCENARIOS.exists(), "Debian's sumo-tools is not installed")
+    def test_acosta(self):
+        folder = SCENARIOS / "acosta"
+        self.compare(
+            "acosta", folder / "acosta_buslanes.net.xml", folder / "acosta.rou.xml", folder / "acosta_tls.add.xml"
+        )
+
+    @unittest.skipUnless(SCENARIOS.exists(), "Debian's sumo-tools is not installed")
+    def test_rilsa(self):
+        folder = SCENARIOS / "RiLSA_example1"
+        self.compare(
+            "rilsa1",
+            folder / "rilsa1.net.xml",
+            folder / "genroutes.rou.xml",
+            folder / "rilsa1_tls.add.xml",
+            counts=False,
+        )
+
+
+if __name__ == "__main__":
+    unittest.main()

@@ -1,0 +1,150 @@
+"""Scenarios: SUMO's names and units, TraCI's calls."""
+import json
+import unittest
+
+from support import FORK, PROGRAM, Case, needs_simulator
+from streetsim.scenario import NOWHERE, NotHere, Scenario
+
+ROUTES = '<routes><vehicle id="v" depart="0"><route edges="a b"/></vehicle></routes>'
+
+
+@needs_simulator
+class Scenarios(Case):
+    def setUp(self):
+        super().setUp()
+        run, mapped = self.folder / "run.jsonl", self.folder / "map.json"
+        self.tool(
+            "import",
+            self.write("x.net.xml", FORK),
+            "--routes",
+            self.write("x.rou.xml", ROUTES),
+            "-o",
+            run,
+            "--map",
+            mapped,
+            "--dawdle",
+            0,
+        )
+        self.sim = self.enterContext(Scenario(run, mapped, PROGRAM))
+
+    def test_vehicle(self):
+        # Limit 2 cells a step: cells 0, 1, 3 after steps 0 to 2. The front of a vehicle in cell 3 is 30 m from the
+        # begin.
+        sim, vehicle = self.sim, self.sim.vehicle
+        self.assertEqual(
+            (vehicle.getIDList(), vehicle.getRoadID("v"), vehicle.getSpeed("v"), vehicle.getLanePosition("v")),
+            ((), "", NOWHERE, NOWHERE),
+        )
+        sim.simulationStep(3)
+        self.assertEqual((sim.simulation.getTime(), vehicle.getIDList()), (3.0, ("v",)))
+        self.assertEqual(
+            (
+                vehicle.getRoadID("v"),
+                vehicle.getLaneID("v"),
+                vehicle.getLaneIndex("v"),
+                vehicle.getLanePosition("v"),
+                vehicle.getSpeed("v"),
+            ),
+            ("a", "a_0", 0, 30.0, 15.0),
+        )
+        self.assertEqual(vehicle.getRoute("v"), ("a", "b"))
+        # Cells 5, 7, 9, and into the junction in step 6.
+        sim.simulationStep(7)
+        self.assertEqual((vehicle.getRoadID("v"), vehicle.getIDList()), (":B", ("v",)))
+        sim.simulationStep(30)
+        self.assertEqual(
+            (vehicle.getRoadID("v"), vehicle.getIDList(), sim.simulation.getMinExpectedNumber()), ("", (), 0)
+        )
+
+    def test_added_and_removed(self):
+        self.sim.route.add("way", ["a", "c"])
+        self.sim.vehicle.add("mine", "way", depart=1.5)
+        self.sim.simulationStep(3)
+        self.assertEqual(self.sim.vehicle.getIDList(), ("v", "mine"))
+        self.sim.vehicle.remove("mine")
+        self.assertEqual(self.sim.vehicle.getIDList(), ("v",))
+        with self.assertRaisesRegex(ValueError, "already"):
+            self.sim.vehicle.add("mine", "way")
+        with self.assertRaisesRegex(ValueError, "no way along b c"):
+            self.sim.route.add("none", ["b", "c"])
+
+    def test_lane(self):
+        self.sim.simulationStep(3)
+        lane = self.sim.lane
+        self.assertEqual(
+            (
+                lane.getLastStepVehicleIDs("a_0"),
+                lane.getLastStepVehicleNumber("a_0"),
+                lane.getLastStepHaltingNumber("a_0"),
+                lane.getLastStepMeanSpeed("a_0"),
+            ),
+            (("v",), 1, 0, 15.0),
+        )
+        self.assertEqual(
+            (lane.getLastStepMeanSpeed("a_1"), lane.getLength("a_1"), self.sim.edge.getLastStepVehicleNumber("a")),
+            (-1.0, 75.0, 1),
+        )
+
+    def test_closing(self):
+        self.sim.lane.setDisallowed("a_0", ["bus"])
+        self.assertEqual(self.sim.lane_state("a_0").closed, ())
+        self.sim.lane.setDisallowed("a_0", ["passenger", "bus"])
+        self.assertEqual(self.sim.lane_state("a_0").closed, ((0, 9),))
+        self.sim.lane.setAllowed("a_0", ["all"])
+        self.sim.close("a_1", 15, 45)
+        self.assertEqual((self.sim.lane_state("a_0").closed, self.sim.lane_state("a_1").closed), ((), ((2, 5),)))
+
+    def test_detector(self):
+        self.sim.inductionloop.add("d", "a_0", 29.0, 10)  # cell 3
+        loop = self.sim.inductionloop
+        self.assertEqual((loop.getLastIntervalVehicleNumber("d"), loop.getLastIntervalMeanSpeed("d")), (0, -1.0))
+        self.sim.simulationStep(10)
+        # It stands in cell 3 after step 2 and goes on from it in step 3 with 2 cells a step.
+        self.assertEqual(
+            (
+                loop.getLastIntervalVehicleNumber("d"),
+                loop.getLastIntervalMeanSpeed("d"),
+                loop.getLastIntervalOccupancy("d"),
+            ),
+            (1, 15.0, 10.0),
+        )
+
+    def test_missing_calls_say_what_to_do(self):
+        with self.assertRaisesRegex(NotHere, "vehicle.setSpeed is not here: speeds follow the rules alone"):
+            self.sim.vehicle.setSpeed("v", 3)
+        self.assertFalse(hasattr(self.sim.lane, "getCO2Emission"))
+
+
+@needs_simulator
+class Lights(Case):
+    def test_program(self):
+        light = '<tlLogic id="L" type="static" programID="0" offset="0"><phase duration="10" state="G"/></tlLogic>'
+        text = FORK.replace(
+            'fromLane="0" toLane="0" state="M"', 'fromLane="0" toLane="0" state="M" tl="L" linkIndex="0"'
+        ).replace("<junction", light + "<junction", 1)
+        run, mapped = self.folder / "run.jsonl", self.folder / "map.json"
+        self.tool(
+            "import",
+            self.write("x.net.xml", text),
+            "--routes",
+            self.write("x.rou.xml", ROUTES),
+            "-o",
+            run,
+            "--map",
+            mapped,
+            "--dawdle",
+            0,
+        )
+        self.assertEqual(json.loads(mapped.read_text())["signals"], [["L", 1]])
+        with Scenario(run, mapped, PROGRAM) as sim:
+            self.assertEqual(sim.trafficlight.getIDList(), ("L",))
+            warnings = sim.trafficlight.setProgramLogic("L", [(20, "r"), (5, "G")])
+            self.assertEqual(warnings, [])
+            sim.simulationStep(20)
+            self.assertEqual(sim.lane.getLastStepHaltingNumber("a_0"), 1)
+            sim.simulationStep(22)
+            self.assertEqual(sim.vehicle.getRoadID("v"), ":B")
+
+
+if __name__ == "__main__":
+    unittest.main()

@@ -1,0 +1,113 @@
+"""Signal programs: SUMO's place in the cycle, what is shown green, rounding, limits."""
+import unittest
+
+from support import PROGRAM, Case, lane, needs_simulator, net
+from streetsim import series
+from streetsim.client import Client
+from streetsim.files import Fault
+from streetsim.importing import convert
+from streetsim.network import Options
+from streetsim.report import Report
+from streetsim.sumo_signals import joined, run_lengths, shown_green
+
+
+def phases(*pairs):
+    return "".join(f'<phase duration="{duration}" state="{state}"/>' for duration, state in pairs)
+
+
+def street(program, offset=0, kind="static"):
+    """One edge that leads to another through a light."""
+    light = f'<tlLogic id="L" type="{kind}" programID="0" offset="{offset}">{program}</tlLogic>'
+    return net(
+        [("a", "A", "B", [lane("a", 0, 7.5)]), ("b", "B", "C", [lane("b", 0)])],
+        [("a", 0, "b", 0, 'tl="L" linkIndex="0"')],
+        light,
+    )
+
+
+class Signals(Case):
+    def made(self, text, additional=(), **options):
+        """The commands and the warnings."""
+        report = Report()
+        paths = [self.write(f"more{at}.add.xml", more) for at, more in enumerate(additional)]
+        _, _, commands, _ = convert(self.write("x.net.xml", text), paths, [], Options(**options), report)
+        return [command for command in commands if command["cmd"] == "signal"], report.warnings
+
+    def greens(self, command, seconds):
+        return [second for second in range(seconds) if series.shows_green(command, second, [0], [1])]
+
+    def test_offset_is_sumos(self):
+        # SUMO 1.15 shows red in 0 to 6, green in 7 to 16, yellow in 17 to 21, red in 22 to 36; yellow is red here.
+        [command], _ = self.made(street(phases((10, "G"), (5, "y"), (15, "r")), offset=7))
+        self.assertEqual(self.greens(command, 37), list(range(7, 17)))
+        self.assertEqual(command["offset"], 23)
+
+    @needs_simulator
+    def test_offset_in_the_simulator(self):
+        # The vehicle stands in the only cell of the first link; it can leave in step 7, the first green one.
+        report = Report()
+        _, _, commands, _ = convert(
+            self.write("x.net.xml", street(phases((10, "G"), (5, "y"), (15, "r")), offset=7)),
+            [],
+            [],
+            Options(dawdle=0),
+            report,
+        )
+        with Client(PROGRAM) as sim:
+            sim.batch(commands)
+            sim.enter([0, 1], 0, 0)
+            sim.advance(7)
+            self.assertEqual(sim.vehicle(0).state, "cell")
+            sim.advance(1)
+            self.assertEqual((sim.vehicle(0).state, sim.vehicle(0).ready), ("buffer", 7 + 3))
+
+    def test_last_program_of_a_light_counts(self):
+        light = f'<tlLogic id="L" programID="1" type="static" offset="0">{phases((4, "G"), (6, "r"))}</tlLogic>'
+        other = f"<additional>{light}</additional>"
+        [command], _ = self.made(street(phases((10, "G"), (20, "r"))), additional=[other])
+        self.assertEqual([duration for duration, _ in command["phases"]], [4, 6])
+
+    def test_permissive_green_is_shown_at_the_end_of_its_run(self):
+        self.assertEqual(shown_green("ggggggggggrrrrr", 0.7), [False] * 3 + [True] * 7 + [False] * 5)
+        self.assertEqual(
+            shown_green("gggggrrrrrggggg", 0.7), [True] * 5 + [False] * 8 + [True] * 2
+        )  # the run goes round the cycle
+        self.assertEqual(shown_green("gggg", 0.7), [True] * 4)
+        self.assertEqual(shown_green("GsOyYurgo", 1.0), [True] * 3 + [False] * 4 + [True] * 2)
+
+    def test_rounding_keeps_the_cycle(self):
+        # 10.4, 20.8 and 31.2 s are 10, 21 and 31.
+        [command], _ = self.made(street(phases((10.4, "G"), (10.4, "r"), (10.4, "G"))))
+        self.assertEqual([duration for duration, _ in command["phases"]], [10, 11, 10])
+
+    def test_long_phase_is_cut(self):
+        [command], warnings = self.made(street(phases((10_000_000, "G"), (5, "r"))))
+        self.assertEqual([duration for duration, _ in command["phases"]], [600, 5])
+        self.assertEqual(warnings, ["light 'L': a phase of 10,000,000 s is cut to 600 s"])
+
+    def test_never_green_and_actuated_are_warned_of(self):
+        _, warnings = self.made(street(phases((10, "r")), kind="actuated"))
+        self.assertEqual(
+            warnings,
+            ["light 'L': a turn is never green on edges a", "light 'L' is actuated: its listed durations are used"],
+        )
+
+    def test_too_many_phases(self):
+        self.assertEqual(
+            joined([(5, "a"), (9, "b"), (2, "c"), *[(9, "d")] * 14]), [(5, "a"), (11, "b"), *[(9, "d")] * 14]
+        )
+        many = phases(*[(2, "G"), (3, "r")] * 9)
+        [command], warnings = self.made(street(many))
+        self.assertEqual((len(command["phases"]), sum(duration for duration, _ in command["phases"])), (16, 45))
+        self.assertEqual(len(warnings), 2)
+
+    def test_run_above_the_longest_phase_is_split(self):
+        self.assertEqual(run_lengths(["a"] * 1300), [(600, "a"), (600, "a"), (100, "a")])
+
+    def test_state_that_is_too_short(self):
+        with self.assertRaisesRegex(Fault, "shorter than link index 0"):
+            self.made(street(phases((10, ""))))
+
+
+if __name__ == "__main__":
+    unittest.main()
