@@ -21,10 +21,25 @@ def why_not():
     """Why tests that run a simulation are skipped, or none."""
     if PROGRAM is None:
         return "no simulator: build streetsim, or set STREETSIM_PROGRAM"
+    load = {"nodes": [[0, 1, 1], [1, 1, 1]], "links": [[0, 0, 1, 2, 9, 5], [1, 1, 0, 1, 9, 5]], "turns": [[0, 0, 1, 0]]}
+    commands = [
+        {"cmd": "load", **load, "zone": 1, "dawdle": 1, "change": 1, "seed": 1},
+        {"cmd": "enter", "plan": [0, 1], "lane": 0, "depart": 0},
+        {"cmd": "signal", "node": 1, "offset": 0, "phases": [[5, []]]},
+        {"cmd": "close", "link": 0, "lane": 1, "first": 0, "last": 3},
+        {"cmd": "reopen", "link": 0, "lane": 1, "first": 0, "last": 3},
+        {"cmd": "meter", "link": 0, "lane": 0, "cell": 3, "period": 5},
+        {"cmd": "read", "meter": 0},
+        {"cmd": "lane", "link": 0, "lane": 0},
+        {"cmd": "takeout", "car": 0},
+        {"cmd": "count"},
+    ]
     with Client(PROGRAM) as sim:
-        sim.load([[0, 1, 1]], [], [])
-        reply = sim.batch([{"cmd": "count"}])[0]
-    return f"the simulator refuses count: {reply}" if isinstance(reply, Exception) else None
+        replies = sim.batch(commands)
+    refused = [
+        f"{command['cmd']}: {reply}" for command, reply in zip(commands, replies) if isinstance(reply, Exception)
+    ]
+    return f"the simulator refuses {refused[0]}" if refused else None
 
 
 REASON = why_not()

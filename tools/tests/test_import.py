@@ -2,7 +2,7 @@
 import json
 import unittest
 
-from support import FORK, PROGRAM, SCENARIOS, Case, lane, needs_simulator, net
+from support import FORK, PROGRAM, REASON, SCENARIOS, Case, lane, needs_simulator, net
 from streetsim.client import Client
 from streetsim.files import Fault
 from streetsim.importing import convert
@@ -194,7 +194,7 @@ class Shipped(Case):
             self.assertIn("no lane is open to passenger", str(fault))
             self.assertRaises(Fault, read_net, str(path), ("passenger",), Report())
             return
-        if list(network.over_limits()) or PROGRAM is None:
+        if list(network.over_limits()) or REASON:
             return
         with Client(PROGRAM) as sim:
             self.assertEqual([reply for reply in sim.batch(commands) if isinstance(reply, Exception)], [])
