@@ -1,6 +1,7 @@
-//! Nodes: their signal plans.
+//! Nodes: their signal plans and buffers.
 //!
 //! A [`SignalPlan`] says of each turn and each step whether it is green. It is checked against the network when it is made.
+//! [`Buffers`] keeps the buffers of a node, and releases from them; it is shown here for callers, and made below.
 #![tactic(auto)]
 
 mod checks;
@@ -12,3 +13,4 @@ mod tests;
 
 pub use faults::SignalFault;
 pub use plan::SignalPlan;
+pub use street_buffer::{Buffers, Released};
