@@ -160,7 +160,7 @@ def reply_of(value):
     """The typed reply of a JSON object; a refusal or Starved is given as a value. Plain numbers answer enter, advance,
     signal, close, takeout and meter."""
     if "error" in value:
-        return REFUSALS[value["error"]](value.get("at"), value.get("part"))
+        return REFUSALS.get(value["error"], Refused)(value.get("at"), value.get("part"))
     if "starved" in value:
         return Starved()
     if "state" in value:

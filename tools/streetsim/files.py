@@ -51,6 +51,8 @@ def reading(path):
         yield
     except ElementTree.ParseError as fault:
         raise Fault(f"{path}: not XML: {fault}") from None
+    except json.JSONDecodeError as fault:
+        raise Fault(f"{path}: not JSON: {fault}") from None
     except (EOFError, zlib.error, UnicodeDecodeError) as fault:
         raise Fault(f"{path}: cannot be read: {fault}") from None
     except OSError as fault:
@@ -110,11 +112,8 @@ def seconds(text):
 
 def read_json(path, keys):
     """A JSON object of a file, which must have the given keys."""
-    try:
-        with reading(path), open_text(path) as file:
-            value = json.load(file)
-    except ValueError as fault:
-        raise Fault(f"{path}: not JSON: {fault}") from None
+    with reading(path), open_text(path) as file:
+        value = json.load(file)
     absent = [key for key in keys if not isinstance(value, dict) or key not in value]
     if absent:
         raise Fault(f"{path}: no {absent[0]!r} in it")

@@ -32,8 +32,7 @@ class Folder:
         buffer], closed stretches]}."""
         path = f"{self.path}/lanes.jsonl.gz"
         with reading(path), open_text(path) as file:
-            for line in file:
-                yield json.loads(line)
+            yield from map(json.loads, file)
 
     def links_along(self, edges):
         """The links of each edge of a path."""
@@ -62,4 +61,6 @@ def write_setting(path, mapping, run, settings):
 
 def read_folder(path):
     value = read_json(f"{path}/{NAME}", ("map", "signals", "dawdle", "every", "period"))
-    return Folder(path, map_from(value["map"]), value["signals"], value["dawdle"], value["every"], value["period"])
+    return Folder(
+        path, map_from(path, value["map"]), value["signals"], value["dawdle"], value["every"], value["period"]
+    )

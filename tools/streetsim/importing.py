@@ -35,7 +35,11 @@ def parser():
     )
     made.add_argument("--strict", action="store_true", help="end with status 1 where vehicles were skipped")
     made.add_argument(
-        "--begin", type=int, default=0, metavar="S", help="the clock at the start; vehicles before it are skipped"
+        "--begin",
+        type=within(0, limits.CLOCK),
+        default=0,
+        metavar="S",
+        help="the clock at the start; vehicles before it are skipped",
     )
     for name, most, words in (
         ("dawdle", 1000, "chance of slowing down, of 1,000"),
@@ -73,8 +77,6 @@ def within(least, most):
 def options_of(words):
     if not 0 <= words.permissive <= 1:
         raise Fault("--permissive is a share from 0 to 1")
-    if not 0 <= words.begin <= limits.CLOCK:
-        raise Fault(f"--begin is 0 to {limits.CLOCK:,}")
     return Options(
         tuple(words.classes.split(",")),
         words.turns == "strict",

@@ -1,7 +1,7 @@
 """The map file: which SUMO names the numbers of a run stand for."""
 from dataclasses import asdict, dataclass, field
 
-from .files import read_json
+from .files import Fault, read_json
 
 KEYS = ("nodes", "links", "turns", "signals", "cars", "options", "warnings")
 
@@ -99,17 +99,13 @@ def map_of(network, lights, names, report):
 
 
 def read_map(path):
-    return map_from(read_json(path, KEYS))
+    return map_from(path, read_json(path, KEYS))
 
 
-def map_from(value):
+def map_from(path, value):
     """The map of a file's content."""
-    return Map(
-        nodes=value["nodes"],
-        links=[MapLink(*link) for link in value["links"]],
-        turns=[MapTurn(*turn) for turn in value["turns"]],
-        signals=value["signals"],
-        cars=value["cars"],
-        options=value["options"],
-        warnings=value["warnings"],
-    )
+    try:
+        links, turns = [MapLink(*link) for link in value["links"]], [MapTurn(*turn) for turn in value["turns"]]
+        return Map(links=links, turns=turns, **{key: value[key] for key in KEYS if key not in ("links", "turns")})
+    except (KeyError, TypeError) as fault:
+        raise Fault(f"{path}: not a map that streetsim-import wrote: {fault}") from None

@@ -7,7 +7,7 @@ from .files import Fault
 from .report import some
 
 MISSING_TURN = 0.5  # what a change between parallel links costs that SUMO has no connection for
-CROWDING = 0.2  # what a link costs whose lanes are used as much as its edge's lanes are on average
+CROWDING = 0.2  # what a link costs each of whose lanes carries as much as its edge's links do on average
 
 
 @dataclass(slots=True)
@@ -145,11 +145,10 @@ class Network:
         return plan
 
     def crowding(self, link):
-        """The cost of a link for what its lanes carry already, against the mean of the edge's lanes."""
+        """The cost of a link for what each of its lanes carries already, against the mean of the edge's links."""
         links = self.links_of[self.links[link].edge]
         total = sum(self.use[other] for other in links)
-        lanes = sum(len(self.links[other].lanes) for other in links)
-        return CROWDING * self.use[link] / len(self.links[link].lanes) * lanes / total if total else 0.0
+        return CROWDING * self.use[link] / len(self.links[link].lanes) * len(links) / total if total else 0.0
 
     def load(self):
         """The load command."""

@@ -7,6 +7,7 @@ from .client import PROGRAM
 from .compare import read_tripinfo
 from .files import Fault
 from .folder import read_folder
+from .importing import within
 
 DPI, COLOURS = 95, 64
 SPEEDS = (
@@ -15,6 +16,9 @@ SPEEDS = (
     (2, "2 and more (54 km/h and more)", "#3b7fc4", 0.8),
 )
 MOST_LANES = 25
+MARKERS = "osd^v*"
+RING = (20, 40, 60, 70, 80, 90, 110, 140, 180, 250, 350, 500, 700)  # vehicles on 1,000 cells
+second = within(0, limits.CLOCK)
 
 
 def parser():
@@ -33,21 +37,33 @@ def parser():
         if kind in ("corridor", "fundamental"):
             one.add_argument("--edges", required=kind == "corridor", default="", help="edges, with spaces between")
         if kind == "corridor":
-            one.add_argument("--first", type=int, default=0, metavar="S", help="the first second shown")
-            one.add_argument("--last", type=int, default=600, metavar="S", help="the last second shown")
+            one.add_argument("--first", type=second, default=0, metavar="S", help="the first second shown")
+            one.add_argument("--last", type=second, default=600, metavar="S", help="the last second shown")
         if kind == "fundamental":
             one.add_argument(
                 "--ring",
+                type=dawdles,
                 metavar="DAWDLES",
                 help="measure a ring for these chances of dawdling, of 1,000, with commas between",
             )
             one.add_argument(
-                "--limit", type=int, default=limits.LIMIT, help="of the ring, cells a step (default %(default)s)"
+                "--limit",
+                type=within(1, limits.LIMIT),
+                default=limits.LIMIT,
+                help="of the ring, cells a step (default %(default)s)",
             )
             one.add_argument("--program", default=PROGRAM, help="the simulator, for the ring")
         if kind == "arrivals":
             one.add_argument("--sumo", metavar="TRIPINFO", help="SUMO's trips of the same demand, drawn beside")
     return made
+
+
+def dawdles(text):
+    """Up to six chances of dawdling, of 1,000."""
+    values = [within(0, 1000)(part) for part in text.split(",")]
+    if len(values) > len(MARKERS):
+        raise argparse.ArgumentTypeError(f"at most {len(MARKERS)} of them")
+    return values
 
 
 def main(arguments):
@@ -96,6 +112,8 @@ def draw_corridor(pyplot, folder, words):
     from matplotlib.collections import LineCollection
 
     edges = words.edges.split()
+    if words.first >= words.last:
+        raise Fault(f"--first {words.first} is not before --last {words.last}")
     if folder.every > 5:
         raise Fault(f"{folder.path} was polled every {folder.every} s: a corridor needs streetsim-run --every 1 (to 5)")
     pieces = series.trajectories(folder, edges, words.first, words.last)
@@ -135,11 +153,8 @@ def draw_fundamental(pyplot, folder, words):
             ylabel="flow (vehicles a step)",
             title=f"One lane in a ring, limit {words.limit} cells a step",
         )
-        for dawdle, marker in zip(words.ring.split(","), "osd^v*", strict=False):
-            points = [
-                ring.measure(words.program, count, words.limit, int(dawdle))
-                for count in (20, 40, 60, 70, 80, 90, 110, 140, 180, 250, 350, 500, 700)
-            ]
+        for dawdle, marker in zip(words.ring, MARKERS):
+            points = [ring.measure(words.program, count, words.limit, dawdle) for count in RING]
             axes.plot(
                 [point.density for point in points],
                 [point.flow for point in points],

@@ -4,7 +4,7 @@ from collections import Counter
 from dataclasses import dataclass, field
 
 from . import limits
-from .client import Lane, NotYet, Rows
+from .client import Lane, NotYet, Rows, line_of
 from .files import Fault
 
 MINUTE = 60
@@ -26,6 +26,7 @@ class Records:
     queues: list = field(default_factory=list)  # (clock, link, lane, vehicles)
     censuses: list = field(default_factory=list)
     ends: list = field(default_factory=list)  # for each vehicle of the file its last reply, or none if it never entered
+    unsent: int = 0  # timed lines whose clock did not come
     rescues: Counter = field(default_factory=Counter)  # by vehicle
     clock: int = 0
 
@@ -43,11 +44,10 @@ class Recorder:
             progress,
         )
         self.records = Records(clock=run.start())
-        self.polled = [
-            (link, lane)
-            for link, lane in mapping.lanes()
-            if not settings.edges or mapping.links[link].edge in settings.edges
-        ]
+        self.places = mapping.lanes()
+        self.lines = [line_of({"cmd": "lane", "link": link, "lane": lane}) for link, lane in self.places]
+        edges = set(settings.edges or mapping.links_of)
+        self.polled = [at for at, (link, _) in enumerate(self.places) if mapping.links[link].edge in edges]
         self.meters = []  # (link, lane), by number of detector
         self.owners = []  # the vehicle of the file, by car number
         self.entered = self.sent = 0  # of the run's enters, of its timed lines
@@ -57,8 +57,8 @@ class Recorder:
         """How many calls the run makes at most, if nobody is rescued."""
         steps = self.settings.until - self.records.clock
         minutes = steps // MINUTE + 1
-        polls = steps // every * len(self.polled) + (minutes * len(self.mapping.lanes()) if self.settings.rescue else 0)
-        reads = min(limits.METERS, len(self.mapping.lanes())) * (steps // (self.settings.period * limits.ROWS) + 2)
+        polls = steps // every * len(self.polled) + (minutes * len(self.places) if self.settings.rescue else 0)
+        reads = min(limits.METERS, len(self.places)) * (steps // (self.settings.period * limits.ROWS) + 2)
         lines = 1 + len(self.run.first) + len(self.run.timed) + 2 * len(self.run.enters)
         return lines + polls + reads + minutes + steps // every + steps // limits.STEPS
 
@@ -91,6 +91,7 @@ class Recorder:
             self.progress.show(clock, self.records)
         self.read_meters()
         self.find_ends()
+        self.records.unsent = len(self.run.timed) - self.sent
         return self.records
 
     def send(self, lines):
@@ -128,30 +129,31 @@ class Recorder:
 
     def poll(self, clock):
         settings = self.settings
-        if clock % settings.every == 0:
-            self.note_lanes(clock, self.lanes(self.polled))
+        wanted, rescuing = clock % settings.every == 0, settings.rescue and clock % MINUTE == 0
+        lanes = self.lanes(range(len(self.places)) if rescuing else self.polled) if wanted or rescuing else {}
+        if wanted:
+            self.note_lanes(clock, lanes)
         if clock % MINUTE == 0 or clock == settings.until:
             self.records.censuses.append(self.sim.count())
-        if settings.rescue and clock % MINUTE == 0:
-            self.rescue(clock, self.lanes(self.mapping.lanes()))
+        if rescuing:
+            self.rescue(clock, lanes)
         if clock % (settings.period * limits.ROWS) == 0:
             self.read_meters()
 
-    def lanes(self, places):
-        """What stands on lanes, of those where anything is."""
-        replies = self.sim.batch({"cmd": "lane", "link": link, "lane": lane} for link, lane in places)
+    def lanes(self, wanted):
+        """What stands on the lanes at some places, by place, of those where anything is."""
+        replies = self.sim.batch(self.lines[at] for at in wanted)
         refused = [reply for reply in replies if not isinstance(reply, Lane)]
         if refused:
             raise Fault(f"a poll of the lanes was refused: {refused[0]}")
-        return [
-            (link, lane, reply)
-            for (link, lane), reply in zip(places, replies, strict=True)
-            if reply.cells or reply.buffer or reply.closed
-        ]
+        return {
+            at: reply for at, reply in zip(wanted, replies, strict=True) if reply.cells or reply.buffer or reply.closed
+        }
 
     def note_lanes(self, clock, lanes):
         shown = []
-        for link, lane, reply in lanes:
+        for at in filter(lanes.__contains__, self.polled):
+            (link, lane), reply = self.places[at], lanes[at]
             queue = standing(reply.cells, self.mapping.links[link].cells)
             if queue:
                 self.records.queues.append((clock, link, lane, queue))
@@ -163,7 +165,8 @@ class Recorder:
         """Takes out who has stood at a stop line, or in front of a buffer, for too long, and enters it on the rest of
         its plan."""
         standing_now = {}
-        for link, _, reply in lanes:
+        for at, reply in lanes.items():
+            link = self.places[at][0]
             if reply.buffer:
                 standing_now[reply.buffer[0][0], link] = reply.buffer[0][2]
             if reply.cells and reply.cells[0][1:] == (self.mapping.links[link].cells - 1, 0):
@@ -186,11 +189,11 @@ class Recorder:
 
     def place_meters(self):
         """A detector at the last cell of each lane; where there are too many lanes, of those on most plans."""
-        lanes = self.mapping.lanes()
+        lanes = self.places
         if len(lanes) > limits.METERS:
             use = Counter(link for line in self.run.enters for link in line.command["plan"])
             lanes = sorted(lanes, key=lambda place: -use[place[0]])[: limits.METERS]
-        self.records.uncounted = len(self.mapping.lanes()) - len(lanes)
+        self.records.uncounted = len(self.places) - len(lanes)
         replies = self.sim.batch(
             {
                 "cmd": "meter",

@@ -5,7 +5,7 @@ import os
 import re
 import sys
 import time
-from concurrent.futures import ThreadPoolExecutor
+from concurrent.futures import ProcessPoolExecutor
 from dataclasses import replace
 from statistics import fmean
 
@@ -129,24 +129,22 @@ def closure(text, mapping):
 
 def one_run(words, run, mapping, settings, folder, shown):
     """One run into a folder; gives its figures."""
-    os.makedirs(folder, exist_ok=True)
     try:
+        os.makedirs(folder, exist_ok=True)
         with whole_file(f"{folder}/lanes.jsonl.gz") as lanes_file, Client(words.program, words.workers) as sim:
             records = Recorder(sim, run, mapping, settings, lanes_file, Progress(settings.until, shown)).record()
-    except (Refused, Starved, ProgramEnded, OSError) as fault:
+    except (Refused, Starved, ProgramEnded) as fault:
         raise Fault(f"{words.run}: {fault}") from None
+    except OSError as fault:
+        raise Fault(f"{fault.filename}: {fault.strerror}") from None
     trips = list(tables.trips(records, run, mapping))
     tables.write_table(f"{folder}/counts.csv", tables.COUNTS, tables.counts(records, mapping))
     tables.write_table(f"{folder}/trips.csv", tables.TRIPS, trips)
     tables.write_table(f"{folder}/queues.csv", tables.QUEUES, tables.queues(records, mapping))
     tables.write_table(f"{folder}/summary.csv", tables.SUMMARY, tables.summary(records))
     write_setting(folder, mapping, run, settings)
-    if records.uncounted:
-        print(
-            f"counts: {records.uncounted:,} lanes have no detector, there are at most {limits.METERS:,}; "
-            "those on most plans have one",
-            file=sys.stderr,
-        )
+    for told in notes(records):
+        print(told, file=sys.stderr)
     durations = [trip[3] for trip in trips if trip[3] != ""]
     return {
         "vehicles": len(trips),
@@ -156,27 +154,42 @@ def one_run(words, run, mapping, settings, folder, shown):
     }
 
 
+def notes(records):
+    """What the tables do not have."""
+    if records.uncounted:
+        yield (
+            f"counts: {records.uncounted:,} lanes have no detector, there are at most {limits.METERS:,}; "
+            "those on most plans have one"
+        )
+    if records.unsent:
+        yield f"{records.unsent:,} lines were not sent, as their clock is after --until"
+
+
 def summary_line(figures):
     mean = f"mean trip {figures['mean_trip_s']:.1f} s" if figures["arrived"] else "no trip"
     return f"{figures['vehicles']:,} vehicles, {figures['arrived']:,} arrived, {mean}, {figures['rescues']:,} rescues"
 
 
+def seeded(run, seed):
+    """The run with another seed."""
+    command = {**run.load.command, "seed": seed}
+    return replace(run, load=replace(run.load, command=command, text=json.dumps(command, separators=(",", ":"))))
+
+
 def run_seeds(words, run, mapping, settings):
     """A run for each seed, side by side; prints and writes each mean trip, their mean and its 95 % interval."""
     first, _, last = words.seeds.partition("-")
-    if not (first.isdecimal() and (last or first).isdecimal()) or not int(first) <= int(last or first) < min(
-        int(first) + 1000, 2**64
-    ):
+    last = last or first
+    if not (first.isdecimal() and last.isdecimal() and int(first) <= int(last) < min(int(first) + 1000, 2**64)):
         raise Fault(f"--seeds {words.seeds!r}: expected FIRST-LAST, at most 1,000 of them")
-    seeds = range(int(first), int(last or first) + 1)
+    seeds = range(int(first), int(last) + 1)
 
-    def seeded(seed):
-        command = {**run.load.command, "seed": seed}
-        load = replace(run.load, command=command, text=json.dumps(command, separators=(",", ":")))
-        return one_run(words, replace(run, load=load), mapping, settings, f"{words.out}/seed-{seed}", False)
-
-    with ThreadPoolExecutor(words.jobs) as pool:
-        figures = list(pool.map(seeded, seeds))
+    with ProcessPoolExecutor(words.jobs) as pool:
+        running = [
+            pool.submit(one_run, words, seeded(run, seed), mapping, settings, f"{words.out}/seed-{seed}", False)
+            for seed in seeds
+        ]
+        figures = [one.result() for one in running]
     rows = [(seed, *one.values()) for seed, one in zip(seeds, figures, strict=True)]
     tables.write_table(f"{words.out}/seeds.csv", ("seed", "vehicles", "arrived", "mean_trip_s", "rescues"), rows)
     for seed, one in zip(seeds, figures, strict=True):
