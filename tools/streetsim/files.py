@@ -53,7 +53,7 @@ def reading(path):
         raise Fault(f"{path}: not XML: {fault}") from None
     except json.JSONDecodeError as fault:
         raise Fault(f"{path}: not JSON: {fault}") from None
-    except (EOFError, zlib.error, UnicodeDecodeError) as fault:
+    except (EOFError, LookupError, zlib.error, UnicodeDecodeError) as fault:
         raise Fault(f"{path}: cannot be read: {fault}") from None
     except OSError as fault:
         raise Fault(f"{path}: {fault.strerror or fault}") from None
@@ -98,6 +98,18 @@ def number(text):
     if not math.isfinite(value):
         raise ValueError(text)
     return value
+
+
+def at_least_zero(convert):
+    """A conversion that takes no negative number."""
+
+    def converted(text):
+        value = convert(text)
+        if value < 0:
+            raise ValueError(text)
+        return value
+
+    return converted
 
 
 def seconds(text):

@@ -5,7 +5,8 @@ from collections import Counter
 from dataclasses import dataclass
 
 from . import limits
-from .files import Fault, attribute, elements, number, seconds, told
+from .files import Fault, attribute, elements, seconds, told
+from .flows import departs
 
 WITHOUT_EFFECT = ("departPos", "departLane", "departSpeed", "arrivalPos", "arrivalLane", "arrivalSpeed")
 NOT_DRIVEN = {
@@ -30,7 +31,7 @@ class Demand:
 
     def __init__(self, net, seed, report):
         self.net, self.report = net, report
-        self.random = random.Random(seed)
+        self.draws = random.Random(seed)
         self.routes = {}  # name: edges
         self.vehicles = []
         self.later = []  # (vehicle, file and element, route's name): routes may be told after the vehicles
@@ -101,51 +102,9 @@ class Demand:
 
     def read_flow(self, path, element):
         name = attribute(path, element, "id")
-        self.add(path, element, [(f"{name}.{at}", depart) for at, depart in enumerate(self.departs(path, element))])
-
-    def departs(self, path, element):
-        """Departures of a flow: begin + k * period while below the end; of probability and period="exp(rate)" by draws
-        of the seed."""
-        begin = attribute(path, element, "begin", seconds) if element.get("begin") else 0.0
-        end = (
-            attribute(path, element, "end", seconds)
-            if element.get("end")
-            else (math.inf if element.get("number") else 86_400.0)
+        self.add(
+            path, element, [(f"{name}.{at}", depart) for at, depart in enumerate(departs(path, element, self.draws))]
         )
-        most = attribute(path, element, "number", int) if element.get("number") else limits.VEHICLES + 1
-        if element.get("probability"):
-            chance = attribute(path, element, "probability", number)
-            drawn = (begin + second for second in range(math.ceil(end - begin)) if self.random.random() < chance)
-            return [depart for _, depart in zip(range(most), drawn)]
-        if (element.get("period") or "").startswith("exp("):
-            return self.drawn_departs(
-                attribute(path, element, "period", lambda text: number(text[4:].rstrip(")"))), begin, end, most
-            )
-        period = self.period(path, element, begin, end, most)
-        return list(steady(begin, period, end, most))
-
-    def drawn_departs(self, rate, begin, end, most):
-        departs, clock = [], begin
-        while rate > 0 and len(departs) < most and (clock := clock + self.random.expovariate(rate)) < end:
-            departs.append(clock)
-        return departs
-
-    def period(self, path, element, begin, end, most):
-        for name in ("vehsPerHour", "perHour"):
-            if element.get(name):
-                hourly = attribute(path, element, name, number)
-                return 3600 / hourly if hourly > 0 else math.inf
-        if element.get("period"):
-            period = attribute(path, element, "period", seconds)
-        elif element.get("number") and end < math.inf:
-            period = (end - begin) / max(1, most)
-        else:
-            raise Fault(
-                f"{told(path, element)}: no rate (number with end, period, vehsPerHour, perHour or probability)"
-            )
-        if period <= 0 and most > limits.VEHICLES:
-            raise Fault(f"{told(path, element)}: a period of {period} s")
-        return period
 
     def finish(self):
         """All vehicles, each with its route, in order of departure and file."""
@@ -158,14 +117,6 @@ class Demand:
         if double is not None:
             raise Fault(f"two vehicles are named {double!r}")
         return sorted(self.vehicles, key=lambda vehicle: vehicle.depart)
-
-
-def steady(begin, period, end, most):
-    for at in range(most):
-        depart = begin + at * period if at else begin
-        if depart >= end:
-            return
-        yield depart
 
 
 def enters(vehicles, net, network, report):

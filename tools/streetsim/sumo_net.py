@@ -1,7 +1,7 @@
 """Reads a SUMO network (.net.xml, and signal programs of additional files)."""
 from dataclasses import dataclass, field
 
-from .files import Fault, attribute, elements, number, seconds, told
+from .files import Fault, at_least_zero, attribute, elements, number, seconds, told
 
 INNER = ("internal", "walkingarea", "crossing")
 
@@ -110,14 +110,16 @@ def read_edge(path, element, net, classes):
         raise Fault(f"{told(path, element)}: a second edge of this name")
     lanes = [
         Lane(
-            attribute(path, lane, "index", int),
-            attribute(path, lane, "speed", number),
-            attribute(path, lane, "length", number),
+            attribute(path, lane, "index", at_least_zero(int)),
+            attribute(path, lane, "speed", at_least_zero(number)),
+            attribute(path, lane, "length", at_least_zero(number)),
             attribute(path, lane, "shape", shape),
         )
         for lane in element.iter("lane")
         if allows(lane, classes)
     ]
+    if len({lane.index for lane in lanes}) < len(lanes):
+        raise Fault(f"{told(path, element)}: two lanes of one index")
     if lanes:
         net.edges[name] = Edge(
             name,
@@ -139,17 +141,25 @@ def read_junction(path, element, net, _classes):
 
 
 def read_connection(path, element, net, classes):
+    """A connection between lanes that are kept; all edges stand before it in the file."""
     source, target = attribute(path, element, "from"), attribute(path, element, "to")
+    for edge in (source, target):
+        if edge not in net.edges and edge not in net.dropped and not edge.startswith(":"):
+            raise Fault(f"{told(path, element)}: the network has no edge {edge!r}")
     if source not in net.edges or target not in net.edges or not allows(element, classes):
         return
-    lanes = attribute(path, element, "fromLane", int), attribute(path, element, "toLane", int)
-    if all(
-        any(lane.index == number for lane in net.edges[edge].lanes)
-        for edge, number in zip((source, target), lanes, strict=True)
-    ):
+    if net.edges[source].end != net.edges[target].begin:
+        raise Fault(f"{told(path, element)}: edge {target!r} does not begin where this one ends")
+    source_lane, target_lane = (attribute(path, element, name, at_least_zero(int)) for name in ("fromLane", "toLane"))
+    if has_lane(net.edges[source], source_lane) and has_lane(net.edges[target], target_lane):
         light = element.get("tl")
-        index = attribute(path, element, "linkIndex", int) if light else -1
-        net.connections.append(Connection(source, target, *lanes, light, index, element.get("state", "M")))
+        index = attribute(path, element, "linkIndex", at_least_zero(int)) if light else 0
+        state = element.get("state", "M")
+        net.connections.append(Connection(source, target, source_lane, target_lane, light, index, state))
+
+
+def has_lane(edge, index):
+    return any(lane.index == index for lane in edge.lanes)
 
 
 def read_roundabout(path, element, net, _classes):
@@ -158,10 +168,8 @@ def read_roundabout(path, element, net, _classes):
 
 def read_program(path, element, net, _classes):
     phases = [
-        (attribute(path, phase, "duration", seconds), attribute(path, phase, "state"))
+        (attribute(path, phase, "duration", at_least_zero(seconds)), attribute(path, phase, "state"))
         for phase in element.iter("phase")
     ]
-    if any(duration < 0 for duration, _ in phases):
-        raise Fault(f"{told(path, element)}: a phase of negative duration")
     offset = attribute(path, element, "offset", seconds) if element.get("offset") else 0.0
     net.programs[attribute(path, element, "id")] = Program(offset, phases, element.get("type", "static"))

@@ -37,6 +37,14 @@ class Demand(Case):
         self.assertEqual(drawn, self.flow('begin="0" end="1000" probability="0.1"'))
         self.assertTrue(60 < len(drawn) < 140, len(drawn))
 
+    def test_flow_of_chance_has_its_rate(self):
+        # 0.25 in each of 20,000 seconds: 5,000 expected, with a standard deviation of 61; by gaps of 4 s on average,
+        # of 71.
+        for rate in ('probability="0.25"', 'period="exp(0.25)"'):
+            count = len(self.flow(f'begin="0" end="20000" {rate}'))
+            self.assertTrue(4700 < count < 5300, count)
+        self.assertEqual(self.flow('begin="0" end="20000" probability="0"'), [])
+
     def test_depart_is_the_next_second(self):
         self.assertEqual(self.departs('<vehicle id="v" depart="3.4"><route edges="a b"/></vehicle>'), [4])
         self.assertEqual(self.departs('<vehicle id="v" depart="01:00:05"><route edges="a b"/></vehicle>'), [3605])
@@ -88,6 +96,8 @@ class Demand(Case):
             ),
             ('<vehicle depart="0"><route edges="a"/></vehicle>', r"r0.rou.xml: <vehicle>: no attribute 'id'"),
             ('<flow id="f" begin="0" end="9"><route edges="a"/></flow>', r"<flow 'f'>: no rate"),
+            ('<flow id="f" end="9" period="0"><route edges="a"/></flow>', r"<flow 'f'>: more than 1,000,000 vehicles"),
+            ('<flow id="f" end="9" period="-1"><route edges="a"/></flow>', r"<flow 'f'>: period='-1' cannot be read"),
             ('<vehicle id="v" depart="0"><route edges="a"/></vehicle>' * 2, r"two vehicles are named 'v'"),
             ('<vehicle id="v" depart="0"><route', r"r0.rou.xml: not XML"),
         ):

@@ -150,6 +150,10 @@ class Tool(Case):
             '<routes><vehicle id="v" depart="0"><route edges="z"/></vehicle></routes>',
         )
         self.refused("no junction 'B'", FORK.replace('<junction id="B"', '<junction id="other"'))
+        self.refused("<connection 'a'>: the network has no edge 'z'", FORK.replace('to="c"', 'to="z"'))
+        self.refused("edge 'c' does not begin where this one ends", FORK.replace('id="c" from="B"', 'id="c" from="A"'))
+        self.refused("<edge 'a'>: two lanes of one index", FORK.replace('index="1"', 'index="0"', 1))
+        self.refused("length='-1' cannot be read", FORK.replace('length="75.0"', 'length="-1"', 1))
         self.refused("length='long' cannot be read", FORK.replace('length="75.0"', 'length="long"', 1))
 
     def test_limits_are_told_before_anything_is_written(self):

@@ -1,5 +1,7 @@
 """Sample networks against SUMO's own arrivals and counts of the same demand (SUMO 1.15, its defaults)."""
 import csv
+import gzip
+import re
 import unittest
 
 from support import DATA, PROGRAM, SCENARIOS, Case, needs_simulator
@@ -51,6 +53,21 @@ class Samples(Case):
 
     def test_town(self):
         self.compare("town", DATA / "town.net.xml.gz", DATA / "town.rou.xml.gz")
+
+    def test_rescues_resolve_a_locked_town(self):
+        """With half as many vehicles again the town locks; with rescues all arrive."""
+        with gzip.open(DATA / "town.rou.xml.gz", "rt", encoding="utf-8") as file:
+            text = file.read()
+        vehicles = re.findall("<vehicle .*?</vehicle>", text, re.DOTALL)
+        again = [vehicle.replace('id="', 'id="again', 1) for vehicle in vehicles[1::2]]
+        routes = self.write("more.rou.xml", "<routes>" + "".join(vehicles + again) + "</routes>")
+        run, mapped, out = self.folder / "run.jsonl", self.folder / "map.json", self.folder / "out"
+        self.tool("import", DATA / "town.net.xml.gz", "--routes", routes, "-o", run, "--map", mapped)
+        words = ["run", run, "--map", mapped, "--until", 9000, "--every", 600, "--out", out, "--program", PROGRAM]
+        self.tool(*words, "--rescue", 0)
+        self.assertLess(len(trips_of(read_folder(out))), 4500)
+        self.tool(*words)
+        self.assertEqual(len(trips_of(read_folder(out))), 4500)
 
     @unittest.skipUnless(SCENARIOS.exists(), "Debian's sumo-tools is not installed")
     def test_acosta(self):
