@@ -1,0 +1,3 @@
+pub mod Tapes
+pub mod Entries
+pub mod Written

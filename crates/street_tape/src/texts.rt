@@ -1,0 +1,65 @@
+//! From a call to the line of a tape.
+//! Source: this profile.
+ghost use Rattle.std.specs.Prelude.{◌≡◌, IfOk, false};
+ghost use Rattle.serde_json.specs.View.{view};
+ghost use Rattle.serde_json.specs.Written.{has_float};
+ghost use Rattle.street_printing.specs.Printing.{line_of};
+ghost use Rattle.street_tape.specs.Tapes.{head_data, head_line, entry_data, entry_line, outcome_data};
+
+use serde_json::{Value, json};
+use std::alloc::{AllocError, Global};
+use street_base::{Outcome, Starved};
+use street_desk::Entry;
+use street_text::command_value;
+
+fn outcome_value(alloc: Global, outcome: Outcome) -> Result<Value, AllocError>
+    ensures { IfOk result (λ v. view v ≡ outcome_data outcome) }
+{
+    match outcome {
+        Outcome::Whole => json!(in alloc; "whole"),
+        Outcome::Starved => json!(in alloc; "starved"),
+        Outcome::Short(steps) => json!(in alloc; steps),
+    }
+}
+
+fn entry_value(alloc: Global, entry: &Entry) -> Result<Value, AllocError>
+    ensures { IfOk result (λ v. view v ≡ entry_data entry.now) }
+{
+    let command = command_value(alloc, &entry.command)?;
+    let outcome = outcome_value(alloc, entry.outcome)?;
+    json!(in alloc; {"command": command, "outcome": outcome, "session": entry.session})
+}
+
+fn head_value(alloc: Global) -> Result<Value, AllocError>
+    ensures { IfOk result (λ v. view v ≡ head_data) }
+{
+    json!(in alloc; {"tape": 1})
+}
+
+/// The text of a value without floats, and LF.
+fn line_text(alloc: Global, value: &Value) -> Result<Vec<u8>, Starved>
+    requires { has_float (view value.now) ≡ false }
+    ensures { IfOk result (λ text. text.items ≡ line_of (view value.now)) }
+{
+    let mut text = value.to_vec(alloc)?;
+    text.push(b'\n')?;
+    Ok(text)
+}
+
+/// The first line of a tape, with its LF.
+#[tactic(auto, unfolding(crate::specs::Tapes::head_line))]
+pub(crate) fn head_text(alloc: Global) -> Result<Vec<u8>, Starved>
+    ensures { IfOk result (λ text. text.items ≡ head_line) }
+{
+    let value = head_value(alloc)?;
+    line_text(alloc, &value)
+}
+
+/// The line of a call, with its LF.
+#[tactic(auto, unfolding(crate::specs::Tapes::entry_line))]
+pub(crate) fn entry_text(alloc: Global, entry: &Entry) -> Result<Vec<u8>, Starved>
+    ensures { IfOk result (λ text. text.items ≡ entry_line entry.now) }
+{
+    let value = entry_value(alloc, entry)?;
+    line_text(alloc, &value)
+}
