@@ -1,12 +1,12 @@
 -- What the lines of a tape say.
 -- Source: this profile. Keys may stand in any order, and unknown ones are ignored, as in commands.
-use Rattle.std.specs.Prelude.{◌≡◌, ℕ, ◌==◌, ◌<◌, ◌^◌, ◌≤◌, List, [], ◌∷◌, length, nat_lt, if◌then◌else◌, Bool, true, false, Option, Some, None, option_map, option_map_or, option_and_then, Result, Ok, Err, codes, bytes_eq, All, ⊤}
+use Rattle.std.specs.Prelude.{◌≡◌, ℕ, ◌==◌, ◌≤◌, List, [], ◌∷◌, length, nat_lt, if◌then◌else◌, Bool, false, Option, Some, None, option_map, Result, Ok, Err, codes, bytes_eq, ⊤}
+use Rattle.std.specs.Option.{option_map_or}
 use Rattle.serde_json.specs.Data.{Data}
 use Rattle.serde_json.specs.Find.{as_str}
 use Rattle.serde_json.specs.View.{view}
 use Rattle.serde_json.specs.Written.{compact_text}
 use Rattle.serde_json.specs.declared.value.Value.{Value}
-use Rattle.street_base.specs.declared.command.Command.{Command}
 use Rattle.street_base.specs.declared.reply.Outcome.{Outcome}
 use Rattle.street_base.specs.declared.reply.Outcome.TheVariants.{Whole, Starved, Short}
 use Rattle.street_desk.specs.declared.journal.Entry.{Entry}

@@ -1,6 +1,6 @@
 //! The tape of a journal.
 //! Source: this profile.
-ghost use Rattle.std.specs.Prelude.{◌≡◌, ◌≤◌, ◌<◌, ◌+◌, ◌^◌, OnOk, IfOk, IfErr, length, take};
+ghost use Rattle.std.specs.Prelude.{◌≡◌, ◌≤◌, ◌+◌, ◌-◌, ◌^◌, OnOk, IfOk, IfErr, length, take};
 ghost use Rattle.std.specs.Io.KnownBytes.{Appends};
 ghost use Rattle.street_ends.specs.Ends.{HasFailed, IsFresh};
 ghost use Rattle.street_ends.specs.declared.tally.FaultKind.TheVariants as kinds;
@@ -19,7 +19,7 @@ fn write_line<W: Write>(
     line: &[u8],
     bytes: &mut u128,
 ) -> Result<(), FaultKind>
-    requires { bytes.old < 2 ^ 127 }
+    requires { bytes.old ≤ 2 ^ 128 - 2 ^ 64 }
     ensures written { OnOk result ((bytes.new ≡ bytes.old + length line.now)
         × Appends (W.contents writer.old.end) (W.contents writer.new.end) line.now) }
     ensures part { IfErr result (λ kind. (kind ≡ kinds.Write) × HasFailed writer.new

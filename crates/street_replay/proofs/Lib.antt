@@ -1,0 +1,4 @@
+pub mod Advances
+pub mod Calls
+pub mod Lines
+pub mod Texts

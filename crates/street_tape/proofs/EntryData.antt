@@ -1,0 +1,130 @@
+-- The value of a call: it has no float, prints no LF, is no deeper than the parser reads, and says that call.
+use Rattle.std.proofs.Common.{◌≡◌, ℕ, ◌≤◌, List, [], ◌∷◌, true, false, Some, refl, arith}
+use Rattle.json.proofs.Printed.Utf8.{IsUtf8-are_ascii}
+use Rattle.json.specs.Print.{escape_byte}
+use Rattle.serde_json.specs.Data.{Data, depth, items_depth}
+use Rattle.serde_json.specs.Read.{max_depth}
+use Rattle.serde_json.specs.Written.{has_float}
+use Rattle.street_base.specs.declared.command.Command.{Command}
+use Rattle.street_base.specs.declared.command.Command.TheVariants.{Load, Enter, Signal, Advance, CloseLane, ReopenLane, TakeOut, PlaceMeter, ReadMeter, Vehicle, Lane, Count}
+use Rattle.street_base.specs.declared.command.PhaseSpec.{PhaseSpec}
+use Rattle.street_base.specs.declared.reply.Outcome.{Outcome}
+use Rattle.street_base.specs.declared.reply.Outcome.TheVariants.{Whole, Starved, Short}
+use Rattle.street_desk.specs.declared.journal.Entry.{Entry}
+use Rattle.street_printing.specs.Printing.{items_from, number_data, node_data, link_data, turn_data, green_data, phase_data}
+use Rattle.street_tape.specs.Entries.{outcome_in, entry_in, OutcomeFits, EntryFits}
+use Rattle.street_tape.specs.Tapes.{outcome_data, entry_data, head_data}
+use Rattle.street_tape.proofs.Unbroken.{is_clear, are_items_clear}
+use Rattle.street_text.proofs.Again.{command_again, command_plain}
+use Rattle.street_text.proofs.CommandData.{whole_command}
+use Rattle.street_text.proofs.Plain.{IsPlain}
+use Rattle.street_text.specs.CommandTexts.{command_data}
+
+-- ---- it has no float
+
+whole_outcome : (o : Outcome) → has_float (outcome_data o) ≡ false
+whole_outcome Whole = refl
+whole_outcome Starved = refl
+whole_outcome (Short k) = refl
+
+pub whole_entry : (e : Entry) → has_float (entry_data e) ≡ false
+whole_entry e = rw (whole_command e.command, whole_outcome e.outcome) refl
+
+-- ---- it says the call
+
+outcome_again : (o : Outcome) → outcome_in (outcome_data o) ≡ Some o
+unfolding outcome_in
+outcome_again Whole = refl
+outcome_again Starved = refl
+outcome_again (Short k) = refl
+
+pub entry_again : (e : Entry) → entry_in (entry_data e) ≡ Some e
+unfolding entry_in
+entry_again e = rw (command_again e.command, outcome_again e.outcome) refl
+
+-- ---- with numbers of 64 bits it is plain
+
+outcome_plain : (o : Outcome) → OutcomeFits o → IsPlain (outcome_data o)
+outcome_plain Whole h = IsUtf8-are_ascii _ refl
+outcome_plain Starved h = IsUtf8-are_ascii _ refl
+outcome_plain (Short k) h = h
+
+pub entry_plain : (e : Entry) → EntryFits e → IsPlain (entry_data e)
+entry_plain e h =
+    ((IsUtf8-are_ascii _ refl, command_plain e.command h.command, (IsUtf8-are_ascii _ refl, outcome_plain e.outcome h.outcome, (IsUtf8-are_ascii _ refl, h.session, tt))), refl)
+
+pub head_plain : IsPlain head_data
+head_plain = ((IsUtf8-are_ascii _ refl, omega arith, tt), refl)
+
+-- ---- it prints no LF
+
+clear_list : {T : Type 0} (one : T → Data) → ((x : T) → is_clear (one x) ≡ true) → (xs : List T) → are_items_clear (items_from one xs) ≡ true
+clear_list one each [] = refl
+clear_list one each (x ∷ xs) = rw (each x) (clear_list one each xs)
+
+clear_phase : (p : PhaseSpec) → is_clear (phase_data p) ≡ true
+clear_phase p = rw (clear_list green_data (λ g. refl) p.greens) refl
+
+clear_command : (c : Command) → is_clear (command_data c) ≡ true
+unfolding escape_byte
+clear_command (Load net) = rw (clear_list link_data (λ l. refl) net.links, clear_list node_data (λ n. refl) net.nodes, clear_list turn_data (λ t. refl) net.turns) refl
+clear_command (Enter plan lane depart) = rw (clear_list number_data (λ n. refl) plan) refl
+clear_command (Signal node offset phases) = rw (clear_list phase_data clear_phase phases) refl
+clear_command (Advance steps) = refl
+clear_command (CloseLane link lane first last) = refl
+clear_command (ReopenLane link lane first last) = refl
+clear_command (TakeOut car) = refl
+clear_command (PlaceMeter link lane cell period) = refl
+clear_command (ReadMeter meter) = refl
+clear_command (Vehicle car) = refl
+clear_command (Lane link lane) = refl
+clear_command Count = refl
+
+clear_outcome : (o : Outcome) → is_clear (outcome_data o) ≡ true
+unfolding escape_byte
+clear_outcome Whole = refl
+clear_outcome Starved = refl
+clear_outcome (Short k) = refl
+
+pub clear_entry : (e : Entry) → is_clear (entry_data e) ≡ true
+unfolding escape_byte
+clear_entry e = rw (clear_command e.command, clear_outcome e.outcome) refl
+
+pub clear_head : is_clear head_data ≡ true
+unfolding escape_byte
+clear_head = refl
+
+-- ---- it is no deeper than the parser reads
+
+list_depth : {T : Type 0} (one : T → Data) (n : ℕ) → ((x : T) → depth (one x) ≤ n) → (xs : List T) → items_depth (items_from one xs) ≤ n
+list_depth one n each [] = omega arith
+list_depth one n each (x ∷ xs) = let first = each x in let rest = list_depth one n each xs in omega arith
+
+phase_depth : (p : PhaseSpec) → depth (phase_data p) ≤ 3
+phase_depth p = let greens = list_depth green_data 1 (λ g. omega arith) p.greens in omega arith
+
+flat_command : (c : Command) → depth (command_data c) ≤ 5
+flat_command (Load net) =
+    let links = list_depth link_data 1 (λ l. omega arith) net.links in
+    let nodes = list_depth node_data 1 (λ n. omega arith) net.nodes in
+    let turns = list_depth turn_data 1 (λ t. omega arith) net.turns in
+    omega arith
+flat_command (Enter plan lane depart) = let links = list_depth number_data 1 (λ n. omega arith) plan in omega arith
+flat_command (Signal node offset phases) = let each = list_depth phase_data 3 phase_depth phases in omega arith
+flat_command (Advance steps) = omega arith
+flat_command (CloseLane link lane first last) = omega arith
+flat_command (ReopenLane link lane first last) = omega arith
+flat_command (TakeOut car) = omega arith
+flat_command (PlaceMeter link lane cell period) = omega arith
+flat_command (ReadMeter meter) = omega arith
+flat_command (Vehicle car) = omega arith
+flat_command (Lane link lane) = omega arith
+flat_command Count = omega arith
+
+flat_outcome : (o : Outcome) → depth (outcome_data o) ≤ 1
+flat_outcome Whole = omega arith
+flat_outcome Starved = omega arith
+flat_outcome (Short k) = omega arith
+
+pub shallow_entry : (e : Entry) → depth (entry_data e) ≤ max_depth
+shallow_entry e = let command = flat_command e.command in let outcome = flat_outcome e.outcome in omega arith

@@ -1,0 +1,4 @@
+pub mod Unbroken
+pub mod EntryData
+pub mod Told
+pub mod Sending
