@@ -15,6 +15,7 @@ use Rattle.street_base.specs.Outcomes.{Allows, Answers, MayBeShort, short_state,
 use Rattle.street_base.specs.State.{State, Traffic}
 use Rattle.street_engine.specs.Refines.{View, StandsFor}
 use Rattle.street_replay.specs.Faults.{HasBegun}
+use Rattle.street_replay.specs.Replies.{clock_in}
 
 -- ---- none of an advance is refused where all of it is not
 
@@ -107,16 +108,16 @@ pub part_state : (old : State) (n k : ℕ) → k < n → refusal old (Advance n)
 part_state None n k less goes = absurd (cc)
 part_state (Some m) n k less goes = rw (part_goes (Some m) n k less goes) refl
 
-pub part_reply : (old : State) (n k clock : ℕ) → k < n → refusal old (Advance n) ≡ None → reply_to old (Advance k) Whole ≡ Clock clock → ShortReply clock k ≡ reply_to old (Advance n) (Short k)
+pub part_reply : (old : State) (n k clock : ℕ) → k < n → refusal old (Advance n) ≡ None → clock_in (reply_to old (Advance k) Whole) ≡ Some clock → ShortReply clock k ≡ reply_to old (Advance n) (Short k)
 part_reply None n k clock less goes is = absurd (cc)
 part_reply (Some m) n k clock less goes is =
-    let told : Clock (m.clock + k) ≡ Clock clock = rw (part_goes (Some m) n k less goes) at is in
+    let told : Some (m.clock + k) ≡ Some clock = rw (part_goes (Some m) n k less goes) at is in
     let same : clock ≡ m.clock + k = cc in
     ap (λ (c : ℕ). ShortReply c k) same
 
-pub part_told : (old : State) (n k : ℕ) → k < n → refusal old (Advance n) ≡ None → ((clock : ℕ) → reply_to old (Advance k) Whole ≡ Clock clock → ⊥) → ⊥
-part_told None n k less goes other = absurd (cc)
-part_told (Some m) n k less goes other = other (m.clock + k) (rw (part_goes (Some m) n k less goes) refl)
+pub part_told : (old : State) (n k : ℕ) → k < n → refusal old (Advance n) ≡ None → clock_in (reply_to old (Advance k) Whole) ≡ None → ⊥
+part_told None n k less goes none = absurd (cc)
+part_told (Some m) n k less goes none = let told : Some (m.clock + k) ≡ None = rw (part_goes (Some m) n k less goes) at none in cc
 
 -- ---- an answer that is not whole
 

@@ -1,4 +1,5 @@
 pub mod Advances
-pub mod Calls
-pub mod Lines
-pub mod Texts
+pub mod CallSteps
+pub mod LineSteps
+pub mod Stopping
+pub mod TextSteps

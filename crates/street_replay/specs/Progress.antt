@@ -58,11 +58,17 @@ fault_of (Fault kind) tally = Run (record { kind = kind; tally = tally })
 
 -- ---- one call
 
+-- a call that was not replayed was bad, or memory was wanting
+abbrev pub IsOfCall : Stop → Type 0
+IsOfCall NotTape = ⊥
+IsOfCall BadEntry = ⊤
+IsOfCall (Fault kind) = kind ≡ Starved
+
 -- what a call that was not replayed leaves
 abbrev pub CallStops : State → Command → Outcome → View → Stop → Type 0
 CallStops m c o view NotTape = ⊥
 CallStops m c o view BadEntry = (IsReplayable m c o → ⊥) × StandsFor view m
-CallStops m c o view (Fault kind) = (kind ≡ Starved) × HasBegun m c view
+CallStops m c o view (Fault kind) = HasBegun m c view
 
 -- why a first line was not taken
 abbrev pub HeadStops : List ℕ → Stop → Type 0

@@ -1,6 +1,6 @@
 //! One call of a tape, applied as it went at the desk.
 //! Source: this profile.
-ghost use Rattle.std.specs.Prelude.{◌≡◌, IfOk, IfErr, MatchBool, None, nat_le, ◌&&◌, ◌+◌};
+ghost use Rattle.std.specs.Prelude.{◌≡◌, ℕ, Option, IfOk, IfErr, MatchBool, None, nat_le, ◌&&◌, ◌+◌};
 ghost use Rattle.street_base.specs.declared.command.Command.TheVariants.{Advance};
 ghost use Rattle.street_base.specs.declared.reply.Outcome.TheVariants.{Whole, Short};
 ghost use Rattle.street_base.specs.Limits.{last_clock, most_steps};
@@ -8,8 +8,8 @@ ghost use Rattle.street_base.specs.Machine.{refusal};
 ghost use Rattle.street_base.specs.Outcomes.{reply_to, state_after};
 ghost use Rattle.street_base.specs.State.{State};
 ghost use Rattle.street_engine.specs.Refines.{StandsFor};
-ghost use Rattle.street_replay.specs.Progress.{CallStops};
-ghost use Rattle.street_replay.specs.Replies.{IsReplayable};
+ghost use Rattle.street_replay.specs.Progress.{CallStops, IsOfCall};
+ghost use Rattle.street_replay.specs.Replies.{IsReplayable, clock_in};
 
 use crate::stop::Stop;
 use street_base::{Command, LAST_CLOCK, Outcome, Reply};
@@ -47,12 +47,35 @@ fn call_whole<G: Gate + Drop>(engine: &mut Engine<G>, command: &Command) -> Resu
         → (reply ≡ reply_to old command.now Whole) × StandsFor engine.new (state_after old command.now Whole)) }
     ensures stops { IfErr result (λ stop. (old : State) → StandsFor engine.old old
         → CallStops old command.now Whole engine.new stop) }
+    ensures kind { IfErr result (λ stop. IsOfCall stop) }
 {
     let (reply, outcome) = engine.apply(command);
     match outcome {
         Outcome::Whole => Ok(reply),
         _ => Err(Stop::Fault(FaultKind::Starved)),
     }
+}
+
+/// The clock that a reply to an advance tells.
+fn clock_of(reply: &Reply) -> Option<u64>
+    ensures { result ≡ clock_in reply.now }
+{
+    match reply {
+        Reply::Clock { clock } => Some(*clock),
+        _ => None,
+    }
+}
+
+/// An advance that was done whole; its reply tells the clock where it was not refused.
+fn advance_whole<G: Gate + Drop>(engine: &mut Engine<G>, steps: u64) -> Result<Option<u64>, Stop>
+    ensures done { IfOk result (λ clock. (old : State) → StandsFor engine.old old
+        → (clock ≡ clock_in (reply_to old (Advance steps) Whole)) × StandsFor engine.new (state_after old (Advance steps) Whole)) }
+    ensures stops { IfErr result (λ stop. (old : State) → StandsFor engine.old old
+        → CallStops old (Advance steps) Whole engine.new stop) }
+    ensures kind { IfErr result (λ stop. IsOfCall stop) }
+{
+    let reply = call_whole(engine, &Command::Advance { steps })?;
+    Ok(clock_of(&reply))
 }
 
 /// A call of which so many steps were made: an advance of these steps alone.
@@ -66,6 +89,7 @@ fn call_short<G: Gate + Drop>(
         × (reply ≡ reply_to old command.now (Short made)) × StandsFor engine.new (state_after old command.now (Short made))) }
     ensures stops { IfErr result (λ stop. (old : State) → StandsFor engine.old old
         → CallStops old command.now (Short made) engine.new stop) }
+    ensures kind { IfErr result (λ stop. IsOfCall stop) }
 {
     let Command::Advance { steps } = command else {
         return Err(Stop::BadEntry);
@@ -76,10 +100,9 @@ fn call_short<G: Gate + Drop>(
     if !may_advance(engine, *steps) {
         return Err(Stop::BadEntry);
     }
-    let reply = call_whole(engine, &Command::Advance { steps: made })?;
-    match reply {
-        Reply::Clock { clock } => Ok(Reply::Short { clock, short: made }),
-        _ => Err(Stop::BadEntry),
+    match advance_whole(engine, made)? {
+        Some(clock) => Ok(Reply::Short { clock, short: made }),
+        None => Err(Stop::BadEntry),
     }
 }
 
@@ -94,6 +117,7 @@ pub(crate) fn call_again<G: Gate + Drop>(
         × StandsFor engine.new (state_after old call.now.command call.now.outcome)) }
     ensures stops { IfErr result (λ stop. (old : State) → StandsFor engine.old old
         → CallStops old call.now.command call.now.outcome engine.new stop) }
+    ensures kind { IfErr result (λ stop. IsOfCall stop) }
 {
     match call.outcome {
         Outcome::Whole => call_whole(engine, &call.command),

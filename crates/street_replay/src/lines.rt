@@ -95,7 +95,8 @@ pub(crate) fn end_line<G: Gate + Drop, W: Write>(
 {
     let line = part.as_slice();
     if tally.lines > 0 {
-        return take_call(alloc, engine, writer, line, tally);
+        take_call(alloc, engine, writer, line, tally)?;
+        return Ok(());
     }
     take_head(alloc, line)?;
     tally.lines = 1;

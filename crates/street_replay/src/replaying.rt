@@ -118,12 +118,13 @@ fn finish<G: Gate + Drop, W: Write>(
         engine.new (W.contents writer.new.end) stop progress.new.tally) }
     ensures caused { IfErr result (λ stop. IsCausedHere stop writer.new) }
 {
-    if !progress.part.as_slice().is_empty() {
-        return end_line(alloc, engine, writer, &progress.part, &mut progress.tally);
+    if progress.part.as_slice().is_empty() {
+        if progress.tally.lines == 0 {
+            return Err(Stop::NotTape);
+        }
+        return Ok(());
     }
-    if progress.tally.lines == 0 {
-        return Err(Stop::NotTape);
-    }
+    end_line(alloc, engine, writer, &progress.part, &mut progress.tally)?;
     Ok(())
 }
 

@@ -1,7 +1,7 @@
 use Rattle.std.proofs.Common.{arith}
 use Rattle.std.proofs.lemmas.List.{take_more, take_all}
 use Rattle.std.proofs.lemmas.Result.{err_from_is_err_and}
-use Rattle.street_replay.proofs.Texts.{feeds_none, feeds_more, feed_stops_at}
+use Rattle.street_replay.proofs.TextSteps.{feeds_none, feeds_more, feed_stops_at}
 use Rattle.street_replay.proofs.replaying.feed.Goals as goal
 
 pub loop-byte-init : goal.loop-byte-init

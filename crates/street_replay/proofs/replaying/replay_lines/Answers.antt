@@ -1,8 +1,9 @@
-use Rattle.std.proofs.Common.{arith, ⊤, List, ℕ, [], ◌++◌, take, append-nil}
+use Rattle.std.proofs.Common.{arith, List, ℕ, [], ◌++◌, take, append-nil}
+use Rattle.std.specs.Bool.{⊤}
 use Rattle.std.proofs.lemmas.List.{length-take}
 use Rattle.std.proofs.lemmas.Result.{err_from_is_err_and}
 use Rattle.std.proofs.KnownBytes.{Consumes-nil, Consumes-trans, Consumes-kept}
-use Rattle.street_replay.proofs.Texts.{has_begun, feeds_none, feeds_more, consumes_end, read_stops, stops_at}
+use Rattle.street_replay.proofs.TextSteps.{has_begun, feeds_none, feeds_more, consumes_end, read_stops, stops_at}
 use Rattle.street_replay.proofs.replaying.replay_lines.Goals as goal
 
 pub loop-init : goal.loop-init

@@ -1,6 +1,6 @@
 use Rattle.std.proofs.Common.{refl}
 use Rattle.std.proofs.lemmas.Result.{err_from_is_err_and}
-use Rattle.street_replay.proofs.Texts.{feeds_newline, feeds_other, newline_stops, byte_stops}
+use Rattle.street_replay.proofs.TextSteps.{feeds_newline, feeds_other, newline_stops, byte_stops}
 use Rattle.street_replay.proofs.replaying.take_byte.Goals as goal
 
 pub returns-then-byte-eq10-clause-feeds : goal.returns-then-byte-eq10-clause-feeds

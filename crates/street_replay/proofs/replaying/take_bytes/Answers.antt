@@ -1,5 +1,5 @@
 use Rattle.std.proofs.lemmas.Result.{err_from_is_err_and}
-use Rattle.street_replay.proofs.Texts.{feeds_kept, fed_stops}
+use Rattle.street_replay.proofs.TextSteps.{feeds_kept, fed_stops}
 use Rattle.street_replay.proofs.replaying.take_bytes.Goals as goal
 
 pub returns-in_err-flush_out-clause-stops : goal.returns-in_err-flush_out-clause-stops

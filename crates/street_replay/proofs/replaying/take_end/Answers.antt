@@ -1,5 +1,5 @@
 use Rattle.std.proofs.lemmas.Result.{err_from_is_err_and}
-use Rattle.street_replay.proofs.Texts.{finishes_kept, finished_stops}
+use Rattle.street_replay.proofs.TextSteps.{finishes_kept, finished_stops}
 use Rattle.street_replay.proofs.replaying.take_end.Goals as goal
 
 pub returns-in_err-flush_out-clause-stops : goal.returns-in_err-flush_out-clause-stops

@@ -1,5 +1,6 @@
 -- A tape as far as it was read.
-use Rattle.std.proofs.Common.{◌≡◌, ℕ, ◌+◌, ◌<◌, ◌≤◌, ⊤, List, [], ◌∷◌, ◌++◌, take, drop, get_or, length, Option, Some, None, inl, inr, refl, sym, ap, ◌∙◌, subst, append_assoc, append-nil, length-append, arith}
+use Rattle.std.proofs.Common.{◌≡◌, ℕ, ◌+◌, ◌<◌, ◌≤◌, List, [], ◌∷◌, ◌++◌, take, drop, get_or, length, Option, Some, None, inl, inr, refl, sym, ap, ◌∙◌, subst, append_assoc, append-nil, length-append, arith}
+use Rattle.std.specs.Bool.{⊤}
 use Rattle.std.proofs.KnownBytes.{Appends-nil, Appends-kept, Consumes-trans}
 use Rattle.std.proofs.Math.Seq.{take-length}
 use Rattle.std.proofs.lemmas.List.{at_drop_more, take-append-drop}
@@ -13,7 +14,7 @@ use Rattle.street_ends.specs.declared.tally.FaultKind.{FaultKind}
 use Rattle.street_ends.specs.declared.tally.FaultKind.TheVariants.{Read, Write, Starved, Endless}
 use Rattle.street_ends.specs.declared.tally.Tally.{Tally}
 use Rattle.street_engine.specs.Refines.{View, StandsFor}
-use Rattle.street_replay.proofs.Lines.{begun_none, stands_none}
+use Rattle.street_replay.proofs.LineSteps.{begun_none, stands_none, keeps_self}
 use Rattle.street_replay.specs.Faults.{EndsLine, BeginsBadly, IsNoTape, IsBadAt, IsAtRead, BreaksAfter, Breaks, TapeBreaks}
 use Rattle.street_replay.specs.Progress.{IsBlank, Stands, LineStops, Has, Stops, Feeds, FeedStops, Finishes, FinishStops, fault_of}
 use Rattle.street_replay.specs.Replies.{output_from}
@@ -127,10 +128,6 @@ finishes_kept s t w v x p q f keeps = λ start before seen h.
     )
 
 -- ---- faults
-
-keeps_self : (w : Option (List ℕ)) → Keeps w w
-keeps_self None = tt
-keeps_self (Some xs) = refl
 
 -- all lines that were counted are done
 breaks_here : (start : State) (before : Option (List ℕ)) (ls rest : List (List ℕ)) (text : List ℕ) (t : View) (v x : Option (List ℕ)) (kind : FaultKind) (tally : Tally) → Stands start before ls t v tally

@@ -1,5 +1,5 @@
 -- One line more.
-use Rattle.std.proofs.Common.{◌≡◌, ℕ, ◌+◌, ◌<◌, ◌≤◌, ◌⊎◌, List, [], ◌∷◌, ◌++◌, length, take, true, Option, Some, Ok, inl, inr, refl, sym, ap, ◌∙◌, subst, append_assoc, length-append, lt-ltb, arith}
+use Rattle.std.proofs.Common.{◌≡◌, ℕ, ◌+◌, ◌<◌, ◌≤◌, ◌⊎◌, List, [], ◌∷◌, ◌++◌, length, take, true, Option, Some, None, Ok, inl, inr, refl, sym, ap, ◌∙◌, subst, append_assoc, length-append, lt-ltb, arith}
 use Rattle.std.proofs.KnownBytes.{Appends-trans, Appends-kept}
 use Rattle.std.proofs.Math.Seq.{take-append-add, take-length}
 use Rattle.std.proofs.lemmas.List.{length-take-le, take_all}
@@ -7,18 +7,24 @@ use Rattle.std.proofs.lemmas.Bool.{cases_lt}
 use Rattle.std.specs.Io.KnownBytes.{Appends, Keeps}
 use Rattle.street_base.specs.Outcomes.{reply_to, state_after}
 use Rattle.street_base.specs.State.{State}
+use Rattle.street_base.specs.declared.reply.Reply.{Reply}
 use Rattle.street_desk.proofs.Histories.{state_snoc}
 use Rattle.street_desk.specs.declared.journal.Entry.{Entry}
 use Rattle.street_desk.specs.History.{state_from}
 use Rattle.street_ends.specs.Lines.{kept}
 use Rattle.street_ends.specs.declared.tally.Tally.{Tally}
 use Rattle.street_engine.specs.Refines.{View, StandsFor}
-use Rattle.street_printing.specs.Printing.{reply_line}
-use Rattle.street_replay.proofs.Calls.{says_more, output_more}
+use Rattle.street_printing.specs.Printing.{reply_line, reply_data}
+use Rattle.street_replay.proofs.CallSteps.{says_more, output_more}
 use Rattle.street_replay.specs.Faults.{SaysCalls, HasBegun, HasBegunNext, BreaksAfter}
 use Rattle.street_replay.specs.Progress.{Stands}
 use Rattle.street_replay.specs.Replies.{IsReplayable, output_from}
-use Rattle.street_tape.specs.Entries.{longest_tape_line, is_head, entry_reading, tape_value, version_reading}
+use Rattle.serde_json.specs.Written.{compact_text}
+use Rattle.street_tape.specs.Entries.{longest_tape_line, is_head, entry_reading, tape_value, version_reading, calls_in, tape_in}
+
+pub keeps_self : (w : Option (List ℕ)) → Keeps w w
+keeps_self None = tt
+keeps_self (Some xs) = refl
 
 -- ---- the first line
 
@@ -146,3 +152,14 @@ entry_kept line = rw (value_kept line) refl
 pub head_kept : (line : List ℕ) → is_head line ≡ is_head (kept longest_tape_line line)
 unfolding version_reading
 head_kept line = rw (value_kept line) refl
+
+-- ---- a whole tape
+
+pub tape_whole : (ls : List (List ℕ)) (es : List Entry) → 0 < length ls → calls_in ls ≡ Some es → tape_in ls ≡ Some es
+tape_whole [] es some h = absurd (omega arith)
+tape_whole (l ∷ ls) es some h = h
+
+-- a reply line has some bytes
+pub some_reply : (r : Reply) → 0 < length (reply_line r)
+unfolding reply_line
+some_reply r = omega (arith, length-append (compact_text (reply_data r)) (10 ∷ []))

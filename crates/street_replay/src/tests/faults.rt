@@ -1,0 +1,100 @@
+//! Each read and each write fails in turn.
+
+use crate::TapeFault;
+use crate::tests::ends::{Given, Taking, replayed, replayed_from};
+use std::process::Abort;
+use std::test::Fail;
+use street_ends::{FaultKind, RunFault, Tally};
+
+/// Two calls with nothing loaded.
+static REFUSED: &str = concat!(
+    r#"{"tape":1}"#,
+    "\n",
+    r#"{"command":{"car":0,"cmd":"vehicle"},"outcome":"whole","session":0}"#,
+    "\n",
+    r#"{"command":{"cmd":"advance","steps":5},"outcome":"whole","session":1}"#,
+    "\n",
+);
+
+/// The reply to each.
+static REFUSAL: &[u8] = b"{\"error\":1,\"name\":\"NotLoaded\"}\n";
+
+/// A fault of a run.
+fn run_fault(kind: FaultKind, lines: u128, calls: u128, replies: u128, bytes: usize) -> TapeFault {
+    TapeFault::Run(RunFault {
+        kind,
+        tally: Tally {
+            lines,
+            calls,
+            replies,
+            bytes: bytes as u128,
+        },
+    })
+}
+
+#[test]
+fn each_write_fails_in_turn(rt: HostRuntime) -> Result<(), Fail> {
+    let alloc = rt.alloc();
+    let one = REFUSAL.len();
+    let mut whole = Vec::from_slice(alloc, REFUSAL)?;
+    whole.extend_from_slice(REFUSAL)?;
+    for room in 0..62 {
+        let writer = Taking {
+            taken: Vec::new(alloc),
+            flushed: 0,
+            piece: 5,
+            room,
+            fails: room % 2 == 0,
+        };
+        let ran = replayed(alloc, REFUSED.as_bytes(), 30, writer, 100);
+        let want = match room < one {
+            true => run_fault(FaultKind::Write, 2, 1, 0, room),
+            false => run_fault(FaultKind::Write, 3, 2, 1, room),
+        };
+        assert_eq!(rt; ran.fault, Some(want), "at {room}");
+        assert_eq!(rt; Some(ran.taken.as_slice()), whole.as_slice().get(..room), "at {room}");
+    }
+    Ok(())
+}
+
+#[test]
+fn each_read_fails_in_turn(rt: HostRuntime) -> Result<(), Fail> {
+    let alloc = rt.alloc();
+    for reads_left in 0..REFUSED.len() {
+        let reader = Given {
+            text: REFUSED.as_bytes(),
+            at: 0,
+            piece: 1,
+            reads_left,
+        };
+        let ran = replayed_from(alloc, reader, Taking::all(alloc), 1000);
+        let ended = REFUSED
+            .as_bytes()
+            .iter()
+            .take(reads_left)
+            .filter(|byte| **byte == b'\n')
+            .count();
+        let (lines, calls) = match ended {
+            0 => (0, 0),
+            1 => (1, 0),
+            2 => (2, 1),
+            _ => (3, 2),
+        };
+        let bytes = (calls as usize).saturating_mul(REFUSAL.len());
+        let want = run_fault(FaultKind::Read, lines, calls, calls, bytes);
+        assert_eq!(rt; ran.fault, Some(want), "at {reads_left}");
+        assert_eq!(rt; ran.taken.len(), bytes, "at {reads_left}");
+        assert_eq!(rt; ran.flushed, bytes, "at {reads_left}");
+    }
+    Ok(())
+}
+
+#[test]
+fn a_reader_without_end_is_told(rt: HostRuntime) {
+    let alloc = rt.alloc();
+    let ran = replayed(alloc, REFUSED.as_bytes(), 20, Taking::all(alloc), 4);
+    assert_eq!(rt;
+        ran.fault,
+        Some(run_fault(FaultKind::Endless, 2, 1, 1, REFUSAL.len()))
+    );
+}
