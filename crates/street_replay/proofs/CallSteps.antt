@@ -6,7 +6,7 @@ use Rattle.street_base.specs.declared.reply.Outcome.{Outcome}
 use Rattle.street_base.specs.declared.reply.Outcome.TheVariants.{Whole, Starved, Short}
 use Rattle.street_base.specs.State.{State}
 use Rattle.street_desk.specs.declared.journal.Entry.{Entry}
-use Rattle.street_desk.specs.History.{state_from, answers_from, IsLegalFrom}
+use Rattle.street_desk.specs.History.{state_from, IsLegalFrom}
 use Rattle.street_printing.specs.Printing.{reply_line}
 use Rattle.street_reading.specs.declared.fault.LineFault.{LineFault}
 use Rattle.street_replay.specs.Faults.{SaysCalls}

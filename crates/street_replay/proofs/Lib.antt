@@ -1,5 +1,5 @@
-pub mod Advances
 pub mod CallSteps
+pub mod GoodTapes
 pub mod LineSteps
 pub mod Stopping
 pub mod TextSteps

@@ -1,5 +1,5 @@
 -- One line more.
-use Rattle.std.proofs.Common.{◌≡◌, ℕ, ◌+◌, ◌<◌, ◌≤◌, ◌⊎◌, List, [], ◌∷◌, ◌++◌, length, take, true, Option, Some, None, Ok, inl, inr, refl, sym, ap, ◌∙◌, subst, append_assoc, length-append, lt-ltb, arith}
+use Rattle.std.proofs.Common.{◌≡◌, ℕ, ◌+◌, ◌<◌, ◌⊎◌, List, [], ◌∷◌, ◌++◌, length, take, true, Option, Some, None, Ok, inl, inr, refl, sym, ap, ◌∙◌, subst, append_assoc, length-append, lt-ltb, arith}
 use Rattle.std.proofs.KnownBytes.{Appends-trans, Appends-kept}
 use Rattle.std.proofs.Math.Seq.{take-append-add, take-length}
 use Rattle.std.proofs.lemmas.List.{length-take-le, take_all}
@@ -16,7 +16,7 @@ use Rattle.street_ends.specs.declared.tally.Tally.{Tally}
 use Rattle.street_engine.specs.Refines.{View, StandsFor}
 use Rattle.street_printing.specs.Printing.{reply_line, reply_data}
 use Rattle.street_replay.proofs.CallSteps.{says_more, output_more}
-use Rattle.street_replay.specs.Faults.{SaysCalls, HasBegun, HasBegunNext, BreaksAfter}
+use Rattle.street_replay.specs.Faults.{HasBegunNext, BreaksAfter}
 use Rattle.street_replay.specs.Progress.{Stands}
 use Rattle.street_replay.specs.Replies.{IsReplayable, output_from}
 use Rattle.serde_json.specs.Written.{compact_text}

@@ -1,18 +1,17 @@
 -- What ends a replay in one line.
-use Rattle.std.proofs.Common.{◌≡◌, ℕ, ◌+◌, ◌<◌, List, [], ◌∷◌, ◌++◌, length, take, false, Option, Some, Ok, inl, inr, refl, sym, ap, ◌∙◌, subst, arith}
-use Rattle.std.proofs.KnownBytes.{Appends-nil}
-use Rattle.std.specs.Io.KnownBytes.{Appends, Keeps}
+use Rattle.std.proofs.Common.{◌≡◌, ℕ, ◌+◌, ◌<◌, List, ◌∷◌, length, take, Option, Ok, inl, inr, refl, sym, ap, ◌∙◌, subst}
+use Rattle.std.specs.Io.KnownBytes.{Appends}
 use Rattle.street_base.specs.Outcomes.{reply_to, state_after}
 use Rattle.street_base.specs.State.{State}
 use Rattle.street_desk.specs.declared.journal.Entry.{Entry}
 use Rattle.street_desk.specs.History.{state_from}
 use Rattle.street_ends.specs.declared.tally.FaultKind.{FaultKind}
-use Rattle.street_ends.specs.declared.tally.FaultKind.TheVariants.{Read, Write, Starved, Endless}
+use Rattle.street_ends.specs.declared.tally.FaultKind.TheVariants.{Starved}
 use Rattle.street_ends.specs.declared.tally.Tally.{Tally}
 use Rattle.street_engine.specs.Refines.{View, StandsFor}
 use Rattle.street_printing.specs.Printing.{reply_line}
 use Rattle.street_replay.proofs.LineSteps.{stands_none, broken_before, broken_after, begun_none, keeps_self}
-use Rattle.street_replay.specs.Faults.{SaysCalls, StopsAt, IsAtRead, HasBegun}
+use Rattle.street_replay.specs.Faults.{IsAtRead}
 use Rattle.street_replay.specs.Progress.{Stands, LineStops, HeadStops, ReadStops, CallStops, IsOfCall}
 use Rattle.street_replay.specs.Replies.{IsReplayable}
 use Rattle.street_replay.specs.declared.stop.Stop.{Stop}

@@ -1,21 +1,21 @@
 -- A tape as far as it was read.
-use Rattle.std.proofs.Common.{◌≡◌, ℕ, ◌+◌, ◌<◌, ◌≤◌, List, [], ◌∷◌, ◌++◌, take, drop, get_or, length, Option, Some, None, inl, inr, refl, sym, ap, ◌∙◌, subst, append_assoc, append-nil, length-append, arith}
+use Rattle.std.proofs.Common.{◌≡◌, ℕ, ◌+◌, ◌<◌, List, [], ◌∷◌, ◌++◌, take, drop, get_or, length, Option, inl, inr, refl, sym, ap, ◌∙◌, subst, append_assoc, append-nil, length-append, arith}
 use Rattle.std.specs.Bool.{⊤}
 use Rattle.std.proofs.KnownBytes.{Appends-nil, Appends-kept, Consumes-trans}
 use Rattle.std.proofs.Math.Seq.{take-length}
 use Rattle.std.proofs.lemmas.List.{at_drop_more, take-append-drop}
-use Rattle.std.specs.Io.KnownBytes.{Appends, Consumes, Keeps}
+use Rattle.std.specs.Io.KnownBytes.{Consumes, Keeps}
 use Rattle.street_base.specs.State.{State}
 use Rattle.street_desk.specs.History.{state_from}
 use Rattle.street_ends.proofs.Cutting.{cut_other, cut_newline, lines_more, lines_after, one_line}
 use Rattle.street_ends.proofs.Parts.{kept_none, line_kept}
 use Rattle.street_ends.specs.Lines.{cut, lines_of, if_any, kept, IsPart}
 use Rattle.street_ends.specs.declared.tally.FaultKind.{FaultKind}
-use Rattle.street_ends.specs.declared.tally.FaultKind.TheVariants.{Read, Write, Starved, Endless}
+use Rattle.street_ends.specs.declared.tally.FaultKind.TheVariants.{Write, Starved}
 use Rattle.street_ends.specs.declared.tally.Tally.{Tally}
 use Rattle.street_engine.specs.Refines.{View, StandsFor}
 use Rattle.street_replay.proofs.LineSteps.{begun_none, stands_none, keeps_self}
-use Rattle.street_replay.specs.Faults.{EndsLine, BeginsBadly, IsNoTape, IsBadAt, IsAtRead, BreaksAfter, Breaks, TapeBreaks}
+use Rattle.street_replay.specs.Faults.{EndsLine, IsAtRead, Breaks, TapeBreaks}
 use Rattle.street_replay.specs.Progress.{IsBlank, Stands, LineStops, Has, Stops, Feeds, FeedStops, Finishes, FinishStops, fault_of}
 use Rattle.street_replay.specs.Replies.{output_from}
 use Rattle.street_replay.specs.declared.replaying.Progress.{Progress}

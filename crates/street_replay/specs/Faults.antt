@@ -129,3 +129,9 @@ abbrev pub IsTapeCaused : {R W : Type 0} → TapeFault → Counted R → Counted
 IsTapeCaused NotTape reader writer reads = ⊤
 IsTapeCaused (BadEntry line) reader writer reads = ⊤
 IsTapeCaused (Run fault) reader writer reads = IsCaused fault.kind reader writer reads
+
+-- the run failed; the tape was not bad
+abbrev pub IsOfRun : TapeFault → Type 0
+IsOfRun NotTape = ⊥
+IsOfRun (BadEntry line) = ⊥
+IsOfRun (Run fault) = ⊤

@@ -1,6 +1,6 @@
 -- A replay as far as it has come.
 -- Source: this profile.
-use Rattle.std.specs.Prelude.{◌≡◌, ℕ, ◌+◌, ◌*◌, ◌^◌, ◌<◌, ◌≤◌, ◌⊎◌, List, [], ◌∷◌, ◌++◌, length, Option, Ok, false, ⊤}
+use Rattle.std.specs.Prelude.{◌≡◌, ℕ, ◌+◌, ◌*◌, ◌^◌, ◌<◌, ◌≤◌, List, [], ◌∷◌, ◌++◌, length, Option, Ok, false, ⊤}
 use Rattle.std.specs.Io.KnownBytes.{Appends}
 use Rattle.street_base.specs.declared.command.Command.{Command}
 use Rattle.street_base.specs.declared.reply.Outcome.{Outcome}
@@ -10,7 +10,6 @@ use Rattle.street_desk.specs.History.{state_from}
 use Rattle.street_ends.specs.Ends.{HasFailed}
 use Rattle.street_ends.specs.Lines.{cut, lines_of, IsPart}
 use Rattle.street_ends.specs.declared.counted.Counted.{Counted}
-use Rattle.street_ends.specs.declared.tally.FaultKind.{FaultKind}
 use Rattle.street_ends.specs.declared.tally.FaultKind.TheVariants.{Read, Write, Starved, Endless}
 use Rattle.street_ends.specs.declared.tally.Tally.{Tally}
 use Rattle.street_engine.specs.Refines.{View, StandsFor}

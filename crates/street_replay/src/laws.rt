@@ -1,9 +1,12 @@
 //! The tape of a desk's journal replays to the replies of its calls.
 //! Source: this profile.
-ghost use Rattle.std.specs.Prelude.{◌≡◌, All, List, None, Some, map};
+ghost use Rattle.std.specs.Prelude.{◌≡◌, ◌++◌, ℕ, All, List, [], Option, None, Some, map};
 ghost use Rattle.street_base.specs.Run.{Runs};
 ghost use Rattle.street_desk.specs.declared.journal.Entry.{Entry};
 ghost use Rattle.street_desk.specs.History.{answers_of, state_of, IsLegal};
+ghost use Rattle.street_engine.specs.Refines.{View};
+ghost use Rattle.street_replay.specs.Faults.{TapeBreaks, IsOfRun};
+ghost use Rattle.street_replay.specs.declared.fault.TapeFault.{TapeFault};
 ghost use Rattle.street_replay.specs.Replies.{AreReplayable, output_from, reply_lines};
 ghost use Rattle.street_tape.specs.Entries.{tape_reading, EntryFits};
 ghost use Rattle.street_tape.specs.Tapes.{tape_text};
@@ -12,7 +15,8 @@ use street_desk::legal_history_runs;
 use street_tape::tape_reads_back;
 
 /// The calls that the tape of a legal history says are those of the history, if none of its lines is longer than a tape line
-/// may be; each can be replayed, and their replies are those of the run of that history.
+/// may be; each can be replayed, and their replies are those of the run of that history. However much of that tape was read,
+/// a replay that ends with a fault is not told a bad tape: a read or a write failed, or memory was wanting.
 pub fn tape_replays()
     ensures calls { (history : List Entry) → All EntryFits history → (es : List Entry)
         → tape_reading (tape_text history) ≡ Some es → es ≡ history }
@@ -20,6 +24,10 @@ pub fn tape_replays()
     ensures replies { (history : List Entry) → IsLegal history
         → Runs None (map (λ e. e.command) history) (answers_of history) (state_of history)
         × (output_from None history ≡ reply_lines (answers_of history)) }
+    ensures good { (history : List Entry) → IsLegal history → All EntryFits history
+        → (text more : List ℕ) → text ++ more ≡ tape_text history
+        → (before : Option (List ℕ)) (view : View) (after : Option (List ℕ)) (fault : TapeFault)
+        → TapeBreaks (more ≡ []) None before text view after fault → IsOfRun fault }
 {
     tape_reads_back();
     legal_history_runs();

@@ -55,13 +55,15 @@ fn a_session_is_replayed(rt: HostRuntime) -> Result<(), Fail> {
         }
     );
     let (reply, _) = engine.apply(&Command::Vehicle { car: 0 });
-    assert!(rt; matches!(
-        &reply,
-        Reply::Vehicle {
-            whereabouts: Whereabouts::Ended(_),
-            ..
-        }
-    ));
+    assert!(rt;
+        matches!(
+            &reply,
+            Reply::Vehicle {
+                whereabouts: Whereabouts::Ended(_),
+                ..
+            }
+        )
+    );
     Ok(())
 }
 
@@ -195,7 +197,8 @@ fn a_bad_entry_is_told_by_its_line(rt: HostRuntime) -> Result<(), Fail> {
         let ran = replayed(alloc, text.as_slice(), 100, Taking::all(alloc), 1000);
         check_bad(&rt, &ran, 4, BEGIN_OUTPUT, line);
     }
-    let text = "{\"tape\":1}\n{\"command\":{\"cmd\":\"advance\",\"steps\":5},\"outcome\":1,\"session\":0}\n";
+    let text =
+        "{\"tape\":1}\n{\"command\":{\"cmd\":\"advance\",\"steps\":5},\"outcome\":1,\"session\":0}\n";
     let ran = replayed(alloc, text.as_bytes(), 4096, Taking::all(alloc), 1000);
     check_bad(&rt, &ran, 2, "", text);
     let mut text = Vec::from_slice(alloc, BEGIN.as_bytes())?;

@@ -21,7 +21,7 @@ pub tape_more : (es : List Entry) (i : ℕ) (e : Entry) → slice_get es i ≡ S
 tape_more es i e h =
     let more : take (i + 1) es ≡ take i es ++ get_or es i e ∷ [] = take_more es i e (slice_get_within es i e h) in
     let lines : entry_lines (take (i + 1) es) ≡ entry_lines (take i es) ++ entry_line e =
-        rw (more, get_or_from_slice_get es i e e h) (lines_append (take i es) (e ∷ []) ∙ ap (λ (t : List ℕ). entry_lines (take i es) ++ t) (append-nil (entry_line e)))
+    rw (more, get_or_from_slice_get es i e e h) (lines_append (take i es) (e ∷ []) ∙ ap (λ (t : List ℕ). entry_lines (take i es) ++ t) (append-nil (entry_line e)))
     in
     ap (λ (t : List ℕ). head_line ++ t) lines ∙ sym (append_assoc head_line (entry_lines (take i es)) (entry_line e))
 

@@ -235,7 +235,11 @@ fn first_lines_tell_their_version(rt: HostRuntime) {
         ("[1]", Err(LineFault::BadCommand)),
         ("", Err(LineFault::NotJson)),
     ] {
-        assert_eq!(rt; read_version(rt.alloc(), line.as_bytes()), want, "at {line}");
+        assert_eq!(rt;
+            read_version(rt.alloc(), line.as_bytes()),
+            want,
+            "at {line}"
+        );
     }
 }
 

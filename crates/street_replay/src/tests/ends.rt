@@ -86,12 +86,7 @@ pub(super) struct Ran {
 }
 
 /// Replays a text from a reader on an engine with nothing loaded.
-pub(super) fn replayed_from(
-    alloc: Global,
-    reader: Given<'_>,
-    writer: Taking,
-    reads: u32,
-) -> Ran {
+pub(super) fn replayed_from(alloc: Global, reader: Given<'_>, writer: Taking, reads: u32) -> Ran {
     let mut reader = Counted::new(reader);
     let mut writer = Counted::new(writer);
     let mut engine = Engine::new(alloc, 1, Unwatched);

@@ -52,7 +52,11 @@ fn each_write_fails_in_turn(rt: HostRuntime) -> Result<(), Fail> {
             false => run_fault(FaultKind::Write, 3, 2, 1, room),
         };
         assert_eq!(rt; ran.fault, Some(want), "at {room}");
-        assert_eq!(rt; Some(ran.taken.as_slice()), whole.as_slice().get(..room), "at {room}");
+        assert_eq!(rt;
+            Some(ran.taken.as_slice()),
+            whole.as_slice().get(..room),
+            "at {room}"
+        );
     }
     Ok(())
 }

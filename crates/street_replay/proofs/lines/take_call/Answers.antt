@@ -1,7 +1,8 @@
-use Rattle.std.proofs.Common.{◌≡◌, List, ℕ, Ok, refl, ap, ◌∙◌, arith}
+use Rattle.std.proofs.Common.{refl, ap, ◌∙◌, arith}
 use Rattle.std.proofs.KnownBytes.{Appends-nil}
 use Rattle.std.proofs.lemmas.Result.{err_from_is_err_and}
 use Rattle.street_desk.specs.History.{state_from}
+use Rattle.street_ends.specs.declared.tally.FaultKind.TheVariants.{Write, Starved}
 use Rattle.street_printing.specs.Printing.{reply_line}
 use Rattle.street_replay.proofs.LineSteps.{stands_more, some_reply}
 use Rattle.street_replay.proofs.Stopping.{read_stops, call_stops, reply_stops}
@@ -23,7 +24,7 @@ returns-in_err-text-clause-stops g c =
     let p = err_from_is_err_and c.from_residual-in_err-text.result c.from_residual-in_err-text.ensures.1 in
     rw (p.1, p.2) (λ start before ls whole stands some same.
     let did = c.in_ok-reply.ensures.done (state_from start stands.entries) stands.state in
-    reply_stops start before ls whole _ _ _ _ c.args.tally.now _ c.in_ok-call.call 0 _ _ stands some (same ∙ c.in_ok-call.ensures.read) did.0 did.2 (ap reply_line did.1) (some_reply c.in_ok-reply.reply)
+    reply_stops start before ls whole _ _ _ _ c.args.tally.now _ c.in_ok-call.call 0 _ Starved stands some (same ∙ c.in_ok-call.ensures.read) did.0 did.2 (ap reply_line did.1) (some_reply c.in_ok-reply.reply)
     (Appends-nil _) (λ read. read) refl refl refl (omega arith))
 
 pub returns-in_err-write_reply-clause-stops : goal.returns-in_err-write_reply-clause-stops
@@ -32,7 +33,7 @@ returns-in_err-write_reply-clause-stops g c =
     let cut = rw c.as_slice.ensures.value at c.in_err-write_reply.ensures.part in
     rw (p.1, p.2, c.in_err-write_reply.ensures.failed.0) (λ start before ls whole stands some same.
     let did = c.in_ok-reply.ensures.done (state_from start stands.entries) stands.state in
-    reply_stops start before ls whole _ _ _ _ c.args.tally.now _ c.in_ok-call.call cut.sent _ _ stands some (same ∙ c.in_ok-call.ensures.read) did.0 did.2 (c.in_ok-text.ensures ∙ ap reply_line did.1) cut.less
+    reply_stops start before ls whole _ _ _ _ c.args.tally.now _ c.in_ok-call.call cut.sent _ Write stands some (same ∙ c.in_ok-call.ensures.read) did.0 did.2 (c.in_ok-text.ensures ∙ ap reply_line did.1) cut.less
     cut.written (λ read. read) cut.lines cut.calls cut.replies cut.bytes)
 
 pub returns-clause-taken : goal.returns-clause-taken

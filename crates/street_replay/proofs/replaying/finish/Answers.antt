@@ -6,7 +6,7 @@ use Rattle.street_replay.proofs.replaying.finish.Goals as goal
 
 pub returns-then-progress-eq0-clause-stops : goal.returns-then-progress-eq0-clause-stops
 returns-then-progress-eq0-clause-stops g c =
-    missing_stops _ _ c.args.progress.now _ (λ line part. ap length (sym (c.as_slice.ensures _ line part)) ∙ eqb-true _ 0 (sym c.if-is_empty.ensures)) (omega arith)
+    missing_stops _ _ c.args.progress.now c.args.progress.now.tally (λ line part. ap length (sym (c.as_slice.ensures _ line part)) ∙ eqb-true _ 0 (sym c.if-is_empty.ensures)) (omega arith)
 
 pub returns-then-is_empty-clause-finishes : goal.returns-then-is_empty-clause-finishes
 returns-then-is_empty-clause-finishes g c =

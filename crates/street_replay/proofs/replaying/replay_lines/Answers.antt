@@ -40,7 +40,7 @@ returns-in_err-take_end-clause-stops g c =
       before.0,
       consumes_end _ _ _ before.0 c.in-Ok.count c.read.new.buffer c.if-count-eq0.true before.1 c.in-Ok.ensures.bytes.0,
       λ start stands.
-      stops_at ⊤ _ start _ before.0 _ _ _ _ (λ _. over) (c.in_err-take_end.ensures.stops start _ before.0 (before.2 start _ [] (has_begun start _ _ c.args.progress.now stands c.requires.part c.requires.tally))),
+          stops_at ⊤ _ start _ before.0 _ _ _ _ (λ _. over) (c.in_err-take_end.ensures.stops start _ before.0 (before.2 start _ [] (has_begun start _ _ c.args.progress.now stands c.requires.part c.requires.tally))),
     )
 
 pub returns-then-count-eq0-clause-replayed : goal.returns-then-count-eq0-clause-replayed
@@ -61,8 +61,8 @@ returns-in_err-take_bytes-clause-stops g c =
       before.0 ++ got,
       Consumes-trans _ _ _ before.0 got before.1 c.in-Ok.ensures.bytes.0,
       λ start stands.
-      stops_at ⊥ _ start _ (before.0 ++ got) _ _ _ _ (λ none. absurd none)
-      (rw (append-nil got) at (c.in_err-take_bytes.ensures.stops start _ before.0 (before.2 start _ [] (has_begun start _ _ c.args.progress.now stands c.requires.part c.requires.tally)) [])),
+          stops_at ⊥ _ start _ (before.0 ++ got) _ _ _ _ (λ none. absurd none)
+          (rw (append-nil got) at (c.in_err-take_bytes.ensures.stops start _ before.0 (before.2 start _ [] (has_begun start _ _ c.args.progress.now stands c.requires.part c.requires.tally)) [])),
     )
 
 pub returns-clause-stops : goal.returns-clause-stops

@@ -19,7 +19,7 @@ returns-in-Ok-clause-replayed g c =
       record { lines = stands.lines; calls = stands.calls; replies = stands.replies; bytes = stands.bytes },
     )
 
-pub returns-in-Err-clause-stops : goal.returns-in-Err-clause-stops
-returns-in-Err-clause-stops g c =
+pub returns-clause-stops : goal.returns-clause-stops
+returns-clause-stops g c =
     let run = c.in-Err.ensures.stops in
     rw c.fault_of.ensures (run.0, run.1, told _ None _ run.0 _ _ _ _ (run.2 None c.requires.engine))
