@@ -137,6 +137,11 @@ def refuse_over_limits(network, load, names):
 
 def warn_of_rules(net, network, report):
     """What is other here than in SUMO, as far as it concerns this network."""
+    if net.closed_lanes:
+        classes = " and ".join(network.options.classes)
+        report.warn(
+            f"{net.closed_lanes} lanes are closed to {classes} and left out, with {len(net.dropped)} whole edges"
+        )
     short = sorted({link.edge for link in network.links if link.metres < limits.CELL_METRES})
     if short:
         report.warn(f"{len(short)} edges are shorter than a cell of {limits.CELL_METRES} m and get one: {some(short)}")

@@ -2,6 +2,7 @@
 import json
 from collections import Counter
 from dataclasses import dataclass, field
+from math import lcm
 
 from . import limits
 from .client import Lane, NotYet, Rows, line_of
@@ -57,7 +58,9 @@ class Recorder:
         """How many calls the run makes at most, if nobody is rescued."""
         steps = self.settings.until - self.records.clock
         minutes = steps // MINUTE + 1
-        polls = steps // every * len(self.polled) + (minutes * len(self.places) if self.settings.rescue else 0)
+        whole = minutes if self.settings.rescue else 0  # polls of all lanes, some of which are due anyway
+        polls = (steps // every - (steps // lcm(every, MINUTE) if whole else 0)) * len(self.polled)
+        polls += whole * len(self.places)
         reads = min(limits.METERS, len(self.places)) * (steps // (self.settings.period * limits.ROWS) + 2)
         lines = 1 + len(self.run.first) + len(self.run.timed) + 2 * len(self.run.enters)
         return lines + polls + reads + minutes + steps // every + steps // limits.STEPS

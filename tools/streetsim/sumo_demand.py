@@ -8,7 +8,7 @@ from . import limits
 from .files import Fault, attribute, elements, seconds, told
 from .flows import departs
 
-WITHOUT_EFFECT = ("departPos", "departLane", "departSpeed", "arrivalPos", "arrivalLane", "arrivalSpeed")
+READ = {"id", "depart", "route", "edges", "begin", "end", "number", "period", "probability", "vehsPerHour", "perHour"}
 NOT_DRIVEN = {
     "trip": "a trip",
     "person": "a person",
@@ -59,6 +59,7 @@ class Demand:
 
     def read_route(self, path, element):
         name = attribute(path, element, "id")
+        self.note_ignored(element)
         if name in self.routes:
             raise Fault(f"{told(path, element)}: a second route of this name")
         self.routes[name] = self.edges(path, element, element)
@@ -88,10 +89,10 @@ class Demand:
                 self.later.append((vehicle, told(path, element), element.get("route")))
 
     def note_ignored(self, element):
-        for name in WITHOUT_EFFECT:
-            self.report.ignored[f"{name} of vehicles"] += element.get(name) is not None
+        """Counts what has no effect: stops, and all attributes but those that are read."""
         self.report.ignored["stops"] += sum(1 for _ in element.iter("stop"))
-        self.report.ignored["types of vehicles"] += element.get("type") is not None
+        for name in set(element.keys()) - READ:
+            self.report.ignored[f"{name} of {element.tag}s"] += 1
 
     def read_vehicle(self, path, element):
         text = attribute(path, element, "depart")

@@ -46,6 +46,7 @@ class SumoNet:
     junctions: dict = field(default_factory=dict)  # name: (x, y)
     edges: dict = field(default_factory=dict)  # name: Edge
     dropped: set = field(default_factory=set)  # edges without a lane for the classes
+    closed_lanes: int = 0  # lanes that are not for the classes
     connections: list = field(default_factory=list)  # between kept lanes
     roundabouts: set = field(default_factory=set)  # edges
     programs: dict = field(default_factory=dict)  # light: Program, the last loaded
@@ -120,6 +121,7 @@ def read_edge(path, element, net, classes):
     ]
     if len({lane.index for lane in lanes}) < len(lanes):
         raise Fault(f"{told(path, element)}: two lanes of one index")
+    net.closed_lanes += sum(1 for _ in element.iter("lane")) - len(lanes)
     if lanes:
         net.edges[name] = Edge(
             name,

@@ -106,6 +106,7 @@ class Networks(Case):
         bus = net([("a", "A", "B", [lane("a", 0, more='allow="bus"'), lane("a", 1)])], [])
         network, *_ = self.network(bus)
         self.assertEqual(network.links[0].lanes, (1,))
+        self.assertEqual(self.said.warnings, ["1 lanes are closed to passenger and left out, with 0 whole edges"])
         with self.assertRaisesRegex(Fault, "no lane is open to passenger; lanes are opened to: bus"):
             self.network(net([("a", "A", "B", [lane("a", 0, more='allow="bus"')])], []))
 
