@@ -183,10 +183,14 @@ def reply_of(value):
 
 
 def line_of(command):
-    """The line of a command: a dictionary, or a line that is ready (with or without its end)."""
+    """The line of a command: a dictionary, or a line that is ready (with or without its end). A blank line would get
+    no reply, and two lines two: they are refused here."""
     if isinstance(command, dict):
         return json.dumps(command, separators=(",", ":")).encode() + b"\n"
-    return (command.encode() if isinstance(command, str) else command).rstrip(b"\n") + b"\n"
+    line = (command.encode() if isinstance(command, str) else command).removesuffix(b"\n")
+    if not line.strip(b" \t\r") or b"\n" in line:
+        raise ValueError("a command is one line that is not blank")
+    return line + b"\n"
 
 
 def most_calls(program):

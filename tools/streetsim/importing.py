@@ -77,18 +77,9 @@ def within(least, most):
 def options_of(words):
     if not 0 <= words.permissive <= 1:
         raise Fault("--permissive is a share from 0 to 1")
-    return Options(
-        tuple(words.classes.split(",")),
-        words.turns == "strict",
-        words.dawdle,
-        words.change,
-        words.zone,
-        words.seed,
-        words.residence,
-        words.buffer,
-        words.permissive,
-        words.begin,
-    )
+    names = ("dawdle", "change", "zone", "seed", "residence", "buffer", "permissive", "begin")
+    given = {name: getattr(words, name) for name in names}
+    return Options(classes=tuple(words.classes.split(",")), strict_turns=words.turns == "strict", **given)
 
 
 def main(arguments):

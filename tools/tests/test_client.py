@@ -64,6 +64,11 @@ class Replies(Case):
         with self.assertRaises(ProgramEnded), Client(fake(self, [])) as sim:
             sim.batch([b"x" * 1_000_000])
 
+    def test_lines_that_would_not_get_one_reply(self):
+        for line in (b"", "  \n", b'{"cmd":"count"}\n{"cmd":"count"}'):
+            with self.subTest(line), self.assertRaises(ValueError):
+                client.line_of(line)
+
     def test_row(self):
         row = Row(start=0, steps=300, passes=60, speeds=180, occupied=75)
         self.assertEqual((row.flow, row.density, row.mean_speed), (0.2, 0.25, 3.0))
