@@ -1,0 +1,5 @@
+pub mod Views
+pub mod Lanes
+pub mod Whole
+pub mod Lists
+pub mod Inside

@@ -1,0 +1,50 @@
+//! The three lists of a lane.
+ghost use Rattle.std.specs.Prelude.{◌≡◌, ◌^◌, ◌<◌, length, slice_get};
+ghost use Rattle.std.specs.Option.{option_copied};
+ghost use Rattle.street_lanes.specs.Lists.{cells_list, buffer_list, waiting_list, cars_on, LetsGo};
+
+use street_base::Car;
+use street_yard::{ListId, Yard};
+
+/// The list of those who stand in a lane's cells, the greatest cell first.
+pub(crate) fn cells_list(lane: usize) -> ListId
+    requires { lane < 2 ^ 32 }
+    ensures { result.0 ≡ cells_list lane }
+{
+    ListId(3 * lane)
+}
+
+/// The list of a lane's buffer, the front first.
+pub(crate) fn buffer_list(lane: usize) -> ListId
+    requires { lane < 2 ^ 32 }
+    ensures { result.0 ≡ buffer_list lane }
+{
+    ListId(3 * lane + 1)
+}
+
+/// The list of those who wait on a lane, the first to depart first.
+pub(crate) fn waiting_list(lane: usize) -> ListId
+    requires { lane < 2 ^ 32 }
+    ensures { result.0 ≡ waiting_list lane }
+{
+    ListId(3 * lane + 2)
+}
+
+/// The first car of a list.
+pub(crate) fn first_car(yard: &Yard, list: ListId) -> Option<&Car>
+    requires { list.0 < length yard.now.lists }
+    ensures { option_copied result ≡ slice_get (cars_on yard.now list.0) 0 }
+{
+    let key = yard.list_front(list)?;
+    Some(yard.car(key))
+}
+
+/// Takes the first car of a list out.
+pub(crate) fn let_go(yard: &mut Yard, list: ListId) -> Option<Car>
+    requires { list.0 < length yard.old.lists }
+    ensures { LetsGo list.0 yard.old yard.new result }
+{
+    let key = yard.list_front(list)?;
+    yard.unlink(key);
+    Some(yard.take(key))
+}
