@@ -1,0 +1,9 @@
+pub mod Ordering
+pub mod Cars
+pub mod Touching
+pub mod Coming
+pub mod Frames
+pub mod Walking
+pub mod Opening
+pub mod Leaving
+pub mod Joining

@@ -1,6 +1,7 @@
 -- What the fields of `Lanes` stand for.
 use Rattle.std.specs.Prelude.{ℕ, ◌≡◌, ◌+◌, ◌*◌, ◌^◌, ◌<◌, ◌≤◌, List, [], map, length, slice_index_or}
 use Rattle.std.specs.List.{range_with_len}
+use Rattle.street_draw.specs.Odds.{Odds}
 use Rattle.street_gap.specs.declared.closures.Stretch.{Stretch}
 use Rattle.street_gap.specs.Closed.{IsWithin}
 use Rattle.street_base.specs.declared.net.NetSpec.{NetSpec}
@@ -33,13 +34,16 @@ lane_in y closures sites n = lane_seen y (closed_at closures n) (length_at sites
 abbrev pub lanes_in : Yard → List (List Stretch) → List Site → List LaneView
 lanes_in y closures sites = map (lane_in y closures sites) (range_with_len 0 (length sites))
 
-abbrev pub seen : Inside → Lanes
-seen x = record {
-  places = map (λ s. place_of s.at) x.sites.items;
-  lanes = lanes_in x.yard x.closures.items x.sites.items;
-  odds = x.dice;
-  room = x.yard.room;
+abbrev pub view_of : Yard → List (List Stretch) → List Site → Odds → Lanes
+view_of y closures sites odds = record {
+  places = map (λ s. place_of s.at) sites;
+  lanes = lanes_in y closures sites;
+  odds = odds;
+  room = y.room;
 }
+
+abbrev pub seen : Inside → Lanes
+seen x = view_of x.yard x.closures.items x.sites.items x.dice
 
 -- closed stretches for each lane and three lists, and what a lane wants of them; no car has too long a plan
 pub record IsLaidOut (y : Yard) (closures : List (List Stretch)) (sites : List Site) : Type 0 where

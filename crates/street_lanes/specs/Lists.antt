@@ -5,12 +5,13 @@ use Rattle.std.specs.Option.{option_to_list}
 use Rattle.street_base.specs.declared.car.Car.{Car}
 use Rattle.street_base.specs.Limits.{most_plan}
 use Rattle.street_base.specs.Vehicle.{Vehicle, vehicle_of, with_speed}
+use Rattle.street_base.specs.Lane.{vehicle_at}
 use Rattle.street_base.specs.Departure.{is_before}
 use Rattle.street_base.specs.Shown.{put_in_order}
 use Rattle.street_gap.specs.declared.closures.Stretch.{Stretch}
 use Rattle.street_gap.specs.Closed.{closed_marks}
 use Rattle.street_yard.specs.Yard.{Yard, list_at, car_of, last_or, Has, Away}
-use Rattle.street_yard.specs.Listed.{seen_at, cells_at, IsLane}
+use Rattle.street_yard.specs.Listed.{cells_at, IsLane}
 use Rattle.street_lanes.specs.Views.{LaneView, waiting_of, queued_of, AreInOrder}
 
 -- the lists of lane n: those in its cells, the greatest cell first; its buffer, the front first; and who waits, the first to depart first
@@ -60,7 +61,7 @@ pub record Touches (lists : List ℕ) (old new : Yard) : Type 0 where
 -- where cell 0 of a list was empty, this vehicle now stands in it, and nothing else has changed in its cells
 abbrev pub ComesIn : Vehicle → ℕ → Yard → Yard → Type 0
 ComesIn v list old new =
-    (count : ℕ) → 0 < count → IsLane old list count → seen_at old list 0 ≡ None
+    (count : ℕ) → 0 < count → IsLane old list count → vehicle_at (cells_at old list count) 0 ≡ None
     → IsLane new list count × (cells_at new list count ≡ slice_set (cells_at old list count) 0 (Some v))
 
 -- the list is cut in two, the one part ahead of `at` or ending with it: who is in the other goes later than the car, and the last of the first does not

@@ -31,10 +31,10 @@ pub(crate) fn enter(yard: &mut Yard, cells: ListId, mut car: Car)
     requires short { HasShortPlan car }
     ensures { Enters cells.0 car yard.old yard.new }
 {
+    yard.whole();
     car.cell = 0;
     let key = yard.admit_reserved(car);
     yard.push_back(cells, key);
-    yard.whole();
 }
 
 /// The first who waits comes into cell 0, with speed 0.
@@ -44,8 +44,9 @@ pub(crate) fn depart(yard: &mut Yard, waiting: ListId, cells: ListId, first: Key
     requires first { first_or (list_at yard.old waiting.0) None ≡ Some first.0 }
     ensures { (car : Car) → car_of yard.old first.0 ≡ Some car → Departs waiting.0 cells.0 car yard.old yard.new }
 {
+    yard.whole();
     yard.unlink(first);
+    yard.whole();
     yard.drive(first, 0, 0);
     yard.push_back(cells, first);
-    yard.whole();
 }

@@ -199,7 +199,7 @@ impl Lanes {
         ensures enters { GoesIf lane (λ s. is_free s.track 0 ≡ true) (λ s. record s { track = with_entry (Some (vehicle_of car)) s.track }) self.old self.new }
         ensures room { self.old.room ≤ self.new.room + 1 }
     {
-        if !self.is_open(lane) {
+        if !entering::is_open(&self.yard, cells_list(lane), &self.closures[lane]) {
             return;
         }
         entering::enter(&mut self.yard, cells_list(lane), car);
@@ -212,14 +212,17 @@ impl Lanes {
         ensures goes { GoesAt lane (departed_lane clock) self.old self.new }
         ensures room { self.new.room ≡ self.old.room }
     {
-        let waiting = waiting_list(lane);
-        let Some(first) = self.yard.list_front(waiting) else {
+        let Some(first) = self.yard.list_front(waiting_list(lane)) else {
             return;
         };
-        if self.yard.car(first).step > clock || !self.is_open(lane) {
+        if self.yard.car(first).step > clock {
             return;
         }
-        entering::depart(&mut self.yard, waiting, cells_list(lane), first);
+        let cells = cells_list(lane);
+        if !entering::is_open(&self.yard, cells, &self.closures[lane]) {
+            return;
+        }
+        entering::depart(&mut self.yard, waiting_list(lane), cells, first);
     }
 
     /// How many vehicles are on a lane; takes constant time.
@@ -229,6 +232,7 @@ impl Lanes {
         ensures buffer { (s : LaneState) → LaneStands (lane_of self.now lane) s → result.buffer ≡ length s.queue }
         ensures waiting { (s : LaneState) → LaneStands (lane_of self.now lane) s → result.waiting ≡ length s.waiting }
     {
+        self.yard.whole();
         LaneSizes {
             cells: self.yard.list_len(cells_list(lane)),
             buffer: self.yard.list_len(buffer_list(lane)),

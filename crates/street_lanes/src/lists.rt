@@ -46,5 +46,6 @@ pub(crate) fn let_go(yard: &mut Yard, list: ListId) -> Option<Car>
 {
     let key = yard.list_front(list)?;
     yard.unlink(key);
+    yard.whole();
     Some(yard.take(key))
 }

@@ -24,11 +24,11 @@ fn place_for(yard: &Yard, list: ListId, car: &Car) -> Option<Key>
     let mut cursor = yard.list_back(list);
     while let Some(key) = cursor {
         if !is_before(car, yard.car(key)) {
-            break;
+            return Some(key);
         }
         cursor = yard.ahead(key);
     }
-    cursor
+    None
 }
 
 /// One more waits on a list, at its place in the order of departing.
@@ -39,7 +39,7 @@ pub(crate) fn join(yard: &mut Yard, list: ListId, car: Car)
     ensures { Joins list.0 car yard.old yard.new }
 {
     let at = place_for(yard, list, &car);
+    yard.whole();
     let key = yard.admit_reserved(car);
     yard.insert_behind(list, at, key);
-    yard.whole();
 }
