@@ -7,3 +7,8 @@ pub mod Walking
 pub mod Opening
 pub mod Leaving
 pub mod Joining
+pub mod Access
+pub mod Departing
+pub mod Moves
+pub mod Counting
+pub mod Fresh

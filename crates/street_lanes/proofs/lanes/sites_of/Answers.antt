@@ -1,27 +1,27 @@
-use Rattle.std.proofs.Common.{rules, ◌≡◌, ℕ, ◌+◌, ◌*◌, ◌^◌, ◌<◌, ◌≤◌, length, map, replicate, count_by, is_some, true, [], Some, slice_get, IfOk, IfSome, OnOk, option_map, ◌-◌, ◌/◌, ◌%◌, Bool, false, nat_eq, nat_lt, List, ◌∷◌, ◌++◌, slice_index_or, slice_set, bit_and, bit_or, Fits, w8, w32, w64, Bor, MutBor}
-use Rattle.std.specs.Option.{option_copied, option_to_list}
-use Rattle.street_base.specs.Vehicle.{vehicle_of}
-use Rattle.street_base.specs.Lane.{is_free}
-use Rattle.street_base.specs.State.{LaneState}
-use Rattle.street_base.specs.Census.{in_lane}
-use Rattle.street_base.specs.Release.{with_entry}
-use Rattle.street_base.specs.Departure.{departed_lane}
-use Rattle.street_base.specs.Machine.{with_waiting}
-use Rattle.street_net.specs.Tables.{place_of}
-use Rattle.street_lanes.specs.Views.{LaneStands, waiting_of, queued_of, without_front}
-use Rattle.street_lanes.specs.Lanes.{lane_of, place_at, AllLanes, IsOf, fresh, GoesAt, GoesIf}
-use Rattle.street_lanes.specs.Lists.{HasShortPlan}
-use Rattle.street_lanes.specs.Inside.{AreSites}
+use Rattle.std.proofs.Common.{◌≡◌, ◌<◌, ◌≤◌, length, get_or, sym, ap, ◌∙◌, arith}
+use Rattle.street_base.specs.declared.net.LinkSpec.{LinkSpec}
+use Rattle.street_base.specs.declared.net.NetSpec.{NetSpec}
+use Rattle.street_base.specs.Limits.{most_cells}
+use Rattle.street_base.specs.Network.{no_link}
+use Rattle.street_base.proofs.FaultLemmas.{link_below, link_keeps_limits}
+use Rattle.street_lanes.proofs.Fresh.{own-link}
 use Rattle.street_lanes.proofs.lanes.sites_of.Goals as goal
 
--- src/lanes.rt:78:22
 pub offset_bounds-links-position : goal.offset_bounds-links-position
-offset_bounds-links-position c = ?
+offset_bounds-links-position c =
+    let there = own-link c.args.net.now c.args.own.now c.loop-at.at-index c.at-item.result c.requires c.loop-at-test.true c.at-item.is in
+    let few = link_below c.args.net.now c.spec.ensures.faultless c.at-item.result.link there in
+    omega (arith, few, c.position.ensures)
 
--- src/lanes.rt:78:22
 pub bounds-links-position : goal.bounds-links-position
-bounds-links-position c = ?
+bounds-links-position c =
+    let there = own-link c.args.net.now c.args.own.now c.loop-at.at-index c.at-item.result c.requires c.loop-at-test.true c.at-item.is in
+    let same : length c.as_slice-links.result.now ≡ length c.args.net.now.links = ap length (c.as_slice-links.ensures ∙ ap (λ (n : NetSpec). n.links) c.spec.ensures.value) in
+    omega (arith, there, same, c.position.ensures)
 
--- src/lanes.rt:78:22
 pub overflow_cast-length : goal.overflow_cast-length
-overflow_cast-length c = ?
+overflow_cast-length c =
+    let there = own-link c.args.net.now c.args.own.now c.loop-at.at-index c.at-item.result c.requires c.loop-at-test.true c.at-item.is in
+    let few = (link_keeps_limits c.args.net.now c.spec.ensures.faultless c.at-item.result.link there).few_cells in
+    let here : (get_or c.as_slice-links.result.now c.position.result no_link).length ≤ most_cells = rw (c.as_slice-links.ensures, c.spec.ensures.value, c.position.ensures) few in
+    omega (arith, here)

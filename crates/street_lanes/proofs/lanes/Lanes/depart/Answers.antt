@@ -1,47 +1,60 @@
-use Rattle.std.proofs.Common.{rules, ◌≡◌, ℕ, ◌+◌, ◌*◌, ◌^◌, ◌<◌, ◌≤◌, length, map, replicate, count_by, is_some, true, [], Some, slice_get, IfOk, IfSome, OnOk, option_map, ◌-◌, ◌/◌, ◌%◌, Bool, false, nat_eq, nat_lt, List, ◌∷◌, ◌++◌, slice_index_or, slice_set, bit_and, bit_or, Fits, w8, w32, w64, Bor, MutBor}
-use Rattle.std.specs.Option.{option_copied, option_to_list}
-use Rattle.street_base.specs.Vehicle.{vehicle_of}
+use Rattle.std.proofs.Common.{◌≡◌, true, false, Some, None, sym, ap, subst, ◌∙◌, arith}
+use Rattle.std.specs.Prelude.{slice_get}
 use Rattle.street_base.specs.Lane.{is_free}
-use Rattle.street_base.specs.State.{LaneState}
-use Rattle.street_base.specs.Census.{in_lane}
-use Rattle.street_base.specs.Release.{with_entry}
 use Rattle.street_base.specs.Departure.{departed_lane}
-use Rattle.street_base.specs.Machine.{with_waiting}
-use Rattle.street_net.specs.Tables.{place_of}
-use Rattle.street_lanes.specs.Views.{LaneStands, waiting_of, queued_of, without_front}
-use Rattle.street_lanes.specs.Lanes.{lane_of, place_at, AllLanes, IsOf, fresh, GoesAt, GoesIf}
-use Rattle.street_lanes.specs.Lists.{HasShortPlan}
-use Rattle.street_lanes.specs.Inside.{AreSites}
+use Rattle.street_yard.specs.Yard.{first_or, list_at}
+use Rattle.street_lanes.specs.Lanes.{Lanes, GoesAt}
+use Rattle.street_lanes.specs.Lists.{cells_list, waiting_list, cars_on, Departs}
+use Rattle.street_lanes.specs.Inside.{lane_in, view_of}
+use Rattle.street_lanes.proofs.Cars.{head-held, cars-none, get-first}
+use Rattle.street_lanes.proofs.Access.{in-sites, few-lanes, in-closures, cells-there, waiting-there, stands-in, stays-at}
+use Rattle.street_lanes.proofs.Moves.{open-answer, nobody-departs, shut-stays, early-stays, depart-sound, depart-goes}
 use Rattle.street_lanes.proofs.lanes.Lanes.depart.Goals as goal
 
--- src/lanes.rt:215:48
 pub waiting_list-requires : goal.waiting_list-requires
-waiting_list-requires c = ?
+waiting_list-requires c = few-lanes c.self.inside c.args.self.now c.self.view_is c.args.lane c.requires c.self.invariant
 
--- src/lanes.rt:215:27
 pub list_front-requires : goal.list_front-requires
-list_front-requires c = ?
+list_front-requires c = rw c.waiting_list.ensures (waiting-there c.self.inside c.args.self.now c.self.view_is c.args.lane c.requires c.self.invariant)
 
--- src/lanes.rt:216:13
 pub returns-in_default-clause-goes : goal.returns-in_default-clause-goes
-returns-in_default-clause-goes c = ?
+returns-in_default-clause-goes c = stays-at c.args.lane (departed_lane c.args.clock) c.args.self.now (λ s stands.
+    nobody-departs c.self.inside.yard c.self.inside.closures.items c.self.inside.sites.items c.args.lane c.args.clock
+    (cars-none c.self.inside.yard (waiting_list c.args.lane) (subst (λ l. first_or (list_at c.self.inside.yard l) None ≡ None) c.waiting_list.ensures (sym c.in_default.ensures.front)))
+    s (stands-in c.self.inside c.args.self.now c.self.view_is c.args.lane c.requires s stands))
 
--- src/lanes.rt:218:12
 pub car-requires : goal.car-requires
-car-requires c = ?
+car-requires c = head-held c.self.inside.yard c.waiting_list.result.0 c.in-Some.first.0 c.in-Some.ensures.whole (sym c.in-Some.ensures.front)
 
--- src/lanes.rt:219:13
+first-early : (c : goal.Then-car-clock) → slice_get (cars_on c.self.inside.yard (waiting_list c.args.lane)) 0 ≡ Some c.car.result.now
+first-early c = subst (λ l. slice_get (cars_on c.self.inside.yard l) 0 ≡ Some c.car.result.now) c.waiting_list.ensures (get-first c.self.inside.yard c.waiting_list.result.0 c.in-Some.first.0 c.car.result.now (sym c.in-Some.ensures.front) c.car.ensures)
+
 pub returns-then-car-clock-clause-goes : goal.returns-then-car-clock-clause-goes
-returns-then-car-clock-clause-goes c = ?
+returns-then-car-clock-clause-goes c = stays-at c.args.lane (departed_lane c.args.clock) c.args.self.now (λ s stands.
+    early-stays c.self.inside.yard c.self.inside.closures.items c.self.inside.sites.items c.args.lane c.car.result.now (first-early c) c.args.clock c.if-car-clock.true
+    s (stands-in c.self.inside c.args.self.now c.self.view_is c.args.lane c.requires s stands))
 
--- src/lanes.rt:223:13
 pub returns-then-not-is_open-clause-goes : goal.returns-then-not-is_open-clause-goes
-returns-then-not-is_open-clause-goes c = ?
+returns-then-not-is_open-clause-goes c =
+    let answer = open-answer c.self.inside c.args.self.now c.self.view_is c.args.lane c.requires c.self.invariant c.cells_list-cells.result.0 c.index.result.now c.is_open.result c.cells_list-cells.ensures c.index.ensures c.is_open.ensures in
+    stays-at c.args.lane (departed_lane c.args.clock) c.args.self.now (λ s stands.
+    shut-stays c.self.inside.yard c.self.inside.closures.items c.self.inside.sites.items c.args.lane c.args.clock (sym answer ∙ c.if-not-is_open.true)
+    s (stands-in c.self.inside c.args.self.now c.self.view_is c.args.lane c.requires s stands))
 
--- src/lanes.rt:210:5
+is_open_at : (c : goal.After-depart) → is_free (lane_in c.self.inside.yard c.self.inside.closures.items c.self.inside.sites.items c.args.lane).track 0 ≡ true
+is_open_at c = sym (open-answer c.self.inside c.args.self.now c.self.view_is c.args.lane c.requires c.self.invariant c.cells_list-cells.result.0 c.index.result.now c.is_open.result c.cells_list-cells.ensures c.index.ensures c.is_open.ensures) ∙ c.if-not-is_open.false
+
+first-goes : (c : goal.After-depart) → slice_get (cars_on c.self.inside.yard (waiting_list c.args.lane)) 0 ≡ Some c.car.result.now
+first-goes c = subst (λ l. slice_get (cars_on c.self.inside.yard l) 0 ≡ Some c.car.result.now) c.waiting_list.ensures (get-first c.self.inside.yard c.waiting_list.result.0 c.in-Some.first.0 c.car.result.now (sym c.in-Some.ensures.front) c.car.ensures)
+
+departs : (c : goal.After-depart) → Departs (waiting_list c.args.lane) (cells_list c.args.lane) c.car.result.now c.self.inside.yard c.depart.new.yard
+departs c =
+    subst (λ l. Departs (waiting_list c.args.lane) l c.car.result.now c.self.inside.yard c.depart.new.yard) c.cells_list-cells.ensures
+    (subst (λ l. Departs l c.cells_list-cells.result.0 c.car.result.now c.self.inside.yard c.depart.new.yard) c.waiting_list-2.ensures (c.depart.ensures c.car.result.now c.car.ensures))
+
 pub invariant_of-self : goal.invariant_of-self
-invariant_of-self c = ?
+invariant_of-self c = depart-sound c.self.inside.yard c.depart.new.yard c.self.inside.closures.items c.self.inside.sites.items c.self.inside.dice c.args.lane c.self.invariant (in-sites c.self.inside c.args.self.now c.self.view_is c.args.lane c.requires) (is_open_at c) c.car.result.now c.args.clock (first-goes c) c.if-car-clock.false (departs c)
 
--- src/lanes.rt:210:5
 pub returns-clause-goes : goal.returns-clause-goes
-returns-clause-goes c = ?
+returns-clause-goes c = subst (λ (v : Lanes). GoesAt c.args.lane (departed_lane c.args.clock) v (view_of c.depart.new.yard c.self.inside.closures.items c.self.inside.sites.items c.self.inside.dice)) c.self.view_is
+    (depart-goes c.self.inside.yard c.depart.new.yard c.self.inside.closures.items c.self.inside.sites.items c.self.inside.dice c.args.lane c.self.invariant (in-sites c.self.inside c.args.self.now c.self.view_is c.args.lane c.requires) (is_open_at c) c.car.result.now c.args.clock (first-goes c) c.if-car-clock.false (departs c))

@@ -1,31 +1,29 @@
-use Rattle.std.proofs.Common.{rules, ◌≡◌, ℕ, ◌+◌, ◌*◌, ◌^◌, ◌<◌, ◌≤◌, length, map, replicate, count_by, is_some, true, [], Some, slice_get, IfOk, IfSome, OnOk, option_map, ◌-◌, ◌/◌, ◌%◌, Bool, false, nat_eq, nat_lt, List, ◌∷◌, ◌++◌, slice_index_or, slice_set, bit_and, bit_or, Fits, w8, w32, w64, Bor, MutBor}
-use Rattle.std.specs.Option.{option_copied, option_to_list}
-use Rattle.street_base.specs.Vehicle.{vehicle_of}
-use Rattle.street_base.specs.Lane.{is_free}
-use Rattle.street_base.specs.State.{LaneState}
-use Rattle.street_base.specs.Census.{in_lane}
-use Rattle.street_base.specs.Release.{with_entry}
-use Rattle.street_base.specs.Departure.{departed_lane}
-use Rattle.street_base.specs.Machine.{with_waiting}
-use Rattle.street_net.specs.Tables.{place_of}
-use Rattle.street_lanes.specs.Views.{LaneStands, waiting_of, queued_of, without_front}
-use Rattle.street_lanes.specs.Lanes.{lane_of, place_at, AllLanes, IsOf, fresh, GoesAt, GoesIf}
-use Rattle.street_lanes.specs.Lists.{HasShortPlan}
-use Rattle.street_lanes.specs.Inside.{AreSites}
+use Rattle.std.proofs.Common.{◌≡◌, Option, Some, None, IfSome, sym, ap, subst, ◌∙◌, Bor}
+use Rattle.std.specs.Prelude.{slice_get, option_map}
+use Rattle.std.specs.Option.{option_copied}
+use Rattle.street_base.specs.declared.car.Car.{Car}
+use Rattle.street_yard.specs.Yard.{list_at}
+use Rattle.street_lanes.specs.Views.{queued_of}
+use Rattle.street_lanes.specs.Lists.{buffer_list, cars_on, HasShortPlan}
+use Rattle.street_lanes.proofs.Access.{few-lanes, buffer-there, stands-in}
+use Rattle.street_lanes.proofs.Moves.{get-map, first-short}
 use Rattle.street_lanes.proofs.lanes.Lanes.front.Goals as goal
 
--- src/lanes.rt:180:38
 pub buffer_list-requires : goal.buffer_list-requires
-buffer_list-requires c = ?
+buffer_list-requires c = few-lanes c.self.inside c.args.self.now c.self.view_is c.args.lane c.requires c.self.invariant
 
--- src/lanes.rt:180:9
 pub first_car-requires : goal.first_car-requires
-first_car-requires c = ?
+first_car-requires c = rw c.buffer_list.ensures (buffer-there c.self.inside c.args.self.now c.self.view_is c.args.lane c.requires c.self.invariant)
 
--- src/lanes.rt:175:5
+first : (c : goal.After-first_car) → option_copied c.first_car.result ≡ slice_get (cars_on c.self.inside.yard (buffer_list c.args.lane)) 0
+first c = c.first_car.ensures ∙ ap (λ l. slice_get (cars_on c.self.inside.yard l) 0) c.buffer_list.ensures
+
 pub returns-clause-front : goal.returns-clause-front
-returns-clause-front c = ?
+returns-clause-front c s stands = ap (option_map queued_of) (first c) ∙ get-map queued_of (cars_on c.self.inside.yard (buffer_list c.args.lane)) ∙ ap (λ q. slice_get q 0) (stands-in c.self.inside c.args.self.now c.self.view_is c.args.lane c.requires s stands).queue
 
--- src/lanes.rt:175:5
+short-of : (o : Option (Bor Car)) → IfSome (option_copied o) HasShortPlan → IfSome o (λ car. HasShortPlan car.now)
+short-of None h = tt
+short-of (Some x) h = h
+
 pub returns-clause-short : goal.returns-clause-short
-returns-clause-short c = ?
+returns-clause-short c = short-of c.first_car.result (subst (λ (o : Option Car). IfSome o HasShortPlan) (sym (first c)) (first-short c.self.inside.yard (list_at c.self.inside.yard (buffer_list c.args.lane)) c.self.invariant.short))

@@ -1,31 +1,21 @@
-use Rattle.std.proofs.Common.{rules, ◌≡◌, ℕ, ◌+◌, ◌*◌, ◌^◌, ◌<◌, ◌≤◌, length, map, replicate, count_by, is_some, true, [], Some, slice_get, IfOk, IfSome, OnOk, option_map, ◌-◌, ◌/◌, ◌%◌, Bool, false, nat_eq, nat_lt, List, ◌∷◌, ◌++◌, slice_index_or, slice_set, bit_and, bit_or, Fits, w8, w32, w64, Bor, MutBor}
-use Rattle.std.specs.Option.{option_copied, option_to_list}
-use Rattle.street_base.specs.Vehicle.{vehicle_of}
-use Rattle.street_base.specs.Lane.{is_free}
-use Rattle.street_base.specs.State.{LaneState}
-use Rattle.street_base.specs.Census.{in_lane}
-use Rattle.street_base.specs.Release.{with_entry}
-use Rattle.street_base.specs.Departure.{departed_lane}
-use Rattle.street_base.specs.Machine.{with_waiting}
-use Rattle.street_net.specs.Tables.{place_of}
-use Rattle.street_lanes.specs.Views.{LaneStands, waiting_of, queued_of, without_front}
-use Rattle.street_lanes.specs.Lanes.{lane_of, place_at, AllLanes, IsOf, fresh, GoesAt, GoesIf}
-use Rattle.street_lanes.specs.Lists.{HasShortPlan}
-use Rattle.street_lanes.specs.Inside.{AreSites}
+use Rattle.std.proofs.Common.{◌≡◌, ap, ◌∙◌, arith, []}
+use Rattle.std.proofs.lemmas.List.{get_or_read}
+use Rattle.street_base.specs.Lane.{Track, is_free}
+use Rattle.street_lanes.proofs.Access.{in-sites, few-lanes, in-closures, cells-there, stands-in}
+use Rattle.street_lanes.proofs.Moves.{open-is}
 use Rattle.street_lanes.proofs.lanes.Lanes.is_open.Goals as goal
 
--- src/lanes.rt:160:39
 pub cells_list-requires : goal.cells_list-requires
-cells_list-requires c = ?
+cells_list-requires c = few-lanes c.self.inside c.args.self.now c.self.view_is c.args.lane c.requires c.self.invariant
 
--- src/lanes.rt:160:58
 pub index-requires : goal.index-requires
-index-requires c = ?
+index-requires c = omega (arith, in-closures c.self.inside c.args.self.now c.self.view_is c.args.lane c.requires c.self.invariant, c.self.inside.closures.ok.0)
 
--- src/lanes.rt:160:9
 pub is_open-requires : goal.is_open-requires
-is_open-requires c = ?
+is_open-requires c = rw c.cells_list.ensures (cells-there c.self.inside c.args.self.now c.self.view_is c.args.lane c.requires c.self.invariant)
 
--- src/lanes.rt:156:5
 pub returns : goal.returns
-returns c = ?
+returns c s stands =
+    open-is c.self.inside.yard c.self.inside.closures.items c.self.inside.sites.items c.args.lane c.self.invariant (in-sites c.self.inside c.args.self.now c.self.view_is c.args.lane c.requires) c.cells_list.result.0 c.index.result.now c.is_open.result c.cells_list.ensures
+    (get_or_read c.self.inside.closures.items c.args.lane c.index.result.now (in-closures c.self.inside c.args.self.now c.self.view_is c.args.lane c.requires c.self.invariant) c.index.ensures []) c.is_open.ensures
+    ∙ ap (λ (t : Track). is_free t 0) (stands-in c.self.inside c.args.self.now c.self.view_is c.args.lane c.requires s stands).track

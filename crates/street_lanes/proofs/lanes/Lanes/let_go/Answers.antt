@@ -1,39 +1,30 @@
-use Rattle.std.proofs.Common.{rules, ◌≡◌, ℕ, ◌+◌, ◌*◌, ◌^◌, ◌<◌, ◌≤◌, length, map, replicate, count_by, is_some, true, [], Some, slice_get, IfOk, IfSome, OnOk, option_map, ◌-◌, ◌/◌, ◌%◌, Bool, false, nat_eq, nat_lt, List, ◌∷◌, ◌++◌, slice_index_or, slice_set, bit_and, bit_or, Fits, w8, w32, w64, Bor, MutBor}
-use Rattle.std.specs.Option.{option_copied, option_to_list}
-use Rattle.street_base.specs.Vehicle.{vehicle_of}
-use Rattle.street_base.specs.Lane.{is_free}
-use Rattle.street_base.specs.State.{LaneState}
-use Rattle.street_base.specs.Census.{in_lane}
-use Rattle.street_base.specs.Release.{with_entry}
-use Rattle.street_base.specs.Departure.{departed_lane}
-use Rattle.street_base.specs.Machine.{with_waiting}
-use Rattle.street_net.specs.Tables.{place_of}
-use Rattle.street_lanes.specs.Views.{LaneStands, waiting_of, queued_of, without_front}
-use Rattle.street_lanes.specs.Lanes.{lane_of, place_at, AllLanes, IsOf, fresh, GoesAt, GoesIf}
-use Rattle.street_lanes.specs.Lists.{HasShortPlan}
-use Rattle.street_lanes.specs.Inside.{AreSites}
+use Rattle.std.proofs.Common.{subst, sym}
+use Rattle.street_lanes.specs.Lanes.{Lanes, GoesAt}
+use Rattle.street_lanes.specs.Views.{without_front}
+use Rattle.street_lanes.specs.Lists.{buffer_list, LetsGo}
+use Rattle.street_lanes.specs.Inside.{view_of}
+use Rattle.street_lanes.proofs.Access.{in-sites, few-lanes, buffer-there, stands-in}
+use Rattle.street_lanes.proofs.Moves.{let_go-sound, let_go-goes, let_go-front, let_go-short}
 use Rattle.street_lanes.proofs.lanes.Lanes.let_go.Goals as goal
 
--- src/lanes.rt:191:39
 pub buffer_list-requires : goal.buffer_list-requires
-buffer_list-requires c = ?
+buffer_list-requires c = few-lanes c.self.inside c.args.self.now c.self.view_is c.args.lane c.requires c.self.invariant
 
--- src/lanes.rt:191:9
 pub let_go-requires : goal.let_go-requires
-let_go-requires c = ?
+let_go-requires c = rw c.buffer_list.ensures (buffer-there c.self.inside c.args.self.now c.self.view_is c.args.lane c.requires c.self.invariant)
 
--- src/lanes.rt:184:5
+goes : (c : goal.After-let_go) → LetsGo (buffer_list c.args.lane) c.self.inside.yard c.let_go.new.yard c.let_go.result
+goes c = subst (λ l. LetsGo l c.self.inside.yard c.let_go.new.yard c.let_go.result) c.buffer_list.ensures c.let_go.ensures
+
 pub invariant_of-self : goal.invariant_of-self
-invariant_of-self c = ?
+invariant_of-self c = let_go-sound c.self.inside.yard c.let_go.new.yard c.self.inside.closures.items c.self.inside.sites.items c.self.inside.dice c.args.lane c.self.invariant (in-sites c.self.inside c.args.self.now c.self.view_is c.args.lane c.requires) c.let_go.result (goes c)
 
--- src/lanes.rt:184:5
 pub returns-clause-goes : goal.returns-clause-goes
-returns-clause-goes c = ?
+returns-clause-goes c = subst (λ (v : Lanes). GoesAt c.args.lane without_front v (view_of c.let_go.new.yard c.self.inside.closures.items c.self.inside.sites.items c.self.inside.dice)) c.self.view_is
+    (let_go-goes c.self.inside.yard c.let_go.new.yard c.self.inside.closures.items c.self.inside.sites.items c.self.inside.dice c.args.lane c.self.invariant (in-sites c.self.inside c.args.self.now c.self.view_is c.args.lane c.requires) c.let_go.result (goes c))
 
--- src/lanes.rt:184:5
 pub returns-clause-front : goal.returns-clause-front
-returns-clause-front c = ?
+returns-clause-front c s stands = let_go-front c.self.inside.yard c.let_go.new.yard c.self.inside.closures.items c.self.inside.sites.items c.self.inside.dice c.args.lane c.self.invariant (in-sites c.self.inside c.args.self.now c.self.view_is c.args.lane c.requires) c.let_go.result (goes c) s (stands-in c.self.inside c.args.self.now c.self.view_is c.args.lane c.requires s stands)
 
--- src/lanes.rt:184:5
 pub returns-clause-short : goal.returns-clause-short
-returns-clause-short c = ?
+returns-clause-short c = let_go-short c.self.inside.yard c.let_go.new.yard c.self.inside.closures.items c.self.inside.sites.items c.self.inside.dice c.args.lane c.self.invariant (in-sites c.self.inside c.args.self.now c.self.view_is c.args.lane c.requires) c.let_go.result (goes c)

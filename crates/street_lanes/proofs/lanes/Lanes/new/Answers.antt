@@ -1,35 +1,35 @@
-use Rattle.std.proofs.Common.{rules, ◌≡◌, ℕ, ◌+◌, ◌*◌, ◌^◌, ◌<◌, ◌≤◌, length, map, replicate, count_by, is_some, true, [], Some, slice_get, IfOk, IfSome, OnOk, option_map, ◌-◌, ◌/◌, ◌%◌, Bool, false, nat_eq, nat_lt, List, ◌∷◌, ◌++◌, slice_index_or, slice_set, bit_and, bit_or, Fits, w8, w32, w64, Bor, MutBor}
-use Rattle.std.specs.Option.{option_copied, option_to_list}
-use Rattle.street_base.specs.Vehicle.{vehicle_of}
-use Rattle.street_base.specs.Lane.{is_free}
-use Rattle.street_base.specs.State.{LaneState}
-use Rattle.street_base.specs.Census.{in_lane}
-use Rattle.street_base.specs.Release.{with_entry}
-use Rattle.street_base.specs.Departure.{departed_lane}
-use Rattle.street_base.specs.Machine.{with_waiting}
+use Rattle.std.proofs.Common.{◌≡◌, ◌≤◌, sym, ap, subst, ◌∙◌, arith, map}
+use Rattle.street_base.specs.declared.net.NetSpec.{NetSpec}
+use Rattle.street_base.specs.Limits.{most_dawdle, most_change}
+use Rattle.street_base.proofs.FaultLemmas.{good_dawdle, good_change}
+use Rattle.street_draw.specs.Odds.{Odds}
+use Rattle.street_change.specs.Sight.{odds_of}
 use Rattle.street_net.specs.Tables.{place_of}
-use Rattle.street_lanes.specs.Views.{LaneStands, waiting_of, queued_of, without_front}
-use Rattle.street_lanes.specs.Lanes.{lane_of, place_at, AllLanes, IsOf, fresh, GoesAt, GoesIf}
-use Rattle.street_lanes.specs.Lists.{HasShortPlan}
-use Rattle.street_lanes.specs.Inside.{AreSites}
+use Rattle.street_lanes.specs.Lanes.{Lanes, IsOf, fresh}
+use Rattle.street_lanes.specs.Inside.{view_of}
+use Rattle.street_lanes.proofs.Fresh.{fresh-sound, fresh-view, fresh-of}
 use Rattle.street_lanes.proofs.lanes.Lanes.new.Goals as goal
 
--- src/lanes.rt:112:48
 pub overflow_cast-spec : goal.overflow_cast-spec
-overflow_cast-spec c = ?
+overflow_cast-spec c =
+    let good : c.spec-spec.result.now.dawdle ≤ most_dawdle = rw c.spec-spec.ensures.value (good_dawdle c.args.net.now c.spec-spec.ensures.faultless) in
+    omega (arith, good)
 
--- src/lanes.rt:112:68
 pub overflow_cast-spec-2 : goal.overflow_cast-spec-2
-overflow_cast-spec-2 c = ?
+overflow_cast-spec-2 c =
+    let good : c.spec-spec.result.now.change ≤ most_change = rw c.spec-spec.ensures.value (good_change c.args.net.now c.spec-spec.ensures.faultless) in
+    omega (arith, good)
 
--- src/lanes.rt:113:9
 pub invariant_of-result : goal.invariant_of-result
-invariant_of-result c = ?
+invariant_of-result c = fresh-sound c.args.net.now c.args.own.now c.in_ok-yard.yard c.in_ok-closures.closures.items c.in_ok-sites.sites.items c.spec-spec.ensures.faultless c.requires c.in_ok-yard.ensures.lists c.in_ok-yard.ensures.kept c.in_ok-closures.ensures c.in_ok-sites.ensures (omega (arith, c.if-own.false))
 
--- src/lanes.rt:100:5
+view : (c : goal.In_ok-dice) → view_of c.in_ok-yard.yard c.in_ok-closures.closures.items c.in_ok-sites.sites.items c.in_ok-dice.dice ≡ fresh c.args.net.now (map place_of c.args.own.now) c.in_ok-yard.yard.room
+view c =
+    ap (view_of c.in_ok-yard.yard c.in_ok-closures.closures.items c.in_ok-sites.sites.items) (c.in_ok-dice.ensures ∙ ap odds_of c.spec-spec.ensures.value)
+    ∙ fresh-view c.args.net.now c.args.own.now c.in_ok-yard.yard c.in_ok-closures.closures.items c.in_ok-sites.sites.items c.spec-spec.ensures.faultless c.requires c.in_ok-yard.ensures.lists c.in_ok-yard.ensures.kept c.in_ok-closures.ensures c.in_ok-sites.ensures (omega (arith, c.if-own.false))
+
 pub returns-clause-fresh : goal.returns-clause-fresh
-returns-clause-fresh c = ?
+returns-clause-fresh c = view c
 
--- src/lanes.rt:100:5
 pub returns-clause-of : goal.returns-clause-of
-returns-clause-of c = ?
+returns-clause-of c = subst (IsOf c.args.net.now) (sym (view c)) (fresh-of c.args.net.now (map place_of c.args.own.now) c.in_ok-yard.yard.room c.requires)

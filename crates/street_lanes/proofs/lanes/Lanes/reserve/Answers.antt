@@ -1,31 +1,19 @@
-use Rattle.std.proofs.Common.{rules, ◌≡◌, ℕ, ◌+◌, ◌*◌, ◌^◌, ◌<◌, ◌≤◌, length, map, replicate, count_by, is_some, true, [], Some, slice_get, IfOk, IfSome, OnOk, option_map, ◌-◌, ◌/◌, ◌%◌, Bool, false, nat_eq, nat_lt, List, ◌∷◌, ◌++◌, slice_index_or, slice_set, bit_and, bit_or, Fits, w8, w32, w64, Bor, MutBor}
-use Rattle.std.specs.Option.{option_copied, option_to_list}
-use Rattle.street_base.specs.Vehicle.{vehicle_of}
-use Rattle.street_base.specs.Lane.{is_free}
-use Rattle.street_base.specs.State.{LaneState}
-use Rattle.street_base.specs.Census.{in_lane}
-use Rattle.street_base.specs.Release.{with_entry}
-use Rattle.street_base.specs.Departure.{departed_lane}
-use Rattle.street_base.specs.Machine.{with_waiting}
-use Rattle.street_net.specs.Tables.{place_of}
-use Rattle.street_lanes.specs.Views.{LaneStands, waiting_of, queued_of, without_front}
-use Rattle.street_lanes.specs.Lanes.{lane_of, place_at, AllLanes, IsOf, fresh, GoesAt, GoesIf}
-use Rattle.street_lanes.specs.Lists.{HasShortPlan}
-use Rattle.street_lanes.specs.Inside.{AreSites}
+use Rattle.std.proofs.Common.{sym, ap, ◌∙◌}
+use Rattle.street_draw.specs.Odds.{Odds}
+use Rattle.street_lanes.specs.Inside.{view_of}
+use Rattle.street_lanes.proofs.Fresh.{reserved-sound, reserved-view}
 use Rattle.street_lanes.proofs.lanes.Lanes.reserve.Goals as goal
 
--- src/lanes.rt:151:9
 pub invariant_of-self : goal.invariant_of-self
-invariant_of-self c = ?
+invariant_of-self c = reserved-sound c.self.inside.yard c.reserve-reserved.new.self c.self.inside.closures.items c.self.inside.sites.items c.reserve-reserved.ensures.rest_kept c.self.invariant
 
--- src/lanes.rt:151:9
 pub returns-in_err-reserved-clause-rest_kept : goal.returns-in_err-reserved-clause-rest_kept
-returns-in_err-reserved-clause-rest_kept c = ?
+returns-in_err-reserved-clause-rest_kept c = reserved-view c.self.inside.yard c.reserve-reserved.new.self c.self.inside.closures.items c.self.inside.sites.items c.reserve-reserved.ensures.rest_kept c.self.inside.dice c.args.self.now c.self.view_is
 
--- src/lanes.rt:142:5
 pub invariant_of-self-2 : goal.invariant_of-self-2
-invariant_of-self-2 c = ?
+invariant_of-self-2 c = reserved-sound c.self.inside.yard c.reserve-reserved.new.self c.self.inside.closures.items c.self.inside.sites.items c.reserve-reserved.ensures.rest_kept c.self.invariant
 
--- src/lanes.rt:142:5
 pub returns-clause-rest_kept : goal.returns-clause-rest_kept
-returns-clause-rest_kept c = ?
+returns-clause-rest_kept c =
+    ap (λ (d : Odds). view_of c.reserve-reserved.new.self c.self.inside.closures.items c.self.inside.sites.items d) c.reserve.ensures
+    ∙ reserved-view c.self.inside.yard c.reserve-reserved.new.self c.self.inside.closures.items c.self.inside.sites.items c.reserve-reserved.ensures.rest_kept c.self.inside.dice c.args.self.now c.self.view_is
