@@ -37,9 +37,9 @@ sizes-are y closures sites =
     fill_by_all (λ n. (length_at sites n, length_at sites n)) (map size_of (lanes_in y closures sites)) (length sites) (0, 0)
     (length-map (lanes_in y closures sites) size_of ∙ lanes-count y closures sites)
     (λ k h.
-      get_or-map size_of (lanes_in y closures sites) k no_lane (0, 0) (rw lanes-count h)
-      ∙ ap size_of (lane-in y closures sites k h)
-      ∙ (λ i. (cells-count y (cells_list k) (length_at sites k) i, closed_marks-length (closed_at closures k) (length_at sites k) i)))
+    get_or-map size_of (lanes_in y closures sites) k no_lane (0, 0) (rw lanes-count h)
+    ∙ ap size_of (lane-in y closures sites k h)
+    ∙ (λ i. (cells-count y (cells_list k) (length_at sites k) i, closed_marks-length (closed_at closures k) (length_at sites k) i)))
 
 -- ---- lists of one lane
 

@@ -59,9 +59,9 @@ put-at : (y : Yard) (list key : ℕ) (at : Option ℕ) (up down : List ℕ) → 
 put-at y list key at up down whole split at_end = elim (snoc_cases up) as (λ _. put_behind at key (list_at y list) ≡ up ++ key ∷ down) [
   | inl none ↦ ap (λ o. put_behind o key (list_at y list)) (at_end ∙ ap (λ l. last_or l None) none) ∙ ap (λ l. key ∷ l) (split ∙ ap (λ l. l ++ down) none) ∙ sym (ap (λ l. l ++ key ∷ down) none)
   | inr s ↦ (
-    ap (λ o. put_behind o key (list_at y list)) (at_end ∙ ap (λ l. last_or l None) s.2 ∙ last_or-push s.0 s.1 None)
-    ∙ put_behind-is y list s.1 s.0 down whole (split ∙ ap (λ l. l ++ down) s.2 ∙ append_assoc s.0 (s.1 ∷ []) down) key
-    ∙ sym (ap (λ l. l ++ key ∷ down) s.2 ∙ append_assoc s.0 (s.1 ∷ []) (key ∷ down)))
+      ap (λ o. put_behind o key (list_at y list)) (at_end ∙ ap (λ l. last_or l None) s.2 ∙ last_or-push s.0 s.1 None)
+      ∙ put_behind-is y list s.1 s.0 down whole (split ∙ ap (λ l. l ++ down) s.2 ∙ append_assoc s.0 (s.1 ∷ []) down) key
+      ∙ sym (ap (λ l. l ++ key ∷ down) s.2 ∙ append_assoc s.0 (s.1 ∷ []) (key ∷ down)))
 ]
 
 has-left : (xs ys : List ℕ) (k : ℕ) → Has xs k → Has (xs ++ ys) k
@@ -81,21 +81,21 @@ last-sooner : (y : Yard) (list : ℕ) (car : Car) (at : Option ℕ) → IsWhole 
 last-sooner y list car at whole p = elim (snoc_cases p.up) as (λ _. LastNotAfter (waiting_of car) (map waiting_of (filter_map (car_of y) p.up))) [
   | inl none ↦ subst (λ l. LastNotAfter (waiting_of car) (map waiting_of (filter_map (car_of y) l))) (sym none) tt
   | inr s ↦ (
-    let on : Has (list_at y list) s.1 = (s.0, p.down, p.split ∙ ap (λ l. l ++ p.down) s.2 ∙ append_assoc s.0 (s.1 ∷ []) p.down) in
-    let c = car_there y list s.1 whole on in
-    let cars : filter_map (car_of y) p.up ≡ filter_map (car_of y) s.0 ++ c.0 ∷ [] = ap (filter_map (car_of y)) s.2 ∙ filter_map-append (car_of y) s.0 (s.1 ∷ []) ∙ ap (λ o. filter_map (car_of y) s.0 ++ cons_option o []) c.1 in
-    let no_later = p.sooner s.1 c.0 (p.at_end ∙ ap (λ l. last_or l None) s.2 ∙ last_or-push s.0 s.1 None) c.1 in
-    subst (LastNotAfter (waiting_of car)) (sym (ap (map waiting_of) cars ∙ map-append waiting_of (filter_map (car_of y) s.0) (c.0 ∷ []))) (LastNotAfter-push (waiting_of car) (map waiting_of (filter_map (car_of y) s.0)) (waiting_of c.0) no_later))
+      let on : Has (list_at y list) s.1 = (s.0, p.down, p.split ∙ ap (λ l. l ++ p.down) s.2 ∙ append_assoc s.0 (s.1 ∷ []) p.down) in
+      let c = car_there y list s.1 whole on in
+      let cars : filter_map (car_of y) p.up ≡ filter_map (car_of y) s.0 ++ c.0 ∷ [] = ap (filter_map (car_of y)) s.2 ∙ filter_map-append (car_of y) s.0 (s.1 ∷ []) ∙ ap (λ o. filter_map (car_of y) s.0 ++ cons_option o []) c.1 in
+      let no_later = p.sooner s.1 c.0 (p.at_end ∙ ap (λ l. last_or l None) s.2 ∙ last_or-push s.0 s.1 None) c.1 in
+      subst (LastNotAfter (waiting_of car)) (sym (ap (map waiting_of) cars ∙ map-append waiting_of (filter_map (car_of y) s.0) (c.0 ∷ []))) (LastNotAfter-push (waiting_of car) (map waiting_of (filter_map (car_of y) s.0)) (waiting_of c.0) no_later))
 ]
 
 pub at-listed : (y a : Yard) (list key : ℕ) (car : Car) (at : Option ℕ) → IsWhole y → entry_at y key ≡ None → Updates y a key (Some (record { car = car; mark = false; list = None })) → IsPlaceFor y list car at → IsOnList a list at
 at-listed y a list key car at whole vacant updates p = elim (snoc_cases p.up) as (λ _. IsOnList a list at) [
   | inl none ↦ subst (IsOnList a list) (sym (p.at_end ∙ ap (λ l. last_or l None) none)) tt
   | inr s ↦ (
-    let on : Has (list_at y list) s.1 = (s.0, p.down, p.split ∙ ap (λ l. l ++ p.down) s.2 ∙ append_assoc s.0 (s.1 ∷ []) p.down) in
-    let ne = not-loose y key list s.1 whole (ap (option_and_then (λ (e : Kept). e.list)) vacant) on in
-    let there : place_of a s.1 ≡ Some list = ap (option_and_then (λ (e : Kept). e.list)) (updates.others s.1 ne) ∙ whole.names s.1 list on in
-    subst (IsOnList a list) (sym (p.at_end ∙ ap (λ l. last_or l None) s.2 ∙ last_or-push s.0 s.1 None)) there)
+      let on : Has (list_at y list) s.1 = (s.0, p.down, p.split ∙ ap (λ l. l ++ p.down) s.2 ∙ append_assoc s.0 (s.1 ∷ []) p.down) in
+      let ne = not-loose y key list s.1 whole (ap (option_and_then (λ (e : Kept). e.list)) vacant) on in
+      let there : place_of a s.1 ≡ Some list = ap (option_and_then (λ (e : Kept). e.list)) (updates.others s.1 ne) ∙ whole.names s.1 list on in
+      subst (IsOnList a list) (sym (p.at_end ∙ ap (λ l. last_or l None) s.2 ∙ last_or-push s.0 s.1 None)) there)
 ]
 
 pub joins : (y a new : Yard) (list key : ℕ) (car : Car) (at : Option ℕ) → IsWhole y → list < length y.lists → HasShortPlan car → IsPlaceFor y list car at → entry_at y key ≡ None → Updates y a key (Some (record { car = car; mark = false; list = None })) → a.lists ≡ y.lists → a.room + 1 ≡ y.room
@@ -112,9 +112,9 @@ joins y a new list key car at whole there short p vacant updates lists room put 
     let mine : car_of new key ≡ Some car = cars key ∙ admit-car y a key car whole short vacant updates lists in
     let were : cars_on y list ≡ filter_map (car_of y) p.up ++ filter_map (car_of y) p.down = ap (filter_map (car_of y)) p.split ∙ filter_map-append (car_of y) p.up p.down in
     let are : cars_on new list ≡ filter_map (car_of y) p.up ++ car ∷ filter_map (car_of y) p.down =
-        ap (filter_map (car_of new)) listed ∙ filter_map-append (car_of new) p.up (key ∷ p.down)
-        ∙ ap (λ o. filter_map (car_of new) p.up ++ cons_option o (filter_map (car_of new) p.down)) mine
-        ∙ (λ i. upper i ++ car ∷ lower i) in
+    ap (filter_map (car_of new)) listed ∙ filter_map-append (car_of new) p.up (key ∷ p.down)
+    ∙ ap (λ o. filter_map (car_of new) p.up ++ cons_option o (filter_map (car_of new) p.down)) mine
+    ∙ (λ i. upper i ++ car ∷ lower i) in
     let were_w : map waiting_of (cars_on y list) ≡ map waiting_of (filter_map (car_of y) p.up) ++ map waiting_of (filter_map (car_of y) p.down) = ap (map waiting_of) were ∙ map-append waiting_of (filter_map (car_of y) p.up) (filter_map (car_of y) p.down) in
     record {
       touches = touch-trans (list ∷ []) y a new (touch-more (list ∷ []) y a touch) (subst (Touches (list ∷ []) a) (sym put) (relisted a list (put_behind at key (list_at a list)) (place_set a.kept key (Some list)) (λ k. car_of-place_set a.kept key (Some list) k)));

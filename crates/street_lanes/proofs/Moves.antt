@@ -157,15 +157,15 @@ module _ (y new : Yard) (closures : List (List Stretch)) (sites : List Site) (od
 
     pub admit-goes : GoesIf n (λ s. in_lane car.number s ≡ 0) (with_waiting (waiting_of car)) (view_of y closures sites odds) (view_of new closures sites odds)
     admit-goes = frame-if y new closures sites odds n (waiting_list n ∷ []) sound within (with-waiting n, tt) joins.touches (λ s. in_lane car.number s ≡ 0) (with_waiting (waiting_of car)) (λ s st nowhere.
-      let is_new = new-from_sum car.number s.waiting (omega (arith, nowhere)) in
-      let put : after.waiting ≡ put_in_order (waiting_of car) before.waiting = joins.order st.order in
-      let fresh : IsNew car.number before.waiting = subst (IsNew car.number) (sym st.waiting) (in_order-new car.number s.waiting is_new) in
-      record {
-        track = same-track wait_cells ∙ st.track;
-        queue = same-queue wait_buffer ∙ st.queue;
-        waiting = put ∙ ap (put_in_order (waiting_of car)) st.waiting ∙ sym (in_order-push (waiting_of car) s.waiting is_new);
-        order = subst AreInOrder (sym put) (put-ordered (waiting_of car) before.waiting fresh st.order);
-      })
+        let is_new = new-from_sum car.number s.waiting (omega (arith, nowhere)) in
+        let put : after.waiting ≡ put_in_order (waiting_of car) before.waiting = joins.order st.order in
+        let fresh : IsNew car.number before.waiting = subst (IsNew car.number) (sym st.waiting) (in_order-new car.number s.waiting is_new) in
+        record {
+          track = same-track wait_cells ∙ st.track;
+          queue = same-queue wait_buffer ∙ st.queue;
+          waiting = put ∙ ap (put_in_order (waiting_of car)) st.waiting ∙ sym (in_order-push (waiting_of car) s.waiting is_new);
+          order = subst AreInOrder (sym put) (put-ordered (waiting_of car) before.waiting fresh st.order);
+        })
 
   -- ---- a vehicle comes into cell 0, which is free
 
@@ -204,15 +204,15 @@ module _ (y new : Yard) (closures : List (List Stretch)) (sites : List Site) (od
 
       pub depart-goes : GoesAt n (departed_lane clock) (view_of y closures sites odds) (view_of new closures sites odds)
       depart-goes = frame-at y new closures sites odds n (waiting_list n ∷ cells_list n ∷ []) sound within (with-waiting n, (with-cells n, tt)) departs.touches (departed_lane clock) (λ s st.
-        let w = waiting_of car in
-        let rest = drop 1 before.waiting in
-        let is_first : in_order s.waiting ≡ w ∷ rest = sym st.waiting ∙ ahead y closures sites n car first in
-        let order : AreInOrder (w ∷ rest) = subst AreInOrder (ahead y closures sites n car first) st.order in
-        let free_s : is_free s.track 0 ≡ true = ap (λ (t : Track). is_free t 0) (sym st.track) ∙ free in
-        let gone : after.waiting ≡ rest = ap (map waiting_of) departs.rest ∙ map-drop waiting_of (cars_on y (waiting_list n)) in
-        subst (IsLaneOf after) (sym (departed-goes clock s w rest is_first order free_s due)) (record {
-          track = come-cells (with_speed (vehicle_of car) 0) (cells_at new (cells_list n) count) (departs.cells count (sound.some n within) (sound.falls n within) empty).1 s.track st.track;
-          queue = same-queue depart_buffer ∙ st.queue;
-          waiting = gone ∙ (split clock s w rest is_first order).3;
-          order = subst AreInOrder (sym gone) order.1;
-        }))
+          let w = waiting_of car in
+          let rest = drop 1 before.waiting in
+          let is_first : in_order s.waiting ≡ w ∷ rest = sym st.waiting ∙ ahead y closures sites n car first in
+          let order : AreInOrder (w ∷ rest) = subst AreInOrder (ahead y closures sites n car first) st.order in
+          let free_s : is_free s.track 0 ≡ true = ap (λ (t : Track). is_free t 0) (sym st.track) ∙ free in
+          let gone : after.waiting ≡ rest = ap (map waiting_of) departs.rest ∙ map-drop waiting_of (cars_on y (waiting_list n)) in
+          subst (IsLaneOf after) (sym (departed-goes clock s w rest is_first order free_s due)) (record {
+            track = come-cells (with_speed (vehicle_of car) 0) (cells_at new (cells_list n) count) (departs.cells count (sound.some n within) (sound.falls n within) empty).1 s.track st.track;
+            queue = same-queue depart_buffer ∙ st.queue;
+            waiting = gone ∙ (split clock s w rest is_first order).3;
+            order = subst AreInOrder (sym gone) order.1;
+          }))

@@ -21,9 +21,9 @@ pub last-split : (xs : List ℕ) (k : ℕ) → last_or xs None ≡ Some k → (u
 last-split xs k e = elim (snoc_cases xs) as (λ _. (us : List ℕ) × (xs ≡ us ++ k ∷ [])) [
   | inl none ↦ absurd (let bad : ◌≡◌ {A = Option ℕ} (Some k) None = sym e ∙ ap (λ l. last_or l None) none in cc)
   | inr s ↦ (
-    let f : ◌≡◌ {A = Option ℕ} (Some k) (Some s.1) = sym e ∙ ap (λ l. last_or l None) s.2 ∙ last_or-push s.0 s.1 None in
-    let same : s.1 ≡ k = cc in
-    (s.0, s.2 ∙ ap (λ j. s.0 ++ j ∷ []) same))
+      let f : ◌≡◌ {A = Option ℕ} (Some k) (Some s.1) = sym e ∙ ap (λ l. last_or l None) s.2 ∙ last_or-push s.0 s.1 None in
+      let same : s.1 ≡ k = cc in
+      (s.0, s.2 ∙ ap (λ j. s.0 ++ j ∷ []) same))
 ]
 
 pub no-last : (xs : List ℕ) → last_or xs None ≡ None → xs ≡ []

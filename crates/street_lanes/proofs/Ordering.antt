@@ -44,13 +44,16 @@ before-self a = false_from_ne_true (is_before a a) (λ q. earlier-not a a ((goes
 
 earlier-or : (a b : Waiting) → a.vehicle.number ≢ b.vehicle.number → (Earlier a b → ⊥) → Earlier b a
 earlier-or a b ne never = elim (cases_order a.depart b.depart) as (λ _. Earlier b a) [
-  | inl e ↦ inr (sym e, elim (cases_order a.vehicle.number b.vehicle.number) as (λ _. b.vehicle.number < a.vehicle.number) [
-    | inl same ↦ absurd (ne same)
-    | inr rest ↦ elim rest as (λ _. b.vehicle.number < a.vehicle.number) [
-      | inl lt ↦ absurd (never (inr (e, lt)))
-      | inr gt ↦ gt
-    ]
-  ])
+  | inl e ↦ inr (
+    sym e,
+    elim (cases_order a.vehicle.number b.vehicle.number) as (λ _. b.vehicle.number < a.vehicle.number) [
+      | inl same ↦ absurd (ne same)
+      | inr rest ↦ elim rest as (λ _. b.vehicle.number < a.vehicle.number) [
+        | inl lt ↦ absurd (never (inr (e, lt)))
+        | inr gt ↦ gt
+      ]
+    ],
+  )
   | inr rest ↦ elim rest as (λ _. Earlier b a) [
     | inl lt ↦ absurd (never (inl lt))
     | inr gt ↦ inl gt
@@ -184,16 +187,16 @@ first-split (v ∷ vs) w rest e = by (λ us is. first-split vs w us is) (in_orde
         let f : put_in_order v (u ∷ us) ≡ w ∷ rest = sym (ap (put_in_order v) is) ∙ e in
         elim (cases_Bool (is_before v u)) as (λ _. Split (v ∷ vs) w rest) [
           | inl t ↦ (
-            let g : v ∷ u ∷ us ≡ w ∷ rest = sym (cond-true (is_before v u) (v ∷ u ∷ us) (u ∷ put_in_order v us) t) ∙ f in
-            let same : v ≡ w = cc in
-            let left : rest ≡ u ∷ us = cc in
-            ([], vs, ap (λ x. x ∷ vs) same, left ∙ sym is))
+              let g : v ∷ u ∷ us ≡ w ∷ rest = sym (cond-true (is_before v u) (v ∷ u ∷ us) (u ∷ put_in_order v us) t) ∙ f in
+              let same : v ≡ w = cc in
+              let left : rest ≡ u ∷ us = cc in
+              ([], vs, ap (λ x. x ∷ vs) same, left ∙ sym is))
           | inr n ↦ (
-            let g : u ∷ put_in_order v us ≡ w ∷ rest = sym (cond-false (is_before v u) (v ∷ u ∷ us) (u ∷ put_in_order v us) n) ∙ f in
-            let same : u ≡ w = cc in
-            let left : rest ≡ put_in_order v us = cc in
-            let r = more us (is ∙ ap (λ x. x ∷ us) same) in
-            (v ∷ r.0, r.1, ap (λ l. v ∷ l) r.2, left ∙ ap (put_in_order v) r.3))
+              let g : u ∷ put_in_order v us ≡ w ∷ rest = sym (cond-false (is_before v u) (v ∷ u ∷ us) (u ∷ put_in_order v us) n) ∙ f in
+              let same : u ≡ w = cc in
+              let left : rest ≡ put_in_order v us = cc in
+              let r = more us (is ∙ ap (λ x. x ∷ us) same) in
+              (v ∷ r.0, r.1, ap (λ l. v ∷ l) r.2, left ∙ ap (put_in_order v) r.3))
         ]
 
 pub in_order-before : (a : Waiting) (ws : List Waiting) → GoesBefore a (in_order ws) → GoesBefore a ws

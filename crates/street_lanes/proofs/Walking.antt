@@ -56,9 +56,9 @@ module _ (y : Yard) (list : ℕ) (car : Car) (cursor : Option ℕ) (key : ℕ) (
   back-key = elim (snoc_cases b.up) as (λ _. (us : List ℕ) × (list_at y list ≡ us ++ key ∷ b.down)) [
     | inl none ↦ absurd (let bad : ◌≡◌ {A = Option ℕ} (Some key) None = sym is ∙ b.at_end ∙ ap (λ l. last_or l None) none in cc)
     | inr s ↦ (
-      let e : ◌≡◌ {A = Option ℕ} (Some key) (Some s.1) = sym is ∙ b.at_end ∙ ap (λ l. last_or l None) s.2 ∙ last_or-push s.0 s.1 None in
-      let same : s.1 ≡ key = cc in
-      (s.0, b.split ∙ ap (λ l. l ++ b.down) s.2 ∙ append_assoc s.0 (s.1 ∷ []) b.down ∙ ap (λ k. s.0 ++ k ∷ b.down) same))
+        let e : ◌≡◌ {A = Option ℕ} (Some key) (Some s.1) = sym is ∙ b.at_end ∙ ap (λ l. last_or l None) s.2 ∙ last_or-push s.0 s.1 None in
+        let same : s.1 ≡ key = cc in
+        (s.0, b.split ∙ ap (λ l. l ++ b.down) s.2 ∙ append_assoc s.0 (s.1 ∷ []) b.down ∙ ap (λ k. s.0 ++ k ∷ b.down) same))
   ]
 
   pub back-on : place_of y key ≡ Some list
@@ -73,10 +73,10 @@ module _ (y : Yard) (list : ℕ) (car : Car) (cursor : Option ℕ) (key : ℕ) (
       at_end = b.at_end;
       later = b.later;
       sooner = λ k d at is_d. (
-        let e : ◌≡◌ {A = Option ℕ} (Some k) (Some key) = sym at ∙ is in
-        let same : k ≡ key = cc in
-        let car_is : d ≡ c = same_car (car_of y key) c d held (subst (λ j. car_of y j ≡ Some d) same is_d) in
-        ap (λ x. is_before (waiting_of car) (waiting_of x)) car_is ∙ no_later);
+          let e : ◌≡◌ {A = Option ℕ} (Some k) (Some key) = sym at ∙ is in
+          let same : k ≡ key = cc in
+          let car_is : d ≡ c = same_car (car_of y key) c d held (subst (λ j. car_of y j ≡ Some d) same is_d) in
+          ap (λ x. is_before (waiting_of car) (waiting_of x)) car_is ∙ no_later);
     }
 
     module _ (goes : is_before (waiting_of car) (waiting_of c) ≡ true) (next : Option ℕ) (ahead : IsAhead y key next) where

@@ -15,9 +15,8 @@ ghost use Rattle.street_lanes.specs.Lanes.{lane_of, place_at, AllLanes, IsOf, fr
 ghost use Rattle.street_lanes.specs.Lists.{HasShortPlan};
 ghost use Rattle.street_lanes.specs.Inside.{AreSites};
 
-use crate::entering;
 use crate::lists::{self, buffer_list, cells_list, waiting_list};
-use crate::waiting;
+use crate::{entering, waiting};
 use std::alloc::{AllocError, Global};
 use std::marker::Model;
 use street_base::{Car, CellNo, Starved, Step};

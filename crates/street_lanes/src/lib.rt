@@ -8,6 +8,8 @@
 mod entering;
 mod lanes;
 mod lists;
+#[cfg(test)]
+mod tests;
 mod waiting;
 
 pub use lanes::{LaneSizes, Lanes};

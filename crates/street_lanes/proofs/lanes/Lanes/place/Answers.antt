@@ -24,9 +24,9 @@ returns-then-not-is_open-clause-enters c =
     let answer = open-answer c.self.inside c.args.self.now c.self.view_is c.args.lane c.requires.lane c.self.invariant c.cells_list.result.0 c.index.result.now c.is_open.result c.cells_list.ensures c.index.ensures c.is_open.ensures in
     stays-if c.args.lane (λ s. is_free s.track 0 ≡ true) (λ s. record s { track = with_entry (Some (vehicle_of c.args.car)) s.track }) c.args.self.now
     (λ s stands free.
-      let st = stands-in c.self.inside c.args.self.now c.self.view_is c.args.lane c.requires.lane s stands in
-      let shut : is_free s.track 0 ≡ false = ap (λ (t : Track). is_free t 0) (sym st.track) ∙ sym answer ∙ c.if-not-is_open.true in
-      absurd (both_ways (is_free s.track 0) shut free))
+    let st = stands-in c.self.inside c.args.self.now c.self.view_is c.args.lane c.requires.lane s stands in
+    let shut : is_free s.track 0 ≡ false = ap (λ (t : Track). is_free t 0) (sym st.track) ∙ sym answer ∙ c.if-not-is_open.true in
+    absurd (both_ways (is_free s.track 0) shut free))
 
 pub cells_list-requires-2 : goal.cells_list-requires-2
 cells_list-requires-2 c = few-lanes c.self.inside c.args.self.now c.self.view_is c.args.lane c.requires.lane c.self.invariant
