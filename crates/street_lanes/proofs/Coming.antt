@@ -1,7 +1,5 @@
 -- A vehicle comes into cell 0 of a list.
-use Rattle.std.proofs.Common.{◌≡◌, ◌≢◌, ℕ, zero, ◌<◌, ◌≤◌, true, cond, List, [], ◌∷◌, ◌++◌, length, get_or, set, Option, Some, None, refl, sym, ap, subst, ◌∙◌, inl, inr, arith}
-use Rattle.std.specs.Prelude.{◌==◌}
-use Rattle.std.specs.List.{range_with_len}
+use Rattle.std.proofs.Common.{◌≡◌, ◌≢◌, ℕ, ◌<◌, List, [], ◌∷◌, ◌++◌, get_or, set, Option, Some, None, refl, sym, ap, subst, ◌∙◌, inl, inr, arith}
 use Rattle.std.specs.Option.{option_map, option_and_then, unwrap_or}
 use Rattle.std.proofs.lemmas.Bool.{cases_eq, cond-true, cond-false, eq-eqb, ne_eqb}
 use Rattle.std.proofs.lemmas.List.{append-nil, length-set, get_or-set_same, get_or-set_other}
@@ -12,7 +10,7 @@ use Rattle.street_yard.specs.Yard.{Yard, list_at, car_of, Has, IsWhole}
 use Rattle.street_yard.specs.Listed.{cell_at, vehicle_with, key_at, seen_at, cells_at, IsFalling, IsLane, AllAbove}
 use Rattle.street_yard.proofs.Keys.{has-later}
 use Rattle.street_yard.proofs.Callers.{cell_is}
-use Rattle.street_yard.proofs.Placed.{above-none, key_at-append, key_at-is, key_at-drop, cells-length, cells-read, seen-key, falling-agree, found-agree}
+use Rattle.street_yard.proofs.Placed.{above-none, key_at-append, key_at-drop, cells-length, cells-read, seen-key, falling-agree, found-agree}
 use Rattle.street_lanes.specs.Lists.{ComesIn}
 
 -- the list is longer by a key at its end

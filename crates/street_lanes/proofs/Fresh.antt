@@ -1,5 +1,5 @@
 -- Lanes with nobody on them, and lanes with more room.
-use Rattle.std.proofs.Common.{◌≡◌, ℕ, zero, suc, ◌+◌, ◌*◌, ◌^◌, ◌<◌, ◌≤◌, false, List, [], ◌∷◌, length, map, replicate, get_or, Option, Some, None, refl, sym, ap, subst, ◌∙◌, inl, inr, arith}
+use Rattle.std.proofs.Common.{◌≡◌, ℕ, zero, suc, ◌*◌, ◌^◌, ◌<◌, false, List, [], ◌∷◌, length, map, replicate, get_or, Option, Some, None, refl, sym, ap, subst, ◌∙◌, inl, inr, arith}
 use Rattle.std.specs.Prelude.{slice_get, filter_map}
 use Rattle.std.specs.List.{range_with_len}
 use Rattle.std.specs.Option.{option_map, option_and_then}
@@ -11,7 +11,7 @@ use Rattle.street_base.specs.declared.car.Car.{Car}
 use Rattle.street_base.specs.Vehicle.{Vehicle}
 use Rattle.street_base.specs.Network.{Place, link_at}
 use Rattle.street_base.specs.Faults.{network_fault}
-use Rattle.street_base.specs.State.{LaneState, no_lane}
+use Rattle.street_base.specs.State.{no_lane}
 use Rattle.street_base.proofs.FaultLemmas.{link_keeps_limits}
 use Rattle.street_draw.specs.Odds.{Odds}
 use Rattle.street_change.specs.Sight.{odds_of}
@@ -19,13 +19,13 @@ use Rattle.street_gap.specs.declared.closures.Stretch.{Stretch}
 use Rattle.street_gap.specs.Closed.{is_in, IsWithin, closed_marks}
 use Rattle.street_net.specs.declared.lanes.LaneId.{LaneId}
 use Rattle.street_net.specs.Tables.{place_of}
-use Rattle.street_yard.specs.Yard.{Kept, Yard, list_at, entry_at, car_of}
-use Rattle.street_yard.specs.Listed.{cell_at, vehicle_with, key_at, seen_at, cells_at, IsFalling, IsLane}
+use Rattle.street_yard.specs.Yard.{Kept, Yard, list_at, car_of}
+use Rattle.street_yard.specs.Listed.{cell_at, vehicle_with, key_at, seen_at, cells_at, IsFalling}
 use Rattle.street_yard.proofs.Placed.{IsLane-agree}
 use Rattle.street_lanes.specs.declared.lanes.Site.{Site}
-use Rattle.street_lanes.specs.Views.{LaneView, waiting_of, queued_of}
+use Rattle.street_lanes.specs.Views.{waiting_of, queued_of}
 use Rattle.street_lanes.specs.Lanes.{Lanes, AllLanes, size_of, size_on, IsOf, fresh_on, fresh}
-use Rattle.street_lanes.specs.Lists.{cells_list, buffer_list, waiting_list, cars_on, lane_seen, SameList}
+use Rattle.street_lanes.specs.Lists.{cells_list, buffer_list, waiting_list, SameList}
 use Rattle.street_lanes.specs.Inside.{no_site, length_at, closed_at, lane_in, lanes_in, view_of, IsLaidOut, AreSites}
 use Rattle.street_lanes.proofs.Frames.{lane-same}
 

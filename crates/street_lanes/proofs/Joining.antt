@@ -6,7 +6,6 @@ use Rattle.std.specs.Option.{option_map, option_and_then}
 use Rattle.std.proofs.lemmas.List.{map-append, append_assoc}
 use Rattle.std.proofs.lemmas.List.Elements.{filter_map-append}
 use Rattle.street_base.specs.declared.car.Car.{Car}
-use Rattle.street_base.specs.Vehicle.{vehicle_of}
 use Rattle.street_base.specs.State.{Waiting}
 use Rattle.street_base.specs.Departure.{is_before}
 use Rattle.street_base.specs.Shown.{put_in_order}

@@ -1,11 +1,10 @@
 -- The first key of a list leaves it.
-use Rattle.std.proofs.Common.{◌≡◌, ◌≢◌, ℕ, ◌+◌, ◌<◌, List, [], ◌∷◌, ◌++◌, length, get_or, set, Option, Some, None, IsSomeAnd, refl, sym, ap, subst, ◌∙◌, inl, inr, arith}
+use Rattle.std.proofs.Common.{◌≡◌, ◌≢◌, ℕ, ◌+◌, ◌<◌, List, [], ◌∷◌, ◌++◌, length, get_or, set, Option, Some, None, IsSomeAnd, refl, sym, ap, subst, ◌∙◌, arith}
 use Rattle.std.specs.Prelude.{slice_get, drop}
 use Rattle.std.specs.Option.{option_map, option_and_then}
 use Rattle.std.proofs.lemmas.List.{get_or-set_other}
 use Rattle.street_base.specs.declared.car.Car.{Car}
-use Rattle.street_base.specs.Vehicle.{vehicle_of, with_speed}
-use Rattle.street_yard.specs.Yard.{Kept, Yard, list_at, entry_at, car_of, place_of, place_set, car_set, without, first_or, Has, Away, IsLoose, IsWhole}
+use Rattle.street_yard.specs.Yard.{Kept, Yard, list_at, entry_at, car_of, place_of, place_set, car_set, without, first_or, Has, IsLoose, IsWhole}
 use Rattle.street_yard.proofs.Callers.{list-written, list-other, on_within, without-is, car_of-place_set, car_of-car_set, car_of-car_set_other, entry-kept_set}
 use Rattle.street_lanes.specs.Lists.{Touches, LetsGo, Departs}
 use Rattle.street_lanes.proofs.Cars.{head-of, head-on, cars-none, get-first, cars-rest}

@@ -1,13 +1,12 @@
 -- What the calls on one lane do to the lanes.
-use Rattle.std.proofs.Common.{◌≡◌, ◌≢◌, ℕ, ◌+◌, ◌*◌, ◌<◌, ◌≤◌, Bool, true, false, List, [], ◌∷◌, length, map, get_or, set, Option, Some, None, IfSome, refl, sym, ap, subst, ◌∙◌, arith}
+use Rattle.std.proofs.Common.{◌≡◌, ◌≢◌, ℕ, ◌<◌, ◌≤◌, Bool, true, false, List, [], ◌∷◌, length, map, get_or, set, Option, Some, None, IfSome, refl, sym, ap, subst, ◌∙◌, arith}
 use Rattle.std.specs.Prelude.{slice_get, drop, filter_map, option_map}
 use Rattle.std.proofs.lemmas.List.{get_or_read}
 use Rattle.street_base.specs.declared.car.Car.{Car}
 use Rattle.street_base.specs.Vehicle.{Vehicle, vehicle_of, with_speed}
 use Rattle.street_base.specs.Lane.{Track, vehicle_at, is_free}
-use Rattle.street_base.specs.State.{LaneState, Waiting}
+use Rattle.street_base.specs.State.{LaneState}
 use Rattle.street_base.specs.Census.{in_lane}
-use Rattle.street_base.specs.Apart.{weight}
 use Rattle.street_base.specs.Release.{with_entry}
 use Rattle.street_base.specs.Departure.{departed_lane}
 use Rattle.street_base.specs.Machine.{with_waiting}
@@ -15,13 +14,13 @@ use Rattle.street_base.specs.Shown.{put_in_order, in_order}
 use Rattle.street_draw.specs.Odds.{Odds}
 use Rattle.street_gap.specs.declared.closures.Stretch.{Stretch}
 use Rattle.street_gap.specs.Closed.{IsWithin, closed_marks}
-use Rattle.street_yard.specs.Yard.{Yard, list_at, car_of, Away}
+use Rattle.street_yard.specs.Yard.{Yard, list_at, car_of}
 use Rattle.street_yard.specs.Listed.{cells_at, IsLane}
 use Rattle.street_yard.proofs.Placed.{IsLane-agree, cells-agree}
 use Rattle.street_lanes.specs.declared.lanes.Site.{Site}
 use Rattle.street_lanes.specs.Views.{LaneView, IsLaneOf, waiting_of, queued_of, AreInOrder, without_front}
 use Rattle.street_lanes.specs.Lanes.{Lanes, GoesIf, GoesAt}
-use Rattle.street_lanes.specs.Lists.{cells_list, buffer_list, waiting_list, cars_on, lane_seen, HasShortPlan, HaveShortPlans, SameList, Touches, Joins, Enters, LetsGo, Departs}
+use Rattle.street_lanes.specs.Lists.{cells_list, buffer_list, waiting_list, cars_on, HasShortPlan, HaveShortPlans, SameList, Joins, Enters, LetsGo, Departs}
 use Rattle.street_lanes.specs.declared.lanes.Lanes.TheInside.{Inside}
 use Rattle.street_lanes.specs.Inside.{length_at, closed_at, lane_in, view_of, seen, IsSound, IsLaidOut}
 use Rattle.street_lanes.proofs.Access.{in-sites, in-closures}
@@ -29,7 +28,7 @@ use Rattle.street_lanes.proofs.Cars.{cars-kept}
 use Rattle.street_lanes.proofs.Opening.{free-empty}
 use Rattle.street_lanes.proofs.Ordering.{IsNew, put-ordered, in_order-push, in_order-new, new-from_sum}
 use Rattle.street_lanes.proofs.Departing.{departed-nobody, departed-shut, departed-early, split, departed-goes}
-use Rattle.street_lanes.proofs.Frames.{OfLane, with-cells, with-buffer, with-waiting, frame-sound, frame-if, frame-at}
+use Rattle.street_lanes.proofs.Frames.{with-cells, with-buffer, with-waiting, frame-sound, frame-if, frame-at}
 
 -- ---- lists through a map
 

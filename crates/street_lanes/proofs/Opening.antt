@@ -1,16 +1,15 @@
 -- Whether cell 0 is free, by the last key of a list.
-use Rattle.std.proofs.Common.{◌≡◌, ◌≢◌, ℕ, ◌<◌, ◌≤◌, Bool, true, false, List, [], ◌∷◌, ◌++◌, Option, Some, None, IsSome, refl, sym, ap, subst, ◌∙◌, inl, inr, arith}
+use Rattle.std.proofs.Common.{◌≡◌, ◌≢◌, ℕ, ◌<◌, Bool, true, false, List, [], ◌∷◌, ◌++◌, Option, Some, None, IsSome, refl, sym, ap, subst, ◌∙◌, inl, inr, arith}
 use Rattle.std.specs.Prelude.{not, ◌&&◌, is_some}
 use Rattle.std.specs.Option.{option_map}
-use Rattle.std.proofs.lemmas.Bool.{and_parts, cases_Bool}
-use Rattle.std.proofs.lemmas.List.{append-nil}
+use Rattle.std.proofs.lemmas.Bool.{and_parts}
 use Rattle.street_base.specs.declared.car.Car.{Car}
 use Rattle.street_base.specs.Vehicle.{Vehicle}
 use Rattle.street_base.specs.Lane.{Cells, vehicle_at, is_occupied, is_closed, is_free}
 use Rattle.street_gap.specs.declared.closures.Stretch.{Stretch}
 use Rattle.street_gap.specs.Closed.{is_in, IsWithin, closed_marks}
 use Rattle.street_gap.proofs.Marks.{closed_marks-at}
-use Rattle.street_yard.specs.Yard.{Yard, list_at, entry_at, car_of, last_or, Has, IsWhole}
+use Rattle.street_yard.specs.Yard.{Yard, list_at, entry_at, car_of, last_or, IsWhole}
 use Rattle.street_yard.specs.Listed.{cell_at, key_at, cells_at, IsFalling, IsLane, AllAbove}
 use Rattle.street_yard.proofs.Keys.{snoc_cases, last_or-push}
 use Rattle.street_yard.proofs.Callers.{cell_reads, on_has_entry, AllAbove-lower, AllAbove-push}

@@ -1,12 +1,12 @@
 -- Who waits, in the order of departing.
-use Rattle.std.proofs.Common.{◌≡◌, ◌≢◌, ◌⊎◌, ℕ, suc, ◌+◌, ◌<◌, Bool, true, false, List, [], ◌∷◌, ◌++◌, length, take, drop, refl, sym, ap, subst, ◌∙◌, inl, inr, arith}
-use Rattle.std.specs.Prelude.{Option, Some, None, not, position, remove, slice_get}
+use Rattle.std.proofs.Common.{◌≡◌, ◌≢◌, ◌⊎◌, ℕ, ◌+◌, ◌<◌, Bool, true, false, List, [], ◌∷◌, ◌++◌, length, refl, sym, ap, subst, ◌∙◌, inl, inr, arith}
+use Rattle.std.specs.Prelude.{Some, not, remove, slice_get}
 use Rattle.std.specs.Bool.{Decides}
-use Rattle.std.specs.List.{list_all, position_or_len, filter, sum_by}
+use Rattle.std.specs.List.{list_all, position_or_len, sum_by}
 use Rattle.std.proofs.lemmas.Bool.{cases_Bool, cases_order, cond-true, cond-false, false_from_ne_true, both_ways, and_right, lt-ltb, eq-eqb}
 use Rattle.std.proofs.lemmas.Bool.Decides.{Decides-or, Decides-and, Decides-eqb, Decides-ltb}
 use Rattle.std.proofs.lemmas.List.Sums.{sum_by-cons}
-use Rattle.std.proofs.lemmas.List.{take_at, drop_at, length-append, append_assoc}
+use Rattle.std.proofs.lemmas.List.{length-append}
 use Rattle.street_base.specs.State.{Waiting}
 use Rattle.street_base.specs.Apart.{weight}
 use Rattle.street_base.specs.Departure.{is_before, first_waiting}

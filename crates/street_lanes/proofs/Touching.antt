@@ -1,12 +1,11 @@
 -- Which lists of a yard a call changes.
-use Rattle.std.proofs.Common.{◌≡◌, ◌≢◌, ℕ, zero, suc, ◌+◌, ◌≤◌, false, List, [], ◌∷◌, length, get_or, set, Option, Some, None, IsSomeAnd, refl, sym, ap, subst, ◌∙◌, inl, inr}
+use Rattle.std.proofs.Common.{◌≡◌, ◌≢◌, ℕ, zero, suc, ◌+◌, false, List, [], ◌∷◌, length, get_or, set, Option, Some, None, IsSomeAnd, refl, sym, ap, subst, ◌∙◌, inl, inr}
 use Rattle.std.specs.Option.{option_map, option_and_then}
 use Rattle.std.proofs.lemmas.Bool.{cases_eq}
 use Rattle.std.proofs.lemmas.List.{length-set, get_or-set_other}
 use Rattle.street_base.specs.declared.car.Car.{Car}
-use Rattle.street_base.specs.Limits.{most_plan}
 use Rattle.street_yard.specs.Yard.{Kept, Yard, list_at, entry_at, car_of, place_of, car_set, Has, Away, IsLoose, IsWhole, Updates}
-use Rattle.street_yard.proofs.Callers.{list-other, on_has_entry, car_of-car_set, car_of-car_set_other}
+use Rattle.street_yard.proofs.Callers.{list-other, car_of-car_set, car_of-car_set_other}
 use Rattle.street_lanes.specs.Lists.{SameList, Touches, HasShortPlan, HaveShortPlans}
 
 pub touch-none-at-all : (ls : List ℕ) (y : Yard) → Touches ls y y

@@ -6,7 +6,7 @@ use Rattle.street_base.specs.declared.car.Car.{Car}
 use Rattle.street_base.specs.Departure.{is_before}
 use Rattle.street_yard.specs.Yard.{Yard, list_at, car_of, place_of, last_or, Has, IsAhead, IsWhole}
 use Rattle.street_yard.proofs.Keys.{snoc_cases, last_or-push}
-use Rattle.street_yard.proofs.Callers.{from_key, left, left-is}
+use Rattle.street_yard.proofs.Callers.{from_key, left-is}
 use Rattle.street_lanes.specs.Views.{waiting_of}
 use Rattle.street_lanes.specs.Lists.{IsPlaceFor}
 

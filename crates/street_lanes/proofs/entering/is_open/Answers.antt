@@ -1,6 +1,4 @@
-use Rattle.std.proofs.Common.{◌≡◌, ℕ, Option, Some, None, sym, ap, ◌∙◌}
-use Rattle.std.specs.Option.{option_map}
-use Rattle.street_yard.specs.Yard.{last_or, list_at}
+use Rattle.std.proofs.Common.{sym}
 use Rattle.street_lanes.proofs.Opening.{last-held, shut-by-last, open-by-last, open-empty}
 use Rattle.street_lanes.proofs.entering.is_open.Goals as goal
 use Rattle.street_lanes.proofs.entering.is_open.Goals.{in_default-via-in-Some+else-cell-eq0, in_default-via-in_default}

@@ -1,4 +1,4 @@
-use Rattle.std.proofs.Common.{◌≡◌, IsSome, Some, sym, subst, refl}
+use Rattle.std.proofs.Common.{IsSome, sym, subst, refl}
 use Rattle.street_lanes.specs.Lists.{LetsGo}
 use Rattle.street_lanes.proofs.Cars.{head-on}
 use Rattle.street_lanes.proofs.Leaving.{lets-go, nobody-goes}

@@ -1,7 +1,7 @@
-use Rattle.std.proofs.Common.{IsSome, Some, refl, sym, ap, subst, ◌∙◌}
+use Rattle.std.proofs.Common.{IsSome, refl, sym, ap, subst, ◌∙◌}
 use Rattle.std.specs.Option.{option_map}
 use Rattle.street_yard.proofs.Callers.{on_has_entry}
-use Rattle.street_lanes.proofs.Walking.{back-start, back-on, back-found, back-step, back-smaller, back-end}
+use Rattle.street_lanes.proofs.Walking.{back-start, back-on, back-step, back-smaller}
 use Rattle.street_lanes.proofs.waiting.place_for.Goals as goal
 
 pub loop-cursor-init : goal.loop-cursor-init

@@ -1,4 +1,4 @@
-use Rattle.std.proofs.Common.{◌≡◌, true, false, Some, None, sym, ap, subst, ◌∙◌, arith}
+use Rattle.std.proofs.Common.{◌≡◌, true, Some, None, sym, subst, ◌∙◌}
 use Rattle.std.specs.Prelude.{slice_get}
 use Rattle.street_base.specs.Lane.{is_free}
 use Rattle.street_base.specs.Departure.{departed_lane}
@@ -7,7 +7,7 @@ use Rattle.street_lanes.specs.Lanes.{Lanes, GoesAt}
 use Rattle.street_lanes.specs.Lists.{cells_list, waiting_list, cars_on, Departs}
 use Rattle.street_lanes.specs.Inside.{lane_in, view_of}
 use Rattle.street_lanes.proofs.Cars.{head-held, cars-none, get-first}
-use Rattle.street_lanes.proofs.Access.{in-sites, few-lanes, in-closures, cells-there, waiting-there, stands-in, stays-at}
+use Rattle.street_lanes.proofs.Access.{in-sites, few-lanes, waiting-there, stands-in, stays-at}
 use Rattle.street_lanes.proofs.Moves.{open-answer, nobody-departs, shut-stays, early-stays, depart-sound, depart-goes}
 use Rattle.street_lanes.proofs.lanes.Lanes.depart.Goals as goal
 

@@ -1,4 +1,4 @@
-use Rattle.std.proofs.Common.{subst, sym}
+use Rattle.std.proofs.Common.{subst}
 use Rattle.street_lanes.specs.Lanes.{Lanes, GoesAt}
 use Rattle.street_lanes.specs.Views.{without_front}
 use Rattle.street_lanes.specs.Lists.{buffer_list, LetsGo}
