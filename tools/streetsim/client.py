@@ -66,6 +66,10 @@ class Starved(Exception):
     __hash__ = Exception.__hash__
 
 
+class NoReply(Exception):
+    """What the program wrote is no reply of streetsim."""
+
+
 class ProgramEnded(Exception):
     """The program ended before it replied."""
 
@@ -160,7 +164,7 @@ def reply_of(value):
     """The typed reply of a JSON object; a refusal or Starved is given as a value. Plain numbers answer enter, advance,
     signal, close, takeout and meter."""
     if "error" in value:
-        return REFUSALS.get(value["error"], Refused)(value.get("at"), value.get("part"))
+        return REFUSALS[value["error"]](value.get("at"), value.get("part"))
     if "starved" in value:
         return Starved()
     if "state" in value:
@@ -178,8 +182,18 @@ def reply_of(value):
         return Loaded(**value)
     if "short" in value:
         return Short(**value)
-    [number] = value.values()
+    [(name, number)] = value.items()
+    if name not in ("car", "clock", "cycle", "closed", "taken", "meter"):
+        raise KeyError(name)
     return number
+
+
+def read_reply(line):
+    """The typed reply of a line."""
+    try:
+        return reply_of(json.loads(line))
+    except (ValueError, TypeError, KeyError, AttributeError):
+        raise NoReply(f"no reply of streetsim: {line[:80].decode(errors='replace').strip()}") from None
 
 
 def line_of(command):
@@ -276,7 +290,7 @@ class Client:
     def batch(self, commands):
         """Sends many commands, dictionaries or ready lines, and gives all replies; refusals stand among them as
         values."""
-        return [reply_of(json.loads(reply)) for reply in self.exchange(map(line_of, commands))]
+        return [read_reply(reply) for reply in self.exchange(map(line_of, commands))]
 
     def ask(self, cmd, **fields):
         [reply] = self.batch([{"cmd": cmd, **fields}])

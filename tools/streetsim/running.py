@@ -10,7 +10,7 @@ from dataclasses import replace
 from statistics import fmean
 
 from . import limits, tables
-from .client import PROGRAM, Client, ProgramEnded, Refused, Starved
+from .client import PROGRAM, Client, NoReply, ProgramEnded, Refused, Starved
 from .files import Fault, whole_file
 from .folder import write_setting
 from .importing import within
@@ -94,6 +94,8 @@ class Progress:
 def main(arguments):
     words = parser().parse_args(arguments)
     run, mapping = read_run(words.run), read_map(words.map)
+    if not fits(run, mapping):
+        raise Fault(f"{words.map}: not the map of {words.run}, whose links are other ones")
     settings = Settings(words.until, words.every, words.period, words.rescue, tuple(words.edges.split()))
     unknown = [edge for edge in settings.edges if edge not in mapping.links_of]
     if unknown:
@@ -107,6 +109,14 @@ def main(arguments):
         return run_seeds(words, run, mapping, settings)
     print(summary_line(one_run(words, run, mapping, settings, words.out, True)))
     return 0
+
+
+def fits(run, mapping):
+    """Whether a run loads the links of a map."""
+    links = [
+        [at, link.begin, link.end, len(link.lanes), link.cells, link.limit] for at, link in enumerate(mapping.links)
+    ]
+    return run.load.command.get("links") == links
 
 
 def closure(text, mapping):
@@ -133,7 +143,7 @@ def one_run(words, run, mapping, settings, folder, shown):
         os.makedirs(folder, exist_ok=True)
         with whole_file(f"{folder}/lanes.jsonl.gz") as lanes_file, Client(words.program, words.workers) as sim:
             records = Recorder(sim, run, mapping, settings, lanes_file, Progress(settings.until, shown)).record()
-    except (Refused, Starved, ProgramEnded) as fault:
+    except (Refused, Starved, NoReply, ProgramEnded) as fault:
         raise Fault(f"{words.run}: {fault}") from None
     except OSError as fault:
         raise Fault(f"{fault.filename}: {fault.strerror}") from None

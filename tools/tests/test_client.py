@@ -69,6 +69,19 @@ class Replies(Case):
             with self.subTest(line), self.assertRaises(ValueError):
                 client.line_of(line)
 
+    def test_what_is_no_reply(self):
+        for text in (
+            "x",
+            "[]",
+            "{}",
+            '{"error":99}',
+            '{"links":1}',
+            '{"cmd":"count"}',
+            '{"car":1,"state":"cell","wheels":4}',
+        ):
+            with self.subTest(text), self.assertRaises(client.NoReply):
+                client.read_reply(text.encode())
+
     def test_row(self):
         row = Row(start=0, steps=300, passes=60, speeds=180, occupied=75)
         self.assertEqual((row.flow, row.density, row.mean_speed), (0.2, 0.25, 3.0))

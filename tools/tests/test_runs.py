@@ -137,6 +137,16 @@ class Tables(Runs):
 
 
 class Reading(Runs):
+    def test_map_of_another_run(self):
+        self.given()
+        other = json.loads(json.dumps(MAP))
+        other["links"][1][4] = 11
+        self.map_file = self.write("other.map.json", json.dumps(other))
+        words = ["run", self.run_file, "--map", self.map_file, "--until", 60, "--out", self.folder / "out"]
+        told = self.tool(*words, status=2)[1]
+        self.assertIn("other.map.json: not the map of", told)
+        self.assertFalse((self.folder / "out").exists())
+
     def test_faults(self):
         for text, words in (
             ('{"cmd":"enter"}\n', "line 1 is no command of a run"),
