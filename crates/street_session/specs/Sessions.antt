@@ -1,0 +1,30 @@
+-- What a desk serves to one of its callers.
+-- Source: this profile.
+use Rattle.std.specs.Prelude.{◌≡◌, ℕ, List, [], ◌∷◌, ◌++◌, length}
+use Rattle.street_base.specs.declared.command.Command.{Command}
+use Rattle.street_base.specs.declared.reply.Outcome.{Outcome}
+use Rattle.street_base.specs.Outcomes.{Allows, reply_to}
+use Rattle.street_desk.specs.declared.journal.Entry.{Entry}
+use Rattle.street_desk.specs.History.{entry, state_of, IsHistory}
+use Rattle.street_desk.specs.Passes.{PassView, Answered as IsAnswered, Filled}
+use Rattle.street_line.specs.declared.service.Served.{Served}
+use Rattle.street_line.specs.declared.service.Served.TheVariants.{Answered, Full}
+
+-- an answered command is one more call of the pass; else the journal is full, and nothing was called
+abbrev pub DeskServes : PassView → Command → Served → PassView → Type 0
+DeskServes before command (Answered reply) after = IsAnswered before command reply after
+DeskServes before command Full after = Filled before after
+
+-- the pass owns the one session that its desk has
+pub record IsAlone (p : PassView) : Type 0 where
+  pub sessions : p.desk.sessions ≡ 1
+  pub least : p.least ≡ 0
+  pub history : IsHistory 1 p.seen
+
+-- what one session that nobody stands beside is served, as its history grows: the machine's reply at that point; nothing as soon as there are so many calls
+abbrev pub AloneServes : ℕ → List Entry → Command → Served → List Entry → Type 0
+AloneServes most old command (Answered reply) new = (outcome : Outcome)
+    × Allows (state_of old) command outcome
+    × (reply ≡ reply_to (state_of old) command outcome)
+    × (new ≡ old ++ entry 0 command outcome ∷ [])
+AloneServes most old command Full new = (new ≡ old) × (length old ≡ most)
