@@ -3,51 +3,73 @@
 use super::*;
 use crate::road::{Road, RoadLane};
 use std::alloc::Global;
+use std::process::Abort;
 use std::test::Fail;
 use street_base::{LinkSpec, Listing, NetSpec, NodeSpec, Plan, TurnSpec};
 use street_net::Network;
 use street_yard::ListId;
 
+/// Whether cells 5 and 6 are closed, the cell of the vehicle ahead, the own cell, and the gap.
+static GAPS: [(bool, Option<CellNo>, CellNo, CellNo); 6] = [
+    (false, None, 3, 16),
+    (false, Some(5), 3, 1),
+    (true, None, 3, 1),
+    (true, Some(4), 3, 0),
+    (true, Some(9), 3, 1),
+    (true, None, 5, 16),
+];
+
 #[test]
 fn a_gap_ends_at_a_vehicle_or_an_entrance(rt: HostRuntime) -> Result<(), Fail> {
     let open = Closures::new(rt.alloc());
     let mut closed = Closures::new(rt.alloc());
-    assert!(rt; closed.close(5, 6).is_ok());
-    assert_eq!(rt; gap_ahead(&open, None, 3), 16);
-    assert_eq!(rt; gap_ahead(&open, Some(5), 3), 1);
-    assert_eq!(rt; gap_ahead(&closed, None, 3), 1);
-    assert_eq!(rt; gap_ahead(&closed, Some(4), 3), 0);
-    assert_eq!(rt; gap_ahead(&closed, Some(9), 3), 1);
-    assert_eq!(rt; gap_ahead(&closed, None, 5), 16);
+    closed.close(5, 6)?;
+    for (is_closed, ahead, cell, want) in &GAPS {
+        let gap = if *is_closed {
+            gap_ahead(&closed, *ahead, *cell)
+        } else {
+            gap_ahead(&open, *ahead, *cell)
+        };
+        assert_eq!(rt; gap, *want);
+    }
     Ok(())
 }
+
+/// Whether cell 5 is closed, the cells of the vehicles above and below, the cell beside, the speed, whether there is room,
+/// and why.
+static ROOMS: [(
+    bool,
+    Option<CellNo>,
+    Option<CellNo>,
+    CellNo,
+    Speed,
+    bool,
+    &str,
+); 9] = [
+    (false, None, None, 6, 3, true, "nobody is in sight"),
+    (false, None, Some(0), 6, 3, false, "5 cells lie behind"),
+    (false, None, Some(3), 10, 4, true, "6 cells lie behind"),
+    (false, None, Some(10), 10, 4, false, "the cell is taken"),
+    (false, Some(9), None, 4, 3, false, "4 cells lie ahead"),
+    (false, Some(10), None, 4, 3, true, "5 cells lie ahead"),
+    (true, None, None, 5, 2, false, "the cell is closed"),
+    (true, None, None, 1, 2, false, "3 cells up to the entrance"),
+    (true, None, None, 1, 1, true, "3 cells up to the entrance"),
+];
 
 #[test]
 fn there_is_room_beside(rt: HostRuntime) -> Result<(), Fail> {
     let open = Closures::new(rt.alloc());
     let mut closed = Closures::new(rt.alloc());
-    assert!(rt; closed.close(5, 5).is_ok());
-    assert!(rt; fits(&open, None, None, 6, 3));
-    assert!(rt; !fits(&open, None, Some(0), 6, 3), "5 cells lie behind");
-    assert!(rt; fits(&open, None, Some(3), 10, 4), "6 cells lie behind");
-    assert!(rt;
-        !fits(&open, None, Some(10), 10, 4),
-        "the cell beside is taken"
-    );
-    assert!(rt; !fits(&open, Some(9), None, 4, 3), "4 cells lie ahead");
-    assert!(rt; fits(&open, Some(10), None, 4, 3), "5 cells lie ahead");
-    assert!(rt;
-        !fits(&closed, None, None, 5, 2),
-        "the cell beside is closed"
-    );
-    assert!(rt;
-        !fits(&closed, None, None, 1, 2),
-        "3 cells lie ahead of the entrance"
-    );
-    assert!(rt;
-        fits(&closed, None, None, 1, 1),
-        "3 cells lie ahead of the entrance"
-    );
+    closed.close(5, 5)?;
+    for (is_closed, above, below, cell, speed, want, why) in &ROOMS {
+        let has_room = if *is_closed {
+            fits(&closed, *above, *below, *cell, *speed)
+        } else {
+            fits(&open, *above, *below, *cell, *speed)
+        };
+        assert_eq!(rt; has_room, *want, "{why}");
+    }
     Ok(())
 }
 
@@ -101,32 +123,49 @@ fn on_the_ring(alloc: Global, at: u16) -> Result<Car, Fail> {
     })
 }
 
-#[test]
-fn drivers_wish_by_gap_and_zone(rt: HostRuntime) -> Result<(), Fail> {
-    let network = ring(rt.alloc())?;
-    let open = Closures::new(rt.alloc());
+/// The lane, the gap, the cell and the speed of a driver on the last link of their plan or on another, whether they wish to
+/// change, and why.
+static WISHES: [(LaneNo, CellNo, CellNo, Speed, bool, bool, &str); 6] = [
+    (0, 2, 9, 2, false, true, "slow before the zone"),
+    (0, 3, 9, 2, false, false, "fast before the zone"),
+    (0, 2, 10, 2, false, false, "on the one lane that serves"),
+    (1, 3, 10, 2, false, true, "on a lane that does not serve"),
+    (0, 2, 10, 2, true, true, "slow on the last link"),
+    (1, 3, 10, 2, true, false, "fast on the last link"),
+];
+
+/// Asks drivers on their first and on their last link.
+fn check_wishes<'a>(
+    rt: &impl Abort,
+    network: &'a Network,
+    open: &'a Closures,
+    first: &Car,
+    last: &Car,
+) {
+    assert_eq!(rt; network.spec().links.as_slice().len(), 1);
     let lane = RoadLane {
         list: ListId(0),
-        closures: &open,
+        closures: open,
     };
-    assert!(rt; network.spec().links.as_slice().len() == 1);
-    let road = Road::new(&network, LinkIx::new(0), lane, None);
-    assert_eq!(rt; road.length(), 20);
-    assert_eq!(rt; road.limit(), 5);
-    assert_eq!(rt; road.lanes(), 1);
+    let road = Road::new(network, LinkIx::new(0), lane, None);
+    assert_eq!(rt; (road.length(), road.limit(), road.lanes()), (20, 5, 1));
+    for (lane, gap, cell, speed, is_last, want, why) in &WISHES {
+        assert!(rt; *lane <= 1);
+        let car = if *is_last { last } else { first };
+        assert_eq!(rt;
+            wishes(&road, *lane, *gap, *cell, *speed, car),
+            *want,
+            "{why}"
+        );
+    }
+}
+
+#[test]
+fn drivers_wish_by_gap_and_zone(rt: HostRuntime) -> Result<(), Fail> {
     let first = on_the_ring(rt.alloc(), 0)?;
     let last = on_the_ring(rt.alloc(), 1)?;
-    assert!(rt; wishes(&road, 0, 2, 9, 2, &first), "slow before the zone");
-    assert!(rt; !wishes(&road, 0, 3, 9, 2, &first), "fast before the zone");
-    assert!(rt;
-        !wishes(&road, 0, 2, 10, 2, &first),
-        "on the one lane that serves the next link"
-    );
-    assert!(rt;
-        wishes(&road, 1, 3, 10, 2, &first),
-        "on a lane that does not serve it"
-    );
-    assert!(rt; wishes(&road, 0, 2, 10, 2, &last), "slow on the last link");
-    assert!(rt; !wishes(&road, 1, 3, 10, 2, &last), "fast on the last link");
+    let network = ring(rt.alloc())?;
+    let open = Closures::new(rt.alloc());
+    check_wishes(&rt, &network, &open, &first, &last);
     Ok(())
 }
