@@ -1,7 +1,9 @@
 use crate::{NetFault, Network, PlanFault};
 use std::alloc::{AllocError, Global};
 use std::test::Fail;
-use street_base::{LinkIx, LinkSpec, Listing, NetSpec, NodeIx, NodeSpec, Part, Plan, TurnSpec};
+use street_base::{
+    LaneNo, LinkIx, LinkSpec, Listing, NetSpec, NodeSpec, Part, Plan, Speed, TurnSpec,
+};
 
 /// A load of two nodes, two links and two turns.
 #[derive(Clone, Copy)]
@@ -318,44 +320,57 @@ fn two_into_one(alloc: Global) -> Result<NetSpec, AllocError> {
     })
 }
 
-#[test]
-fn turns_lead_on(rt: HostRuntime) -> Result<(), Fail> {
-    let net = Network::build(rt.alloc(), &two_into_one(rt.alloc())?)?;
-    let (first, second, third) = (LinkIx::new(0), LinkIx::new(1), LinkIx::new(2));
-    let Some(turn) = net.turn(second, 0, third) else {
-        return Err(Fail::from("there is a turn"));
-    };
-    assert_eq!(rt;
-        (
-            turn.link.position(),
-            turn.lane,
-            turn.next.position(),
-            turn.next_lane
-        ),
-        (1, 0, 2, 0)
-    );
-    assert!(rt; net.serves(first, 0, third));
-    assert!(rt; !net.serves(first, 0, second));
-    assert!(rt; !net.serves(first, 1, third));
-    assert!(rt; !net.serves(LinkIx::new(3), 0, third));
-    Ok(())
+/// The turn from a lane to a next link, each by its position.
+fn turn_from(net: &Network, link: u16, lane: LaneNo, next: u16) -> Option<(usize, LaneNo)> {
+    let turn = net.turn(LinkIx::new(link), lane, LinkIx::new(next))?;
+    Some((turn.next.position(), turn.next_lane))
+}
+
+/// The lanes to try, the links to turn into, and where the turns lead.
+const TURNS: [(u16, LaneNo, u16, Option<(usize, LaneNo)>); 6] = [
+    (1, 0, 2, Some((2, 0))),
+    (0, 0, 2, Some((2, 0))),
+    (0, 0, 1, None),
+    (0, 1, 2, None),
+    (2, 0, 2, None),
+    (3, 0, 2, None),
+];
+
+/// The lane at a place among those that run to a node.
+fn lane_to(net: &Network, node: u64, at: usize) -> Option<(usize, LaneNo)> {
+    let node = net.node_of(node)?;
+    let lane = net.in_lanes(node).get(at)?;
+    Some((lane.link.position(), lane.lane))
+}
+
+/// Nodes and places among their lanes, and the lanes there.
+const LANES: [(u64, usize, Option<(usize, LaneNo)>); 4] = [
+    (3, 0, Some((0, 0))),
+    (3, 1, Some((1, 0))),
+    (3, 2, None),
+    (1, 0, None),
+];
+
+/// The position of the node that a link runs to, and the link's limit.
+fn end_of(net: &Network, link: u64) -> Option<(usize, Speed)> {
+    let link = net.link_of(link)?;
+    Some((net.end_of(link).position(), net.limit_of(link)))
 }
 
 #[test]
-fn lanes_run_to_nodes(rt: HostRuntime) -> Result<(), Fail> {
+fn lanes_and_turns_are_found(rt: HostRuntime) -> Result<(), Fail> {
     let net = Network::build(rt.alloc(), &two_into_one(rt.alloc())?)?;
-    let (Some(begin), Some(middle), Some(link)) = (net.node_of(1), net.node_of(3), net.link_of(30))
-    else {
-        return Err(Fail::from("they are there"));
-    };
-    let lanes = net
-        .in_lanes(middle)
-        .iter()
-        .map(|lane| (lane.link.position(), lane.lane));
-    assert!(rt; lanes.eq([(0, 0), (1, 0)]));
-    assert_eq!(rt; net.in_lanes(begin).len(), 0);
-    assert_eq!(rt; net.end_of(link).position(), 3);
-    assert_eq!(rt; net.limit_of(link), 5);
+    for (link, lane, next, wanted) in TURNS {
+        assert_eq!(rt; turn_from(&net, link, lane, next), wanted);
+        assert_eq!(rt;
+            net.serves(LinkIx::new(link), lane, LinkIx::new(next)),
+            wanted.is_some()
+        );
+    }
+    for (node, at, wanted) in LANES {
+        assert_eq!(rt; lane_to(&net, node, at), wanted);
+    }
+    assert_eq!(rt; end_of(&net, 30), Some((3, 5)));
     Ok(())
 }
 
@@ -386,13 +401,20 @@ fn one_after_another(alloc: Global) -> Result<Network, NetFault> {
     Network::build(alloc, &load)
 }
 
+/// The positions of the two links of a plan.
+fn two_of(links: &Plan) -> Option<(usize, usize)> {
+    match links.as_slice() {
+        [first, second] => Some((first.position(), second.position())),
+        _ => None,
+    }
+}
+
 #[test]
 fn whole_plans(rt: HostRuntime) -> Result<(), Fail> {
     let net = one_after_another(rt.alloc())?;
-    let links = net.check_whole_plan(rt.alloc(), &[10, 20], 0)?;
-    let positions = links.as_slice().iter().map(|link| link.position());
-    assert!(rt; positions.eq([0, 1]));
     assert!(rt; net.plan_refusal(&[10, 20], 0).is_none());
+    let links = net.check_whole_plan(rt.alloc(), &[10, 20], 0)?;
+    assert_eq!(rt; two_of(&links), Some((0, 1)));
     Ok(())
 }
 
@@ -423,21 +445,16 @@ fn refuses_whole_plans(rt: HostRuntime) -> Result<(), Fail> {
     Ok(())
 }
 
-/// A plan that goes around link 30 so many times.
-fn around(alloc: Global, times: u64) -> Result<Vec<u64>, AllocError> {
-    (0..times).map(|_| 30).collect(alloc)
-}
-
 /// How many links the longest plan has, and the answer to one of a link more.
 fn longest(alloc: Global) -> Result<(usize, Answer), NetFault> {
     let net = Network::build(alloc, &GOOD.load(alloc)?)?;
-    let links = match net.check_whole_plan(alloc, &around(alloc, 1_024)?, 0) {
+    let links = match net.check_whole_plan(alloc, &vec![in alloc; 30; 1_024]?, 0) {
         Ok(links) => links.as_slice().len(),
         Err(_) => 0,
     };
     Ok((
         links,
-        told(net.check_whole_plan(alloc, &around(alloc, 1_025)?, 0)),
+        told(net.check_whole_plan(alloc, &vec![in alloc; 30; 1_025]?, 0)),
     ))
 }
 
