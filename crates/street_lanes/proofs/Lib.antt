@@ -12,3 +12,15 @@ pub mod Departing
 pub mod Moves
 pub mod Counting
 pub mod Fresh
+mod Parts
+mod Nobody
+mod Front
+mod Settling
+mod Residences
+mod Exits
+mod Far
+mod Driving
+mod Changing
+mod Sites
+mod Driven
+mod Changed

@@ -3,3 +3,5 @@ pub mod Lanes
 pub mod Whole
 pub mod Lists
 pub mod Inside
+pub mod Driving
+pub mod Changing

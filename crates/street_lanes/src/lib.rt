@@ -5,6 +5,8 @@
 //! lane stands for a lane of the machine, in which those who wait have no order.
 #![tactic(auto)]
 
+mod change;
+mod drive;
 mod entering;
 mod lanes;
 mod lists;
