@@ -1,0 +1,56 @@
+//! The command, as the parser knows it.
+
+use clap::{Arg, ArgAction, Command};
+use std::alloc::{AllocError, Global};
+
+/// An option with one value.
+fn option<'a>(alloc: Global, name: &'a str, value: &'a str, help: &'a str) -> Arg<'a> {
+    Arg::new(alloc, name)
+        .long(name)
+        .action(ArgAction::Set)
+        .value_name(value)
+        .help(help)
+}
+
+/// The scripts, of which there may be any number.
+fn scripts<'a>(alloc: Global) -> Arg<'a> {
+    Arg::new(alloc, "script")
+        .action(ArgAction::Append)
+        .num_args(0..)
+        .value_name("SCRIPT")
+        .help("Files of commands, at most 1024. Each is a session with a thread of its own")
+}
+
+/// The command `streetsim`.
+pub(crate) fn streetsim<'a>(alloc: Global) -> Result<Command<'a>, AllocError> {
+    Command::new(alloc, "streetsim")
+        .about(
+            "A traffic simulator. Without scripts it serves standard input: one command a line, one reply a line, all of JSON",
+        )
+        .bin_name("streetsim")?
+        .arg(option(
+            alloc,
+            "workers",
+            "N",
+            "Workers that share the links, 1 to 64; the replies are the same for every number [default: 1]",
+        ))?
+        .arg(option(
+            alloc,
+            "calls",
+            "N",
+            "Calls that there is a place for, 1 to 1000000; later ones are answered by Full [default: 65536]",
+        ))?
+        .arg(option(
+            alloc,
+            "tape",
+            "FILE",
+            "Writes all calls to a tape at the end, in the order in which they were served",
+        ))?
+        .arg(option(
+            alloc,
+            "replay",
+            "FILE",
+            "Replays a tape from nothing loaded, and then counts; with neither scripts nor --tape",
+        ))?
+        .arg(scripts(alloc))
+}
