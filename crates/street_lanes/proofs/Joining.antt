@@ -63,7 +63,7 @@ put-at y list key at up down whole split at_end = elim (snoc_cases up) as (λ _.
       ∙ sym (ap (λ l. l ++ key ∷ down) s.2 ∙ append_assoc s.0 (s.1 ∷ []) (key ∷ down)))
 ]
 
-has-left : (xs ys : List ℕ) (k : ℕ) → Has xs k → Has (xs ++ ys) k
+pub has-left : (xs ys : List ℕ) (k : ℕ) → Has xs k → Has (xs ++ ys) k
 has-left xs ys k h = (h.0, h.1 ++ ys, ap (λ l. l ++ ys) h.2 ∙ append_assoc h.0 (k ∷ h.1) ys)
 
 -- who is in the part behind goes later

@@ -24,3 +24,7 @@ mod Changing
 mod Sites
 mod Driven
 mod Changed
+pub mod Marking
+pub mod Sought
+pub mod Without
+pub mod Taking

@@ -51,7 +51,7 @@ first-short y (k ∷ ks) short = by (car_of y k) refl (first-short y ks short)
 
 -- ---- the lists of a lane
 
-three-apart : (n : ℕ) → (cells_list n ≢ buffer_list n) × (cells_list n ≢ waiting_list n) × (buffer_list n ≢ waiting_list n)
+pub three-apart : (n : ℕ) → (cells_list n ≢ buffer_list n) × (cells_list n ≢ waiting_list n) × (buffer_list n ≢ waiting_list n)
 three-apart n = (λ e. omega arith, λ e. omega arith, λ e. omega arith)
 
 -- ---- who waits first
@@ -104,16 +104,16 @@ module _ (y new : Yard) (closures : List (List Stretch)) (sites : List Site) (od
   after = lane_in new closures sites n
 
   -- cells that are as they were
-  still-cells : SameList y new (cells_list n) → IsLane new (cells_list n) count
+  pub still-cells : SameList y new (cells_list n) → IsLane new (cells_list n) count
   still-cells s = IsLane-agree y new (cells_list n) s.keys s.cars count (sound.falls n within)
 
-  same-track : SameList y new (cells_list n) → after.track ≡ before.track
+  pub same-track : SameList y new (cells_list n) → after.track ≡ before.track
   same-track s = (let e = cells-agree y new (cells_list n) s.keys s.cars count in λ i. record { cells = e i; closed = closed_marks closed count })
 
-  same-queue : SameList y new (buffer_list n) → after.queue ≡ before.queue
+  pub same-queue : SameList y new (buffer_list n) → after.queue ≡ before.queue
   same-queue s = ap (map queued_of) (cars-kept y new (buffer_list n) s)
 
-  same-waiting : SameList y new (waiting_list n) → after.waiting ≡ before.waiting
+  pub same-waiting : SameList y new (waiting_list n) → after.waiting ≡ before.waiting
   same-waiting s = ap (map waiting_of) (cars-kept y new (waiting_list n) s)
 
   -- ---- the front of the buffer goes

@@ -6,10 +6,12 @@
 #![tactic(auto)]
 
 mod change;
+mod commands;
 mod drive;
 mod entering;
 mod lanes;
 mod lists;
+mod seeking;
 #[cfg(test)]
 mod tests;
 mod waiting;

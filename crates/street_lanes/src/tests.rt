@@ -132,3 +132,35 @@ fn a_car_that_comes_in_shuts_the_lane(rt: HostRuntime) -> Result<(), Fail> {
     counts(&rt, &lanes, 1, 0, 0);
     Ok(())
 }
+
+#[test]
+fn a_waiting_car_is_taken_out(rt: HostRuntime) -> Result<(), Fail> {
+    let mut lanes = one_lane(rt.alloc())?;
+    admit(&rt, &mut lanes, 0, 7)?;
+    admit(&rt, &mut lanes, 1, 4)?;
+    assert!(rt; lanes.len() == 1);
+    assert!(rt; lanes.take_out(0, 1).is_some());
+    assert!(rt; lanes.len() == 1);
+    assert!(rt; lanes.take_out(0, 1).is_none());
+    depart(&rt, &mut lanes, 6);
+    counts(&rt, &lanes, 0, 0, 1);
+    depart(&rt, &mut lanes, 7);
+    counts(&rt, &lanes, 1, 0, 0);
+    Ok(())
+}
+
+#[test]
+fn a_closed_cell_0_shuts_the_lane(rt: HostRuntime) -> Result<(), Fail> {
+    let mut lanes = one_lane(rt.alloc())?;
+    assert!(rt; lanes.len() == 1);
+    assert!(rt; lanes.length(0) == 5);
+    lanes.close(0, 0, 1)?;
+    assert!(rt; lanes.len() == 1);
+    assert!(rt; lanes.closed_cells(0) == 2);
+    assert!(rt; !lanes.is_open(0));
+    lanes.reopen(0, 0, 0)?;
+    assert!(rt; lanes.len() == 1);
+    assert!(rt; lanes.closed_cells(0) == 1);
+    assert!(rt; lanes.is_open(0));
+    Ok(())
+}
