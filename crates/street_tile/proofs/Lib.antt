@@ -1,0 +1,17 @@
+mod Going
+mod Each
+mod Rows
+mod Walking
+mod Crossing
+mod Owning
+mod Pairs
+mod Changing
+mod Releases
+mod Showing
+mod Tiling
+mod Publishing
+mod Keeping
+mod Composing
+mod Moving
+mod Stepping
+mod Writing

@@ -1,0 +1,60 @@
+-- The view, lane after lane.
+use Rattle.std.proofs.Common.{◌≡◌, ℕ, ◌+◌, ◌*◌, ◌<◌, Bool, false, List, length, set, refl, sym, ◌∙◌, ap, subst, arith, inl, inr}
+use Rattle.std.specs.Prelude.{Some, slice_get}
+use Rattle.std.specs.List.{list_any}
+use Rattle.std.proofs.lemmas.Bool.{cases_Bool, cases_eq, both_ways, false_from_ne_true}
+use Rattle.std.proofs.lemmas.List.{get_or-set_same, get_or-set_other}
+use Rattle.street_base.specs.declared.net.NetSpec.{NetSpec}
+use Rattle.street_base.specs.Network.{Place, is_place}
+use Rattle.street_base.specs.Lane.{is_free}
+use Rattle.street_base.specs.State.{Traffic, lane_at}
+use Rattle.street_base.proofs.ReleaseLemmas.{is_place-same, is_place-refl}
+use Rattle.street_lanes.specs.Views.{LaneView, LaneStands}
+use Rattle.street_lanes.specs.Lanes.{IsLane, AllLanes}
+use Rattle.street_lanes.specs.Whole.{LanesStand}
+use Rattle.street_tile.specs.Tiles.{IsRoads, mouth, slot_of}
+use Rattle.street_tile.proofs.Releases.{slot-apart}
+use Rattle.street_tile.proofs.Owning.{at-any}
+
+module _ (net : NetSpec) (roads : IsRoads net) (ps : List Place) (there : AllLanes net ps) (lanes : List LaneView) (old : List Bool) where
+  -- the lanes before k are shown, and of other lanes nothing is changed
+  pub record IsShown (k : ℕ) (now : List Bool) : Type 0 where
+    pub wide : length now ≡ 2 * length net.links
+    pub shown : (m : Traffic) → LanesStand ps lanes m → (j : ℕ) (p : Place) → j < k → slice_get ps j ≡ Some p → mouth now p ≡ is_free (lane_at m p).track 0
+    pub rest : (p : Place) → IsLane net p → list_any (is_place p) ps ≡ false → mouth now p ≡ mouth old p
+
+  two-of : (p : Place) → IsLane net p → p.lane < 2
+  two-of p h = let b = h.1 in let two = roads.two p.link in omega arith
+
+  other-mouth : (now : List Bool) (p q : Place) (b : Bool) → IsLane net p → IsLane net q → is_place p q ≡ false → mouth (set now (slot_of p) b) q ≡ mouth now q
+  other-mouth now p q b h k other = get_or-set_other now (slot_of p) (slot_of q) b false (slot-apart p q (two-of p h) (two-of q k) other)
+
+  same-mouth : (now : List Bool) (p : Place) (b : Bool) → length now ≡ 2 * length net.links → IsLane net p → mouth (set now (slot_of p) b) p ≡ b
+  same-mouth now p b wide h = get_or-set_same now (slot_of p) b false (let a = h.0 in let c = two-of p h in omega arith)
+
+  pub shown-start : length old ≡ 2 * length net.links → IsShown 0 old
+  shown-start wide = record { wide = wide; shown = λ m s j p h. absurd (omega arith); rest = λ p h e. refl }
+
+  pub shown-next : (k : ℕ) (now : List Bool) (p : Place) (l : LaneView) (b : Bool) → IsShown k now → slice_get ps k ≡ Some p → slice_get lanes k ≡ Some l → ((m : Traffic) → LaneStands l (lane_at m p) → b ≡ is_free (lane_at m p).track 0) → length (set now (slot_of p) b) ≡ 2 * length net.links → IsShown (k + 1) (set now (slot_of p) b)
+  shown-next k now p l b d at is tells wide = record {
+    wide = wide;
+    shown = λ m s j q h there_q. elim (cases_Bool (is_place p q)) as (λ _. mouth (set now (slot_of p) b) q ≡ is_free (lane_at m q).track 0) [
+      | inl here ↦ (
+          let same : p ≡ q = is_place-same p q here in
+          subst (λ (x : Place). mouth (set now (slot_of p) b) x ≡ is_free (lane_at m x).track 0) same (same-mouth now p b d.wide (there k p at) ∙ tells m (s k p l at is)))
+      | inr other ↦ (
+          let before : j < k = elim (cases_eq j k) as (λ _. j < k) [
+            | inl e ↦ absurd (
+                let same_at : Some p ≡ Some q = sym at ∙ ap (slice_get ps) (sym e) ∙ there_q in
+                let same : p ≡ q = cc in
+                both_ways (is_place p q) other (ap (is_place p) (sym same) ∙ is_place-refl p))
+            | inr ne ↦ omega arith
+          ] in
+          other-mouth now p q b (there k p at) (there j q there_q) other ∙ d.shown m s j q before there_q)
+    ];
+    rest = λ q h away.
+        let other : is_place p q ≡ false = false_from_ne_true (is_place p q) (λ e.
+        let same : p ≡ q = is_place-same p q e in
+        both_ways (list_any (is_place q) ps) away (at-any ps k q (at ∙ ap (λ (x : Place). Some x) same))) in
+        other-mouth now p q b (there k p at) h other ∙ d.rest q h away;
+  }

@@ -1,0 +1,19 @@
+use Rattle.std.proofs.Common.{◌≡◌, ◌+◌, ◌-◌, ◌≤◌, length, take, vec_len, vec_capacity}
+use Rattle.std.specs.Prelude.{◌++◌, filter_map}
+use Rattle.street_base.specs.State.{Traffic}
+use Rattle.street_base.specs.Step.{driven_lane, arrival, leaver_of}
+use Rattle.street_lanes.specs.Lanes.{Same}
+use Rattle.street_lanes.specs.Whole.{IsOn, LanesStand}
+use Rattle.street_tile.specs.Tiles.{ShowSignals}
+use Rattle.street_tile.proofs.Going.{LanesDone}
+use Rattle.street_tile.proofs.lanes.drive_lanes.Given as goal
+
+abbrev pub invariant-loop-n : goal.invariant-loop-n
+invariant-loop-n l = record {
+  same : Same l.fn.own l.own;
+  room : l.fn.own.room ≤ l.own.room;
+  left : vec_len l.arrived + (length l.fn.own.places - l.n) ≤ vec_capacity l.arrived;
+  capacity : vec_capacity l.fn.arrived ≤ vec_capacity l.arrived;
+  done : (m : Traffic) → IsOn l.net m → m.clock ≡ l.clock → ShowSignals l.low (l.low + length l.signals) l.signals m → LanesStand l.fn.own.places l.fn.own.lanes m → LanesDone (driven_lane m) m l.fn.own l.n l.own;
+  arrived : (m : Traffic) → IsOn l.net m → m.clock ≡ l.clock → ShowSignals l.low (l.low + length l.signals) l.signals m → LanesStand l.fn.own.places l.fn.own.lanes m → l.arrived.items ≡ l.fn.arrived.items ++ filter_map (λ p. arrival (leaver_of m p)) (take l.n l.fn.own.places);
+}

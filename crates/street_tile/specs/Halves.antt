@@ -1,0 +1,56 @@
+-- The release phase in two halves: fronts are let go, and who was let go is placed.
+-- Between them a vehicle is in no lane: it is handed over.
+use Rattle.std.specs.Prelude.{List, map, filter, drop, Bool, false, Option, Some, None, option_map, option_and_then, nat_le, slice_get, if◌then◌else◌}
+use Rattle.std.specs.Option.{option_map_or}
+use Rattle.street_base.specs.declared.net.NetSpec.{NetSpec}
+use Rattle.street_base.specs.Vehicle.{Vehicle}
+use Rattle.street_base.specs.Network.{Place, is_place, link_at}
+use Rattle.street_base.specs.State.{Traffic, LaneState, each_lane}
+use Rattle.street_base.specs.Release.{front, exit_lane, giver, gives, on_next_link, with_entry}
+
+-- a vehicle on its way into a lane
+pub record Entry : Type 0 where
+  pub to : Place
+  pub vehicle : Vehicle
+
+-- the vehicle of an entry, where there is one
+abbrev pub vehicle_in : Option Entry → Option Vehicle
+vehicle_in entry = option_map (λ e. e.vehicle) entry
+
+-- a buffer is chosen by an entrance
+abbrev pub takes : Option Place → Place → Bool
+takes chosen from = option_map_or (is_place from) chosen false
+
+-- where the front of a buffer would go now, if it is ready
+abbrev pub candidate : Traffic → Place → Option Place
+candidate m from = option_and_then (λ q. if nat_le q.ready m.clock then exit_lane m from q.vehicle else None) (front m from)
+
+-- a vehicle as it enters a lane
+abbrev pub entry_on : NetSpec → Vehicle → Place → Entry
+entry_on net v to = record { to = to; vehicle = on_next_link (link_at net to.link).limit v }
+
+-- who is let go of a buffer, and whereto
+abbrev pub crossing : Traffic → Place → Option Entry
+crossing m from = option_and_then (λ q. option_and_then (λ to. if takes (giver m to) from then Some (entry_on m.network q.vehicle to) else None) (exit_lane m from q.vehicle)) (front m from)
+
+-- those who enter a lane, of a list of entries
+abbrev pub entries_to : Place → List Entry → List Vehicle
+entries_to to entries = map (λ e. e.vehicle) (filter (λ e. is_place to e.to) entries)
+
+-- the first half: buffers lose the fronts that go
+abbrev pub let_go_lane : Traffic → Place → LaneState → LaneState
+let_go_lane m place lane = record lane { queue = if gives m place then drop 1 lane.queue else lane.queue }
+
+unfoldable pub let_go : Traffic → Traffic
+let_go m = record m { lanes = each_lane (let_go_lane m) m.lanes }
+
+-- the second half: who enters a lane stands in its cell 0
+abbrev pub placed_lane : (Place → Option Vehicle) → Place → LaneState → LaneState
+placed_lane entry place lane = record lane { track = with_entry (entry place) lane.track }
+
+unfoldable pub placed : (Place → Option Vehicle) → Traffic → Traffic
+placed entry m = record m { lanes = each_lane (placed_lane entry) m.lanes }
+
+-- who enters a lane, of a list of entries: the first
+abbrev pub entry_in : List Entry → Place → Option Vehicle
+entry_in entries p = slice_get (entries_to p entries) 0

@@ -1,0 +1,5 @@
+pub mod Halves
+pub mod Tiles
+pub mod Phases
+pub mod Walks
+pub mod Moves

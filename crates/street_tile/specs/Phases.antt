@@ -1,0 +1,54 @@
+-- The phases of a tile: each speaks of the whole machine, whatever state the tile stood for.
+use Rattle.std.specs.Prelude.{◌≡◌, ℕ, ◌+◌, ◌≤◌, List, [], map, filter_map, Bool, Option}
+use Rattle.street_base.specs.declared.net.NetSpec.{NetSpec}
+use Rattle.street_base.specs.Vehicle.{Vehicle}
+use Rattle.street_base.specs.Network.{Place, places}
+use Rattle.street_base.specs.State.{Traffic}
+use Rattle.street_base.specs.Departure.{departed}
+use Rattle.street_base.specs.Step.{arrival, leaver_of, changed, driven}
+use Rattle.street_lanes.specs.Whole.{AllFree, IsOn}
+use Rattle.street_tile.specs.Halves.{Entry, crossing, let_go, placed}
+use Rattle.street_tile.specs.Tiles.{Part, StandsFor, SameTile, Shows, nobody}
+
+-- whatever the tile stood for, it then stands for f of that
+pub record GoesBy (net : NetSpec) (f : Traffic → Traffic) (x y : Part) : Type 0 where
+  pub same : SameTile x y
+  pub handed : y.handed ≡ x.handed
+  pub coming : y.coming ≡ x.coming
+  pub room : x.own.room ≤ y.own.room
+  pub stands : (m : Traffic) → IsOn net m → StandsFor x m → StandsFor y (f m)
+
+-- lane changes
+pub record Changes (net : NetSpec) (x y : Part) : Type 0 where
+  pub goes : GoesBy net changed x y
+  pub arrived : y.arrived ≡ x.arrived
+
+-- motion: also the numbers that arrived, lane by lane
+pub record Moves (net : NetSpec) (x y : Part) : Type 0 where
+  pub goes : GoesBy net driven x y
+  pub arrived : (m : Traffic) → IsOn net m → StandsFor x m → y.arrived ≡ filter_map (λ p. arrival (leaver_of m p)) x.own.places
+
+-- releases, by the view: the fronts that go are out of the buffers and handed over, buffer by buffer
+pub record Releases (net : NetSpec) (view : List Bool) (x y : Part) : Type 0 where
+  pub same : SameTile x y
+  pub arrived : y.arrived ≡ x.arrived
+  pub coming : y.coming ≡ x.coming
+  pub room : x.own.room ≤ y.own.room
+  pub stands : (m : Traffic) → IsOn net m → Shows net view m → StandsFor x m → StandsFor y (let_go m)
+  pub handed : (m : Traffic) → IsOn net m → Shows net view m → StandsFor x m → y.handed ≡ filter_map (crossing m) x.own.places
+
+-- entries and departures
+pub record Enters (net : NetSpec) (x y : Part) : Type 0 where
+  pub same : SameTile x y
+  pub handed : y.handed ≡ x.handed
+  pub arrived : y.arrived ≡ x.arrived
+  pub coming : y.coming ≡ nobody x
+  pub stands : (m : Traffic) (entry : Place → Option Vehicle) → IsOn net m → StandsFor x m → x.coming ≡ map entry x.own.places → AllFree x.own.places m entry → StandsFor y (departed (placed entry m))
+
+-- the clock goes on
+unfoldable pub ticked : Traffic → Traffic
+ticked m = record m { clock = m.clock + 1 }
+
+pub record Ticks (net : NetSpec) (x y : Part) : Type 0 where
+  pub goes : GoesBy net ticked x y
+  pub arrived : y.arrived ≡ x.arrived

@@ -1,0 +1,147 @@
+-- A tile, and what it stands for of the machine.
+-- Source: blocks of nodes with the links that run to them are this profile.
+use Rattle.std.specs.Prelude.{◌≡◌, ℕ, ◌+◌, ◌-◌, ◌*◌, ◌/◌, ◌<◌, ◌≤◌, nat_le, nat_lt, List, [], ◌∷◌, ◌++◌, map, length, filter, Bool, false, ◌&&◌, Option, Some, None, IsSome, slice_get, slice_index_or}
+use Rattle.std.proofs.Common.{suc}
+use Rattle.std.specs.Option.{option_map_or}
+use Rattle.std.specs.List.{All}
+use Rattle.street_base.specs.declared.net.NetSpec.{NetSpec}
+use Rattle.street_base.specs.declared.net.TurnSpec.{TurnSpec}
+use Rattle.street_base.specs.Vehicle.{Vehicle}
+use Rattle.street_base.specs.Lane.{is_free}
+use Rattle.street_base.specs.Network.{Place, link_at, node_of, turn, places}
+use Rattle.street_base.specs.Signal.{SignalPlan}
+use Rattle.street_base.specs.State.{Traffic, lane_at}
+use Rattle.street_lanes.specs.Lanes.{Lanes, IsOf, Same, no_place}
+use Rattle.street_lanes.specs.Whole.{IsOn, LanesStand}
+use Rattle.street_lanes.specs.Motion.{ShowsAs}
+use Rattle.street_tile.specs.Halves.{Entry}
+
+-- ---- the network
+
+-- what a network without a fault gives a tile: a turn leads to a lane that is there, of a link that begins where the first ends
+pub record IsRoads (net : NetSpec) : Type 0 where
+  pub nodes : (0 < length net.nodes) × (length net.nodes ≤ 4096)
+  pub few : length net.links ≤ 4096
+  pub two : (link : ℕ) → (link_at net link).lanes ≤ 2
+  pub inside : (from : Place) (next : ℕ) (t : TurnSpec) → turn net from next ≡ Some t → (next < length net.links) × (t.next_lane < (link_at net next).lanes)
+  pub ends : (link : ℕ) → link < length net.links → IsSome (node_of net (link_at net link).to)
+  pub joined : (from : Place) (next : ℕ) (t : TurnSpec) → turn net from next ≡ Some t → (link_at net from.link).to ≡ (link_at net next).from
+
+-- ---- the view
+
+-- a view has two mouths for each link, one a lane
+abbrev pub slot_of : Place → ℕ
+slot_of p = 2 * p.link + p.lane
+
+abbrev pub mouth : List Bool → Place → Bool
+mouth mouths p = slice_index_or mouths (slot_of p) false
+
+-- the view shows of each lane whether its cell 0 is free
+abbrev pub Shows : NetSpec → List Bool → Traffic → Type 0
+Shows net mouths m = (p : Place) → p.link < length net.links → p.lane < (link_at net p.link).lanes → mouth mouths p ≡ is_free (lane_at m p).track 0
+
+-- ---- signals
+
+-- these are the signal plans of the nodes from low up to high: each shows what the machine's shows
+abbrev pub ShowSignals : ℕ → ℕ → List (Option SignalPlan) → Traffic → Type 0
+ShowSignals low high signals m = (node : ℕ) → low ≤ node → node < high → ShowsAs (slice_index_or signals (node - low) None) (slice_index_or m.signals node None)
+
+-- ---- a tile
+
+-- what contracts see of a tile: its nodes from low up to high, how many links the network has, its own lanes, the clock and
+-- the signal plans of its nodes; who was let go and not yet moved, who comes to each of its lanes, and who arrived
+pub record Part : Type 0 where
+  pub low : ℕ
+  pub high : ℕ
+  pub links : ℕ
+  pub own : Lanes
+  pub clock : ℕ
+  pub signals : List (Option SignalPlan)
+  pub handed : List Entry
+  pub coming : List (Option Vehicle)
+  pub arrived : List ℕ
+
+-- the link of this lane runs to a node from low up to high
+abbrev pub is_own : NetSpec → ℕ → ℕ → Place → Bool
+is_own net low high p = option_map_or (λ node. nat_le low node && nat_lt node high) (node_of net (link_at net p.link).to) false
+
+abbrev pub own_places : NetSpec → ℕ → ℕ → List Place
+own_places net low high = filter (is_own net low high) (places net)
+
+-- a tile of this network
+pub record IsTileOf (net : NetSpec) (x : Part) : Type 0 where
+  pub roads : IsRoads net
+  pub links : x.links ≡ length net.links
+  pub within : x.high ≤ length net.nodes
+  pub places : x.own.places ≡ own_places net x.low x.high
+  pub own : IsOf net x.own
+
+-- of these lanes lane 1 of a link comes right after lane 0
+pub record ArePairs (net : NetSpec) (ps : List Place) : Type 0 where
+  pub first : 0 < length ps → (slice_index_or ps 0 no_place).lane ≡ 0
+  pub next : (n : ℕ) → n < length ps → (slice_index_or ps n no_place).lane ≡ 0 → (link_at net (slice_index_or ps n no_place).link).lanes ≡ 2 → (suc n < length ps) × (slice_index_or ps (suc n) no_place ≡ record { link = (slice_index_or ps n no_place).link; lane = 1 })
+  pub before : (n : ℕ) → suc n < length ps → ((slice_index_or ps (suc n) no_place).lane ≡ 0 → ⊥) → slice_index_or ps n no_place ≡ record { link = (slice_index_or ps (suc n) no_place).link; lane = 0 }
+
+-- the tile stands for the machine at its own lanes and nodes
+pub record StandsFor (x : Part) (m : Traffic) : Type 0 where
+  pub clock : x.clock ≡ m.clock
+  pub lanes : LanesStand x.own.places x.own.lanes m
+  pub signals : ShowSignals x.low x.high x.signals m
+
+-- for each own lane its number among them, by the lane's slot
+pub record AreNumbers (links : ℕ) (ps : List Place) (numbers : List ℕ) : Type 0 where
+  pub wide : length numbers ≡ 2 * links
+  pub at : (k : ℕ) (p : Place) → slice_get ps k ≡ Some p → slice_index_or numbers (slot_of p) 0 ≡ k
+
+-- what a tile keeps beside its lanes: a place for each of its nodes, links and lanes, and room for a hand-over and an arrival of each lane
+pub record IsKept (low high links : ℕ) (ps : List Place) (numbers : List ℕ) (signals mouths coming handed arrived : ℕ) : Type 0 where
+  pub nodes : low + signals ≡ high
+  pub numbered : AreNumbers links ps numbers
+  pub mouths_wide : mouths ≡ 2 * links
+  pub coming_long : coming ≡ length ps
+  pub handed_room : length ps ≤ handed
+  pub arrived_room : length ps ≤ arrived
+
+-- nobody is on the way to a tile
+abbrev pub nobody : Part → List (Option Vehicle)
+nobody x = map (λ p. None) x.own.places
+
+-- between steps nobody is on the way, and who arrived was taken note of
+pub record IsIdle (x : Part) : Type 0 where
+  pub handed : x.handed ≡ []
+  pub coming : x.coming ≡ nobody x
+  pub arrived : x.arrived ≡ []
+
+-- for a step, each own lane has room for one more vehicle
+abbrev pub IsPrepared : Part → Type 0
+IsPrepared x = length x.own.places ≤ x.own.room
+
+-- no phase changes which tile it is
+pub record SameTile (x y : Part) : Type 0 where
+  pub low : y.low ≡ x.low
+  pub high : y.high ≡ x.high
+  pub links : y.links ≡ x.links
+  pub own : Same x.own y.own
+
+-- ---- all tiles
+
+-- at each place, R of the old and the new tile
+abbrev pub Each : (Part → Part → Type 0) → List Part → List Part → Type 0
+Each R xs ys = (i : ℕ) (d : Part) → i < length xs → R (slice_index_or xs i d) (slice_index_or ys i d)
+
+-- tile i of k has its share of the nodes
+pub record IsShare (net : NetSpec) (k i : ℕ) (x : Part) : Type 0 where
+  pub tile : IsTileOf net x
+  pub low : x.low ≡ i * length net.nodes / k
+  pub high : x.high ≡ (i + 1) * length net.nodes / k
+
+-- the tiles of a network, at most one a node
+pub record AreTiles (net : NetSpec) (xs : List Part) : Type 0 where
+  pub some : 0 < length xs
+  pub few : length xs ≤ length net.nodes
+  pub shares : (i : ℕ) (d : Part) → i < length xs → IsShare net (length xs) i (slice_index_or xs i d)
+
+-- all tiles stand for the machine, each at its own lanes and nodes
+pub record AllStand (net : NetSpec) (xs : List Part) (m : Traffic) : Type 0 where
+  pub on : IsOn net m
+  pub each : All (λ x. StandsFor x m) xs

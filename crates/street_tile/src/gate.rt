@@ -1,0 +1,13 @@
+//! What a caller of a step is told of its workers.
+
+use crate::tile::Tile;
+
+/// Called by each worker in each phase, with its number, the phase's (0 lane changes, 1 motion, 2 releases, 3 entries and
+/// departures, 4 detectors), and its tile.
+pub trait Gate {
+    /// Before the worker's part of the phase.
+    fn arrive(&self, worker: u32, phase: u32, tile: &Tile) {}
+
+    /// After it.
+    fn leave(&self, worker: u32, phase: u32, tile: &Tile) {}
+}

@@ -1,0 +1,101 @@
+//! Lane changes and motion on a tile's own lanes.
+ghost use Rattle.std.specs.Prelude.{◌≡◌, ℕ, ◌+◌, ◌<◌, ◌≤◌, length, ◌++◌, filter_map, true, IsTrue, ◌↔◌, vec_len, vec_capacity};
+ghost use Rattle.street_base.specs.Network.{link_at};
+ghost use Rattle.street_base.specs.State.{Traffic, lane_at};
+ghost use Rattle.street_base.specs.Step.{changed, driven, driven_lane, arrival, leaver_of};
+ghost use Rattle.street_lanes.specs.Views.{LaneStands};
+ghost use Rattle.street_lanes.specs.Lanes.{Same, Others, IsOf, lane_of, place_at};
+ghost use Rattle.street_lanes.specs.Whole.{IsOn, LanesStand};
+ghost use Rattle.street_tile.specs.Tiles.{IsRoads, ArePairs, ShowSignals, is_own};
+
+use street_base::{CarNo, Step};
+use street_lanes::Lanes;
+use street_net::Network;
+use street_node::SignalPlan;
+
+/// Whether lane `n` of these is lane 0 of a link of two lanes; lane `n + 1` is then the link's other lane.
+fn begins_pair(own: &Lanes, net: &Network, n: usize) -> bool
+    requires lane { n < length own.now.lanes }
+    requires of { IsOf net.now own.now }
+    ensures { IsTrue result ↔ ((place_at own.now n).lane ≡ 0) × ((link_at net.now (place_at own.now n).link).lanes ≡ 2) }
+{
+    let at = own.at(n);
+    at.lane == 0 && net.spec().links.as_slice()[at.link.position()].lanes == 2
+}
+
+/// Lane changes on each link of two lanes.
+pub(crate) fn change_lanes(own: &mut Lanes, net: &Network, clock: Step)
+    requires of { IsOf net.now own.old }
+    requires roads { IsRoads net.now }
+    requires pairs { ArePairs net.now own.old.places }
+    ensures same { Same own.old own.new }
+    ensures room { own.old.room ≤ own.new.room }
+    ensures stand { (m : Traffic) → IsOn net.now m → m.clock ≡ clock
+        → LanesStand own.old.places own.old.lanes m → LanesStand own.new.places own.new.lanes (changed m) }
+{
+    for n in 0..own.len() {
+        if begins_pair(own, net, n) {
+            own.change(net, n, clock);
+        }
+    }
+}
+
+/// Motion on lane `n`, by the signal plan of the node that its link runs to. `signals` are the plans of the nodes from
+/// `low` on. Answers who arrived.
+fn drive_lane(
+    own: &mut Lanes,
+    net: &Network,
+    n: usize,
+    clock: Step,
+    low: usize,
+    signals: &[Option<SignalPlan>],
+) -> Option<CarNo>
+    requires lane { n < length own.old.lanes }
+    requires of { IsOf net.now own.old }
+    requires node { is_own net.now low (low + length signals.now) (place_at own.old n) ≡ true }
+    ensures same { Same own.old own.new }
+    ensures stands { (m : Traffic) → IsOn net.now m → m.clock ≡ clock
+        → ShowSignals low (low + length signals.now) signals.now m
+        → LaneStands (lane_of own.old n) (lane_at m (place_at own.old n))
+        → LaneStands (lane_of own.new n) (driven_lane m (place_at own.old n) (lane_at m (place_at own.old n))) }
+    ensures arrived { (m : Traffic) → IsOn net.now m → m.clock ≡ clock
+        → ShowSignals low (low + length signals.now) signals.now m
+        → LaneStands (lane_of own.old n) (lane_at m (place_at own.old n))
+        → result ≡ arrival (leaver_of m (place_at own.old n)) }
+    ensures others { Others n own.old own.new }
+    ensures room { own.old.room ≤ own.new.room }
+{
+    let node = net.end_of(own.at(n).link);
+    let plan = signals[node.position() - low].as_ref();
+    own.drive(net, n, clock, plan)
+}
+
+/// Motion on each of these lanes. The numbers of those who arrived are added to `arrived`.
+pub(crate) fn drive_lanes(
+    own: &mut Lanes,
+    net: &Network,
+    clock: Step,
+    low: usize,
+    signals: &[Option<SignalPlan>],
+    arrived: &mut Vec<CarNo>,
+)
+    requires of { IsOf net.now own.old }
+    requires nodes { (n : ℕ) → n < length own.old.places → is_own net.now low (low + length signals.now) (place_at own.old n) ≡ true }
+    requires room { vec_len arrived.old + length own.old.places ≤ vec_capacity arrived.old }
+    ensures same { Same own.old own.new }
+    ensures room { own.old.room ≤ own.new.room }
+    ensures stand { (m : Traffic) → IsOn net.now m → m.clock ≡ clock
+        → ShowSignals low (low + length signals.now) signals.now m
+        → LanesStand own.old.places own.old.lanes m → LanesStand own.new.places own.new.lanes (driven m) }
+    ensures arrived { (m : Traffic) → IsOn net.now m → m.clock ≡ clock
+        → ShowSignals low (low + length signals.now) signals.now m
+        → LanesStand own.old.places own.old.lanes m
+        → arrived.new.items ≡ arrived.old.items ++ filter_map (λ p. arrival (leaver_of m p)) own.old.places }
+    ensures capacity { vec_capacity arrived.old ≤ vec_capacity arrived.new }
+{
+    for n in 0..own.len() {
+        if let Some(number) = drive_lane(own, net, n, clock, low, signals) {
+            arrived.push_reserved(number);
+        }
+    }
+}

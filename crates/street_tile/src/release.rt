@@ -1,0 +1,131 @@
+//! Releases from a tile's own buffers.
+ghost use Rattle.std.specs.Prelude.{◌≡◌, ◌≢◌, ℕ, ◌+◌, ◌*◌, ◌<◌, ◌≤◌, length, List, [], ◌∷◌, ◌++◌, true, false, Some, None, option_map, filter_map, slice_get, slice_set, vec_len, vec_capacity, IsSome, IfSome};
+ghost use Rattle.street_base.specs.Network.{link_at};
+ghost use Rattle.street_base.specs.State.{Traffic, LaneState, Queued, lane_at};
+ghost use Rattle.street_base.specs.Vehicle.{vehicle_of, next_link};
+ghost use Rattle.street_base.specs.Limits.{most_plan};
+ghost use Rattle.street_base.specs.Release.{on_next_link};
+ghost use Rattle.street_net.specs.Tables.{place_of as named};
+ghost use Rattle.street_lanes.specs.Views.{LaneStands, without_front};
+ghost use Rattle.street_lanes.specs.Lanes.{IsLane, AllLanes, Same, GoesAt, lane_of, place_at};
+ghost use Rattle.street_lanes.specs.Whole.{LanesStand};
+ghost use Rattle.street_tile.specs.Halves.{candidate, crossing, let_go, entry_on};
+ghost use Rattle.street_tile.specs.Tiles.{IsRoads, mouth, slot_of};
+ghost use Rattle.street_tile.specs.Walks.{IsReleasing};
+
+use crate::hand_over::HandOver;
+use crate::view::slot;
+use street_base::{Car, LinkIx, Step};
+use street_lanes::Lanes;
+use street_net::{LaneId, Network};
+
+/// The link after the present one of a car's plan.
+fn next_link(car: &Car) -> Option<LinkIx>
+    ensures { result ≡ next_link (vehicle_of car.now) }
+{
+    car.plan.as_slice().get(usize::from(car.at) + 1).copied()
+}
+
+/// The lane that the front of a buffer would enter now, if it is ready and has a turn.
+fn candidate(own: &Lanes, net: &Network, n: usize, clock: Step) -> Option<LaneId>
+    requires lane { n < length own.now.lanes }
+    requires roads { IsRoads net.now }
+    ensures goes { (m : Traffic) → m.network ≡ net.now → m.clock ≡ clock
+        → LaneStands (lane_of own.now n) (lane_at m (place_at own.now n))
+        → option_map named result ≡ candidate m (place_at own.now n) }
+    ensures inside { IfSome result (λ to. IsLane net.now (named to)) }
+{
+    let front = own.front(n)?;
+    if front.step > clock {
+        return None;
+    }
+    let next = next_link(front)?;
+    let from = own.at(n);
+    let turn = net.turn(from.link, from.lane, next)?;
+    Some(LaneId {
+        link: turn.next,
+        lane: turn.next_lane,
+    })
+}
+
+/// A car as it enters its next link.
+fn onto_next(net: &Network, to: LaneId, car: Car) -> Car
+    requires link { to.link < length net.now.links }
+    requires plan { length car.plan.value ≤ most_plan }
+    ensures vehicle { IsSome (next_link (vehicle_of car))
+        → vehicle_of result ≡ on_next_link (link_at net.now to.link).limit (vehicle_of car) }
+    ensures plan { result.plan.value ≡ car.plan.value }
+{
+    let mut car = car;
+    car.speed = car.speed.min(net.limit_of(to.link));
+    if usize::from(car.at) < car.plan.as_slice().len() {
+        car.at += 1;
+    }
+    car
+}
+
+/// The front of buffer `n` goes to a lane if its mouth is open, which then closes.
+fn release_front(
+    own: &mut Lanes,
+    net: &Network,
+    n: usize,
+    to: LaneId,
+    mouths: &mut [bool],
+    handed: &mut Vec<HandOver>,
+)
+    requires lane { n < length own.old.lanes }
+    requires roads { IsRoads net.now }
+    requires there { IsLane net.now (named to) }
+    requires wide { length mouths.old ≡ 2 * length net.now.links }
+    requires room { vec_len handed.old < vec_capacity handed.old }
+    ensures shut { mouth mouths.old (named to) ≡ false → (own.new ≡ own.old)
+        × (mouths.new ≡ mouths.old) × (handed.new.items ≡ handed.old.items) }
+    ensures goes { mouth mouths.old (named to) ≡ true → GoesAt n without_front own.old own.new }
+    ensures mouths { mouth mouths.old (named to) ≡ true → (s : LaneState)
+        → (q : Queued) → LaneStands (lane_of own.old n) s → slice_get s.queue 0 ≡ Some q
+        → mouths.new ≡ slice_set mouths.old (slot_of (named to)) false }
+    ensures handed { mouth mouths.old (named to) ≡ true → (s : LaneState) → (q : Queued)
+        → LaneStands (lane_of own.old n) s → slice_get s.queue 0 ≡ Some q → IsSome (next_link q.vehicle)
+        → handed.new.items ≡ handed.old.items ++ entry_on net.now q.vehicle (named to) ∷ [] }
+    ensures lanes { own.old.room ≤ own.new.room }
+    ensures grown { vec_len handed.new ≤ vec_len handed.old + 1 }
+    ensures kept { vec_capacity handed.old ≤ vec_capacity handed.new }
+{
+    let at = slot(to);
+    if !mouths[at] {
+        return;
+    }
+    let Some(car) = own.let_go(n) else {
+        return;
+    };
+    mouths[at] = false;
+    let car = onto_next(net, to, car);
+    handed.push_reserved(HandOver::new(to, car));
+}
+
+/// The fronts of the buffers, in their order, go to the lanes whose mouths are open; a mouth closes behind each.
+pub(crate) fn release_lanes(
+    own: &mut Lanes,
+    net: &Network,
+    clock: Step,
+    mouths: &mut [bool],
+    handed: &mut Vec<HandOver>,
+)
+    requires roads { IsRoads net.now }
+    requires there { AllLanes net.now own.old.places }
+    requires wide { length mouths.old ≡ 2 * length net.now.links }
+    requires room { vec_len handed.old + length own.old.places ≤ vec_capacity handed.old }
+    ensures same { Same own.old own.new }
+    ensures room { own.old.room ≤ own.new.room }
+    ensures lanes { (m : Traffic) → IsReleasing net.now clock own.old mouths.old m
+        → LanesStand own.new.places own.new.lanes (let_go m) }
+    ensures handed { (m : Traffic) → IsReleasing net.now clock own.old mouths.old m
+        → handed.new.items ≡ handed.old.items ++ filter_map (crossing m) own.old.places }
+    ensures kept { vec_capacity handed.old ≤ vec_capacity handed.new }
+{
+    for n in 0..own.len() {
+        if let Some(to) = candidate(own, net, n, clock) {
+            release_front(own, net, n, to, mouths, handed);
+        }
+    }
+}

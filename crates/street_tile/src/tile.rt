@@ -1,0 +1,187 @@
+//! A tile and its phases.
+ghost use Rattle.std.specs.Prelude.{◌≡◌, ℕ, ◌+◌, ◌*◌, ◌<◌, ◌≤◌, length, List, [], ◌∷◌, ◌++◌, Some, None, option_to_list, map, slice_get, true, false, OnOk, OnErr};
+ghost use Rattle.std.specs.List.{list_any};
+ghost use Rattle.street_base.specs.Limits.{last_clock};
+ghost use Rattle.street_base.specs.Lane.{is_free};
+ghost use Rattle.street_base.specs.Network.{Place, is_place};
+ghost use Rattle.street_base.specs.State.{Traffic, lane_at};
+ghost use Rattle.street_lanes.specs.Lanes.{IsLane};
+ghost use Rattle.street_tile.specs.Halves.{Entry, entry_in};
+ghost use Rattle.street_tile.specs.Tiles.{IsTileOf, IsPrepared, StandsFor, is_own, mouth};
+ghost use Rattle.street_tile.specs.Phases.{Changes, Moves, Releases, Enters, Ticks};
+ghost use Rattle.street_tile.specs.Moves.{Awaits};
+
+use crate::enter::enter_lanes;
+use crate::hand_over::HandOver;
+use crate::lanes::{change_lanes, drive_lanes};
+use crate::release::release_lanes;
+use crate::show::show_lanes;
+use crate::view::{View, slot};
+use std::marker::Model;
+use street_base::{CarNo, Starved, Step};
+use street_lanes::Lanes;
+use street_net::Network;
+use street_node::SignalPlan;
+
+/// A block of nodes with all lanes of the links that run to them, and the vehicles there.
+#[derive(Drop)]
+pub struct Tile {
+    low: usize,
+    high: usize,
+    links: usize,
+    own: Lanes,
+    numbers: Vec<u16>,
+    clock: Step,
+    signals: Vec<Option<SignalPlan>>,
+    mouths: Vec<bool>,
+    handed: Vec<HandOver>,
+    coming: Vec<Option<HandOver>>,
+    arrived: Vec<CarNo>,
+}
+
+impl Model for Tile {
+    ghost use Rattle.std.specs.Prelude.{map, length, vec_capacity};
+    ghost use Rattle.street_tile.specs.Halves.{vehicle_in};
+    ghost use Rattle.street_tile.specs.Tiles.{Part, IsKept};
+
+    ghost Value = { Part };
+
+    ghost view = { λ t. record {
+      low = t.low;
+      high = t.high;
+      links = t.links;
+      own = t.own;
+      clock = t.clock;
+      signals = t.signals.items;
+      handed = t.handed.items;
+      coming = map vehicle_in t.coming.items;
+      arrived = t.arrived.items;
+    } };
+
+    ghost invariant = { λ t. IsKept t.low t.high t.links t.own.places t.numbers.items (length t.signals.items) (length t.mouths.items) (length t.coming.items) (vec_capacity t.handed) (vec_capacity t.arrived) };
+}
+
+impl Tile {
+    /// Lane changes on each own link of two lanes. Takes no memory.
+    pub fn phase_lanes(&mut self, net: &Network)
+        requires { IsTileOf net.now self.old }
+        ensures { Changes net.now self.old self.new }
+    {
+        change_lanes(&mut self.own, net, self.clock);
+    }
+
+    /// Motion on each own lane; the tile then holds the numbers of those who arrived. Takes no memory.
+    pub fn phase_motion(&mut self, net: &Network)
+        requires tile { IsTileOf net.now self.old }
+        requires none { self.old.arrived ≡ [] }
+        ensures { Moves net.now self.old self.new }
+    {
+        drive_lanes(
+            &mut self.own,
+            net,
+            self.clock,
+            self.low,
+            &self.signals,
+            &mut self.arrived,
+        );
+    }
+
+    /// Writes into the view of each own lane whether its cell 0 is empty and not closed. Takes no memory.
+    pub fn mouths(&self, net: &Network, view: &mut View)
+        requires tile { IsTileOf net.now self.now }
+        requires view { length view.old ≡ 2 * length net.now.links }
+        ensures own { (m : Traffic) → StandsFor self.now m → (j : ℕ) → (p : Place)
+            → slice_get self.now.own.places j ≡ Some p → mouth view.new p ≡ is_free (lane_at m p).track 0 }
+        ensures rest { (p : Place) → IsLane net.now p → list_any (is_place p) self.now.own.places ≡ false
+            → mouth view.new p ≡ mouth view.old p }
+        ensures wide { length view.new ≡ length view.old }
+    {
+        show_lanes(&self.own, net, view);
+    }
+
+    /// The fronts that go leave the buffers and are handed over. Of the lanes that they enter, which may be other tiles', the
+    /// view alone is asked. Takes no memory.
+    pub fn phase_release(&mut self, net: &Network, view: &View)
+        requires tile { IsTileOf net.now self.old }
+        requires empty { self.old.handed ≡ [] }
+        requires view { length view.now ≡ 2 * length net.now.links }
+        ensures { Releases net.now view.now self.old self.new }
+    {
+        self.mouths.copy_from_slice(view.mouths());
+        release_lanes(
+            &mut self.own,
+            net,
+            self.clock,
+            &mut self.mouths,
+            &mut self.handed,
+        );
+    }
+
+    /// Who comes stands in cell 0, and then at most one vehicle departs on each own lane. Takes no memory.
+    pub fn phase_enter(&mut self, net: &Network)
+        requires tile { IsTileOf net.now self.old }
+        requires prepared { IsPrepared self.old }
+        ensures { Enters net.now self.old self.new }
+    {
+        enter_lanes(&mut self.own, &mut self.coming, self.clock);
+    }
+
+    /// The clock goes on. Takes no memory.
+    pub fn phase_meter(&mut self, net: &Network)
+        requires { self.old.clock < last_clock }
+        ensures { Ticks net.now self.old self.new }
+    {
+        self.clock += 1;
+    }
+
+    /// How many hand-overs wait to be moved.
+    pub(crate) fn hand_overs(&self) -> usize
+        ensures { result ≡ length self.now.handed }
+    {
+        self.handed.len()
+    }
+
+    /// Takes the last hand-over.
+    pub(crate) fn next_hand_over(&mut self) -> Option<HandOver>
+        ensures tile { self.new ≡ record self.old { handed = self.new.handed } }
+        ensures rest { self.old.handed ≡ self.new.handed ++ option_to_list result }
+        ensures none { result ≡ None → self.old.handed ≡ [] }
+    {
+        self.handed.pop()
+    }
+
+    /// Takes in a hand-over to one of the tile's lanes.
+    pub(crate) fn bring(&mut self, net: &Network, hand_over: HandOver)
+        requires tile { IsTileOf net.now self.old }
+        requires lane { IsLane net.now hand_over.to }
+        requires own { is_own net.now self.old.low self.old.high hand_over.to ≡ true }
+        ensures { (es : List Entry) → Awaits es self.old → self.new ≡ record self.old {
+          coming = map (entry_in (hand_over ∷ es)) self.old.own.places;
+        } }
+    {
+        let n = self.numbers[slot(hand_over.to())];
+        self.coming[usize::from(n)] = Some(hand_over);
+    }
+
+    /// Takes a number that arrived in the last step; none when all were taken. Takes no memory.
+    pub fn next_arrival(&mut self) -> Option<CarNo>
+        ensures tile { self.new ≡ record self.old { arrived = self.new.arrived } }
+        ensures rest { self.old.arrived ≡ self.new.arrived ++ option_to_list result }
+        ensures none { result ≡ None → self.old.arrived ≡ [] }
+    {
+        self.arrived.pop()
+    }
+
+    /// Takes the memory for a step: one more vehicle may enter each own lane.
+    ///
+    /// # Errors
+    /// Memory was refused; the tile is as it was, reserved room apart.
+    pub fn prepare(&mut self) -> Result<(), Starved>
+        ensures ok { OnOk result (IsPrepared self.new) }
+        ensures same { self.new ≡ record self.old { own = record self.old.own { room = self.new.own.room } } }
+        ensures room { self.old.own.room ≤ self.new.own.room }
+    {
+        let lanes = self.own.len();
+        self.own.reserve(lanes)
+    }
+}

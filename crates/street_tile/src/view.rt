@@ -1,0 +1,62 @@
+//! Which lanes are open, as all tiles see it.
+ghost use Rattle.std.specs.Prelude.{◌≡◌, ◌*◌, ◌<◌, length, slice_set, IfOk};
+ghost use Rattle.street_net.specs.Tables.{place_of};
+ghost use Rattle.street_tile.specs.Tiles.{slot_of};
+
+use std::alloc::Global;
+use std::marker::Model;
+use street_base::Starved;
+use street_net::{LaneId, Network};
+
+/// For each lane of a network whether its cell 0 is empty and not closed, two entries a link. Contracts see the list.
+#[derive(Drop)]
+pub struct View {
+    mouths: Vec<bool>,
+}
+
+impl Model for View {
+    ghost use Rattle.std.specs.Prelude.{List, Bool};
+
+    ghost Value = { List Bool };
+
+    ghost view = { λ v. v.mouths.items };
+}
+
+/// Where the mouth of a lane stands.
+pub(crate) fn slot(at: LaneId) -> usize
+    requires { slot_of (place_of at) < 65536 }
+    ensures { result ≡ slot_of (place_of at) }
+{
+    2 * at.link.position() + usize::from(at.lane)
+}
+
+impl View {
+    /// A view of a network, in which no lane is open so far.
+    ///
+    /// # Errors
+    /// Memory for it was refused.
+    pub fn new(alloc: Global, net: &Network) -> Result<View, Starved>
+        ensures { IfOk result (λ view. length view ≡ 2 * length net.now.links) }
+    {
+        let _faultless = net.spec();
+        let count = 2 * net.spec().links.as_slice().len();
+        let mouths = vec![in alloc; false; count]?;
+        Ok(View { mouths })
+    }
+
+    /// All mouths.
+    pub(crate) fn mouths(&self) -> &[bool]
+        ensures { result.now ≡ self.now }
+    {
+        &self.mouths
+    }
+
+    /// Writes the mouth of a lane.
+    pub(crate) fn show(&mut self, at: LaneId, is_open: bool)
+        requires small { slot_of (place_of at) < 65536 }
+        requires within { slot_of (place_of at) < length self.old }
+        ensures { self.new ≡ slice_set self.old (slot_of (place_of at)) is_open }
+    {
+        self.mouths[slot(at)] = is_open;
+    }
+}
