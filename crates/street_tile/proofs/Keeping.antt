@@ -13,6 +13,10 @@ use Rattle.street_tile.proofs.Going.{same-none, same-then, of-same}
 pub tile-none : (x : Part) → SameTile x x
 tile-none x = record { low = refl; high = refl; links = refl; own = same-none x.own }
 
+-- of what the fields of a tile show and of its view the same holds
+pub at-view : (R : Part → Part → Type 0) {x v y : Part} → x ≡ v → R x y → R v y
+at-view R {x} {v} {y} is r = subst (λ (t : Part). R t y) is r
+
 pub tile-then : (x y z : Part) → SameTile x y → SameTile y z → SameTile x z
 tile-then x y z a b = record { low = b.low ∙ a.low; high = b.high ∙ a.high; links = b.links ∙ a.links; own = same-then x.own y.own z.own a.own b.own }
 

@@ -6,6 +6,7 @@ mod Crossing
 mod Owning
 mod Pairs
 mod Changing
+mod Driving
 mod Releases
 mod Showing
 mod Tiling
@@ -13,5 +14,8 @@ mod Publishing
 mod Keeping
 mod Composing
 mod Moving
+mod Numbers
+mod Parting
+mod Ticking
 mod Stepping
 mod Writing

@@ -56,8 +56,8 @@ module _ (net : NetSpec) where
       | inr not_own ↦ rw not_own rest
     ]
     own-pairs-more a n (suc (suc zero)) e le rest = elim (cases_Bool (is_own net low high (record { link = a; lane = 0 }))) as (λ _. ArePairs net (filter (is_own net low high) (record { link = a; lane = 0 } ∷ record { link = a; lane = 1 } ∷ flat_map (row_of net) (range_with_len (a + 1) n)))) [
-      | inl own ↦ (let other : is_own net low high (record { link = a; lane = 1 }) ≡ true = own in rw (own, other) (pairs-two a (own_from (a + 1) n) rest))
-      | inr not_own ↦ (let other : is_own net low high (record { link = a; lane = 1 }) ≡ false = not_own in rw (not_own, other) rest)
+      | inl own ↦ rw own (pairs-two a (own_from (a + 1) n) rest)
+      | inr not_own ↦ rw not_own rest
     ]
     own-pairs-more a n (suc (suc (suc k))) e le rest = absurd (omega arith)
 

@@ -3,7 +3,7 @@ use Rattle.std.proofs.Common.{◌≡◌, ℕ, suc, ◌+◌, ◌-◌, ◌*◌, �
 use Rattle.std.proofs.Math.Nat.{div-mul-le_self, lt-div-mul-add, div-lt_iff_lt-mul, zero-div, mul-div_cancel_left, mul-le-mul_right}
 use Rattle.std.proofs.lemmas.Nat.{le-div}
 use Rattle.street_base.specs.declared.net.NetSpec.{NetSpec}
-use Rattle.street_tile.specs.Tiles.{Part, IsTileOf, IsShare, AreTiles}
+use Rattle.street_tile.specs.Tiles.{Part, IsRoads, IsTileOf, IsShare, AreTiles}
 
 -- tiles in a row, of all nodes from one up to another
 abbrev pub InRow : NetSpec → ℕ → ℕ → List Part → Type 0
@@ -68,3 +68,7 @@ share-of n k node some_node some_tile h =
   where
     times-swap : (a b : ℕ) → a * b ≡ b * a
     times-swap a b = omega arith
+
+pub roads-of : (net : NetSpec) (xs : List Part) → AreTiles net xs → IsRoads net
+roads-of net [] t = absurd (let some = t.some in omega arith)
+roads-of net (x ∷ xs) t = (t.shares 0 x t.some).tile.roads

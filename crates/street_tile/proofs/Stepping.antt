@@ -12,7 +12,7 @@ use Rattle.street_base.specs.Departure.{departed}
 use Rattle.street_lanes.specs.Lanes.{IsLane}
 use Rattle.street_lanes.specs.Whole.{IsOn}
 use Rattle.street_tile.specs.Halves.{Entry, takes, entry_on, crossing}
-use Rattle.street_tile.specs.Tiles.{Part, IsRoads, IsShare, AreTiles, SameTile, Each, AllStand, IsIdle, IsPrepared, nobody, Shows}
+use Rattle.street_tile.specs.Tiles.{Part, IsRoads, IsTileOf, IsShare, AreTiles, SameTile, Each, AllStand, IsIdle, IsPrepared, nobody, Shows}
 use Rattle.street_tile.specs.Phases.{Changes, Moves, Releases, Enters, ticked, Ticks}
 use Rattle.street_tile.specs.Moves.{all_handed, received}
 use Rattle.street_tile.proofs.Rows.{AreInRow}
@@ -65,13 +65,44 @@ tiles-same net xs ys e same tiles = let some = tiles.some in let few = tiles.few
       subst (λ (k : ℕ). IsShare net k i (get_or ys i d)) (sym e) at;
 }
 
+pub tiles-each : (net : NetSpec) (xs : List Part) → AreTiles net xs → All (IsTileOf net) xs
+tiles-each net xs tiles i d h = (tiles.shares i d h).tile
+
+pub tiles-lanes : (net : NetSpec) (xs ys : List Part) → length ys ≡ length xs → Each (Changes net) xs ys → AreTiles net xs → AreTiles net ys
+tiles-lanes net xs ys e lanes tiles = tiles-same net xs ys e (λ i d h. (lanes i d h).goes.same) tiles
+
+pub tiles-motion : (net : NetSpec) (xs ys : List Part) → length ys ≡ length xs → Each (Moves net) xs ys → AreTiles net xs → AreTiles net ys
+tiles-motion net xs ys e motion tiles = tiles-same net xs ys e (λ i d h. (motion i d h).goes.same) tiles
+
+pub tiles-release : (net : NetSpec) (view : List Bool) (xs ys : List Part) → length ys ≡ length xs → Each (Releases net view) xs ys → AreTiles net xs → AreTiles net ys
+tiles-release net view xs ys e releases tiles = tiles-same net xs ys e (λ i d h. (releases i d h).same) tiles
+
+pub tiles-move : (net : NetSpec) (xs ys : List Part) → length ys ≡ length xs → Each (λ x y. y ≡ received (all_handed xs) x) xs ys → AreTiles net xs → AreTiles net ys
+tiles-move net xs ys e moves tiles = tiles-same net xs ys e (λ i d h. same-moved (get_or xs i d) (get_or ys i d) _ _ (moves i d h)) tiles
+
+pub tiles-enter : (net : NetSpec) (xs ys : List Part) → length ys ≡ length xs → Each (Enters net) xs ys → AreTiles net xs → AreTiles net ys
+tiles-enter net xs ys e enters tiles = tiles-same net xs ys e (λ i d h. (enters i d h).same) tiles
+
+pub tiles-meter : (net : NetSpec) (xs ys : List Part) → length ys ≡ length xs → Each (Ticks net) xs ys → AreTiles net xs → AreTiles net ys
+tiles-meter net xs ys e ticks tiles = tiles-same net xs ys e (λ i d h. (ticks i d h).goes.same) tiles
+
 -- a tile that has lost no room is as prepared as it was
 prepared-same : (x y : Part) → y.own.places ≡ x.own.places → x.own.room ≤ y.own.room → IsPrepared x → IsPrepared y
 prepared-same x y e room prepared = let same : length y.own.places ≡ length x.own.places = ap length e in omega arith
 
+changed-clock : (m : Traffic) → (changed m).clock ≡ m.clock
+unfolding changed
+changed-clock m = refl
+
 module _ (net : NetSpec) (xs ys zs : List Part) (a : length ys ≡ length xs) (b : length zs ≡ length xs) (lanes : Each (Changes net) xs ys) where
   pub row-lanes : AreInRow net xs → AreInRow net ys
   row-lanes row = row-same net 0 (length net.nodes) xs ys a (λ i d h. (lanes i d h).goes.same) row
+
+  pub in-time-lanes : (m : Traffic) → AllStand net xs m → m.clock < last_clock → All (λ x. x.clock < last_clock) ys
+  in-time-lanes m s h i d l =
+      let one = goes-all net changed xs ys a (λ i d h. (lanes i d h).goes) m (on-changed net m s.on) s in
+      let e = (one.each i d l).clock ∙ changed-clock m in
+      omega arith
 
   pub idle-arrived : All IsIdle xs → All (λ x. x.arrived ≡ []) ys
   idle-arrived idle i d h = (lanes i d (omega arith)).arrived ∙ (idle i d (omega arith)).arrived

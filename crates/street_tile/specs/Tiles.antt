@@ -13,7 +13,7 @@ use Rattle.street_base.specs.Signal.{SignalPlan}
 use Rattle.street_base.specs.State.{Traffic, lane_at}
 use Rattle.street_lanes.specs.Lanes.{Lanes, IsOf, Same, no_place}
 use Rattle.street_lanes.specs.Whole.{IsOn, LanesStand}
-use Rattle.street_lanes.specs.Motion.{ShowsAs}
+use Rattle.street_lanes.specs.Driving.{PlanStands}
 use Rattle.street_tile.specs.Halves.{Entry}
 
 -- ---- the network
@@ -44,7 +44,7 @@ Shows net mouths m = (p : Place) → p.link < length net.links → p.lane < (lin
 
 -- these are the signal plans of the nodes from low up to high: each shows what the machine's shows
 abbrev pub ShowSignals : ℕ → ℕ → List (Option SignalPlan) → Traffic → Type 0
-ShowSignals low high signals m = (node : ℕ) → low ≤ node → node < high → ShowsAs (slice_index_or signals (node - low) None) (slice_index_or m.signals node None)
+ShowSignals low high signals m = (node : ℕ) → low ≤ node → node < high → PlanStands (slice_index_or signals (node - low) None) (slice_index_or m.signals node None)
 
 -- ---- a tile
 

@@ -1,5 +1,6 @@
 //! Lane changes and motion on a tile's own lanes.
 ghost use Rattle.std.specs.Prelude.{◌≡◌, ℕ, ◌+◌, ◌<◌, ◌≤◌, length, ◌++◌, filter_map, true, IsTrue, ◌↔◌, vec_len, vec_capacity};
+ghost use Rattle.street_base.specs.Limits.{last_clock};
 ghost use Rattle.street_base.specs.Network.{link_at};
 ghost use Rattle.street_base.specs.State.{Traffic, lane_at};
 ghost use Rattle.street_base.specs.Step.{changed, driven, driven_lane, arrival, leaver_of};
@@ -52,6 +53,7 @@ fn drive_lane(
 ) -> Option<CarNo>
     requires lane { n < length own.old.lanes }
     requires of { IsOf net.now own.old }
+    requires in_time { clock ≤ last_clock }
     requires node { is_own net.now low (low + length signals.now) (place_at own.old n) ≡ true }
     ensures same { Same own.old own.new }
     ensures stands { (m : Traffic) → IsOn net.now m → m.clock ≡ clock
@@ -67,7 +69,7 @@ fn drive_lane(
 {
     let node = net.end_of(own.at(n).link);
     let plan = signals[node.position() - low].as_ref();
-    own.drive(net, n, clock, plan)
+    own.drive(net, n, clock, plan, &mut [])
 }
 
 /// Motion on each of these lanes. The numbers of those who arrived are added to `arrived`.
@@ -80,6 +82,7 @@ pub(crate) fn drive_lanes(
     arrived: &mut Vec<CarNo>,
 )
     requires of { IsOf net.now own.old }
+    requires in_time { clock ≤ last_clock }
     requires nodes { (n : ℕ) → n < length own.old.places → is_own net.now low (low + length signals.now) (place_at own.old n) ≡ true }
     requires room { vec_len arrived.old + length own.old.places ≤ vec_capacity arrived.old }
     ensures same { Same own.old own.new }

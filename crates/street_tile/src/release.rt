@@ -48,20 +48,23 @@ fn candidate(own: &Lanes, net: &Network, n: usize, clock: Step) -> Option<LaneId
     })
 }
 
-/// A car as it enters its next link.
-fn onto_next(net: &Network, to: LaneId, car: Car) -> Car
-    requires link { to.link < length net.now.links }
-    requires plan { length car.plan.value ≤ most_plan }
-    ensures vehicle { IsSome (next_link (vehicle_of car))
-        → vehicle_of result ≡ on_next_link (link_at net.now to.link).limit (vehicle_of car) }
-    ensures plan { result.plan.value ≡ car.plan.value }
+/// Takes the front of buffer `n` for a lane of its next link.
+fn hand_over(own: &mut Lanes, net: &Network, n: usize, to: LaneId) -> Option<HandOver>
+    requires lane { n < length own.old.lanes }
+    requires there { IsLane net.now (named to) }
+    ensures goes { GoesAt n without_front own.old own.new }
+    ensures entry { (s : LaneState) → LaneStands (lane_of own.old n) s
+        → (q : Queued) → slice_get s.queue 0 ≡ Some q → IsSome (next_link q.vehicle) → result ≡ Some (entry_on net.now q.vehicle (named to)) }
+    ensures some { (s : LaneState) → LaneStands (lane_of own.old n) s
+        → (q : Queued) → slice_get s.queue 0 ≡ Some q → IsSome result }
+    ensures room { own.old.room ≤ own.new.room }
 {
-    let mut car = car;
+    let mut car = own.let_go(n)?;
     car.speed = car.speed.min(net.limit_of(to.link));
     if usize::from(car.at) < car.plan.as_slice().len() {
         car.at += 1;
     }
-    car
+    Some(HandOver::new(to, car))
 }
 
 /// The front of buffer `n` goes to a lane if its mouth is open, which then closes.
@@ -91,16 +94,14 @@ fn release_front(
     ensures grown { vec_len handed.new ≤ vec_len handed.old + 1 }
     ensures kept { vec_capacity handed.old ≤ vec_capacity handed.new }
 {
-    let at = slot(to);
+    let at = slot(to.link, to.lane);
     if !mouths[at] {
         return;
     }
-    let Some(car) = own.let_go(n) else {
-        return;
-    };
-    mouths[at] = false;
-    let car = onto_next(net, to, car);
-    handed.push_reserved(HandOver::new(to, car));
+    if let Some(hand_over) = hand_over(own, net, n, to) {
+        mouths[at] = false;
+        handed.push_reserved(hand_over);
+    }
 }
 
 /// The fronts of the buffers, in their order, go to the lanes whose mouths are open; a mouth closes behind each.

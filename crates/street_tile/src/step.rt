@@ -50,6 +50,7 @@ fn all_motion<R: Threads + Sync, G: Gate + Sync>(
     requires few { length tiles.old ≤ 64 }
     requires tiles { All (IsTileOf net.now) tiles.old }
     requires none { All (λ x. x.arrived ≡ []) tiles.old }
+    requires in_time { All (λ x. x.clock < last_clock) tiles.old }
     ensures { Each (Moves net.now) tiles.old tiles.new }
 {
     let threads = tiles.len().max(1);
@@ -58,7 +59,7 @@ fn all_motion<R: Threads + Sync, G: Gate + Sync>(
         tiles,
         threads,
         &|i, tile: &mut Tile|
-            requires { (i < 64) × IsTileOf net.now tile.now × (tile.now.arrived ≡ []) }
+            requires { (i < 64) × IsTileOf net.now tile.now × (tile.now.arrived ≡ []) × (tile.now.clock < last_clock) }
             ensures { Moves net.entry.now tile.entry.now tile.exit.now }
         {
             gate.arrive(i as u32, 1, tile);

@@ -74,6 +74,7 @@ impl Tile {
     pub fn phase_motion(&mut self, net: &Network)
         requires tile { IsTileOf net.now self.old }
         requires none { self.old.arrived ≡ [] }
+        requires in_time { self.old.clock < last_clock }
         ensures { Moves net.now self.old self.new }
     {
         drive_lanes(
@@ -159,7 +160,8 @@ impl Tile {
           coming = map (entry_in (hand_over ∷ es)) self.old.own.places;
         } }
     {
-        let n = self.numbers[slot(hand_over.to())];
+        let to = hand_over.to();
+        let n = self.numbers[slot(to.link, to.lane)];
         self.coming[usize::from(n)] = Some(hand_over);
     }
 

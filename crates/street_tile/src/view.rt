@@ -1,11 +1,11 @@
 //! Which lanes are open, as all tiles see it.
-ghost use Rattle.std.specs.Prelude.{◌≡◌, ◌*◌, ◌<◌, length, slice_set, IfOk};
+ghost use Rattle.std.specs.Prelude.{◌≡◌, ◌+◌, ◌*◌, ◌<◌, length, slice_set, IfOk};
 ghost use Rattle.street_net.specs.Tables.{place_of};
 ghost use Rattle.street_tile.specs.Tiles.{slot_of};
 
 use std::alloc::Global;
 use std::marker::Model;
-use street_base::Starved;
+use street_base::{LaneNo, LinkIx, Starved};
 use street_net::{LaneId, Network};
 
 /// For each lane of a network whether its cell 0 is empty and not closed, two entries a link. Contracts see the list.
@@ -22,12 +22,12 @@ impl Model for View {
     ghost view = { λ v. v.mouths.items };
 }
 
-/// Where the mouth of a lane stands.
-pub(crate) fn slot(at: LaneId) -> usize
-    requires { slot_of (place_of at) < 65536 }
-    ensures { result ≡ slot_of (place_of at) }
+/// Where a lane stands in a list of two lanes a link.
+pub(crate) fn slot(link: LinkIx, lane: LaneNo) -> usize
+    requires { 2 * link + lane < 65536 }
+    ensures { result ≡ 2 * link + lane }
 {
-    2 * at.link.position() + usize::from(at.lane)
+    2 * link.position() + usize::from(lane)
 }
 
 impl View {
@@ -57,6 +57,6 @@ impl View {
         requires within { slot_of (place_of at) < length self.old }
         ensures { self.new ≡ slice_set self.old (slot_of (place_of at)) is_open }
     {
-        self.mouths[slot(at)] = is_open;
+        self.mouths[slot(at.link, at.lane)] = is_open;
     }
 }

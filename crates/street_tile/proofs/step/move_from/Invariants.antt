@@ -1,7 +1,8 @@
 use Rattle.std.proofs.Common.{◌-◌, ◌++◌, List, get_or, take, drop}
 use Rattle.std.specs.Prelude.{All}
 use Rattle.street_tile.specs.Halves.{Entry}
-use Rattle.street_tile.specs.Tiles.{Part, Awaits, IsMoved}
+use Rattle.street_tile.specs.Tiles.{Part}
+use Rattle.street_tile.specs.Moves.{Awaits, IsMoved}
 use Rattle.street_tile.proofs.step.move_from.Given as goal
 
 abbrev pub invariant-loop-k : goal.invariant-loop-k

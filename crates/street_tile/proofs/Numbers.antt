@@ -1,0 +1,20 @@
+-- The number of an own lane, by its slot.
+use Rattle.std.proofs.Common.{◌≡◌, ℕ, ◌<◌, true, List, length, get_or, sym, subst, ap, ◌∙◌, arith}
+use Rattle.std.specs.Prelude.{Some, slice_get}
+use Rattle.std.specs.List.{list_any}
+use Rattle.std.proofs.lemmas.Option.{slice_get_within}
+use Rattle.street_base.specs.declared.net.NetSpec.{NetSpec}
+use Rattle.street_base.specs.Network.{Place, is_place}
+use Rattle.street_base.proofs.PlaceLemmas.{places-listed}
+use Rattle.street_base.proofs.PlaceOnceLemmas.{places-once}
+use Rattle.street_lanes.specs.Lanes.{IsLane}
+use Rattle.street_tile.specs.Tiles.{Part, IsTileOf, AreNumbers, is_own, slot_of}
+use Rattle.street_tile.proofs.Publishing.{any-at}
+use Rattle.street_tile.proofs.Moving.{own-listed}
+
+-- an own lane has its place among the own lanes at its number
+pub number-at : (net : NetSpec) (x : Part) (p : Place) (numbers : List ℕ) → IsTileOf net x → AreNumbers x.links x.own.places numbers → IsLane net p → is_own net x.low x.high p ≡ true → slice_get x.own.places (get_or numbers (slot_of p) 0) ≡ Some p
+number-at net x p numbers tile numbered there own =
+    let listed = subst (λ (ps : List Place). list_any (is_place p) ps ≡ true) (sym tile.places) (own-listed net x.low x.high p (places-once net p (places-listed net p there.1)) own) in
+    let found = any-at p x.own.places listed in
+    ap (slice_get x.own.places) (numbered.at found.0 p found.1) ∙ found.1

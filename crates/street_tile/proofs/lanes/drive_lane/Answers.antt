@@ -1,0 +1,34 @@
+use Rattle.std.proofs.Common.{◌≡◌, ◌+◌, ◌-◌, length, get_or, refl, sym, ◌∙◌, ap, subst}
+use Rattle.std.specs.Prelude.{Some}
+use Rattle.std.specs.Option.{option_copied}
+use Rattle.street_base.specs.Network.{Place, link_at, node_of}
+use Rattle.street_lanes.specs.Lanes.{place_at}
+use Rattle.street_lanes.specs.Driving.{PlanStands}
+use Rattle.street_tile.proofs.Driving.{plan-shown}
+use Rattle.street_tile.proofs.lanes.drive_lane.Goals as goal
+
+pub returns-clause-stands : goal.returns-clause-stands
+returns-clause-stands c = λ m on clock shows stands.
+    let link = ap (λ (p : Place). p.link) c.at.ensures in
+    let node : node_of c.args.net.now (link_at c.args.net.now (place_at c.args.own.now c.args.n).link).to ≡ Some c.end_of-node.result = rw (← link) c.end_of-node.ensures.position in
+    let plan : option_copied c.as_ref-plan.result ≡ get_or c.args.signals.now (c.end_of-node.result - c.args.low) c.index-signals-position.result =
+    c.as_ref-plan.ensures.value ∙ c.index-signals-position.is ∙ ap (λ n. get_or c.args.signals.now (n - c.args.low) c.index-signals-position.result) c.position.ensures in
+    c.drive.ensures.goes m (record {
+      network = on.network;
+      clock = clock;
+      in_time = c.requires.in_time;
+      plan = plan-shown c.args.net.now m on.network c.args.low c.args.signals.now (place_at c.args.own.now c.args.n) c.end_of-node.result node c.requires.node shows (option_copied c.as_ref-plan.result) c.index-signals-position.result plan;
+    }) stands
+
+pub returns-clause-arrived : goal.returns-clause-arrived
+returns-clause-arrived c = λ m on clock shows stands.
+    let link = ap (λ (p : Place). p.link) c.at.ensures in
+    let node : node_of c.args.net.now (link_at c.args.net.now (place_at c.args.own.now c.args.n).link).to ≡ Some c.end_of-node.result = rw (← link) c.end_of-node.ensures.position in
+    let plan : option_copied c.as_ref-plan.result ≡ get_or c.args.signals.now (c.end_of-node.result - c.args.low) c.index-signals-position.result =
+    c.as_ref-plan.ensures.value ∙ c.index-signals-position.is ∙ ap (λ n. get_or c.args.signals.now (n - c.args.low) c.index-signals-position.result) c.position.ensures in
+    c.drive.ensures.arrived m (record {
+      network = on.network;
+      clock = clock;
+      in_time = c.requires.in_time;
+      plan = plan-shown c.args.net.now m on.network c.args.low c.args.signals.now (place_at c.args.own.now c.args.n) c.end_of-node.result node c.requires.node shows (option_copied c.as_ref-plan.result) c.index-signals-position.result plan;
+    }) stands

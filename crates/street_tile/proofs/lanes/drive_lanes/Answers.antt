@@ -1,0 +1,70 @@
+use Rattle.std.proofs.Common.{◌≡◌, ℕ, ◌+◌, ◌<◌, List, [], ◌∷◌, ◌++◌, length, take, arith, refl, sym, ap, subst, ◌∙◌}
+use Rattle.std.specs.Prelude.{Option, Some, None, slice_get, filter_map}
+use Rattle.std.proofs.lemmas.List.{append-nil}
+use Rattle.street_base.specs.Network.{Place}
+use Rattle.street_base.specs.State.{Traffic, lane_at}
+use Rattle.street_base.specs.Step.{driven, driven_lane, arrival, leaver_of}
+use Rattle.street_lanes.specs.Views.{LaneStands}
+use Rattle.street_lanes.specs.Lanes.{lane_of, place_at}
+use Rattle.street_lanes.specs.Whole.{IsOn, LanesStand}
+use Rattle.street_tile.specs.Tiles.{ShowSignals, is_own}
+use Rattle.street_tile.proofs.Going.{same-then, same-long, of-same, lanes-here, lanes-next, lanes-all, place-is}
+use Rattle.street_tile.proofs.Driving.{lane_at-driven, arrivals-more, arrivals-all}
+use Rattle.street_tile.proofs.lanes.drive_lanes.Goals as goal
+use Rattle.street_tile.proofs.lanes.drive_lanes.Goals.{in-Some, in_default}
+
+pub drive_lane-requires-clause-lane : goal.drive_lane-requires-clause-lane
+drive_lane-requires-clause-lane c = let e = same-long c.args.own.now c.loop-n.own c.loop-n.invariant.same in omega arith
+
+pub drive_lane-requires-clause-of : goal.drive_lane-requires-clause-of
+drive_lane-requires-clause-of c = of-same c.args.net.now c.args.own.now c.loop-n.own c.loop-n.invariant.same c.requires.of
+
+pub drive_lane-requires-clause-node : goal.drive_lane-requires-clause-node
+drive_lane-requires-clause-node c = rw c.loop-n.invariant.same.places (c.requires.nodes c.loop-n.n (omega arith))
+
+module _ (c : goal.Joined-drive_lane) (m : Traffic) (on : IsOn c.args.net.now m) (in_time : m.clock ≡ c.args.clock) (shows : ShowSignals c.args.low (c.args.low + length c.args.signals.now) c.args.signals.now m) (stand : LanesStand c.args.own.now.places c.args.own.now.lanes m) where
+  within : c.loop-n.n < length c.args.own.now.places
+  within = omega arith
+
+  same_place : place_at c.loop-n.own c.loop-n.n ≡ place_at c.args.own.now c.loop-n.n
+  same_place = rw c.loop-n.invariant.same.places refl
+
+  here : LaneStands (lane_of c.loop-n.own c.loop-n.n) (lane_at m (place_at c.loop-n.own c.loop-n.n))
+  here = subst (λ (p : Place). LaneStands (lane_of c.loop-n.own c.loop-n.n) (lane_at m p)) (sym same_place) (lanes-here (driven_lane m) m c.args.own.now c.loop-n.n c.loop-n.own (c.loop-n.invariant.done m on in_time shows stand) stand within (omega arith))
+
+  next : LaneStands (lane_of c.drive_lane.new.own c.loop-n.n) (driven_lane m (place_at c.args.own.now c.loop-n.n) (lane_at m (place_at c.args.own.now c.loop-n.n)))
+  next = subst (λ (p : Place). LaneStands (lane_of c.drive_lane.new.own c.loop-n.n) (driven_lane m p (lane_at m p))) same_place (c.drive_lane.ensures.stands m on in_time shows here)
+
+  gone : c.drive_lane.result ≡ arrival (leaver_of m (place_at c.args.own.now c.loop-n.n))
+  gone = c.drive_lane.ensures.arrived m on in_time shows here ∙ ap (λ (p : Place). arrival (leaver_of m p)) same_place
+
+pub loop-n-preserved : goal.loop-n-preserved
+loop-n-preserved c = record {
+  same = same-then c.args.own.now c.loop-n.own c.drive_lane.new.own c.loop-n.invariant.same c.drive_lane.ensures.same;
+  room = omega (arith, c.loop-n.invariant.room, c.drive_lane.ensures.room);
+  left = elim c.match-drive_lane.branch [
+    | in-Some w ↦ (let e = w.push_reserved.ensures in rw w.arrived-is (omega (arith, c.loop-n.invariant.left, e.len, e.capacity)))
+    | in_default w ↦ rw w.arrived-is (omega (arith, c.loop-n.invariant.left))
+  ];
+  capacity = elim c.match-drive_lane.branch [
+    | in-Some w ↦ (let e = w.push_reserved.ensures in rw w.arrived-is (omega (arith, c.loop-n.invariant.capacity, e.capacity)))
+    | in_default w ↦ rw w.arrived-is c.loop-n.invariant.capacity
+  ];
+  done = λ m on in_time shows stand. lanes-next (driven_lane m) m c.args.own.now c.loop-n.n c.loop-n.own c.drive_lane.new.own (c.loop-n.invariant.done m on in_time shows stand) c.drive_lane.ensures.same c.drive_lane.ensures.others (next c m on in_time shows stand);
+  arrived = λ m on in_time shows stand.
+      let ps = c.args.own.now.places in
+      let before = c.loop-n.invariant.arrived m on in_time shows stand in
+      let number = gone c m on in_time shows stand in
+      elim c.match-drive_lane.branch [
+        | in-Some w ↦ rw w.arrived-is (arrivals-more m ps c.loop-n.n (place_at c.args.own.now c.loop-n.n) (place-is c.args.own.now c.loop-n.n (within c m on in_time shows stand)) c.args.arrived.now.items c.loop-n.arrived.items w.push_reserved.new.self.items (Some w.in-Some.number) before (sym w.in-Some.is ∙ number) w.push_reserved.ensures.items)
+        | in_default w ↦ rw w.arrived-is (arrivals-more m ps c.loop-n.n (place_at c.args.own.now c.loop-n.n) (place-is c.args.own.now c.loop-n.n (within c m on in_time shows stand)) c.args.arrived.now.items c.loop-n.arrived.items c.loop-n.arrived.items None before (sym w.in_default.is ∙ number) (sym (append-nil c.loop-n.arrived.items)))
+      ];
+}
+
+pub returns-clause-stand : goal.returns-clause-stand
+returns-clause-stand c = λ m on in_time shows stand.
+    lanes-all (driven_lane m) m c.args.own.now c.loop-n.n c.loop-n.own (c.loop-n.invariant.done m on in_time shows stand) (omega arith) (driven m)
+    (λ j p at. lane_at-driven c.args.net.now m on p (c.requires.of.own j p at))
+
+pub returns-clause-arrived : goal.returns-clause-arrived
+returns-clause-arrived c = λ m on in_time shows stand. arrivals-all m c.args.own.now.places c.loop-n.n c.args.arrived.now.items c.loop-n.arrived.items (c.loop-n.invariant.arrived m on in_time shows stand) (omega arith)

@@ -1,0 +1,108 @@
+use Rattle.std.proofs.Common.{◌≡◌, ℕ, ◌+◌, ◌*◌, ◌<◌, ◌≤◌, List, [], ◌∷◌, ◌++◌, Bool, true, false, length, map, arith, refl, sym, ap, subst, ◌∙◌, inl, inr}
+use Rattle.std.specs.Prelude.{Option, Some, None, IsSome, slice_get, slice_set}
+use Rattle.std.proofs.lemmas.Bool.{cases_Bool}
+use Rattle.street_base.specs.Network.{Place}
+use Rattle.street_base.specs.Vehicle.{next_link}
+use Rattle.street_base.specs.State.{Traffic, Queued, lane_at}
+use Rattle.street_net.specs.Tables.{place_of}
+use Rattle.street_lanes.specs.Views.{LaneStands}
+use Rattle.street_lanes.specs.Lanes.{Lanes, lane_of, place_at}
+use Rattle.street_tile.specs.Halves.{Entry, candidate, entry_on}
+use Rattle.street_tile.specs.Tiles.{IsRoads, mouth}
+use Rattle.street_tile.specs.Walks.{IsReleasing}
+use Rattle.street_tile.proofs.Going.{same-none, same-then, same-long, place-is}
+use Rattle.street_tile.proofs.Releases.{IsReleased, Leads, leads-of, released-start, released-here, released-none, released-shut, released-goes, released-lanes, released-handed}
+use Rattle.street_tile.proofs.release.release_lanes.Goals as goal
+use Rattle.street_tile.proofs.release.release_lanes.Goals.{in-Some, in_default}
+
+pub loop-n-init : goal.loop-n-init
+loop-n-init c = record {
+  same = same-none c.args.own.now;
+  room = omega arith;
+  left = omega (arith, c.requires.room);
+  kept = omega arith;
+  released = λ roads even m r. released-start c.args.net.now roads c.args.clock c.args.own.now even c.args.mouths.now c.args.handed.now.items m r;
+}
+
+pub candidate-requires-clause-lane : goal.candidate-requires-clause-lane
+candidate-requires-clause-lane c = let e = same-long c.args.own.now c.loop-n.own c.loop-n.invariant.same in omega arith
+
+pub release_front-requires-clause-lane : goal.release_front-requires-clause-lane
+release_front-requires-clause-lane c = let e = same-long c.args.own.now c.loop-n.own c.loop-n.invariant.same in omega arith
+
+pub release_front-requires-clause-room : goal.release_front-requires-clause-room
+release_front-requires-clause-room c = let e = c.loop-n.invariant.left in omega arith
+
+module _ (c : goal.Joined-candidate) (roads : IsRoads c.args.net.now) (even : length c.args.own.now.lanes ≡ length c.args.own.now.places) (m : Traffic) (r : IsReleasing c.args.net.now c.args.clock c.args.own.now c.args.mouths.now m) where
+  within : c.loop-n.n < length c.args.own.now.places
+  within = omega arith
+
+  abbrev from : Place
+  from = place_at c.args.own.now c.loop-n.n
+
+  same_place : place_at c.loop-n.own c.loop-n.n ≡ from
+  same_place = rw c.loop-n.invariant.same.places refl
+
+  abbrev Done : ℕ → Lanes → List Bool → List Entry → Type 0
+  Done k own mouths handed = IsReleased c.args.net.now roads c.args.clock c.args.own.now even c.args.mouths.now c.args.handed.now.items m r k own mouths handed
+
+  so_far : Done c.loop-n.n c.loop-n.own c.loop-n.mouths c.loop-n.handed.items
+  so_far = c.loop-n.invariant.released roads even m r
+
+  here : LaneStands (lane_of c.loop-n.own c.loop-n.n) (lane_at m from)
+  here = released-here c.args.net.now roads c.args.clock c.args.own.now even c.args.mouths.now c.args.handed.now.items m r c.loop-n.n c.loop-n.own c.loop-n.mouths c.loop-n.handed.items within so_far
+
+  here_too : LaneStands (lane_of c.loop-n.own c.loop-n.n) (lane_at m (place_at c.loop-n.own c.loop-n.n))
+  here_too = subst (λ (p : Place). LaneStands (lane_of c.loop-n.own c.loop-n.n) (lane_at m p)) (sym same_place) here
+
+pub loop-n-preserved : goal.loop-n-preserved
+loop-n-preserved c =
+    elim c.match-candidate.branch [
+      | in-Some w ↦ (
+          let e = w.release_front.ensures in
+          rw (w.own-is, w.mouths-is, w.handed-is) (record {
+            same = elim (cases_Bool (mouth c.loop-n.mouths (place_of w.in-Some.to))) [
+              | inl is_open ↦ same-then c.args.own.now c.loop-n.own w.release_front.new.own c.loop-n.invariant.same (e.goes is_open).same
+              | inr is_shut ↦ rw (e.shut is_shut).0 c.loop-n.invariant.same
+            ];
+            room = omega (arith, c.loop-n.invariant.room, e.lanes);
+            left = omega (arith, c.loop-n.invariant.left, e.grown, e.kept);
+            kept = omega (arith, c.loop-n.invariant.kept, e.kept);
+            released = λ roads even m r.
+                let leads : candidate m (place_at c.args.own.now c.loop-n.n) ≡ Some (place_of w.in-Some.to) =
+                ap (candidate m) (sym (same_place c roads even m r)) ∙ sym (c.candidate.ensures.goes m r.on.network r.in_time (here_too c roads even m r)) ∙ rw w.in-Some.is refl in
+                let inside = w.in-Some.ensures.inside in
+                elim (cases_Bool (mouth c.loop-n.mouths (place_of w.in-Some.to))) [
+                  | inl is_open ↦ (
+                      let lead = leads-of m (place_at c.args.own.now c.loop-n.n) (place_of w.in-Some.to) leads in
+                      rw (e.mouths is_open (lane_at m (place_at c.args.own.now c.loop-n.n)) lead.0 (here c roads even m r) lead.1.front)
+                      (released-goes c.args.net.now roads c.args.clock c.args.own.now even c.args.mouths.now c.args.handed.now.items m r c.loop-n.n c.loop-n.own c.loop-n.mouths c.loop-n.handed.items (within c roads even m r) (so_far c roads even m r) (place_of w.in-Some.to) leads inside
+                      w.release_front.new.own w.release_front.new.handed.items (omega (arith, c.requires.wide)) is_open (e.goes is_open)
+                      (λ q l. e.handed is_open (lane_at m (place_at c.args.own.now c.loop-n.n)) q (here c roads even m r) l.front l.next)))
+                  | inr is_shut ↦ (
+                      let kept = e.shut is_shut in
+                      rw (kept.0, kept.1, kept.2)
+                      (released-shut c.args.net.now roads c.args.clock c.args.own.now even c.args.mouths.now c.args.handed.now.items m r c.loop-n.n c.loop-n.own c.loop-n.mouths c.loop-n.handed.items (within c roads even m r) (so_far c roads even m r) (place_of w.in-Some.to) leads inside is_shut))
+                ];
+          }))
+      | in_default w ↦ rw (w.own-is, w.mouths-is, w.handed-is) (record {
+        same = c.loop-n.invariant.same;
+        room = c.loop-n.invariant.room;
+        left = omega (arith, c.loop-n.invariant.left);
+        kept = c.loop-n.invariant.kept;
+        released = λ roads even m r.
+            let none : candidate m (place_at c.args.own.now c.loop-n.n) ≡ None =
+            ap (candidate m) (sym (same_place c roads even m r)) ∙ sym (c.candidate.ensures.goes m r.on.network r.in_time (here_too c roads even m r)) ∙ rw w.in_default.is refl in
+            released-none c.args.net.now roads c.args.clock c.args.own.now even c.args.mouths.now c.args.handed.now.items m r c.loop-n.n c.loop-n.own c.loop-n.mouths c.loop-n.handed.items (within c roads even m r) (so_far c roads even m r) none;
+      })
+    ]
+
+pub returns-clause-lanes : goal.returns-clause-lanes
+returns-clause-lanes c = λ m r.
+    let even : length c.args.own.now.lanes ≡ length c.args.own.now.places = omega arith in
+    released-lanes c.args.net.now c.requires.roads c.args.clock c.args.own.now even c.args.mouths.now c.args.handed.now.items m r c.requires.there c.loop-n.n c.loop-n.own c.loop-n.mouths c.loop-n.handed.items (c.loop-n.invariant.released c.requires.roads even m r) (omega arith)
+
+pub returns-clause-handed : goal.returns-clause-handed
+returns-clause-handed c = λ m r.
+    let even : length c.args.own.now.lanes ≡ length c.args.own.now.places = omega arith in
+    released-handed c.args.net.now c.requires.roads c.args.clock c.args.own.now even c.args.mouths.now c.args.handed.now.items m r c.loop-n.n c.loop-n.own c.loop-n.mouths c.loop-n.handed.items (c.loop-n.invariant.released c.requires.roads even m r) (omega arith)
