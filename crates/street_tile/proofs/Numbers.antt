@@ -1,8 +1,8 @@
 -- The number of an own lane, by its slot.
-use Rattle.std.proofs.Common.{◌≡◌, ℕ, ◌<◌, true, List, length, get_or, sym, subst, ap, ◌∙◌, arith}
+use Rattle.std.proofs.Common.{◌≡◌, ℕ, ◌+◌, ◌*◌, ◌<◌, ◌≤◌, true, List, length, get_or, sym, subst, ap, ◌∙◌, arith}
 use Rattle.std.specs.Prelude.{Some, slice_get}
 use Rattle.std.specs.List.{list_any}
-use Rattle.std.proofs.lemmas.Option.{slice_get_within}
+use Rattle.std.proofs.lemmas.List.{get_or_default}
 use Rattle.street_base.specs.declared.net.NetSpec.{NetSpec}
 use Rattle.street_base.specs.Network.{Place, is_place}
 use Rattle.street_base.proofs.PlaceLemmas.{places-listed}
@@ -18,3 +18,14 @@ number-at net x p numbers tile numbered there own =
     let listed = subst (λ (ps : List Place). list_any (is_place p) ps ≡ true) (sym tile.places) (own-listed net x.low x.high p (places-once net p (places-listed net p there.1)) own) in
     let found = any-at p x.own.places listed in
     ap (slice_get x.own.places) (numbered.at found.0 p found.1) ∙ found.1
+
+-- so has it at a number that was read there
+pub number-found : (net : NetSpec) (x : Part) (p : Place) (numbers : List ℕ) (slot at d : ℕ) → IsTileOf net x → AreNumbers x.links x.own.places numbers → IsLane net p → is_own net x.low x.high p ≡ true → slot ≡ slot_of p → at ≡ get_or numbers slot d → slice_get x.own.places at ≡ Some p
+number-found net x p numbers slot at d tile numbered there own slot_is at_is =
+    let link = there.0 in
+    let lane = there.1 in
+    let two = tile.roads.two p.link in
+    let wide = numbered.wide in
+    let links = tile.links in
+    let zero : at ≡ get_or numbers (slot_of p) 0 = at_is ∙ ap (λ k. get_or numbers k d) slot_is ∙ get_or_default numbers (slot_of p) d 0 (omega arith) in
+    ap (slice_get x.own.places) zero ∙ number-at net x p numbers tile numbered there own
