@@ -17,5 +17,6 @@ mod Moving
 mod Numbers
 mod Parting
 mod Ticking
+mod Cutting
 mod Stepping
 mod Writing

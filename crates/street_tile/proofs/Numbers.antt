@@ -1,14 +1,20 @@
 -- The number of an own lane, by its slot.
-use Rattle.std.proofs.Common.{◌≡◌, ℕ, ◌+◌, ◌*◌, ◌<◌, ◌≤◌, true, List, length, get_or, sym, subst, ap, ◌∙◌, arith}
+use Rattle.std.proofs.Common.{◌≡◌, ℕ, zero, suc, ◌+◌, ◌*◌, ◌<◌, ◌≤◌, true, List, [], ◌∷◌, length, get_or, refl, sym, subst, ap, ◌∙◌, arith}
 use Rattle.std.specs.Prelude.{Some, slice_get}
 use Rattle.std.specs.List.{list_any}
 use Rattle.std.proofs.lemmas.List.{get_or_default}
 use Rattle.street_base.specs.declared.net.NetSpec.{NetSpec}
 use Rattle.street_base.specs.Network.{Place, is_place}
+use Rattle.std.proofs.lemmas.Option.{slice_get_within, get_or_from_slice_get}
+use Rattle.street_base.specs.Census.{one_if}
+use Rattle.street_base.proofs.ReleaseLemmas.{is_place-refl}
 use Rattle.street_base.proofs.PlaceLemmas.{places-listed}
 use Rattle.street_base.proofs.PlaceOnceLemmas.{places-once}
 use Rattle.street_lanes.specs.Lanes.{IsLane}
 use Rattle.street_tile.specs.Tiles.{Part, IsTileOf, AreNumbers, is_own, slot_of}
+use Rattle.street_tile.specs.Walks.{AtMostOnce}
+use Rattle.street_tile.proofs.Walking.{times-cons, times-at, once-rest}
+use Rattle.street_tile.proofs.Owning.{at-any}
 use Rattle.street_tile.proofs.Publishing.{any-at}
 use Rattle.street_tile.proofs.Moving.{own-listed}
 
@@ -29,3 +35,22 @@ number-found net x p numbers slot at d tile numbered there own slot_is at_is =
     let links = tile.links in
     let zero : at ≡ get_or numbers (slot_of p) 0 = at_is ∙ ap (λ k. get_or numbers k d) slot_is ∙ get_or_default numbers (slot_of p) d 0 (omega arith) in
     ap (slice_get x.own.places) zero ∙ number-at net x p numbers tile numbered there own
+
+-- ---- one place, one number
+
+twice : (q : Place) (ps : List Place) → AtMostOnce (q ∷ ps) → (p : Place) → q ≡ p → list_any (is_place p) ps ≡ true → ⊥
+twice q ps once p same among =
+    let one : one_if (is_place p q) ≡ 1 = ap one_if (ap (is_place p) same ∙ is_place-refl p) in
+    let at = any-at p ps among in
+    let more = times-at p p ps at.0 (slice_get_within ps at.0 p at.1) (get_or_from_slice_get ps at.0 p p at.1) in
+    let cons = times-cons p q ps in
+    let most = once p in
+    absurd (omega arith)
+
+-- a place that stands at most once in a list stands at one index
+pub alone-at : (ps : List Place) → AtMostOnce ps → (j k : ℕ) (p : Place) → slice_get ps j ≡ Some p → slice_get ps k ≡ Some p → j ≡ k
+alone-at [] once j k p a b = cc
+alone-at (q ∷ ps) once zero zero p a b = refl
+alone-at (q ∷ ps) once zero (suc k) p a b = let same : q ≡ p = cc in absurd (twice q ps once p same (at-any ps k p b))
+alone-at (q ∷ ps) once (suc j) zero p a b = let same : q ≡ p = cc in absurd (twice q ps once p same (at-any ps j p a))
+alone-at (q ∷ ps) once (suc j) (suc k) p a b = ap (λ n. suc n) (alone-at ps (once-rest q ps once) j k p a b)

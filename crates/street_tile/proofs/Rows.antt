@@ -16,7 +16,7 @@ AreInRow net xs = InRow net 0 (length net.nodes) xs
 
 -- ---- the shares of tiles
 
-shares-mono : (i j n k : ℕ) → 0 < k → i ≤ j → i * n / k ≤ j * n / k
+pub shares-mono : (i j n k : ℕ) → 0 < k → i ≤ j → i * n / k ≤ j * n / k
 shares-mono i j n k some le = le-div (i * n / k) (j * n) k some (let a = div-mul-le_self (i * n) k in let b : i * n ≤ j * n = mul-le-mul_right n le in omega arith)
 
 -- tiles from i on

@@ -3,3 +3,4 @@ pub mod Tiles
 pub mod Phases
 pub mod Walks
 pub mod Moves
+pub mod Commands

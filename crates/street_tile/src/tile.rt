@@ -26,17 +26,17 @@ use street_node::SignalPlan;
 /// A block of nodes with all lanes of the links that run to them, and the vehicles there.
 #[derive(Drop)]
 pub struct Tile {
-    low: usize,
-    high: usize,
-    links: usize,
-    own: Lanes,
-    numbers: Vec<u16>,
-    clock: Step,
-    signals: Vec<Option<SignalPlan>>,
-    mouths: Vec<bool>,
-    handed: Vec<HandOver>,
-    coming: Vec<Option<HandOver>>,
-    arrived: Vec<CarNo>,
+    pub(crate) low: usize,
+    pub(crate) high: usize,
+    pub(crate) links: usize,
+    pub(crate) own: Lanes,
+    pub(crate) numbers: Vec<usize>,
+    pub(crate) clock: Step,
+    pub(crate) signals: Vec<Option<SignalPlan>>,
+    pub(crate) mouths: Vec<bool>,
+    pub(crate) handed: Vec<HandOver>,
+    pub(crate) coming: Vec<Option<HandOver>>,
+    pub(crate) arrived: Vec<CarNo>,
 }
 
 impl Model for Tile {
@@ -162,7 +162,7 @@ impl Tile {
     {
         let to = hand_over.to();
         let n = self.numbers[slot(to.link, to.lane)];
-        self.coming[usize::from(n)] = Some(hand_over);
+        self.coming[n] = Some(hand_over);
     }
 
     /// Takes a number that arrived in the last step; none when all were taken. Takes no memory.

@@ -1,0 +1,6 @@
+use Rattle.std.proofs.Common.{◌≡◌}
+use Rattle.std.specs.Prelude.{None, replicate}
+use Rattle.street_tile.proofs.cut.nones.Given as goal
+
+abbrev pub invariant-loop-none : goal.invariant-loop-none
+invariant-loop-none g l = l.nones.items ≡ replicate l._none None

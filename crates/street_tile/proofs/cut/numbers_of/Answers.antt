@@ -1,0 +1,43 @@
+use Rattle.std.proofs.Common.{◌≡◌, ℕ, ◌+◌, ◌*◌, ◌<◌, ◌≤◌, List, length, map, get_or, refl, sym, ◌∙◌, ap, subst, arith}
+use Rattle.std.specs.Prelude.{Some, slice_get, option_map}
+use Rattle.std.specs.List.{All}
+use Rattle.std.proofs.lemmas.List.{length-map, length-set}
+use Rattle.std.proofs.lemmas.Option.{slice_get-map, slice_get-get_or, slice_get_within, get_or_from_slice_get, same_Some}
+use Rattle.street_base.specs.Network.{Place}
+use Rattle.street_net.specs.declared.lanes.LaneId.{LaneId}
+use Rattle.street_net.specs.Tables.{place_of}
+use Rattle.street_tile.specs.Tiles.{slot_of}
+use Rattle.street_tile.proofs.Cutting.{numbered-more}
+use Rattle.street_tile.proofs.cut.numbers_of.Goals as goal
+
+abbrev nowhere : LaneId
+nowhere = record { link = 0; lane = 0 }
+
+-- what is known of these lanes, by their places
+inside-at : (links : ℕ) (own : List LaneId) → All (λ at. (at.link < links) × (at.lane < 2)) own → (k : ℕ) (p : Place) → slice_get (map place_of own) k ≡ Some p → (p.link < links) × (p.lane < 2)
+inside-at links own inside k p at =
+    let h : k < length own = (let l = slice_get_within (map place_of own) k p at in omega (arith, length-map own place_of)) in
+    let is : slice_get (map place_of own) k ≡ Some (place_of (get_or own k nowhere)) = slice_get-map place_of own k ∙ ap (option_map place_of) (slice_get-get_or own k nowhere h) in
+    subst (λ (q : Place). (q.link < links) × (q.lane < 2)) (same_Some (place_of (get_or own k nowhere)) p (sym is ∙ at)) (inside k nowhere h)
+
+pub loop-n-preserved : goal.loop-n-preserved
+loop-n-preserved c =
+    let own = c.args.own.now in
+    let n = c.loop-n.n in
+    let p : Place = place_of (get_or own n nowhere) in
+    let at : slice_get (map place_of own) n ≡ Some p = slice_get-map place_of own n ∙ ap (option_map place_of) (slice_get-get_or own n nowhere c.loop-n-test.true) in
+    let here = inside-at c.args.links own c.requires.inside n p at in
+    let link = here.0 in
+    let lane = here.1 in
+    let wide = c.loop-n.invariant.wide in
+    let slot : c.slot.result ≡ slot_of p = c.slot.ensures in
+    rw slot (record {
+      wide = length-set c.loop-n.numbers.items (slot_of p) n ∙ wide;
+      at = numbered-more (map place_of own) c.args.links c.requires.once (λ k q e. (inside-at c.args.links own c.requires.inside k q e).1) n p c.loop-n.numbers.items at (omega arith) c.loop-n.invariant.at;
+    })
+
+pub returns : goal.returns
+returns c = record {
+  wide = c.loop-n.invariant.wide;
+  at = λ k p at. c.loop-n.invariant.at k p (let h = slice_get_within (map place_of c.args.own.now) k p at in omega (arith, length-map c.args.own.now place_of)) at;
+}

@@ -1,0 +1,63 @@
+-- What commands do to a tile.
+-- Source: this profile.
+use Rattle.std.specs.Prelude.{◌≡◌, ◌≤◌, ◌<◌, ℕ, List, map, sum_by, Option, Some, None, slice_get, slice_set, if◌then◌else◌}
+use Rattle.street_base.specs.declared.net.NetSpec.{NetSpec}
+use Rattle.street_base.specs.declared.reply.Whereabouts.{Whereabouts}
+use Rattle.street_base.specs.Network.{Place, is_place}
+use Rattle.street_base.specs.Signal.{SignalPlan}
+use Rattle.street_base.specs.State.{Traffic, LaneState, lane_at, each_lane}
+use Rattle.street_base.specs.Census.{in_lane}
+use Rattle.street_base.specs.Effects.{lane_without}
+use Rattle.street_base.specs.Machine.{seen_in}
+use Rattle.street_lanes.specs.Whole.{IsOn}
+use Rattle.street_tile.specs.Tiles.{Part, StandsFor, SameTile}
+
+-- ---- what is done
+
+-- the lane at a place changed by a rule, the others as they were
+unfoldable pub at_place : Place → (LaneState → LaneState) → Traffic → Traffic
+at_place p rule m = record m { lanes = each_lane (λ q lane. if is_place q p then rule lane else lane) m.lanes }
+
+-- every lane without the vehicle of a number
+unfoldable pub without : ℕ → Traffic → Traffic
+without number m = record m { lanes = each_lane (λ place. lane_without number) m.lanes }
+
+-- the node at a position has this signal plan
+unfoldable pub planned : ℕ → SignalPlan → Traffic → Traffic
+planned node plan m = record m { signals = slice_set m.signals node (Some plan) }
+
+-- ---- a tile before and after
+
+-- whatever the tile stood for, if P held of that, it then stands for f of it; nobody is on the way who was not
+pub record DoesIf (net : NetSpec) (P : Traffic → Type 0) (f : Traffic → Traffic) (x y : Part) : Type 0 where
+  pub same : SameTile x y
+  pub handed : y.handed ≡ x.handed
+  pub coming : y.coming ≡ x.coming
+  pub arrived : y.arrived ≡ x.arrived
+  pub stands : (m : Traffic) → IsOn net m → P m → StandsFor x m → StandsFor y (f m)
+
+abbrev pub Does : NetSpec → (Traffic → Traffic) → Part → Part → Type 0
+Does net f x y = DoesIf net (λ m. Unit {0}) f x y
+
+-- the tile is as it was, reserved room apart
+abbrev pub KeepsAll : Part → Part → Type 0
+KeepsAll x y = y ≡ record x { own = record x.own { room = y.own.room } }
+
+-- ---- what is found on some lanes
+
+-- nobody of this number is on any of these lanes
+abbrev pub HaveNot : List Place → Traffic → ℕ → Type 0
+HaveNot ps m number = (k : ℕ) (p : Place) → slice_get ps k ≡ Some p → in_lane number (lane_at m p) ≡ 0
+
+-- somebody of this number is on one of them
+abbrev pub Have : List Place → Traffic → ℕ → Type 0
+Have ps m number = (k : ℕ) × (p : Place) × (slice_get ps k ≡ Some p) × (0 < in_lane number (lane_at m p))
+
+-- where somebody of this number is on these lanes, and nothing where nobody is
+abbrev pub Finds : NetSpec → List Place → Traffic → ℕ → Option Whereabouts → Type 0
+Finds net ps m number None = HaveNot ps m number
+Finds net ps m number (Some found) = (k : ℕ) × (p : Place) × (slice_get ps k ≡ Some p) × (seen_in net p number (lane_at m p) ≡ Some found)
+
+-- the sum of f over these lanes
+abbrev pub over : List Place → (LaneState → ℕ) → Traffic → ℕ
+over ps f m = sum_by (λ p. f (lane_at m p)) ps
