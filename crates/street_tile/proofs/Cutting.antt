@@ -9,6 +9,7 @@ use Rattle.std.proofs.lemmas.List.Elements.{filter-append}
 use Rattle.std.proofs.lemmas.List.Folds.{find_at}
 use Rattle.std.proofs.lemmas.Option.{slice_get_within, get_or_from_slice_get, slice_get-map, same_Some}
 use Rattle.street_base.specs.declared.net.LinkSpec.{LinkSpec}
+use Rattle.street_base.specs.declared.net.NodeSpec.{NodeSpec}
 use Rattle.street_base.specs.declared.net.TurnSpec.{TurnSpec}
 use Rattle.street_base.specs.declared.net.NetSpec.{NetSpec}
 use Rattle.street_base.specs.Faults.{network_fault, joins}
@@ -129,6 +130,9 @@ pub loaded-clock : (net : NetSpec) → (loaded net).clock ≡ net.start
 unfolding loaded
 loaded-clock net = refl
 
+abbrev no_plan : Option SignalPlan
+no_plan = None
+
 -- no plans
 abbrev pub no_plans : ℕ → List (Option SignalPlan)
 no_plans n = replicate n None
@@ -137,7 +141,7 @@ pub loaded-signals : (net : NetSpec) (low high : ℕ) → high ≤ length net.no
 unfolding loaded
 loaded-signals net low high within node above below =
     let mine : get_or {A = Option SignalPlan} (no_plans (high - low)) (node - low) None ≡ None = get_or-replicate {A = Option SignalPlan} (high - low) (node - low) None None (omega arith) in
-    let theirs : get_or {A = Option SignalPlan} (map (λ n. None) net.nodes) node None ≡ None = get_or-map {B = Option SignalPlan} (λ n. None) net.nodes node (record { id = 0; residence = 0; capacity = 0 }) None (omega arith) in
+    let theirs : get_or {A = Option SignalPlan} (map (λ (n : NodeSpec). no_plan) net.nodes) node None ≡ None = get_or-map (λ (n : NodeSpec). no_plan) net.nodes node (record { id = 0; residence = 0; capacity = 0 }) no_plan (omega arith) in
     rw (mine, theirs) (λ place next step. refl)
 
 -- nobody comes to any of so many lanes

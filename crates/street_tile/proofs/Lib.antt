@@ -18,5 +18,6 @@ mod Numbers
 mod Parting
 mod Ticking
 mod Cutting
+mod Making
 mod Stepping
 mod Writing

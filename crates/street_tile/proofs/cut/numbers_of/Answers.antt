@@ -1,7 +1,7 @@
 use Rattle.std.proofs.Common.{◌≡◌, ℕ, ◌+◌, ◌*◌, ◌<◌, ◌≤◌, List, length, map, get_or, refl, sym, ◌∙◌, ap, subst, arith}
 use Rattle.std.specs.Prelude.{Some, slice_get, option_map}
 use Rattle.std.specs.List.{All}
-use Rattle.std.proofs.lemmas.List.{length-map, length-set}
+use Rattle.std.proofs.lemmas.List.{length-map, length-set, get_or_default}
 use Rattle.std.proofs.lemmas.Option.{slice_get-map, slice_get-get_or, slice_get_within, get_or_from_slice_get, same_Some}
 use Rattle.street_base.specs.Network.{Place}
 use Rattle.street_net.specs.declared.lanes.LaneId.{LaneId}
@@ -30,7 +30,7 @@ loop-n-preserved c =
     let link = here.0 in
     let lane = here.1 in
     let wide = c.loop-n.invariant.wide in
-    let slot : c.slot.result ≡ slot_of p = c.slot.ensures in
+    let slot : c.slot.result ≡ slot_of p = c.slot.ensures ∙ ap (λ (x : LaneId). slot_of (place_of x)) (c.index-own-n.is ∙ get_or_default own n c.index-own-n.result nowhere c.loop-n-test.true) in
     rw slot (record {
       wide = length-set c.loop-n.numbers.items (slot_of p) n ∙ wide;
       at = numbered-more (map place_of own) c.args.links c.requires.once (λ k q e. (inside-at c.args.links own c.requires.inside k q e).1) n p c.loop-n.numbers.items at (omega arith) c.loop-n.invariant.at;

@@ -1,0 +1,28 @@
+use Rattle.std.proofs.Common.{◌≡◌, ◌+◌, ◌*◌, ◌<◌, ◌≤◌, length, refl, arith}
+use Rattle.std.proofs.lemmas.Nat.{mul-le}
+use Rattle.street_tile.proofs.Cutting.{faultless-roads}
+use Rattle.street_tile.proofs.Making.{made-tiles}
+use Rattle.street_tile.proofs.tile.Tile.cut.Goals as goal
+
+pub overflow_mul-i : goal.overflow_mul-i
+overflow_mul-i c =
+    let nodes : length c.as_slice-nodes.result.now ≡ length c.args.net.now.nodes = rw (c.as_slice-nodes.ensures, c.spec.ensures.value) refl in
+    let most = (faultless-roads c.args.net.now c.spec.ensures.faultless).nodes.1 in
+    let count = c.min-count.ensures in
+    let le = mul-le c.loop-i.i (length c.as_slice-nodes.result.now) 4096 4096 (omega arith) (omega arith) in
+    omega arith
+
+pub overflow_mul-i-in-loop-i : goal.overflow_mul-i-in-loop-i
+overflow_mul-i-in-loop-i c =
+    let nodes : length c.as_slice-nodes.result.now ≡ length c.args.net.now.nodes = rw (c.as_slice-nodes.ensures, c.spec.ensures.value) refl in
+    let most = (faultless-roads c.args.net.now c.spec.ensures.faultless).nodes.1 in
+    let count = c.min-count.ensures in
+    let le = mul-le (c.loop-i.i + 1) (length c.as_slice-nodes.result.now) 4096 4096 (omega arith) (omega arith) in
+    omega arith
+
+pub returns-clause-tiles : goal.returns-clause-tiles
+returns-clause-tiles c =
+    let nodes : length c.as_slice-nodes.result.now ≡ length c.args.net.now.nodes = rw (c.as_slice-nodes.ensures, c.spec.ensures.value) refl in
+    let some = (faultless-roads c.args.net.now c.spec.ensures.faultless).nodes.0 in
+    let count = c.min-count.ensures in
+    made-tiles c.args.net.now c.min-count.result c.loop-i.i c.loop-i.tiles.items c.loop-i.invariant (omega arith) (omega arith) (omega arith) (omega arith)
