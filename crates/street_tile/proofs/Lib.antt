@@ -1,23 +1,23 @@
-mod Going
-mod Each
-mod Rows
-mod Walking
-mod Crossing
-mod Owning
+pub mod Going
+pub mod Each
+pub mod Rows
+pub mod Walking
+pub mod Crossing
+pub mod Owning
 mod Pairs
 mod Changing
 mod Driving
 mod Releases
 mod Showing
-mod Tiling
-mod Publishing
-mod Keeping
-mod Composing
-mod Moving
+pub mod Tiling
+pub mod Publishing
+pub mod Keeping
+pub mod Composing
+pub mod Moving
 mod Numbers
 mod Parting
 mod Ticking
 mod Cutting
 mod Making
-mod Stepping
+pub mod Stepping
 mod Writing
