@@ -1,10 +1,9 @@
 -- What a faultless network gives a tile, and a tile with nobody on it.
-use Rattle.std.proofs.Common.{◌≡◌, ℕ, zero, suc, ◌+◌, ◌-◌, ◌*◌, ◌<◌, ◌≤◌, Bool, true, false, List, [], ◌∷◌, ◌++◌, length, map, set, get_or, refl, sym, ◌∙◌, ap, subst, arith, inl, inr}
-use Rattle.std.specs.Prelude.{Option, Some, None, IsSome, is_some, filter, flat_map, replicate, slice_get, option_map, nat_le, nat_lt, ◌&&◌, ◌==◌, if◌then◌else◌}
-use Rattle.std.specs.Option.{option_map_or}
+use Rattle.std.proofs.Common.{◌≡◌, ℕ, zero, suc, ◌+◌, ◌-◌, ◌<◌, ◌≤◌, Bool, true, false, List, [], ◌∷◌, ◌++◌, length, map, set, get_or, refl, sym, ◌∙◌, ap, subst, arith, inl, inr}
+use Rattle.std.specs.Prelude.{Option, Some, None, filter, replicate, slice_get, option_map, nat_le, nat_lt, ◌&&◌, ◌==◌, if◌then◌else◌}
 use Rattle.std.specs.List.{range_with_len, position_or_len}
-use Rattle.std.proofs.lemmas.Bool.{cases_Bool, cases_lt, cases_eq, and_parts, eqb-true, eq-eqb, le-leb, lt-ltb, lt-leb, le-ltb, false_from_ne_true}
-use Rattle.std.proofs.lemmas.List.{append-nil, get_or-map, get_or_past, get_or-replicate, length-replicate, get_or-set_same, get_or-set_other, length-set}
+use Rattle.std.proofs.lemmas.Bool.{cases_lt, cases_eq, and_parts, eq-eqb, le-leb, lt-ltb, false_from_ne_true}
+use Rattle.std.proofs.lemmas.List.{append-nil, get_or-map, get_or_past, get_or-replicate, get_or-set_same, get_or-set_other}
 use Rattle.std.proofs.lemmas.List.Elements.{filter-append}
 use Rattle.std.proofs.lemmas.List.Folds.{find_at}
 use Rattle.std.proofs.lemmas.Option.{slice_get_within, get_or_from_slice_get, slice_get-map, same_Some}
@@ -14,7 +13,7 @@ use Rattle.street_base.specs.declared.net.TurnSpec.{TurnSpec}
 use Rattle.street_base.specs.declared.net.NetSpec.{NetSpec}
 use Rattle.street_base.specs.Faults.{network_fault, joins}
 use Rattle.street_base.specs.Limits.{most_lanes}
-use Rattle.street_base.specs.Network.{Place, is_place, no_link, link_at, node_of, names_link, turn, places}
+use Rattle.street_base.specs.Network.{Place, is_place, no_link, link_at, node_of, names_link, turn}
 use Rattle.street_base.specs.Vehicle.{Vehicle}
 use Rattle.street_base.specs.State.{LaneState, no_lane, lane_at}
 use Rattle.street_base.specs.Signal.{SignalPlan}

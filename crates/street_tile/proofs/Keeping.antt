@@ -1,13 +1,10 @@
 -- A tile that stays the tile that it was.
-use Rattle.std.proofs.Common.{◌≡◌, List, [], refl, sym, ◌∙◌, ap, subst}
+use Rattle.std.proofs.Common.{◌≡◌, List, refl, sym, ◌∙◌, subst}
 use Rattle.std.specs.Prelude.{Option}
 use Rattle.street_base.specs.declared.net.NetSpec.{NetSpec}
-use Rattle.street_base.specs.Network.{Place}
 use Rattle.street_base.specs.Vehicle.{Vehicle}
-use Rattle.street_lanes.specs.Lanes.{Same}
 use Rattle.street_tile.specs.Halves.{Entry}
-use Rattle.street_tile.specs.Tiles.{Part, IsTileOf, SameTile, own_places}
-use Rattle.street_tile.specs.Moves.{received}
+use Rattle.street_tile.specs.Tiles.{Part, IsTileOf, SameTile}
 use Rattle.street_tile.proofs.Going.{same-none, same-then, of-same}
 
 pub tile-none : (x : Part) → SameTile x x

@@ -1,32 +1,27 @@
 -- Hand-overs moved to the tiles that own their lanes.
-use Rattle.std.proofs.Common.{◌≡◌, ℕ, zero, suc, ◌+◌, ◌<◌, ◌≤◌, Bool, true, false, List, [], ◌∷◌, ◌++◌, length, map, set, take, drop, get_or, refl, sym, ◌∙◌, ap, subst, arith, inl, inr}
-use Rattle.std.specs.Prelude.{Option, Some, None, All, slice_get, position, ◌&&◌, ◌==◌, nat_le, nat_lt, if◌then◌else◌}
+use Rattle.std.proofs.Common.{◌≡◌, ℕ, zero, suc, ◌+◌, ◌<◌, ◌≤◌, true, false, List, [], ◌∷◌, ◌++◌, length, map, set, take, drop, get_or, refl, sym, ◌∙◌, ap, subst, arith, inl, inr}
+use Rattle.std.specs.Prelude.{Option, Some, None, All, slice_get, ◌&&◌, ◌==◌, nat_le, nat_lt, if◌then◌else◌}
 use Rattle.std.specs.Option.{option_map_or}
-use Rattle.std.specs.List.{list_any, position_or_len}
-use Rattle.std.proofs.lemmas.Bool.{cases_Bool, cases_eq, cases_lt, both_ways, cond-true, cond-false, and_parts, lt-leb, lt-ltb, le-ltb, ltb-true, ltb-false, eq-eqb, ne_eqb, false_from_ne_true, true_from_ne_false}
-use Rattle.std.proofs.lemmas.List.{get_or-set_same, get_or-set_other, get_or_default, length-map, length_push, get_or_push, take_more, take_all, drop_more}
+use Rattle.std.specs.List.{list_any}
+use Rattle.std.proofs.lemmas.Bool.{cases_Bool, cases_eq, cases_lt, both_ways, cond-true, cond-false, and_parts, lt-leb, lt-ltb, le-ltb, ltb-true, eq-eqb, ne_eqb, false_from_ne_true, true_from_ne_false}
+use Rattle.std.proofs.lemmas.List.{get_or-set_same, get_or-set_other, get_or_default, length_push, get_or_push, take_more, take_all, drop_more}
 use Rattle.street_base.specs.declared.net.NetSpec.{NetSpec}
 use Rattle.street_base.specs.Network.{Place, is_place, link_at, node_of, places}
 use Rattle.street_base.specs.Vehicle.{Vehicle}
 use Rattle.street_base.specs.Census.{one_if}
-use Rattle.street_base.proofs.ReleaseLemmas.{is_place-same, is_place-refl, is_place-swap}
+use Rattle.street_base.proofs.ReleaseLemmas.{is_place-refl, is_place-swap}
 use Rattle.street_lanes.specs.Lanes.{IsLane}
 use Rattle.street_tile.specs.Halves.{Entry, entry_in}
-use Rattle.street_tile.specs.Tiles.{Part, IsRoads, SameTile, Each, is_own, own_places, nobody}
+use Rattle.street_tile.specs.Tiles.{Part, SameTile, Each, is_own, own_places, nobody}
 use Rattle.street_tile.specs.Walks.{times, AtMostOnce}
-use Rattle.street_tile.specs.Moves.{all_handed, all_places, received, Awaits, moved_at, IsMoved}
+use Rattle.street_tile.specs.Moves.{all_handed, received, Awaits, moved_at, IsMoved}
 use Rattle.street_tile.proofs.Rows.{InRow, AreInRow}
 use Rattle.street_tile.proofs.Walking.{times-cons, once-rest}
 use Rattle.street_tile.proofs.Owning.{at-any, times-filter}
-use Rattle.street_tile.proofs.Tiling.{tiles-once}
-use Rattle.street_tile.proofs.Publishing.{any-at, none-times, all_handed-push}
+use Rattle.street_tile.proofs.Publishing.{none-times, all_handed-push}
 use Rattle.std.proofs.lemmas.List.Elements.{All-take}
 use Rattle.street_tile.proofs.Composing.{tiles-of}
 use Rattle.street_tile.proofs.Keeping.{same-moved}
-use Rattle.std.proofs.lemmas.Option.{slice_get_within}
-use Rattle.std.proofs.lemmas.List.Quantifiers.{position-Some}
-use Rattle.std.proofs.lemmas.List.Sums.{sum_by-append, fails_before_first}
-use Rattle.street_base.proofs.PlaceLemmas.{places-listed}
 
 -- ---- one more entry
 

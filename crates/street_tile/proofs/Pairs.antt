@@ -1,10 +1,10 @@
 -- The lanes of a tile come link by link, lane 0 and then lane 1.
-use Rattle.std.proofs.Common.{◌≡◌, ℕ, zero, suc, ◌+◌, ◌<◌, ◌≤◌, Bool, true, false, List, [], ◌∷◌, ◌++◌, map, length, get_or, refl, sym, ◌∙◌, ap, subst, arith, inl, inr}
-use Rattle.std.specs.Prelude.{filter, flat_map, Option}
+use Rattle.std.proofs.Common.{◌≡◌, ℕ, zero, suc, ◌+◌, ◌<◌, ◌≤◌, List, [], ◌∷◌, ◌++◌, map, length, get_or, refl, sym, ◌∙◌, arith, inl, inr}
+use Rattle.std.specs.Prelude.{filter, flat_map}
 use Rattle.std.specs.List.{range_with_len}
 use Rattle.std.proofs.lemmas.Bool.{cases_Bool}
 use Rattle.street_base.specs.declared.net.NetSpec.{NetSpec}
-use Rattle.street_base.specs.Network.{Place, link_at, places}
+use Rattle.street_base.specs.Network.{Place, link_at}
 use Rattle.street_lanes.specs.Lanes.{no_place}
 use Rattle.street_tile.specs.Tiles.{ArePairs, is_own, own_places}
 use Rattle.street_tile.proofs.Owning.{row_of}

@@ -1,5 +1,5 @@
 -- The phases of a tile, from what was done to its lanes.
-use Rattle.std.proofs.Common.{◌≡◌, ℕ, ◌+◌, ◌<◌, ◌≤◌, Bool, true, List, [], ◌∷◌, length, map, refl, sym, ◌∙◌, ap, subst, arith}
+use Rattle.std.proofs.Common.{◌≡◌, ℕ, ◌<◌, ◌≤◌, Bool, true, List, [], ◌∷◌, length, map, refl, sym, ◌∙◌, ap, subst, arith}
 use Rattle.std.specs.Prelude.{Option, None, Some, filter_map, slice_get}
 use Rattle.street_base.specs.declared.net.NetSpec.{NetSpec}
 use Rattle.street_base.specs.Network.{Place}
@@ -11,7 +11,7 @@ use Rattle.street_lanes.specs.Views.{LaneStands}
 use Rattle.street_lanes.specs.Lanes.{Lanes, AllLanes, Same, place_at}
 use Rattle.street_lanes.specs.Whole.{IsOn, LanesStand, LanesGo, AllFree}
 use Rattle.street_tile.specs.Halves.{Entry, vehicle_in, crossing, let_go, placed, placed_lane}
-use Rattle.street_tile.specs.Tiles.{Part, IsTileOf, StandsFor, Shows, ShowSignals, ArePairs, nobody, is_own, own_places}
+use Rattle.street_tile.specs.Tiles.{Part, IsTileOf, StandsFor, Shows, ShowSignals, ArePairs, nobody, is_own}
 use Rattle.street_tile.specs.Phases.{Changes, Moves, Releases, Enters}
 use Rattle.street_tile.specs.Walks.{IsWalk, IsReleasing}
 use Rattle.street_tile.proofs.Going.{place-is}

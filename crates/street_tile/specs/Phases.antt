@@ -1,13 +1,13 @@
 -- The phases of a tile: each speaks of the whole machine, whatever state the tile stood for.
-use Rattle.std.specs.Prelude.{◌≡◌, ℕ, ◌+◌, ◌≤◌, List, [], map, filter_map, Bool, Option}
+use Rattle.std.specs.Prelude.{◌≡◌, ◌+◌, ◌≤◌, List, map, filter_map, Bool, Option}
 use Rattle.street_base.specs.declared.net.NetSpec.{NetSpec}
 use Rattle.street_base.specs.Vehicle.{Vehicle}
-use Rattle.street_base.specs.Network.{Place, places}
+use Rattle.street_base.specs.Network.{Place}
 use Rattle.street_base.specs.State.{Traffic}
 use Rattle.street_base.specs.Departure.{departed}
 use Rattle.street_base.specs.Step.{arrival, leaver_of, changed, driven}
 use Rattle.street_lanes.specs.Whole.{AllFree, IsOn}
-use Rattle.street_tile.specs.Halves.{Entry, crossing, let_go, placed}
+use Rattle.street_tile.specs.Halves.{crossing, let_go, placed}
 use Rattle.street_tile.specs.Tiles.{Part, StandsFor, SameTile, Shows, nobody}
 
 -- whatever the tile stood for, it then stands for f of that

@@ -1,6 +1,6 @@
 -- A tile, and what it stands for of the machine.
 -- Source: blocks of nodes with the links that run to them are this profile.
-use Rattle.std.specs.Prelude.{◌≡◌, ℕ, ◌+◌, ◌-◌, ◌*◌, ◌/◌, ◌<◌, ◌≤◌, nat_le, nat_lt, List, [], ◌∷◌, ◌++◌, map, length, filter, Bool, false, ◌&&◌, Option, Some, None, IsSome, slice_get, slice_index_or}
+use Rattle.std.specs.Prelude.{◌≡◌, ℕ, ◌+◌, ◌-◌, ◌*◌, ◌/◌, ◌<◌, ◌≤◌, nat_le, nat_lt, List, [], map, length, filter, Bool, false, ◌&&◌, Option, Some, None, IsSome, slice_get, slice_index_or}
 use Rattle.std.proofs.Common.{suc}
 use Rattle.std.specs.Option.{option_map_or}
 use Rattle.std.specs.List.{All}

@@ -1,14 +1,13 @@
-use Rattle.std.proofs.Common.{◌≡◌, ◌+◌, ◌<◌, ◌≤◌, ◌++◌, List, true, false, length, get_or, map, refl, sym, ◌∙◌, ap, subst, arith}
-use Rattle.std.specs.Prelude.{Some, filter, nat_le, nat_lt, ◌&&◌}
+use Rattle.std.proofs.Common.{◌≡◌, ◌≤◌, ◌++◌, List, length, get_or, map, refl, sym, ◌∙◌, ap, subst, arith}
+use Rattle.std.specs.Prelude.{Some, filter}
 use Rattle.std.specs.List.{range_with_len}
 use Rattle.std.proofs.lemmas.Bool.{le-leb, lt-leb, le-ltb}
 use Rattle.std.proofs.lemmas.List.{map-append}
 use Rattle.street_base.specs.Limits.{most_lanes}
 use Rattle.street_base.specs.Network.{Place, link_at, node_of, no_link}
 use Rattle.street_base.proofs.FaultLemmas.{link_below, link_keeps_limits}
-use Rattle.street_net.specs.declared.lanes.LaneId.{LaneId}
 use Rattle.street_net.specs.Tables.{place_of}
-use Rattle.street_net.proofs.Landing.{lanes_of, places_below, named}
+use Rattle.street_net.proofs.Landing.{places_below, named}
 use Rattle.street_tile.specs.Tiles.{is_own}
 use Rattle.street_tile.proofs.Cutting.{own-more, own-elsewhere}
 use Rattle.street_tile.proofs.cut.own_lanes.Goals as goal

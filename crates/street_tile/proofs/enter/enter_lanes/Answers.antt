@@ -1,13 +1,11 @@
 use Rattle.std.proofs.Common.{◌≡◌, List, ◌<◌, length, map, get_or, ap, ◌∙◌, sym, subst, refl, arith}
-use Rattle.std.specs.Prelude.{Option, None, Some, option_map, IsSome, slice_get}
+use Rattle.std.specs.Prelude.{Option, None, Some, IsSome}
 use Rattle.std.proofs.lemmas.List.{length-map, get_or-map}
-use Rattle.std.proofs.lemmas.Option.{slice_get-get_or}
 use Rattle.street_base.specs.Network.{Place}
 use Rattle.street_base.specs.Vehicle.{Vehicle}
 use Rattle.street_base.specs.State.{Traffic, lane_at}
 use Rattle.street_base.specs.Departure.{departed_lane}
 use Rattle.street_lanes.specs.Lanes.{place_at}
-use Rattle.street_lanes.specs.Whole.{LanesStand}
 use Rattle.street_tile.specs.Halves.{Entry, placed_lane, vehicle_in}
 use Rattle.street_tile.proofs.Writing.{IsWritten, written-start, written-old, written-next, written-all}
 use Rattle.street_tile.proofs.Going.{same-none, same-then, same-long, place-is, lanes-start, lanes-next, lanes-here, lanes-go}

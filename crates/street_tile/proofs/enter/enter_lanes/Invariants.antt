@@ -1,4 +1,4 @@
-use Rattle.std.proofs.Common.{◌≡◌, ℕ, ◌+◌, ◌≤◌, map, length}
+use Rattle.std.proofs.Common.{◌≡◌, ◌+◌, ◌≤◌, map, length}
 use Rattle.std.specs.Prelude.{Option, None}
 use Rattle.street_base.specs.Network.{Place}
 use Rattle.street_base.specs.Vehicle.{Vehicle}

@@ -1,9 +1,8 @@
-use Rattle.std.proofs.Common.{◌≡◌, ◌+◌, ◌-◌, length, get_or, refl, sym, ◌∙◌, ap, subst}
+use Rattle.std.proofs.Common.{◌≡◌, ◌-◌, get_or, ◌∙◌, ap}
 use Rattle.std.specs.Prelude.{Some}
 use Rattle.std.specs.Option.{option_copied}
 use Rattle.street_base.specs.Network.{Place, link_at, node_of}
 use Rattle.street_lanes.specs.Lanes.{place_at}
-use Rattle.street_lanes.specs.Driving.{PlanStands}
 use Rattle.street_tile.proofs.Driving.{plan-shown}
 use Rattle.street_tile.proofs.lanes.drive_lane.Goals as goal
 

@@ -1,5 +1,5 @@
-use Rattle.std.proofs.Common.{◌≡◌, ℕ, ◌+◌, ◌<◌, List, [], ◌∷◌, ◌++◌, length, take, arith, refl, sym, ap, subst, ◌∙◌}
-use Rattle.std.specs.Prelude.{Option, Some, None, slice_get, filter_map}
+use Rattle.std.proofs.Common.{◌≡◌, ◌+◌, ◌<◌, length, arith, refl, sym, ap, subst, ◌∙◌}
+use Rattle.std.specs.Prelude.{Some, None}
 use Rattle.std.proofs.lemmas.List.{append-nil}
 use Rattle.street_base.specs.Network.{Place}
 use Rattle.street_base.specs.State.{Traffic, lane_at}
@@ -7,7 +7,7 @@ use Rattle.street_base.specs.Step.{driven, driven_lane, arrival, leaver_of}
 use Rattle.street_lanes.specs.Views.{LaneStands}
 use Rattle.street_lanes.specs.Lanes.{lane_of, place_at}
 use Rattle.street_lanes.specs.Whole.{IsOn, LanesStand}
-use Rattle.street_tile.specs.Tiles.{ShowSignals, is_own}
+use Rattle.street_tile.specs.Tiles.{ShowSignals}
 use Rattle.street_tile.proofs.Going.{same-then, same-long, of-same, lanes-here, lanes-next, lanes-all, place-is}
 use Rattle.street_tile.proofs.Driving.{lane_at-driven, arrivals-more, arrivals-all}
 use Rattle.street_tile.proofs.lanes.drive_lanes.Goals as goal

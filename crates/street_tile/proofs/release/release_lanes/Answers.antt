@@ -1,17 +1,16 @@
-use Rattle.std.proofs.Common.{◌≡◌, ℕ, ◌+◌, ◌*◌, ◌<◌, ◌≤◌, List, [], ◌∷◌, ◌++◌, Bool, true, false, length, map, arith, refl, sym, ap, subst, ◌∙◌, inl, inr}
-use Rattle.std.specs.Prelude.{Option, Some, None, IsSome, slice_get, slice_set}
+use Rattle.std.proofs.Common.{◌≡◌, ℕ, ◌<◌, List, Bool, length, arith, refl, sym, ap, subst, ◌∙◌, inl, inr}
+use Rattle.std.specs.Prelude.{Some, None}
 use Rattle.std.proofs.lemmas.Bool.{cases_Bool}
 use Rattle.street_base.specs.Network.{Place}
-use Rattle.street_base.specs.Vehicle.{next_link}
-use Rattle.street_base.specs.State.{Traffic, Queued, lane_at}
+use Rattle.street_base.specs.State.{Traffic, lane_at}
 use Rattle.street_net.specs.Tables.{place_of}
 use Rattle.street_lanes.specs.Views.{LaneStands}
 use Rattle.street_lanes.specs.Lanes.{Lanes, lane_of, place_at}
-use Rattle.street_tile.specs.Halves.{Entry, candidate, entry_on}
+use Rattle.street_tile.specs.Halves.{Entry, candidate}
 use Rattle.street_tile.specs.Tiles.{IsRoads, mouth}
 use Rattle.street_tile.specs.Walks.{IsReleasing}
-use Rattle.street_tile.proofs.Going.{same-none, same-then, same-long, place-is}
-use Rattle.street_tile.proofs.Releases.{IsReleased, Leads, leads-of, released-start, released-here, released-none, released-shut, released-goes, released-lanes, released-handed}
+use Rattle.street_tile.proofs.Going.{same-none, same-then, same-long}
+use Rattle.street_tile.proofs.Releases.{IsReleased, leads-of, released-start, released-here, released-none, released-shut, released-goes, released-lanes, released-handed}
 use Rattle.street_tile.proofs.release.release_lanes.Goals as goal
 use Rattle.street_tile.proofs.release.release_lanes.Goals.{in-Some, in_default}
 

@@ -1,12 +1,10 @@
-use Rattle.std.proofs.Common.{◌≡◌, ℕ, ◌+◌, ◌*◌, ◌<◌, ◌≤◌, List, length, ◌∙◌, ap, sym, subst, arith}
-use Rattle.std.specs.Prelude.{Bool, Some, slice_get, slice_set}
+use Rattle.std.proofs.Common.{◌≡◌, ℕ, ◌*◌, ◌<◌, length, ◌∙◌, ap, sym, subst, arith}
+use Rattle.std.specs.Prelude.{Some, slice_get, slice_set}
 use Rattle.std.proofs.lemmas.List.{length-set}
 use Rattle.std.proofs.lemmas.Option.{slice_get-get_or, slice_get_within}
 use Rattle.street_base.specs.declared.net.NetSpec.{NetSpec}
 use Rattle.street_base.specs.Network.{Place}
-use Rattle.street_base.specs.Lane.{is_free}
-use Rattle.street_base.specs.State.{Traffic, no_lane, lane_at}
-use Rattle.street_lanes.specs.Views.{LaneStands}
+use Rattle.street_base.specs.State.{no_lane, lane_at}
 use Rattle.street_lanes.specs.Lanes.{Lanes, AllLanes, lane_of, place_at}
 use Rattle.street_tile.specs.Tiles.{IsRoads, slot_of}
 use Rattle.street_tile.proofs.Going.{place-is, there-at}

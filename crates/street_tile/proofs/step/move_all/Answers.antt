@@ -1,4 +1,4 @@
-use Rattle.std.proofs.Common.{length, take, arith}
+use Rattle.std.proofs.Common.{take, arith}
 use Rattle.street_tile.specs.Moves.{all_handed}
 use Rattle.street_tile.proofs.Stepping.{tiles-same}
 use Rattle.street_tile.proofs.Moving.{up-to-start, up-to-same, up-to-lanes, up-to-awaits, up-to-next, up-to-all}

@@ -1,11 +1,7 @@
-use Rattle.std.proofs.Common.{◌≡◌, ℕ, ◌+◌, ◌-◌, ◌*◌, ◌/◌, ◌<◌, ◌≤◌, length, get_or, true, refl, sym, ◌∙◌, ap, subst, arith}
-use Rattle.std.specs.Prelude.{Some}
-use Rattle.std.proofs.Math.Nat.{mul-le-mul_right}
+use Rattle.std.proofs.Common.{◌≡◌, ◌+◌, ◌-◌, ◌*◌, ◌/◌, ◌<◌, ◌≤◌, length, get_or, refl, arith}
 use Rattle.std.proofs.lemmas.Nat.{mul-le}
 use Rattle.std.proofs.lemmas.Bool.{le-leb, lt-ltb}
-use Rattle.street_base.specs.Network.{node_of, link_at}
-use Rattle.street_net.specs.Tables.{place_of}
-use Rattle.street_tile.specs.Tiles.{Part, is_own}
+use Rattle.street_tile.specs.Tiles.{Part}
 use Rattle.street_tile.proofs.Rows.{share-of, roads-of}
 use Rattle.street_tile.proofs.step.owner.Goals as goal
 

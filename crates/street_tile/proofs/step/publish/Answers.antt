@@ -1,4 +1,4 @@
-use Rattle.std.proofs.Common.{◌≡◌, length, get_or, subst, sym, arith, false, ◌∙◌}
+use Rattle.std.proofs.Common.{◌≡◌, get_or, subst, sym, arith, false, ◌∙◌}
 use Rattle.std.specs.Prelude.{Some, slice_get}
 use Rattle.std.specs.List.{list_any}
 use Rattle.street_base.specs.Network.{is_place}

@@ -1,4 +1,4 @@
-use Rattle.std.proofs.Common.{length, arith}
+use Rattle.std.proofs.Common.{arith}
 use Rattle.street_tile.proofs.Rows.{in-row, roads-of}
 use Rattle.street_tile.proofs.Stepping.{tiles-each, tiles-lanes, tiles-motion, tiles-release, tiles-move, tiles-enter, tiles-meter, in-time-lanes, stand-motion, release-lanes, in-time, stand-step, arrived-step}
 use Rattle.street_tile.proofs.step.step_all.Goals as goal

@@ -1,12 +1,10 @@
-use Rattle.std.proofs.Common.{◌≡◌, ◌+◌, ◌*◌, ◌<◌, ◌≤◌, ◌∷◌, List, length, map, set, get_or, ap, ◌∙◌, sym, subst, refl, arith, true}
-use Rattle.std.specs.Prelude.{Option, Some, slice_get}
+use Rattle.std.proofs.Common.{◌≡◌, ◌∷◌, List, map, set, ap, ◌∙◌, sym, subst, arith, true}
+use Rattle.std.specs.Prelude.{Option, Some}
 use Rattle.std.proofs.lemmas.List.{map-set}
 use Rattle.std.proofs.lemmas.Option.{slice_get_within}
-use Rattle.street_base.specs.Network.{Place}
 use Rattle.street_base.specs.Vehicle.{Vehicle}
-use Rattle.street_net.specs.Tables.{place_of}
 use Rattle.street_tile.specs.Halves.{Entry, entry_in, vehicle_in}
-use Rattle.street_tile.specs.Tiles.{Part, IsTileOf, AreNumbers, is_own, slot_of}
+use Rattle.street_tile.specs.Tiles.{Part, IsTileOf, is_own, slot_of}
 use Rattle.street_tile.specs.Moves.{Awaits}
 use Rattle.street_tile.specs.Walks.{AtMostOnce}
 use Rattle.street_tile.proofs.Moving.{coming-here}

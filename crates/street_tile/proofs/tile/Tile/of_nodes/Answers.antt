@@ -1,24 +1,20 @@
-use Rattle.std.proofs.Common.{◌≡◌, ℕ, ◌+◌, ◌-◌, ◌*◌, ◌<◌, ◌≤◌, List, length, map, get_or, refl, sym, ◌∙◌, ap, subst, arith}
-use Rattle.std.specs.Prelude.{Option, Some, None, slice_get, option_map, replicate}
+use Rattle.std.proofs.Common.{◌≡◌, ◌<◌, ◌≤◌, List, length, map, get_or, refl, sym, ◌∙◌, ap, subst, arith}
+use Rattle.std.specs.Prelude.{Option, Some, slice_get, option_map}
 use Rattle.std.proofs.lemmas.List.{length-map}
 use Rattle.std.proofs.lemmas.Option.{slice_get-map, slice_get-get_or}
 use Rattle.street_base.specs.Network.{Place}
 use Rattle.street_base.specs.Machine.{loaded}
 use Rattle.street_base.specs.Signal.{SignalPlan}
-use Rattle.street_base.specs.State.{LaneState}
-use Rattle.street_base.specs.declared.net.NetSpec.{NetSpec}
 use Rattle.street_base.specs.Limits.{last_clock}
 use Rattle.street_base.proofs.FaultLemmas.{few_links, good_start}
-use Rattle.street_net.specs.declared.lanes.LaneId.{LaneId}
 use Rattle.street_net.specs.Tables.{place_of}
-use Rattle.street_lanes.specs.Views.{LaneView}
-use Rattle.street_lanes.specs.Lanes.{Lanes, IsLane, AllLanes, fresh, fresh_on}
+use Rattle.street_lanes.specs.Lanes.{Lanes, IsLane, AllLanes}
 use Rattle.street_lanes.specs.Whole.{LanesStand}
 use Rattle.street_tile.specs.Halves.{vehicle_in}
 use Rattle.street_tile.specs.Tiles.{ShowSignals, own_places}
 use Rattle.street_tile.specs.Walks.{AtMostOnce}
 use Rattle.street_tile.proofs.Owning.{own-lanes, own-once}
-use Rattle.street_tile.proofs.Cutting.{faultless-roads, loaded-lanes, loaded-clock, loaded-signals, nobody-comes, no_plans}
+use Rattle.street_tile.proofs.Cutting.{faultless-roads, loaded-lanes, loaded-clock, loaded-signals, nobody-comes}
 use Rattle.street_tile.proofs.tile.Tile.of_nodes.Goals as goal
 
 pub new-requires : goal.new-requires

@@ -1,5 +1,5 @@
-use Rattle.std.proofs.Common.{◌≡◌, List, map, length, refl, sym, subst, ap, ◌∙◌, arith}
-use Rattle.std.specs.Prelude.{Option, None}
+use Rattle.std.proofs.Common.{◌≡◌, List, map, sym, subst, ap, ◌∙◌, arith}
+use Rattle.std.specs.Prelude.{Option}
 use Rattle.std.specs.Vec.{with_items}
 use Rattle.std.proofs.lemmas.List.{with_items_is}
 use Rattle.street_base.specs.Vehicle.{Vehicle}

@@ -1,4 +1,4 @@
-use Rattle.std.proofs.Common.{◌≡◌, ◌+◌, ◌<◌, ◌≤◌, List, length, map, true, refl, sym, subst, ap, ◌∙◌, arith}
+use Rattle.std.proofs.Common.{◌≡◌, ◌+◌, length, map, true, sym, subst, ap, ◌∙◌}
 use Rattle.std.specs.Prelude.{[]}
 use Rattle.street_base.specs.State.{Traffic}
 use Rattle.street_lanes.specs.Lanes.{place_at}

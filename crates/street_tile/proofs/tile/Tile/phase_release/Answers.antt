@@ -1,4 +1,4 @@
-use Rattle.std.proofs.Common.{◌≡◌, ◌+◌, ◌<◌, ◌≤◌, List, Bool, length, map, refl, sym, subst, ap, ◌∙◌, arith}
+use Rattle.std.proofs.Common.{◌≡◌, map, sym, subst, ap, ◌∙◌}
 use Rattle.std.specs.Prelude.{[]}
 use Rattle.street_base.specs.State.{Traffic}
 use Rattle.street_tile.specs.Halves.{vehicle_in}
