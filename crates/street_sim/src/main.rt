@@ -1,48 +1,78 @@
-//! The program `streetsim [--workers N]`: reads commands from standard input, a line of JSON each, and answers each by a
-//! line on standard output before it reads on.
+//! The program `streetsim`: commands come as lines of JSON from standard input or from scripts, and replies go out as lines.
+//!
+//! All calls go through a desk, which keeps a journal of them; the journal can be kept as a tape, and a tape replayed.
 #![tactic(auto)]
 
+mod clients;
 mod fault;
-mod options;
-mod session;
+mod outputs;
+mod replaying;
 #[cfg(test)]
 mod tests;
-mod words;
+
+ghost use Rattle.street_options.specs.Words.{IsInRange};
 
 use fault::Fault;
-use session::run_session;
+use std::fs::File;
 use std::process::ExitCode;
+use std::rt::Files;
+use std::sync::Wait;
+use std::thread::Threads;
 use std::{env, io};
-use street_line::Counted;
-use words::WordsFault;
+use street_options::{Options, WordsFault, options};
 
 fn main(rt: HostRuntime) -> ExitCode {
-    match run(&rt) {
-        Ok(()) => ExitCode::SUCCESS,
-        Err(fault) => {
-            // Where standard error fails too, the status alone tells the fault.
-            let _ = eprintln!(rt; "streetsim: {}", fault.text());
-            ExitCode::from(fault.status())
-        }
+    match program_words(&rt) {
+        Ok(words) => run(&rt, words.as_slice()),
+        Err(fault) => tell(&rt, fault),
     }
 }
 
-fn run(rt: &HostRuntime) -> Result<(), Fault> {
-    let words = program_words(rt)?;
-    match options::options(rt.alloc(), words.as_slice()) {
-        Ok(options) => {
-            let mut reader = Counted::new(rt.reader());
-            let mut writer = Counted::new(io::writer(rt));
-            run_session(rt.alloc(), options.workers, &mut reader, &mut writer)
+/// Does what the words ask for, and tells what goes wrong.
+fn run<R: Threads + Wait + Sync + Input + Print + Eprint + AllocGlobal + Files<File = File>>(
+    rt: &R,
+    words: &[String],
+) -> ExitCode {
+    match options(rt.alloc(), words) {
+        Ok(options) => match serve(rt, &options) {
+            Ok(()) => ExitCode::SUCCESS,
+            Err(fault) => tell(rt, fault),
+        },
+        Err(WordsFault::Help(help)) => match help.print(rt) {
+            Ok(()) => ExitCode::SUCCESS,
+            Err(_) => tell(rt, Fault::Write(outputs::STANDARD_OUTPUT)),
+        },
+        Err(WordsFault::Bad(error)) => {
+            let status = tell(rt, Fault::BadArguments);
+            let _ = error.print(rt);
+            status
         }
-        Err(WordsFault::Help(help)) => help.print(rt).map_err(|_| Fault::Output),
-        Err(WordsFault::Bad) => Err(Fault::BadArguments),
-        Err(WordsFault::Starved) => Err(Fault::OutOfMemory),
+        Err(WordsFault::Starved) => tell(rt, Fault::OutOfMemory),
+    }
+}
+
+/// Tells a fault on standard error. Where that fails too, the status alone tells it.
+fn tell(rt: &impl Eprint, fault: Fault<'_>) -> ExitCode {
+    let _ = eprintln!(rt; "streetsim: {fault}");
+    ExitCode::from(fault.status())
+}
+
+/// Replays a tape, or serves scripts or standard input.
+fn serve<'a, R: Threads + Wait + Sync + Input + Print + AllocGlobal + Files<File = File>>(
+    rt: &R,
+    options: &Options<'a>,
+) -> Result<(), Fault<'a>>
+    requires { IsInRange options.now }
+{
+    match options.replay {
+        Some(tape) => replaying::replay_tape(rt, options.workers, tape),
+        None if options.scripts.is_empty() => clients::serve_input(rt, options),
+        None => clients::serve_scripts(rt, options),
     }
 }
 
 /// The words of the command line, the program's name first. A word that is no UTF-8 is a bad argument.
-fn program_words(rt: &HostRuntime) -> Result<Vec<String>, Fault> {
+fn program_words(rt: &HostRuntime) -> Result<Vec<String>, Fault<'static>> {
     match env::args(rt) {
         Ok(words) => words.collect(rt.alloc()).map_err(|_| Fault::OutOfMemory),
         Err(error) if error.kind() == io::ErrorKind::OutOfMemory => Err(Fault::OutOfMemory),
