@@ -1,5 +1,5 @@
 //! What commands do to one lane, and ask of it.
-ghost use Rattle.std.specs.Prelude.{◌≡◌, ℕ, ◌<◌, ◌≤◌, ◌+◌, length, true, false, IfSome, OnOk, OnErr};
+ghost use Rattle.std.specs.Prelude.{◌≡◌, ℕ, ◌<◌, ◌≤◌, ◌+◌, length, None, true, false, IfSome, OnOk, OnErr};
 ghost use Rattle.std.specs.Option.{option_to_list};
 ghost use Rattle.street_base.specs.State.{LaneState};
 ghost use Rattle.street_base.specs.Census.{in_lane};
@@ -64,6 +64,7 @@ impl Lanes {
         requires { lane < length self.old.lanes }
         ensures goes { GoesIf lane (λ s. in_lane number s ≤ 1) (lane_without number) self.old self.new }
         ensures found { (s : LaneState) → LaneStands (lane_of self.old lane) s → in_lane number s ≤ 1 → length (option_to_list result) ≡ in_lane number s }
+        ensures none { result ≡ None → self.new ≡ self.old }
         ensures car { IfSome result (λ car. car.number ≡ number) }
         ensures room { self.new.room ≡ self.old.room + length (option_to_list result) }
     {

@@ -122,6 +122,7 @@ impl Lanes {
     pub fn len(&self) -> usize
         ensures lanes { result ≡ length self.now.lanes }
         ensures places { result ≡ length self.now.places }
+        ensures few { result < 2 ^ 32 }
     {
         self.sites.len()
     }
