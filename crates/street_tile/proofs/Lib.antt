@@ -21,3 +21,4 @@ mod Cutting
 mod Making
 pub mod Stepping
 mod Writing
+mod Hinting

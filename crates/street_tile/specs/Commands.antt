@@ -1,6 +1,6 @@
 -- What commands do to a tile.
 -- Source: this profile.
-use Rattle.std.specs.Prelude.{◌≡◌, ◌<◌, ℕ, List, sum_by, Option, Some, None, slice_get, slice_set, if◌then◌else◌}
+use Rattle.std.specs.Prelude.{◌≡◌, ◌<◌, ◌≤◌, ℕ, List, sum_by, Option, Some, None, slice_get, slice_set, if◌then◌else◌}
 use Rattle.street_base.specs.declared.net.NetSpec.{NetSpec}
 use Rattle.street_base.specs.declared.reply.Whereabouts.{Whereabouts}
 use Rattle.street_base.specs.Network.{Place, is_place}
@@ -61,3 +61,7 @@ Finds net ps m number (Some found) = (k : ℕ) × (p : Place) × (slice_get ps k
 -- the sum of f over these lanes
 abbrev pub over : List Place → (LaneState → ℕ) → Traffic → ℕ
 over ps f m = sum_by (λ p. f (lane_at m p)) ps
+
+-- these lanes together have at most one vehicle of this number
+abbrev pub HaveAtMostOne : List Place → Traffic → ℕ → Type 0
+HaveAtMostOne ps m number = over ps (in_lane number) m ≤ 1

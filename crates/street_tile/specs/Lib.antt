@@ -4,3 +4,4 @@ pub mod Phases
 pub mod Walks
 pub mod Moves
 pub mod Commands
+pub mod Hinted

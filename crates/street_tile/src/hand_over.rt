@@ -5,7 +5,7 @@ ghost use Rattle.street_base.specs.Limits.{most_plan};
 ghost use Rattle.street_net.specs.Tables.{place_of};
 
 use std::marker::Model;
-use street_base::Car;
+use street_base::{Car, CarNo};
 use street_net::LaneId;
 
 /// A vehicle that left a buffer, with the lane that it enters. It is on no lane meanwhile.
@@ -43,6 +43,13 @@ impl HandOver {
         ensures { place_of result ≡ self.now.to }
     {
         self.to
+    }
+
+    /// The number of the vehicle.
+    pub(crate) fn number(&self) -> CarNo
+        ensures { result ≡ self.now.vehicle.number }
+    {
+        self.car.number
     }
 
     /// The vehicle.

@@ -9,6 +9,7 @@ mod cut;
 mod enter;
 mod gate;
 mod hand_over;
+mod hints;
 mod lanes;
 mod release;
 mod show;
@@ -18,6 +19,7 @@ mod view;
 
 pub use gate::Gate;
 pub use hand_over::HandOver;
+pub use hints::Hints;
 pub use step::step_all;
 pub use tile::Tile;
 pub use view::View;

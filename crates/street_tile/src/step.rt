@@ -10,8 +10,10 @@ ghost use Rattle.street_tile.specs.Halves.{Entry};
 ghost use Rattle.street_tile.specs.Tiles.{Part, IsTileOf, IsIdle, IsPrepared, Each, AreTiles, AllStand, Shows, is_own, nobody};
 ghost use Rattle.street_tile.specs.Phases.{Changes, Moves, Releases, Enters, Ticks};
 ghost use Rattle.street_tile.specs.Moves.{Awaits, IsMoved, all_handed, received};
+ghost use Rattle.street_tile.specs.Hinted.{KeepsHints};
 
 use crate::gate::Gate;
+use crate::hints::Hints;
 use crate::tile::Tile;
 use crate::view::View;
 use std::thread;
@@ -170,55 +172,60 @@ fn owner(net: &Network, tiles: &[Tile], to: LaneId) -> usize
 }
 
 /// The last hand-over of a tile is moved to the tile that owns its lane.
-fn move_one(net: &Network, tiles: &mut [Tile], i: usize)
+fn move_one(net: &Network, tiles: &mut [Tile], hints: &mut Hints, i: usize)
     requires inside { i < length tiles.old }
     requires tiles { AreTiles net.now tiles.old }
     requires lanes { All (λ x. All (λ e. IsLane net.now e.to) x.handed) tiles.old }
     requires awaits { (es : List Entry) × All (Awaits es) tiles.old }
-    ensures { (left : List Entry) → (e : Entry) → (es : List Entry) → (d : Part)
+    ensures moved { (left : List Entry) → (e : Entry) → (es : List Entry) → (d : Part)
         → (slice_index_or tiles.old i d).handed ≡ left ++ e ∷ [] → All (Awaits es) tiles.old
         → IsMoved i left (e ∷ es) tiles.old tiles.new }
+    ensures hints { KeepsHints hints.old hints.new }
 {
     if let Some(hand_over) = tiles[i].next_hand_over() {
+        hints.follow(&hand_over);
         let j = owner(net, tiles, hand_over.to());
         tiles[j].bring(net, hand_over);
     }
 }
 
 /// The hand-overs of a tile are moved to the tiles that own their lanes.
-fn move_from(net: &Network, tiles: &mut [Tile], i: usize)
+fn move_from(net: &Network, tiles: &mut [Tile], hints: &mut Hints, i: usize)
     requires inside { i < length tiles.old }
     requires tiles { AreTiles net.now tiles.old }
     requires lanes { All (λ x. All (λ e. IsLane net.now e.to) x.handed) tiles.old }
     requires awaits { (es : List Entry) × All (Awaits es) tiles.old }
-    ensures { (es : List Entry) → (d : Part) → All (Awaits es) tiles.old
+    ensures moved { (es : List Entry) → (d : Part) → All (Awaits es) tiles.old
         → IsMoved i [] ((slice_index_or tiles.old i d).handed ++ es) tiles.old tiles.new }
+    ensures hints { KeepsHints hints.old hints.new }
 {
     let count = tiles[i].hand_overs();
     for k in 0..count {
-        move_one(net, tiles, i);
+        move_one(net, tiles, hints, i);
     }
 }
 
 /// Each hand-over is moved to the tile that owns its lane.
-fn move_all(net: &Network, tiles: &mut [Tile])
+fn move_all(net: &Network, tiles: &mut [Tile], hints: &mut Hints)
     requires tiles { AreTiles net.now tiles.old }
     requires nobody { All (λ x. x.coming ≡ nobody x) tiles.old }
     requires lanes { All (λ x. All (λ e. IsLane net.now e.to) x.handed) tiles.old }
-    ensures { Each (λ x y. y ≡ received (all_handed tiles.old) x) tiles.old tiles.new }
+    ensures moved { Each (λ x y. y ≡ received (all_handed tiles.old) x) tiles.old tiles.new }
+    ensures hints { KeepsHints hints.old hints.new }
 {
     for i in 0..tiles.len() {
-        move_from(net, tiles, i);
+        move_from(net, tiles, hints, i);
     }
 }
 
 /// One step: whatever state the tiles stood for, they then stand for the next one, and hold the numbers of those who
-/// arrived. Takes no memory.
+/// arrived. The hints follow who enters another link. Takes no memory.
 pub fn step_all<R: Threads + Sync, G: Gate + Sync>(
     rt: &R,
     net: &Network,
     tiles: &mut [Tile],
     view: &mut View,
+    hints: &mut Hints,
     gate: &G,
 )
     requires tiles { AreTiles net.now tiles.old }
@@ -233,12 +240,13 @@ pub fn step_all<R: Threads + Sync, G: Gate + Sync>(
     ensures tiles { AreTiles net.now tiles.new }
     ensures handed { All (λ x. (x.handed ≡ []) × (x.coming ≡ nobody x)) tiles.new }
     ensures view { length view.new ≡ length view.old }
+    ensures hints { KeepsHints hints.old hints.new }
 {
     all_lanes(rt, net, tiles, gate);
     all_motion(rt, net, tiles, gate);
     publish(net, tiles, view);
     all_release(rt, net, tiles, view, gate);
-    move_all(net, tiles);
+    move_all(net, tiles, hints);
     all_enter(rt, net, tiles, gate);
     all_meter(rt, net, tiles, gate);
 }

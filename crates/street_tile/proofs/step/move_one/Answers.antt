@@ -39,8 +39,8 @@ bring-requires-clause-own c =
     let x : Part = get_or ys c.owner-j.result c.index-tiles-j.result in
     subst (λ (p : Place). is_own c.args.net.now x.low x.high p ≡ true) c.to.ensures (c.owner-j.ensures.own c.index-tiles-j.result)
 
-pub returns-in-Some : goal.returns-in-Some
-returns-in-Some c = λ left e es d is awaits.
+pub returns-in-Some-clause-moved : goal.returns-in-Some-clause-moved
+returns-in-Some-clause-moved c = λ left e es d is awaits.
     let xs = c.args.tiles.now in
     let i = c.args.i in
     let y : Part = c.next_hand_over.new.self in
@@ -65,8 +65,8 @@ returns-in-Some c = λ left e es d is awaits.
     (λ k d' ne. get_or-set_other ys j k c.bring.new.self d' ne)
     awaits
 
-pub returns-in_default : goal.returns-in_default
-returns-in_default c = λ left e es d is awaits.
+pub returns-in_default-clause-moved : goal.returns-in_default-clause-moved
+returns-in_default-clause-moved c = λ left e es d is awaits.
     let empty : (get_or c.args.tiles.now c.args.i c.index-tiles-i.result).handed ≡ [] = c.next_hand_over.ensures.none c.in_default.is in
     let some : left ++ e ∷ [] ≡ [] = sym is ∙ ap (λ (t : Part). t.handed) (get_or_default c.args.tiles.now c.args.i d c.index-tiles-i.result c.requires.inside) ∙ empty in
     absurd (omega (arith, ap length some, length-append left (e ∷ [])))

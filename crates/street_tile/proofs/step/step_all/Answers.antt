@@ -33,7 +33,7 @@ move_all-requires-clause-lanes g c =
 pub all_enter-requires-clause-tiles : goal.all_enter-requires-clause-tiles
 all_enter-requires-clause-tiles g c κs within =
     tiles-each c.args.net.now c.move_all.new.tiles
-    (tiles-move c.args.net.now c.all_release.new.tiles c.move_all.new.tiles (omega arith) c.move_all.ensures
+    (tiles-move c.args.net.now c.all_release.new.tiles c.move_all.new.tiles (omega arith) c.move_all.ensures.moved
     (tiles-release c.args.net.now c.publish.new.view c.all_motion.new.tiles c.all_release.new.tiles (omega arith) c.all_release.ensures
     (tiles-motion c.args.net.now c.all_lanes.new.tiles c.all_motion.new.tiles (omega arith) c.all_motion.ensures
     (tiles-lanes c.args.net.now c.args.tiles.now c.all_lanes.new.tiles (omega arith) c.all_lanes.ensures c.requires.tiles))))
@@ -41,23 +41,23 @@ all_enter-requires-clause-tiles g c κs within =
 pub all_meter-requires-clause-in_time : goal.all_meter-requires-clause-in_time
 all_meter-requires-clause-in_time g c κs within =
     in-time c.args.net.now (roads-of c.args.net.now c.args.tiles.now c.requires.tiles) c.publish.new.view c.args.tiles.now c.all_lanes.new.tiles c.all_motion.new.tiles c.all_release.new.tiles c.move_all.new.tiles c.all_enter.new.tiles (omega arith) (omega arith) (omega arith) (omega arith) (omega arith)
-    (in-row c.args.net.now c.args.tiles.now c.requires.tiles) c.all_lanes.ensures c.all_motion.ensures c.publish.ensures.shows c.all_release.ensures c.move_all.ensures c.all_enter.ensures c.requires.stand.0 c.requires.stand.1 c.requires.stand.2
+    (in-row c.args.net.now c.args.tiles.now c.requires.tiles) c.all_lanes.ensures c.all_motion.ensures c.publish.ensures.shows c.all_release.ensures c.move_all.ensures.moved c.all_enter.ensures c.requires.stand.0 c.requires.stand.1 c.requires.stand.2
 
 pub returns-clause-machine : goal.returns-clause-machine
 returns-clause-machine g c =
     stand-step c.args.net.now (roads-of c.args.net.now c.args.tiles.now c.requires.tiles) c.publish.new.view c.args.tiles.now c.all_lanes.new.tiles c.all_motion.new.tiles c.all_release.new.tiles c.move_all.new.tiles c.all_enter.new.tiles (omega arith) (omega arith) (omega arith) (omega arith) (omega arith)
-    (in-row c.args.net.now c.args.tiles.now c.requires.tiles) c.all_lanes.ensures c.all_motion.ensures c.publish.ensures.shows c.all_release.ensures c.move_all.ensures c.all_enter.ensures c.all_meter.new.tiles (omega arith) c.all_meter.ensures
+    (in-row c.args.net.now c.args.tiles.now c.requires.tiles) c.all_lanes.ensures c.all_motion.ensures c.publish.ensures.shows c.all_release.ensures c.move_all.ensures.moved c.all_enter.ensures c.all_meter.new.tiles (omega arith) c.all_meter.ensures
 
 pub returns-clause-arrived : goal.returns-clause-arrived
 returns-clause-arrived g c =
     arrived-step c.args.net.now (roads-of c.args.net.now c.args.tiles.now c.requires.tiles) c.publish.new.view c.args.tiles.now c.all_lanes.new.tiles c.all_motion.new.tiles c.all_release.new.tiles c.move_all.new.tiles c.all_enter.new.tiles (omega arith) (omega arith) (omega arith) (omega arith) (omega arith)
-    (in-row c.args.net.now c.args.tiles.now c.requires.tiles) c.all_lanes.ensures c.all_motion.ensures c.publish.ensures.shows c.all_release.ensures c.move_all.ensures c.all_enter.ensures c.all_meter.new.tiles (omega arith) c.all_meter.ensures
+    (in-row c.args.net.now c.args.tiles.now c.requires.tiles) c.all_lanes.ensures c.all_motion.ensures c.publish.ensures.shows c.all_release.ensures c.move_all.ensures.moved c.all_enter.ensures c.all_meter.new.tiles (omega arith) c.all_meter.ensures
 
 pub returns-clause-tiles : goal.returns-clause-tiles
 returns-clause-tiles g c =
     tiles-meter c.args.net.now c.all_enter.new.tiles c.all_meter.new.tiles (omega arith) c.all_meter.ensures
     (tiles-enter c.args.net.now c.move_all.new.tiles c.all_enter.new.tiles (omega arith) c.all_enter.ensures
-    (tiles-move c.args.net.now c.all_release.new.tiles c.move_all.new.tiles (omega arith) c.move_all.ensures
+    (tiles-move c.args.net.now c.all_release.new.tiles c.move_all.new.tiles (omega arith) c.move_all.ensures.moved
     (tiles-release c.args.net.now c.publish.new.view c.all_motion.new.tiles c.all_release.new.tiles (omega arith) c.all_release.ensures
     (tiles-motion c.args.net.now c.all_lanes.new.tiles c.all_motion.new.tiles (omega arith) c.all_motion.ensures
     (tiles-lanes c.args.net.now c.args.tiles.now c.all_lanes.new.tiles (omega arith) c.all_lanes.ensures c.requires.tiles)))))
