@@ -15,6 +15,7 @@ pub mod Keeping
 pub mod Composing
 pub mod Moving
 mod Numbers
+pub mod Commanding
 mod Parting
 mod Ticking
 mod Cutting

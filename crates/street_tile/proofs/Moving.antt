@@ -102,7 +102,7 @@ row-above net low high [] r k d h = absurd (omega arith)
 row-above net low high (x ∷ xs) r zero d h = let e = r.1 in omega arith
 row-above net low high (x ∷ xs) r (suc k) d h = let rest = row-above net x.high high xs r.3 k d (omega arith) in let le = r.2 in omega arith
 
-row-later : (net : NetSpec) (low high : ℕ) (xs : List Part) → InRow net low high xs → (j k : ℕ) (d : Part) → j < k → k < length xs → (get_or xs j d).high ≤ (get_or xs k d).low
+pub row-later : (net : NetSpec) (low high : ℕ) (xs : List Part) → InRow net low high xs → (j k : ℕ) (d : Part) → j < k → k < length xs → (get_or xs j d).high ≤ (get_or xs k d).low
 row-later net low high [] r j k d h l = absurd (omega arith)
 row-later net low high (x ∷ xs) r j zero d h l = absurd (omega arith)
 row-later net low high (x ∷ xs) r zero (suc k) d h l = row-above net x.high high xs r.3 k d (omega arith)

@@ -1,0 +1,116 @@
+//! Commands that name one lane or one node.
+ghost use Rattle.std.specs.Prelude.{◌≡◌, ◌<◌, ◌≤◌, length, Some, true, false, slice_get, IfOk, OnOk, OnErr};
+ghost use Rattle.street_base.specs.declared.net.NetSpec.{NetSpec};
+ghost use Rattle.street_base.specs.Network.{link_at};
+ghost use Rattle.street_base.specs.Signal.{SignalPlan as PlanSeen};
+ghost use Rattle.street_base.specs.State.{Traffic, lane_at};
+ghost use Rattle.street_base.specs.Census.{in_lane};
+ghost use Rattle.street_base.specs.Closing.{with_marks};
+ghost use Rattle.street_base.specs.Machine.{with_waiting, closed_after};
+ghost use Rattle.street_net.specs.Tables.{place_of};
+ghost use Rattle.street_node.specs.Greens.{ShowsAs};
+ghost use Rattle.street_lanes.specs.Views.{waiting_of};
+ghost use Rattle.street_lanes.specs.Lanes.{IsLane};
+ghost use Rattle.street_lanes.specs.Lists.{HasShortPlan};
+ghost use Rattle.street_lanes.specs.Whole.{IsOn};
+ghost use Rattle.street_tile.specs.Tiles.{IsTileOf, StandsFor, is_own};
+ghost use Rattle.street_tile.specs.Commands.{at_place, planned, DoesIf, Does, KeepsAll};
+
+use crate::tile::Tile;
+use crate::view::slot;
+use street_base::{Car, CellNo, NodeIx, Starved};
+use street_net::{LaneId, Network};
+use street_node::SignalPlan;
+
+impl Tile {
+    /// The number of an own lane among the own lanes.
+    pub(crate) fn number(&self, net: &Network, at: LaneId) -> usize
+        requires tile { IsTileOf net.now self.now }
+        requires lane { IsLane net.now (place_of at) }
+        requires own { is_own net.now self.now.low self.now.high (place_of at) ≡ true }
+        ensures { slice_get self.now.own.places result ≡ Some (place_of at) }
+    {
+        self.numbers[slot(at.link, at.lane)]
+    }
+
+    /// One more vehicle waits on an own lane.
+    ///
+    /// # Errors
+    /// Memory was refused; the tile is as it was, reserved room apart.
+    pub fn admit(&mut self, net: &Network, at: LaneId, car: Car) -> Result<(), Starved>
+        requires tile { IsTileOf net.now self.old }
+        requires lane { IsLane net.now (place_of at) }
+        requires own { is_own net.now self.old.low self.old.high (place_of at) ≡ true }
+        requires short { HasShortPlan car }
+        ensures waits { OnOk result (DoesIf net.now (λ m. in_lane car.number (lane_at m (place_of at)) ≡ 0) (at_place (place_of at) (with_waiting (waiting_of car))) self.old self.new) }
+        ensures starved { OnErr result (KeepsAll self.old self.new) }
+    {
+        let lane = self.number(net, at);
+        self.own.reserve(1)?;
+        self.own.admit(lane, car);
+        Ok(())
+    }
+
+    /// An own node has this signal plan from the next step on. Takes no memory.
+    pub fn set_signal(&mut self, node: NodeIx, plan: SignalPlan)
+        requires low { self.old.low ≤ node }
+        requires high { node < self.old.high }
+        ensures { (net : NetSpec) → (other : PlanSeen) → ShowsAs plan other
+            → DoesIf net (λ m. node < length m.signals) (planned node other) self.old self.new }
+    {
+        let at = node.position() - self.low;
+        self.signals[at] = Some(plan);
+    }
+
+    /// Closes cells of an own lane, and tells how many of its cells are closed then.
+    ///
+    /// # Errors
+    /// Memory was refused; the tile is as it was.
+    pub fn close(
+        &mut self,
+        net: &Network,
+        at: LaneId,
+        first: CellNo,
+        last: CellNo,
+    ) -> Result<u64, Starved>
+        requires tile { IsTileOf net.now self.old }
+        requires lane { IsLane net.now (place_of at) }
+        requires own { is_own net.now self.old.low self.old.high (place_of at) ≡ true }
+        requires order { first ≤ last }
+        requires within { last < (link_at net.now at.link).length }
+        ensures closes { OnOk result (Does net.now (at_place (place_of at) (with_marks true first last)) self.old self.new) }
+        ensures count { IfOk result (λ count. (m : Traffic) → IsOn net.now m → StandsFor self.old m
+            → count ≡ closed_after true first last (lane_at m (place_of at))) }
+        ensures starved { OnErr result (KeepsAll self.old self.new) }
+    {
+        let lane = self.number(net, at);
+        self.own.close(lane, first, last)?;
+        Ok(self.own.closed_cells(lane))
+    }
+
+    /// Opens cells of an own lane again, and tells how many of its cells are closed then.
+    ///
+    /// # Errors
+    /// Memory was refused; the tile is as it was.
+    pub fn reopen(
+        &mut self,
+        net: &Network,
+        at: LaneId,
+        first: CellNo,
+        last: CellNo,
+    ) -> Result<u64, Starved>
+        requires tile { IsTileOf net.now self.old }
+        requires lane { IsLane net.now (place_of at) }
+        requires own { is_own net.now self.old.low self.old.high (place_of at) ≡ true }
+        requires order { first ≤ last }
+        requires within { last < (link_at net.now at.link).length }
+        ensures opens { OnOk result (Does net.now (at_place (place_of at) (with_marks false first last)) self.old self.new) }
+        ensures count { IfOk result (λ count. (m : Traffic) → IsOn net.now m → StandsFor self.old m
+            → count ≡ closed_after false first last (lane_at m (place_of at))) }
+        ensures starved { OnErr result (KeepsAll self.old self.new) }
+    {
+        let lane = self.number(net, at);
+        self.own.reopen(lane, first, last)?;
+        Ok(self.own.closed_cells(lane))
+    }
+}
