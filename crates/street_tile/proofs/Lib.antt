@@ -23,3 +23,4 @@ mod Making
 pub mod Stepping
 mod Writing
 mod Hinting
+pub mod Seeking

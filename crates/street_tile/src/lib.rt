@@ -8,6 +8,7 @@
 mod commands;
 mod cut;
 mod enter;
+mod finding;
 mod gate;
 mod hand_over;
 mod hints;
