@@ -30,7 +30,7 @@ use Rattle.street_rule.specs.Watching.{watched}
 use Rattle.street_rule.specs.Pass.{drive_with, IsExit, HasMoved, Moves, stopped}
 use Rattle.street_rule.proofs.Others.{other-same, other-cars}
 use Rattle.street_lanes.specs.Views.{queued_of, IsLaneOf}
-use Rattle.street_lanes.specs.Lists.{cells_list, buffer_list, waiting_list, cars_on, lane_seen, HaveShortPlans, SameList, Touches}
+use Rattle.street_lanes.specs.Lists.{cells_list, buffer_list, waiting_list, cars_on, lane_seen, AreShort, SameList, Touches}
 use Rattle.street_lanes.specs.Driving.{IsStepOf, is_open_to, cells_on, IsFarFrom, IsToldExit, behind_all, Settles, MovesLane}
 use Rattle.street_lanes.proofs.Cars.{cars-kept, cars-length, car_there}
 use Rattle.street_lanes.proofs.Touching.{SameList-trans, touch-trans, touch-wider}
@@ -41,10 +41,10 @@ use Rattle.street_lanes.proofs.Front.{nobody-listed, front-here, front-is}
 use Rattle.street_lanes.proofs.Exits.{exit-is, drive-is}
 
 -- a plan stays as short as it was where only speeds and cells have changed
-short-moves : (old new : Yard) (n : ℕ) (away : Option ℕ) → Moves old new n away → HaveShortPlans old → HaveShortPlans new
+short-moves : (old new : Yard) (n : ℕ) (away : Option ℕ) → Moves old new n away → AreShort old → AreShort new
 short-moves old new n away moves short k c is =
     let same = option_map-some stopped (car_of old k) (stopped c) (sym (moves.cars k) ∙ ap (option_map stopped) is) in
-    subst (λ (links : List ℕ). length links ≤ most_plan) (ap (λ (car : Car). car.plan.value) same.2) (short k same.0 same.1)
+    (subst (λ (links : List ℕ). length links ≤ most_plan) (ap (λ (car : Car). car.plan.value) same.2) (short k same.0 same.1).0, (short k same.0 same.1).1)
 
 -- ---- the exit, asked for the front alone
 

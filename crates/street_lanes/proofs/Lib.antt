@@ -11,6 +11,7 @@ pub mod Access
 pub mod Departing
 pub mod Moves
 pub mod Counting
+pub mod Fewness
 pub mod Fresh
 mod Parts
 mod Nobody
@@ -28,3 +29,6 @@ pub mod Marking
 pub mod Sought
 pub mod Without
 pub mod Taking
+pub mod Entries
+pub mod Shutting
+pub mod Occupied

@@ -20,7 +20,7 @@ use Rattle.street_yard.proofs.Placed.{IsLane-agree, cells-agree}
 use Rattle.street_lanes.specs.declared.lanes.Site.{Site}
 use Rattle.street_lanes.specs.Views.{LaneView, IsLaneOf, waiting_of, queued_of, AreInOrder, without_front}
 use Rattle.street_lanes.specs.Lanes.{Lanes, GoesIf, GoesAt}
-use Rattle.street_lanes.specs.Lists.{cells_list, buffer_list, waiting_list, cars_on, HasShortPlan, HaveShortPlans, SameList, Joins, Enters, LetsGo, Departs}
+use Rattle.street_lanes.specs.Lists.{cells_list, buffer_list, waiting_list, cars_on, HasShortPlan, AreShort, SameList, Joins, Enters, LetsGo, Departs}
 use Rattle.street_lanes.specs.declared.lanes.Lanes.TheInside.{Inside}
 use Rattle.street_lanes.specs.Inside.{length_at, closed_at, lane_in, view_of, seen, IsSound, IsLaidOut}
 use Rattle.street_lanes.proofs.Access.{in-sites, in-closures}
@@ -41,13 +41,13 @@ get-map f [] = refl
 get-map f (x ∷ xs) = refl
 
 -- the first car of a list has a short plan
-pub first-short : (y : Yard) (ks : List ℕ) → HaveShortPlans y → IfSome (slice_get (filter_map (car_of y) ks) 0) HasShortPlan
+pub first-short : (y : Yard) (ks : List ℕ) → AreShort y → IfSome (slice_get (filter_map (car_of y) ks) 0) HasShortPlan
 first-short y [] short = tt
 first-short y (k ∷ ks) short = by (car_of y k) refl (first-short y ks short)
   where
     by : (o : Option Car) → car_of y k ≡ o → IfSome (slice_get (filter_map (car_of y) ks) 0) HasShortPlan → IfSome (slice_get (filter_map (car_of y) (k ∷ ks)) 0) HasShortPlan
     by None e rest = rw e rest
-    by (Some c) e rest = rw e (short k c e)
+    by (Some c) e rest = rw e (short k c e).0
 
 -- ---- the lists of a lane
 

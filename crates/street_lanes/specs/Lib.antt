@@ -6,3 +6,4 @@ pub mod Seeking
 pub mod Inside
 pub mod Driving
 pub mod Changing
+pub mod Showing

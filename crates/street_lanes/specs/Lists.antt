@@ -1,6 +1,6 @@
 -- A lane as three lists of a yard: its cells, its buffer, and who waits.
 -- Source: this profile.
-use Rattle.std.specs.Prelude.{ℕ, ◌≡◌, ◌+◌, ◌*◌, ◌/◌, ◌<◌, ◌≤◌, List, [], ◌∷◌, ◌++◌, map, length, drop, filter_map, Option, Some, None, true, false, slice_get, slice_set}
+use Rattle.std.specs.Prelude.{ℕ, ◌≡◌, ◌+◌, ◌*◌, ◌^◌, ◌/◌, ◌<◌, ◌≤◌, List, [], ◌∷◌, ◌++◌, map, length, drop, filter_map, Option, Some, None, true, false, slice_get, slice_set}
 use Rattle.std.specs.Option.{option_to_list}
 use Rattle.street_base.specs.declared.car.Car.{Car}
 use Rattle.street_base.specs.Limits.{most_plan}
@@ -44,19 +44,23 @@ lane_seen y closed count n = record {
 abbrev pub HasShortPlan : Car → Type 0
 HasShortPlan car = length car.plan.value ≤ most_plan
 
-abbrev pub HaveShortPlans : Yard → Type 0
-HaveShortPlans y = (key : ℕ) (car : Car) → car_of y key ≡ Some car → HasShortPlan car
+-- so is that of a car, and its key has 32 bits
+abbrev pub IsShort : ℕ → Car → Type 0
+IsShort key car = HasShortPlan car × (key < 2 ^ 32)
+
+abbrev pub AreShort : Yard → Type 0
+AreShort y = (key : ℕ) (car : Car) → car_of y key ≡ Some car → IsShort key car
 
 -- a list is as it was, and so are the cars on it
 pub record SameList (old new : Yard) (list : ℕ) : Type 0 where
   pub keys : list_at new list ≡ list_at old list
   pub cars : (key : ℕ) → Has (list_at old list) key → car_of new key ≡ car_of old key
 
--- only these lists have changed, and no plan has become longer than a plan may be
+-- only these lists have changed, and no plan or key has become longer than it may be
 pub record Touches (lists : List ℕ) (old new : Yard) : Type 0 where
   pub count : length new.lists ≡ length old.lists
   pub others : (list : ℕ) → Away list lists → SameList old new list
-  pub short : HaveShortPlans old → HaveShortPlans new
+  pub short : AreShort old → AreShort new
 
 -- where cell 0 of a list was empty, this vehicle now stands in it, and nothing else has changed in its cells
 abbrev pub ComesIn : Vehicle → ℕ → Yard → Yard → Type 0

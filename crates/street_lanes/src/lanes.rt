@@ -231,6 +231,7 @@ impl Lanes {
         ensures cells { (s : LaneState) → LaneStands (lane_of self.now lane) s → result.cells ≡ count_by is_some s.track.cells }
         ensures buffer { (s : LaneState) → LaneStands (lane_of self.now lane) s → result.buffer ≡ length s.queue }
         ensures waiting { (s : LaneState) → LaneStands (lane_of self.now lane) s → result.waiting ≡ length s.waiting }
+        ensures few { (result.cells ≤ 2 ^ 32) × (result.buffer ≤ 2 ^ 32) × (result.waiting ≤ 2 ^ 32) }
     {
         self.yard.whole();
         LaneSizes {

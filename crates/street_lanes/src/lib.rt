@@ -12,6 +12,7 @@ mod entering;
 mod lanes;
 mod lists;
 mod seeking;
+mod showing;
 #[cfg(test)]
 mod tests;
 mod waiting;
