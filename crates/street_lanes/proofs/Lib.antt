@@ -29,6 +29,7 @@ pub mod Marking
 pub mod Sought
 pub mod Without
 pub mod Taking
+pub mod Seeing
 pub mod Entries
 pub mod Shutting
 pub mod Occupied

@@ -9,6 +9,7 @@ mod change;
 mod commands;
 mod drive;
 mod entering;
+mod finding;
 mod lanes;
 mod lists;
 mod seeking;

@@ -3,7 +3,6 @@ ghost use Rattle.std.specs.Prelude.{◌≡◌, ℕ, ◌<◌, length, map, IfOk};
 ghost use Rattle.street_base.specs.declared.car.Car.{Car as Driven};
 ghost use Rattle.street_base.specs.State.{LaneState};
 ghost use Rattle.street_base.specs.Shown.{shown_lane};
-ghost use Rattle.street_gap.specs.declared.closures.Stretch.{Stretch as Closed};
 ghost use Rattle.street_lanes.specs.Views.{LaneStands};
 ghost use Rattle.street_lanes.specs.Lanes.{lane_of};
 ghost use Rattle.street_lanes.specs.Lists.{cars_on};
