@@ -10,6 +10,8 @@ use Rattle.street_base.specs.Signal.{SignalPlan, is_green}
 use Rattle.street_base.specs.State.{Traffic, LaneState, no_lane, lane_at}
 use Rattle.street_base.specs.Closing.{with_marks, closed_cells}
 use Rattle.street_base.specs.Machine.{closed_after}
+use Rattle.street_base.specs.Shown.{shown_lane}
+use Rattle.street_base.specs.declared.reply.Reply.{Reply}
 use Rattle.street_base.proofs.ReleaseLemmas.{is_place-same, is_place-refl}
 use Rattle.street_node.specs.Greens.{ShowsAs}
 use Rattle.street_lanes.specs.Views.{LaneView, LaneStands}
@@ -156,6 +158,9 @@ module _ (net : NetSpec) {x v : Part} (is : x ≡ v) (tile : IsTileOf net v) (n 
 
   pub seen-count : (closed : Bool) (first last : ℕ) (own : Lanes) (count : ℕ) → GoesAt n (with_marks closed first last) x.own own → ((s : LaneState) → LaneStands (lane_of own n) s → count ≡ closed_cells s.track.closed) → (m : Traffic) → StandsFor v m → count ≡ closed_after closed first last (lane_at m p)
   seen-count closed first last own count goes counts m s = counts (with_marks closed first last (lane_at m p)) (goes.goes (lane_at m p) (stands-in net x tile-seen m (subst (λ (t : Part). StandsFor t m) (sym is) s) n p place-seen))
+
+  pub seen-shown : (reply : Reply) → ((s : LaneState) → LaneStands (lane_of x.own n) s → reply ≡ shown_lane s) → (m : Traffic) → StandsFor v m → reply ≡ shown_lane (lane_at m p)
+  seen-shown reply shows m s = shows (lane_at m p) (stands-in net x tile-seen m (subst (λ (t : Part). StandsFor t m) (sym is) s) n p place-seen)
 
 pub seen-plan : (net : NetSpec) {x v : Part} → x ≡ v → (node k : ℕ) (plan other : SignalPlan) → v.low ≤ node → node < v.high → x.low + length x.signals ≡ x.high → k ≡ node → ShowsAs plan other → DoesIf net (λ m. node < length m.signals) (planned node other) v (record x { signals = set x.signals (k - x.low) (Some plan) })
 seen-plan net {x} {v} is node k plan other low high nodes same shows =

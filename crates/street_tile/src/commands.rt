@@ -7,6 +7,7 @@ ghost use Rattle.street_base.specs.State.{Traffic, lane_at};
 ghost use Rattle.street_base.specs.Census.{in_lane};
 ghost use Rattle.street_base.specs.Closing.{with_marks};
 ghost use Rattle.street_base.specs.Machine.{with_waiting, closed_after};
+ghost use Rattle.street_base.specs.Shown.{shown_lane};
 ghost use Rattle.street_net.specs.Tables.{place_of};
 ghost use Rattle.street_node.specs.Greens.{ShowsAs};
 ghost use Rattle.street_lanes.specs.Views.{waiting_of};
@@ -18,7 +19,8 @@ ghost use Rattle.street_tile.specs.Commands.{at_place, planned, DoesIf, Does, Ke
 
 use crate::tile::Tile;
 use crate::view::slot;
-use street_base::{Car, CellNo, NodeIx, Starved};
+use std::alloc::Global;
+use street_base::{Car, CellNo, NodeIx, Reply, Starved};
 use street_net::{LaneId, Network};
 use street_node::SignalPlan;
 
@@ -112,5 +114,20 @@ impl Tile {
         let lane = self.number(net, at);
         self.own.reopen(lane, first, last)?;
         Ok(self.own.closed_cells(lane))
+    }
+
+    /// All of an own lane.
+    ///
+    /// # Errors
+    /// Memory for the lists was refused.
+    pub fn lane(&self, alloc: Global, net: &Network, at: LaneId) -> Result<Reply, Starved>
+        requires tile { IsTileOf net.now self.now }
+        requires lane { IsLane net.now (place_of at) }
+        requires own { is_own net.now self.now.low self.now.high (place_of at) ≡ true }
+        ensures { IfOk result (λ reply. (m : Traffic) → IsOn net.now m → StandsFor self.now m
+            → reply ≡ shown_lane (lane_at m (place_of at))) }
+    {
+        let lane = self.number(net, at);
+        self.own.lane(alloc, lane)
     }
 }
