@@ -1,16 +1,27 @@
-//! Commands that name a vehicle.
-ghost use Rattle.std.specs.Prelude.{◌≡◌, ◌<◌, length, None, true, IfSome};
+//! Commands that name a vehicle, and how many vehicles there are.
+ghost use Rattle.std.specs.Prelude.{◌≡◌, ◌<◌, length, count_by, is_some, None, true, IfSome};
 ghost use Rattle.street_base.specs.State.{Traffic, lane_at};
 ghost use Rattle.street_base.specs.Census.{in_lane};
 ghost use Rattle.street_net.specs.Tables.{place_of};
 ghost use Rattle.street_lanes.specs.Lanes.{IsLane, place_at};
 ghost use Rattle.street_lanes.specs.Whole.{IsOn};
 ghost use Rattle.street_tile.specs.Tiles.{IsTileOf, StandsFor, is_own};
-ghost use Rattle.street_tile.specs.Commands.{without, DoesIf, HaveNot, Have, HaveAtMostOne};
+ghost use Rattle.street_tile.specs.Commands.{without, DoesIf, HaveNot, Have, HaveAtMostOne, over};
 
 use crate::tile::Tile;
 use street_base::{Car, CarNo};
 use street_net::{LaneId, Network};
+
+/// How many vehicles are on the lanes of a tile.
+#[derive(Clone, Copy, Debug, PartialEq, Eq)]
+pub struct TileSizes {
+    /// Those in cells.
+    pub cells: u64,
+    /// Those in buffers.
+    pub buffers: u64,
+    /// Those who wait.
+    pub waiting: u64,
+}
 
 impl Tile {
     /// Takes a vehicle out of own lane `n`, if it is there.
@@ -53,5 +64,25 @@ impl Tile {
             }
         }
         None
+    }
+
+    /// How many vehicles are on the own lanes; looks at counts that are kept for each lane.
+    pub fn sizes(&self) -> TileSizes
+        ensures cells { (m : Traffic) → StandsFor self.now m → result.cells ≡ over self.now.own.places (λ lane. count_by is_some lane.track.cells) m }
+        ensures buffers { (m : Traffic) → StandsFor self.now m → result.buffers ≡ over self.now.own.places (λ lane. length lane.queue) m }
+        ensures waiting { (m : Traffic) → StandsFor self.now m → result.waiting ≡ over self.now.own.places (λ lane. length lane.waiting) m }
+    {
+        let mut all = TileSizes {
+            cells: 0,
+            buffers: 0,
+            waiting: 0,
+        };
+        for n in 0..self.own.len() {
+            let own = self.own.sizes(n);
+            all.cells += own.cells as u64;
+            all.buffers += own.buffer as u64;
+            all.waiting += own.waiting as u64;
+        }
+        all
     }
 }

@@ -19,6 +19,7 @@ mod step;
 mod tile;
 mod view;
 
+pub use finding::TileSizes;
 pub use gate::Gate;
 pub use hand_over::HandOver;
 pub use hints::Hints;
