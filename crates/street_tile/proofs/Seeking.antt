@@ -75,7 +75,7 @@ module _ (number : ℕ) where
     there : (k : ℕ) (p : Place) → slice_get x.own.places k ≡ Some p → IsLane net p
     there = subst (AllLanes net) (sym tile.places) (own-lanes net x.low x.high)
 
-    stands-here : (m : Traffic) → StandsFor x m → LaneStands (lane_of x.own n) (lane_at m (place_at x.own n))
+    pub stands-here : (m : Traffic) → StandsFor x m → LaneStands (lane_of x.own n) (lane_at m (place_at x.own n))
     stands-here m s = stands-at m x.own s.lanes n h (let e = even-of net x.own tile.own in omega arith)
 
     pub few-here : (m : Traffic) → HaveAtMostOne x.own.places m number → in_lane number (lane_at m (place_at x.own n)) ≤ 1

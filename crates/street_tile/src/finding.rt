@@ -1,15 +1,17 @@
 //! Commands that name a vehicle, and how many vehicles there are.
-ghost use Rattle.std.specs.Prelude.{◌≡◌, ◌<◌, length, count_by, is_some, None, true, IfSome};
+ghost use Rattle.std.specs.Prelude.{◌≡◌, ◌<◌, length, count_by, is_some, None, true, IfOk, IfSome};
 ghost use Rattle.street_base.specs.State.{Traffic, lane_at};
 ghost use Rattle.street_base.specs.Census.{in_lane};
+ghost use Rattle.street_base.specs.Machine.{seen_in};
 ghost use Rattle.street_net.specs.Tables.{place_of};
 ghost use Rattle.street_lanes.specs.Lanes.{IsLane, place_at};
 ghost use Rattle.street_lanes.specs.Whole.{IsOn};
 ghost use Rattle.street_tile.specs.Tiles.{IsTileOf, StandsFor, is_own};
-ghost use Rattle.street_tile.specs.Commands.{without, DoesIf, HaveNot, Have, HaveAtMostOne, over};
+ghost use Rattle.street_tile.specs.Commands.{without, DoesIf, HaveNot, Have, HaveAtMostOne, Finds, over};
 
 use crate::tile::Tile;
-use street_base::{Car, CarNo};
+use std::alloc::Global;
+use street_base::{Car, CarNo, Starved, Whereabouts};
 use street_net::{LaneId, Network};
 
 /// How many vehicles are on the lanes of a tile.
@@ -64,6 +66,63 @@ impl Tile {
             }
         }
         None
+    }
+
+    /// Where a vehicle is on own lane `n`. Takes memory for the plan that it answers.
+    fn find_at(
+        &self,
+        alloc: Global,
+        net: &Network,
+        n: usize,
+        number: CarNo,
+    ) -> Result<Option<Whereabouts>, Starved>
+        requires tile { IsTileOf net.now self.now }
+        requires lane { n < length self.now.own.places }
+        ensures found { IfOk result (λ found. (m : Traffic) → IsOn net.now m → StandsFor self.now m → HaveAtMostOne self.now.own.places m number → found ≡ seen_in net.now (place_at self.now.own n) number (lane_at m (place_at self.now.own n))) }
+        ensures there { IfOk result (λ found. (m : Traffic) → IsOn net.now m → StandsFor self.now m → HaveAtMostOne self.now.own.places m number → found ≡ None → in_lane number (lane_at m (place_at self.now.own n)) ≡ 0) }
+    {
+        self.own.find_on(alloc, net, n, number)
+    }
+
+    /// Where a vehicle is on an own lane. Takes memory for the plan that it answers.
+    ///
+    /// # Errors
+    /// Memory for the plan was refused.
+    pub fn find_on(
+        &self,
+        alloc: Global,
+        net: &Network,
+        at: LaneId,
+        number: CarNo,
+    ) -> Result<Option<Whereabouts>, Starved>
+        requires tile { IsTileOf net.now self.now }
+        requires lane { IsLane net.now (place_of at) }
+        requires own { is_own net.now self.now.low self.now.high (place_of at) ≡ true }
+        ensures { IfOk result (λ found. (m : Traffic) → IsOn net.now m → StandsFor self.now m → HaveAtMostOne self.now.own.places m number → found ≡ seen_in net.now (place_of at) number (lane_at m (place_of at))) }
+    {
+        let n = self.number(net, at);
+        self.find_at(alloc, net, n, number)
+    }
+
+    /// Where a vehicle is on the own lanes. Takes memory for the plan that it answers.
+    ///
+    /// # Errors
+    /// Memory for the plan was refused.
+    pub fn find(
+        &self,
+        alloc: Global,
+        net: &Network,
+        number: CarNo,
+    ) -> Result<Option<Whereabouts>, Starved>
+        requires { IsTileOf net.now self.now }
+        ensures { IfOk result (λ found. (m : Traffic) → IsOn net.now m → StandsFor self.now m → HaveAtMostOne self.now.own.places m number → Finds net.now self.now.own.places m number found) }
+    {
+        for n in 0..self.own.len() {
+            if let Some(found) = self.find_at(alloc, net, n, number)? {
+                return Ok(Some(found));
+            }
+        }
+        Ok(None)
     }
 
     /// How many vehicles are on the own lanes; looks at counts that are kept for each lane.

@@ -1,0 +1,12 @@
+use Rattle.std.proofs.Common.{◌≡◌, ℕ, ◌<◌}
+use Rattle.std.specs.Prelude.{Some, slice_get}
+use Rattle.street_base.specs.Network.{Place}
+use Rattle.street_base.specs.State.{Traffic, lane_at}
+use Rattle.street_base.specs.Census.{in_lane}
+use Rattle.street_lanes.specs.Whole.{IsOn}
+use Rattle.street_tile.specs.Tiles.{StandsFor}
+use Rattle.street_tile.specs.Commands.{HaveAtMostOne}
+use Rattle.street_tile.proofs.tile.Tile.find.Given as goal
+
+abbrev pub invariant-loop-n : goal.invariant-loop-n
+invariant-loop-n l = (m : Traffic) → IsOn l.net m → StandsFor l.self m → HaveAtMostOne l.self.own.places m l.number → (k : ℕ) (p : Place) → k < l.n → slice_get l.self.own.places k ≡ Some p → in_lane l.number (lane_at m p) ≡ 0
