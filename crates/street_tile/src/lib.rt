@@ -16,8 +16,6 @@ mod lanes;
 mod release;
 mod show;
 mod step;
-#[cfg(test)]
-mod tests;
 mod tile;
 mod view;
 

@@ -1,0 +1,13 @@
+mod Together
+mod Placing
+mod Signalling
+mod Sums
+mod Ones
+mod Taking
+mod Seeing
+mod Counting
+mod Arrivals
+mod Coming
+mod Stepped
+mod Ended
+mod Standing

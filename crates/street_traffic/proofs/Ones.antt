@@ -1,0 +1,81 @@
+-- A number stands on one lane of traffic that is whole, so on a tile's lanes at most once.
+use Rattle.std.proofs.Common.{◌≡◌, ℕ, ◌+◌, ◌<◌, ◌≤◌, Bool, true, false, List, [], ◌∷◌, length, sym, ◌∙◌, ap, arith, inl, inr}
+use Rattle.std.specs.Prelude.{filter, nat_lt}
+use Rattle.std.specs.List.{sum_by, list_any}
+use Rattle.std.proofs.lemmas.Bool.{cases_Bool, both_ways, false_from_ne_true}
+use Rattle.std.proofs.lemmas.List.Sums.{sum_by-cons}
+use Rattle.street_base.specs.declared.net.NetSpec.{NetSpec}
+use Rattle.street_base.specs.Network.{Place, is_place, places}
+use Rattle.street_base.specs.State.{Traffic, lane_at}
+use Rattle.street_base.specs.Census.{in_lane, one_if, IsWhole, IsSound}
+use Rattle.street_base.proofs.ReleaseLemmas.{is_place-same, is_place-refl}
+use Rattle.street_base.proofs.ReleaseCountLemmas.{in_lanes-places}
+use Rattle.street_base.proofs.FormLemmas.{shape-of}
+use Rattle.street_lanes.specs.Whole.{IsOn}
+use Rattle.street_tile.specs.Tiles.{Part, IsTileOf, is_own, own_places}
+use Rattle.street_tile.specs.Commands.{HaveAtMostOne}
+
+-- ---- two lanes of a list
+
+pub sum-one : (f : Place → ℕ) (ps : List Place) (p : Place) → list_any (is_place p) ps ≡ true → f p ≤ sum_by f ps
+sum-one f [] p e = cc
+sum-one f (r ∷ ps) p e =
+    let cons = sum_by-cons f r ps in
+    elim (cases_Bool (is_place p r)) as (λ _. f p ≤ sum_by f (r ∷ ps)) [
+      | inl here ↦ (let same : f p ≡ f r = ap f (is_place-same p r here) in omega arith)
+      | inr on ↦ (let rest : list_any (is_place p) ps ≡ true = rw on at e in let le = sum-one f ps p rest in omega arith)
+    ]
+
+pub sum-two : (f : Place → ℕ) (ps : List Place) (p q : Place) → is_place p q ≡ false → list_any (is_place p) ps ≡ true → list_any (is_place q) ps ≡ true → f p + f q ≤ sum_by f ps
+sum-two f [] p q ne a b = cc
+sum-two f (r ∷ ps) p q ne a b =
+    let cons = sum_by-cons f r ps in
+    elim (cases_Bool (is_place p r)) as (λ _. f p + f q ≤ sum_by f (r ∷ ps)) [
+      | inl here ↦ (
+          let same : p ≡ r = is_place-same p r here in
+          let fp : f p ≡ f r = ap f same in
+          let away : is_place q r ≡ false = false_from_ne_true (is_place q r) (λ t. both_ways (is_place p q) ne (ap (is_place p) (is_place-same q r t ∙ sym same) ∙ is_place-refl p)) in
+          let rest : list_any (is_place q) ps ≡ true = rw away at b in
+          let le = sum-one f ps q rest in
+          omega arith)
+      | inr on ↦ (
+          let more : list_any (is_place p) ps ≡ true = rw on at a in
+          elim (cases_Bool (is_place q r)) as (λ _. f p + f q ≤ sum_by f (r ∷ ps)) [
+            | inl there ↦ (let fq : f q ≡ f r = ap f (is_place-same q r there) in let le = sum-one f ps p more in omega arith)
+            | inr off ↦ (let rest : list_any (is_place q) ps ≡ true = rw off at b in let le = sum-two f ps p q ne more rest in omega arith)
+          ])
+    ]
+
+one_if-le : (b : Bool) → one_if b ≤ 1
+one_if-le true = omega arith
+one_if-le false = omega arith
+
+-- where it is on one lane it is on no other
+pub on-one : (m : Traffic) → IsSound m → (number : ℕ) (p q : Place) → is_place p q ≡ false → list_any (is_place p) (places m.network) ≡ true → list_any (is_place q) (places m.network) ≡ true → 0 < in_lane number (lane_at m p) → in_lane number (lane_at m q) ≡ 0
+on-one m sound number p q ne a b some =
+    let all = in_lanes-places m (shape-of m sound.formed) number in
+    let two = sum-two (λ r. in_lane number (lane_at m r)) (places m.network) p q ne a b in
+    let whole = sound.whole number in
+    let most = one_if-le (nat_lt number (length m.ends)) in
+    omega arith
+
+-- ---- the lanes of one tile
+
+filter-le : (f : Place → ℕ) (own : Place → Bool) (ps : List Place) → sum_by f (filter own ps) ≤ sum_by f ps
+filter-le f own [] = omega arith
+filter-le f own (p ∷ ps) = elim (cases_Bool (own p)) as (λ _. sum_by f (filter own (p ∷ ps)) ≤ sum_by f (p ∷ ps)) [
+  | inl mine ↦ rw mine (omega (arith, sum_by-cons f p (filter own ps), sum_by-cons f p ps, filter-le f own ps))
+  | inr other ↦ rw other (omega (arith, sum_by-cons f p ps, filter-le f own ps))
+]
+
+-- a number stands on them at most once
+pub have-one : (net : NetSpec) (x : Part) (number : ℕ) (m : Traffic) → IsTileOf net x → IsOn net m → IsWhole m → HaveAtMostOne x.own.places m number
+have-one net x number m tile on whole =
+    let f : Place → ℕ = λ p. in_lane number (lane_at m p) in
+    let part = filter-le f (is_own net x.low x.high) (places net) in
+    let own : sum_by f x.own.places ≡ sum_by f (own_places net x.low x.high) = ap (sum_by f) tile.places in
+    let same : sum_by f (places m.network) ≡ sum_by f (places net) = ap (λ (n : NetSpec). sum_by f (places n)) on.network in
+    let all = in_lanes-places m (shape-of m on.formed) number in
+    let given = whole number in
+    let most = one_if-le (nat_lt number (length m.ends)) in
+    omega arith

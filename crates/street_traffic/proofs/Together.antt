@@ -1,0 +1,78 @@
+-- One tile changes, the others stand as they did.
+use Rattle.std.proofs.Common.{◌≡◌, ℕ, ◌<◌, List, length, set, get_or, refl, sym, ◌∙◌, ap, subst, arith, inl, inr}
+use Rattle.std.specs.Prelude.{All}
+use Rattle.std.proofs.lemmas.Bool.{cases_eq}
+use Rattle.std.proofs.lemmas.List.{get_or-set_same, get_or-set_other, get_or_default, length-set}
+use Rattle.street_base.specs.declared.net.NetSpec.{NetSpec}
+use Rattle.street_base.specs.State.{Traffic}
+use Rattle.street_lanes.specs.Whole.{IsOn}
+use Rattle.street_tile.specs.Tiles.{Part, AreTiles, AllStand, StandsFor, SameTile, Each, IsIdle}
+use Rattle.street_tile.specs.Commands.{DoesIf, KeepsAll}
+use Rattle.street_tile.proofs.Keeping.{tile-none}
+use Rattle.street_tile.proofs.Stepping.{tiles-same}
+use Rattle.street_traffic.specs.Together.{AllDoIf, AllKeep}
+
+set-same : (xs : List Part) (i : ℕ) (y d : Part) → i < length xs → SameTile (get_or xs i d) y → Each SameTile xs (set xs i y)
+set-same xs i y d h same k e l = elim (cases_eq k i) as (λ _. SameTile (get_or xs k e) (get_or (set xs i y) k e)) [
+  | inl here ↦ (
+      let is : get_or (set xs i y) k e ≡ y = rw here (get_or-set_same xs i y e h) in
+      let was : get_or xs k e ≡ get_or xs i d = ap (λ (j : ℕ). get_or xs j e) here ∙ get_or_default xs i e d h in
+      subst (SameTile (get_or xs k e)) (sym is) (subst (λ (t : Part). SameTile t y) (sym was) same))
+  | inr other ↦ subst (SameTile (get_or xs k e)) (sym (get_or-set_other xs i k y e other)) (tile-none (get_or xs k e))
+]
+
+idle-does : (net : NetSpec) (P : Traffic → Type 0) (f : Traffic → Traffic) (x y : Part) → DoesIf net P f x y → IsIdle x → IsIdle y
+idle-does net P f x y does idle = record {
+  handed = does.handed ∙ idle.handed;
+  coming = does.coming ∙ idle.coming ∙ rw does.same.own.places refl;
+  arrived = does.arrived ∙ idle.arrived;
+}
+
+-- the tile at i does it, and what the others stand for they stand for then
+pub one-does : (net : NetSpec) (P : Traffic → Type 0) (f : Traffic → Traffic) (xs : List Part) (i : ℕ) (y d : Part) → AreTiles net xs → All IsIdle xs → i < length xs → DoesIf net P f (get_or xs i d) y
+    → ((m : Traffic) → P m → IsOn net m → IsOn net (f m))
+    → ((k : ℕ) (e : Part) (m : Traffic) → (k ≡ i → ⊥) → k < length xs → P m → AllStand net xs m → StandsFor (get_or xs k e) (f m))
+    → AllDoIf net P f xs (set xs i y)
+one-does net P f xs i y d tiles idle h does on elsewhere = record {
+  long = length-set xs i y;
+  tiles = tiles-same net xs (set xs i y) (length-set xs i y) (set-same xs i y d h does.same) tiles;
+  idle = λ k e l. elim (cases_eq k i) as (λ _. IsIdle (get_or (set xs i y) k e)) [
+    | inl here ↦ (
+        let is : get_or (set xs i y) k e ≡ y = rw here (get_or-set_same xs i y e h) in
+        subst IsIdle (sym is) (idle-does net P f (get_or xs i d) y does (idle i d h)))
+    | inr other ↦ (
+        let within : k < length xs = (let n = length-set xs i y in omega arith) in
+        subst IsIdle (sym (get_or-set_other xs i k y e other)) (idle k e within))
+  ];
+  stand = λ m holds s. record {
+    on = on m holds s.on;
+    each = λ k e l. elim (cases_eq k i) as (λ _. StandsFor (get_or (set xs i y) k e) (f m)) [
+      | inl here ↦ (
+          let is : get_or (set xs i y) k e ≡ y = rw here (get_or-set_same xs i y e h) in
+          subst (λ (t : Part). StandsFor t (f m)) (sym is) (does.stands m s.on holds (s.each i d h)))
+      | inr other ↦ (
+          let within : k < length xs = (let n = length-set xs i y in omega arith) in
+          subst (λ (t : Part). StandsFor t (f m)) (sym (get_or-set_other xs i k y e other)) (elsewhere k e m other within holds s))
+    ];
+  };
+}
+
+-- a tile that is as it was, reserved room apart
+keeps-does : (net : NetSpec) (x y : Part) → KeepsAll x y → DoesIf net (λ m. Unit {0}) (λ m. m) x y
+keeps-does net x y e = subst (DoesIf net (λ m. Unit {0}) (λ m. m) x) (sym e) (record {
+  same = record { low = refl; high = refl; links = refl; own = record { places = refl; sizes = refl; odds = refl } };
+  handed = refl;
+  coming = refl;
+  arrived = refl;
+  stands = λ m on holds s. record { clock = s.clock; lanes = s.lanes; signals = s.signals };
+})
+
+pub one-keeps : (net : NetSpec) (xs : List Part) (i : ℕ) (y d : Part) → AreTiles net xs → All IsIdle xs → i < length xs → KeepsAll (get_or xs i d) y → AllKeep net xs (set xs i y)
+one-keeps net xs i y d tiles idle h e =
+    one-does net (λ m. Unit {0}) (λ m. m) xs i y d tiles idle h (keeps-does net (get_or xs i d) y e) (λ m holds on. on) (λ k t m other l holds s. s.each k t l)
+
+pub all-none : (net : NetSpec) (xs : List Part) → AreTiles net xs → All IsIdle xs → AllKeep net xs xs
+all-none net xs tiles idle = record { long = refl; tiles = tiles; idle = idle; stand = λ m holds s. s }
+
+pub keep-then : (net : NetSpec) (xs ys zs : List Part) → AllKeep net xs ys → AllKeep net ys zs → AllKeep net xs zs
+keep-then net xs ys zs a b = record { long = b.long ∙ a.long; tiles = b.tiles; idle = b.idle; stand = λ m holds s. b.stand m holds (a.stand m holds s) }

@@ -1,0 +1,29 @@
+-- How vehicles have ended, by their numbers, and who is about to arrive.
+-- Source: this profile.
+use Rattle.std.specs.Prelude.{ℕ, ◌≡◌, ◌+◌, ◌≤◌, ◌==◌, nat_lt, List, [], ◌∷◌, ◌++◌, length, Option}
+use Rattle.std.specs.List.{count_by}
+use Rattle.street_base.specs.declared.reply.End.{End}
+use Rattle.street_base.specs.Limits.{most_vehicles}
+use Rattle.street_base.specs.Census.{has_ended, one_if}
+use Rattle.street_base.specs.Shown.{has_arrived, was_taken}
+use Rattle.street_tile.specs.Tiles.{Part}
+
+-- what contracts see: how each vehicle ended, if it did, and for how many more numbers there is room
+pub record EndsView : Type 0 where
+  pub ends : List (Option End)
+  pub room : ℕ
+
+-- the counts that are kept are those of the list
+pub record AreCounted (ends : List (Option End)) (arrived taken : ℕ) : Type 0 where
+  pub few : length ends ≤ most_vehicles
+  pub arrived_is : arrived ≡ count_by has_arrived ends
+  pub taken_is : taken ≡ count_by was_taken ends
+
+-- these numbers were given, and each is that of one vehicle which has not ended
+abbrev pub AreComing : List ℕ → List (Option End) → Type 0
+AreComing numbers ends = (n : ℕ) → count_by (λ k. k == n) numbers + has_ended n ends ≤ one_if (nat_lt n (length ends))
+
+-- the numbers that tiles hold of those who arrived, those of the last tile first
+abbrev pub all_arrived : List Part → List ℕ
+all_arrived [] = []
+all_arrived (x ∷ xs) = all_arrived xs ++ x.arrived

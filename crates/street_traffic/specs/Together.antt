@@ -1,0 +1,18 @@
+-- What a command does to all tiles of a network together.
+-- Source: this profile.
+use Rattle.std.specs.Prelude.{◌≡◌, List, length}
+use Rattle.std.specs.List.{All}
+use Rattle.street_base.specs.declared.net.NetSpec.{NetSpec}
+use Rattle.street_base.specs.State.{Traffic}
+use Rattle.street_tile.specs.Tiles.{Part, AreTiles, AllStand, IsIdle}
+
+-- whatever traffic the tiles stood for, if P held of that, they then stand for f of it; they are tiles of the network still, and idle
+pub record AllDoIf (net : NetSpec) (P : Traffic → Type 0) (f : Traffic → Traffic) (xs ys : List Part) : Type 0 where
+  pub long : length ys ≡ length xs
+  pub tiles : AreTiles net ys
+  pub idle : All IsIdle ys
+  pub stand : (m : Traffic) → P m → AllStand net xs m → AllStand net ys (f m)
+
+-- they stand for what they stood for
+abbrev pub AllKeep : NetSpec → List Part → List Part → Type 0
+AllKeep net xs ys = AllDoIf net (λ m. Unit {0}) (λ m. m) xs ys
