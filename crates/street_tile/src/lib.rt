@@ -16,6 +16,8 @@ mod lanes;
 mod release;
 mod show;
 mod step;
+#[cfg(test)]
+mod tests;
 mod tile;
 mod view;
 
