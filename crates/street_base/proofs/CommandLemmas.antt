@@ -20,7 +20,7 @@ use Rattle.street_base.specs.Apart.{weight}
 use Rattle.street_base.specs.Census.{in_lane, in_lanes, has_ended, one_if, IsSound, IsSoundState}
 use Rattle.street_base.specs.Closing.{with_marks, with_closure}
 use Rattle.street_base.specs.Effects.{is_car, cell_without, lane_without, taken_out, signalled, metered}
-use Rattle.street_base.specs.Machine.{bad_network, entry_of, whole_refusal, done}
+use Rattle.street_base.specs.Machine.{bad_network, entry_of, refusal, done}
 use Rattle.street_base.proofs.ReleaseLemmas.{sums-zero}
 use Rattle.street_base.proofs.FormLemmas.{each_lane-sizes}
 use Rattle.street_base.proofs.StepLemmas.{steps-sound}
@@ -110,7 +110,7 @@ module _ (car : ℕ) where
   gone-lane : (lane : LaneState) → in_lane car (lane_without car lane) ≡ 0
   gone-lane lane = omega (arith, gone-cells lane.track.cells, gone-list (λ (q : Queued). q.vehicle) lane.queue, gone-list (λ (w : Waiting). w.vehicle) lane.waiting)
 
-  ended-same : (end : End) (ends : List (Option End)) (n : ℕ) → n < length ends → has_ended n (slice_set ends n (Some end)) ≡ 1
+  pub ended-same : (end : End) (ends : List (Option End)) (n : ℕ) → n < length ends → has_ended n (slice_set ends n (Some end)) ≡ 1
   ended-same end [] n within = absurd (omega arith)
   ended-same end (e ∷ ends) zero within = refl
   ended-same end (e ∷ ends) (suc n) within = ended-same end ends n (omega arith)
@@ -144,7 +144,7 @@ module _ (car number : ℕ) (other : number ≢ car) where
   stays-lane : (lane : LaneState) → in_lane number (lane_without car lane) ≡ in_lane number lane
   stays-lane lane = omega (arith, stays-cells lane.track.cells, stays-list (λ (q : Queued). q.vehicle) lane.queue, stays-list (λ (w : Waiting). w.vehicle) lane.waiting)
 
-ended-other : (end : Option End) (ends : List (Option End)) (n k : ℕ) → n ≢ k → has_ended n (slice_set ends k end) ≡ has_ended n ends
+pub ended-other : (end : Option End) (ends : List (Option End)) (n k : ℕ) → n ≢ k → has_ended n (slice_set ends k end) ≡ has_ended n ends
 ended-other end [] n k other = refl
 ended-other end (e ∷ ends) zero zero other = absurd (other refl)
 ended-other end (e ∷ ends) zero (suc k) other = refl
@@ -196,7 +196,7 @@ pub bad_network-none : (o : Option Fault) → bad_network o ≡ None → o ≡ N
 bad_network-none None e = refl
 bad_network-none (Some fault) e = absurd (none-some _ (sym e))
 
-pub done-sound : (old : State) (c : Command) → whole_refusal old c ≡ None → IsSoundState old → IsSoundState (done old c)
+pub done-sound : (old : State) (c : Command) → refusal old c ≡ None → IsSoundState old → IsSoundState (done old c)
 done-sound None (Load net) accepted sound = loaded-sound net (bad_network-none (network_fault net) accepted)
 done-sound None c accepted sound = tt
 done-sound (Some m) (Enter plan lane depart) accepted sound =

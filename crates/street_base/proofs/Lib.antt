@@ -22,7 +22,6 @@ pub mod PlaceLemmas
 pub mod LoadLemmas
 pub mod EnterLemmas
 pub mod CommandLemmas
-pub mod AcceptLemmas
 pub mod CountLemmas
 pub mod RunLemmas
 pub mod RefusalLemmas

@@ -21,7 +21,7 @@ use Rattle.street_base.proofs.OptionLemmas.{holds-some}
 use Rattle.street_base.proofs.ReleaseLemmas.{sums-zero, find-holds}
 use Rattle.street_base.proofs.CensusLemmas.{sums-map}
 use Rattle.street_base.proofs.FirstBadLemmas.{first_bad-none}
-use Rattle.street_base.proofs.FaultLemmas.{not-false, turns-good, good_link}
+use Rattle.street_base.proofs.FaultLemmas.{not-false, turns-good, link_keeps_limits}
 use Rattle.street_base.proofs.PlaceLemmas.{places-listed}
 
 -- ---- turns
@@ -88,7 +88,7 @@ unfolding loaded
 loaded-sound net none = record {
   formed = record {
     lanes = loaded-sizes net.links;
-    cells = λ link within. (good_link net none link within).some_cells;
+    cells = λ link within. (link_keeps_limits net none link within).some_cells;
     turns = λ from to v e. exit-leads net (turns-good net none) from to (next_link v) e;
   };
   whole = λ number. omega (arith, nobody number net.links, not_given number);

@@ -46,7 +46,7 @@ woven_lanes-keeps number weave (a ∷ b ∷ []) even =
     omega (arith, both, sum_by-cons (in_lane number) new_a (new_b ∷ []), sum_by-cons (in_lane number) new_b [], sum_by-cons (in_lane number) a (b ∷ []), sum_by-cons (in_lane number) b [])
 woven_lanes-keeps number weave (a ∷ b ∷ c ∷ lanes) even = refl
 
-changed-whole : (m : Traffic) → IsFormed m → IsWhole m → IsWhole (changed m)
+pub changed-whole : (m : Traffic) → IsFormed m → IsWhole m → IsWhole (changed m)
 unfolding changed
 changed-whole m formed whole number =
     ap (λ n. n + has_ended number m.ends) (sums-enumerated-each IsEven (λ lanes. sum_by (in_lane number) lanes) (λ i lanes. woven_lanes (weave_on m i) lanes) 0 m.lanes

@@ -20,6 +20,14 @@ most_links = 4096
 abbrev pub most_turns : ℕ
 most_turns = 32768
 
+-- the most lanes of a link
+abbrev pub most_lanes : ℕ
+most_lanes = 2
+
+-- the longest link, in cells
+abbrev pub most_cells : ℕ
+most_cells = 1000000
+
 -- the longest residence, in steps
 abbrev pub most_residence : ℕ
 most_residence = 60
@@ -35,6 +43,13 @@ most_limit = 5
 -- the longest turn zone, in cells
 abbrev pub most_zone : ℕ
 most_zone = 1000
+
+-- the greatest dawdle and the greatest change, of 1,000
+abbrev pub most_dawdle : ℕ
+most_dawdle = 1000
+
+abbrev pub most_change : ℕ
+most_change = 1000
 
 -- the most vehicles ever admitted
 abbrev pub most_vehicles : ℕ
@@ -64,21 +79,3 @@ most_detectors = 1024
 
 abbrev pub most_period : ℕ
 most_period = 100000
-
--- ---- limits of what can be simulated today; they rise to 2, 1,000, 1,000 and 1,000,000
-
--- the most lanes of a link
-abbrev pub most_lanes : ℕ
-most_lanes = 1
-
--- the greatest dawdle, of 1,000
-abbrev pub most_dawdle : ℕ
-most_dawdle = 0
-
--- the greatest change, of 1,000
-abbrev pub most_change : ℕ
-most_change = 0
-
--- the longest link, in cells
-abbrev pub most_cells : ℕ
-most_cells = 1000

@@ -16,7 +16,7 @@ use Rattle.street_base.specs.declared.reply.Whereabouts.TheVariants.{Cell, Buffe
 use Rattle.street_base.specs.declared.reply.End.{End}
 use Rattle.street_base.specs.Network.{Place, is_place, node_of, link_of, link_at, places}
 use Rattle.street_base.specs.Limits.{last_clock, most_vehicles, most_steps, most_period, most_detectors}
-use Rattle.street_base.specs.Faults.{Fault, is_within, network_fault, plan_fault, whole_plan_fault, signal_fault, cycle_of}
+use Rattle.street_base.specs.Faults.{Fault, is_within, network_fault, plan_fault, signal_fault, cycle_of}
 use Rattle.street_base.specs.Vehicle.{Vehicle, remaining_plan}
 use Rattle.street_base.specs.Lane.{vehicle_at}
 use Rattle.street_base.specs.State.{Waiting, LaneState, Detector, Traffic, State, lane_at, each_lane}
@@ -64,15 +64,6 @@ enter_refusal plan lane depart m = first_of (
     ∷ (nat_lt last_clock depart, BadRange)
     ∷ [])
 
--- the same with a plan of several links
-abbrev pub whole_enter_refusal : List ℕ → ℕ → ℕ → Traffic → Option Refusal
-whole_enter_refusal plan lane depart m = first_of (
-    (nat_le most_vehicles (length m.ends), TooMany)
-    ∷ (is_some (whole_plan_fault m.network plan), BadPlan (unwrap_or (whole_plan_fault m.network plan) 0))
-    ∷ (nat_le (link_at m.network (entry_of m.network plan lane).link).lanes lane, NoLane)
-    ∷ (nat_lt last_clock depart, BadRange)
-    ∷ [])
-
 -- an advance is refused for too many steps, and where it would lead past the last clock
 abbrev pub advance_refusal : ℕ → Traffic → Option Refusal
 advance_refusal n m = first_of ((nat_lt most_steps n, BadCount) ∷ (nat_lt last_clock (m.clock + n), ClockEnd) ∷ [])
@@ -115,7 +106,7 @@ lane_refusal link lane m = first_of (lane_tests link lane m)
 abbrev pub closure_refusal : ℕ → ℕ → ℕ → ℕ → Traffic → Option Refusal
 closure_refusal link lane first last m = first_of (lane_tests link lane m ++ (nat_lt last first || is_past link last m, BadRange) ∷ [])
 
--- a detector is refused for its lane, its cell and its period, and where too many stand
+-- once detectors are served: one is refused for its lane, its cell and its period, and where too many stand
 abbrev pub place_refusal : ℕ → ℕ → ℕ → ℕ → Traffic → Option Refusal
 place_refusal link lane cell period m = first_of (
     lane_tests link lane m
@@ -124,43 +115,28 @@ place_refusal link lane cell period m = first_of (
     ∷ (nat_le most_detectors (length m.detectors), TooMany)
     ∷ [])
 
--- no detector has this number
+-- once detectors are served: no detector has this number
 abbrev pub read_refusal : ℕ → Traffic → Option Refusal
 read_refusal meter m = first_of ((nat_le (length m.detectors) meter, NoMeter) ∷ [])
 
--- the refusals of each command, in their order, once all twelve are served
-abbrev pub whole_refusal : State → Command → Option Refusal
-whole_refusal m (Load net) = load_refusal m net
-whole_refusal m (Signal node offset phases) = when_loaded (signal_refusal node offset phases) m
-whole_refusal m (Enter plan lane depart) = when_loaded (whole_enter_refusal plan lane depart) m
-whole_refusal m (Advance n) = when_loaded (advance_refusal n) m
-whole_refusal m (CloseLane link lane first last) = when_loaded (closure_refusal link lane first last) m
-whole_refusal m (ReopenLane link lane first last) = when_loaded (closure_refusal link lane first last) m
-whole_refusal m (TakeOut car) = when_loaded (takeout_refusal car) m
-whole_refusal m (PlaceMeter link lane cell period) = when_loaded (place_refusal link lane cell period) m
-whole_refusal m (ReadMeter meter) = when_loaded (read_refusal meter) m
-whole_refusal m (AskVehicle car) = when_loaded (vehicle_refusal car) m
-whole_refusal m (AskLane link lane) = when_loaded (lane_refusal link lane) m
-whole_refusal m Count = when_loaded (λ t. None) m
-
--- a command that is not served so far
+-- detectors are not served yet: once a network is loaded, their commands are refused by that name
 abbrev pub not_yet : State → Option Refusal
 not_yet m = when_loaded (λ t. Some NotYet) m
 
--- the refusals of each command today, in their order
+-- the refusals of each command, in their order
 abbrev pub refusal : State → Command → Option Refusal
 refusal m (Load net) = load_refusal m net
+refusal m (Signal node offset phases) = when_loaded (signal_refusal node offset phases) m
 refusal m (Enter plan lane depart) = when_loaded (enter_refusal plan lane depart) m
 refusal m (Advance n) = when_loaded (advance_refusal n) m
-refusal m (AskVehicle car) = when_loaded (vehicle_refusal car) m
-refusal m (Signal node offset phases) = not_yet m
-refusal m (CloseLane link lane first last) = not_yet m
-refusal m (ReopenLane link lane first last) = not_yet m
-refusal m (TakeOut car) = not_yet m
+refusal m (CloseLane link lane first last) = when_loaded (closure_refusal link lane first last) m
+refusal m (ReopenLane link lane first last) = when_loaded (closure_refusal link lane first last) m
+refusal m (TakeOut car) = when_loaded (takeout_refusal car) m
 refusal m (PlaceMeter link lane cell period) = not_yet m
 refusal m (ReadMeter meter) = not_yet m
-refusal m (AskLane link lane) = not_yet m
-refusal m Count = not_yet m
+refusal m (AskVehicle car) = when_loaded (vehicle_refusal car) m
+refusal m (AskLane link lane) = when_loaded (lane_refusal link lane) m
+refusal m Count = when_loaded (λ t. None) m
 
 -- ---- what is done
 

@@ -13,7 +13,7 @@ pub enum Command {
     Load(NetSpec),
     /// Admits a vehicle, which waits at the first link of its plan.
     Enter {
-        /// Identifiers of 1 to 1,024 links, in the order of the way; so far of 1.
+        /// Identifiers of 1 to 1,024 links, in the order of the way.
         plan: Listing<u64>,
         /// The lane of the first link, below its number of lanes.
         lane: u64,

@@ -18,7 +18,8 @@ ghost use Rattle.street_base.specs.Release.{released};
 ghost use Rattle.street_base.specs.Step.{changed, drive_on, step, steps};
 ghost use Rattle.street_base.specs.Driving.{KeepsLimit, KeepsOrder, KeepsClear, NobodySpeeds};
 ghost use Rattle.street_base.specs.Census.{IsSound, IsSoundState};
-ghost use Rattle.street_base.specs.Machine.{refusal, whole_refusal, done, told};
+ghost use Rattle.street_base.specs.Effects.{metered};
+ghost use Rattle.street_base.specs.Machine.{refusal, done, told};
 ghost use Rattle.street_base.specs.Outcomes.{MayStarveUnder, Answers};
 ghost use Rattle.street_base.specs.Run.{Runs};
 ghost use Rattle.street_base.specs.Shown.{have_arrived, were_taken, in_cells, in_buffers, in_wait};
@@ -78,10 +79,11 @@ pub fn keeps_everyone()
     ensures { (n : ℕ) (m : Traffic) → IsSound m → IsSound (steps n m) }
 {}
 
-/// Each of the twelve commands keeps each number in one place or ended, once, also those that are not served so far.
+/// Each command keeps each number in one place or ended, once; so does the placing of a detector, which is not served yet.
 pub fn each_command_keeps_everyone()
-    ensures { (old : State) (c : Command) → whole_refusal old c ≡ None
+    ensures served { (old : State) (c : Command) → refusal old c ≡ None
         → IsSoundState old → IsSoundState (done old c) }
+    ensures detectors { (m : Traffic) (place : Place) (cell period : ℕ) → IsSound m → IsSound (metered m place cell period) }
 {}
 
 /// Whatever commands are given from nothing loaded, with whatever outcomes, each number given stands in one place or has

@@ -26,9 +26,9 @@ pub struct LinkSpec {
     pub from: u64,
     /// The identifier of the node that it runs to; it may be the one that it runs from.
     pub to: u64,
-    /// How many lanes it has: 1 or 2, and so far 1.
+    /// How many lanes it has: 1 or 2.
     pub lanes: u64,
-    /// How many cells each lane has: 1 to 1,000, of 7.5 m each.
+    /// How many cells each lane has: 1 to 1,000,000, of 7.5 m each.
     pub length: u64,
     /// The speed limit: 1 to 5 cells a step.
     pub limit: u64,
@@ -59,9 +59,9 @@ pub struct NetSpec {
     pub turns: Listing<TurnSpec>,
     /// The length of the turn zone at the end of each link: 0 to 1,000 cells.
     pub zone: u64,
-    /// How often a vehicle dawdles: 0 to 1,000 of 1,000 times, and so far 0.
+    /// How often a vehicle dawdles: 0 to 1,000 of 1,000 times.
     pub dawdle: u64,
-    /// How often a vehicle that may change lane does: 0 to 1,000 of 1,000 times, and so far 0.
+    /// How often a vehicle that may change lane does: 0 to 1,000 of 1,000 times.
     pub change: u64,
     /// The seed of all draws, any 64 bits.
     pub seed: u64,

@@ -49,7 +49,7 @@ pub enum Refusal {
     BadCount,
     /// The steps lead past `LAST_CLOCK`.
     ClockEnd,
-    /// The engine does not serve this command yet.
+    /// Detectors are not served yet.
     NotYet,
 }
 

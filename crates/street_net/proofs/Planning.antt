@@ -1,7 +1,6 @@
--- Plans: of one link, and of several.
+-- Plans, entry by entry.
 use Rattle.std.proofs.Common.{◌≡◌, ℕ, ◌<◌, ◌≤◌, ◌+◌, ◌++◌, true, false, List, [], ◌∷◌, length, get_or, take, sym, ◌∙◌, ap, arith, refl, inl, inr, ◌≢◌}
-use Rattle.std.specs.Prelude.{Option, Some, None, Result, Ok, Err, IfOk}
-use Rattle.std.specs.Result.{result_ok}
+use Rattle.std.specs.Prelude.{Option, Some, None}
 use Rattle.std.specs.List.{cons_option}
 use Rattle.street_base.specs.declared.net.NetSpec.{NetSpec}
 use Rattle.street_base.specs.Network.{link_of}
@@ -15,33 +14,25 @@ use Rattle.street_net.specs.declared.faults.PlanFault.{PlanFault}
 use Rattle.street_net.specs.declared.faults.PlanFault.TheVariants.{Bad, Lane}
 use Rattle.street_net.specs.Refused.{entry_lanes, lane_refusal, plan_refusal}
 use Rattle.street_base.specs.Machine.{plan_links}
-use Rattle.street_base.specs.Faults.{is_bad_entry, first_bad, whole_plan_fault}
+use Rattle.street_base.specs.Faults.{is_bad_entry, first_bad, plan_fault}
 use Rattle.street_net.proofs.Firsts.{NoneBad, first_bad-here, first_bad-none}
 
-pub one-link : (net : NetSpec) (plan : List ℕ) (first : Option ℕ) (found : Result ℕ ℕ) → length plan ≡ 1 → first ≡ link_of net (get_or plan 0 0) → first ≡ result_ok found → IfOk found (λ link. plan_links net plan ≡ link ∷ [])
-one-link net plan first (Err at) one is ok = tt
-one-link net [] first (Ok link) one is ok = absurd (omega arith)
-one-link net (id ∷ []) first (Ok link) one is ok = ap (λ o. cons_option o []) (sym is ∙ ok)
-one-link net (id ∷ next ∷ more) first (Ok link) one is ok = absurd (omega arith)
-
--- ---- plans of several links
-
 module _ (net : NetSpec) (plan : List ℕ) (some : 0 < length plan) where
-  by-entries : whole_plan_fault net plan ≡ first_bad (is_bad_entry net plan) plan
+  by-entries : plan_fault net plan ≡ first_bad (is_bad_entry net plan) plan
   by-entries =
       let not_empty : length plan ≢ 0 = omega arith in
       cond-false _ _ _ (ne_eqb (length plan) 0 not_empty)
 
   -- no entry is bad
-  pub whole-none : NoneBad (is_bad_entry net plan) plan (length plan) → whole_plan_fault net plan ≡ None
+  pub whole-none : NoneBad (is_bad_entry net plan) plan (length plan) → plan_fault net plan ≡ None
   whole-none none = by-entries ∙ first_bad-none (is_bad_entry net plan) plan none
 
   -- the entry at this position is the first that is bad
-  pub whole-at : (at : ℕ) → at < length plan → NoneBad (is_bad_entry net plan) plan at → is_bad_entry net plan at (get_or plan at 0) ≡ true → whole_plan_fault net plan ≡ Some at
+  pub whole-at : (at : ℕ) → at < length plan → NoneBad (is_bad_entry net plan) plan at → is_bad_entry net plan at (get_or plan at 0) ≡ true → plan_fault net plan ≡ Some at
   whole-at at within none bad = by-entries ∙ first_bad-here (is_bad_entry net plan) plan at 0 within none bad
 
 -- a plan without a bad entry has a link
-pub some-link : (net : NetSpec) (plan : List ℕ) → whole_plan_fault net plan ≡ None → 0 < length (plan_links net plan)
+pub some-link : (net : NetSpec) (plan : List ℕ) → plan_fault net plan ≡ None → 0 < length (plan_links net plan)
 some-link net [] faultless = cc
 some-link net (id ∷ more) faultless = by_link (link_of net id) (not-false _ (faultless-each (is_bad_entry net (id ∷ more)) (id ∷ more) (sym (by-entries net (id ∷ more) (omega arith)) ∙ faultless) 0 0 (omega arith)))
   where
@@ -55,9 +46,9 @@ not-refused None rest e = refl
 not-refused (Some at) rest e = cc
 
 -- and its first link has the lane
-pub taken : (net : NetSpec) (plan : List ℕ) (lane : ℕ) → plan_refusal net plan lane ≡ None → (whole_plan_fault net plan ≡ None) × (lane < entry_lanes net plan lane)
+pub taken : (net : NetSpec) (plan : List ℕ) (lane : ℕ) → plan_refusal net plan lane ≡ None → (plan_fault net plan ≡ None) × (lane < entry_lanes net plan lane)
 taken net plan lane none =
-    let faultless = not-refused (whole_plan_fault net plan) (lane_refusal net plan lane) none in
+    let faultless = not-refused (plan_fault net plan) (lane_refusal net plan lane) none in
     let no_reason : lane_refusal net plan lane ≡ None = rw faultless at none in (
       faultless,
       elim (cases_lt lane (entry_lanes net plan lane)) as (λ _. lane < entry_lanes net plan lane) [

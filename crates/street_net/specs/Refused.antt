@@ -1,9 +1,9 @@
 -- What a refused load or plan tells.
-use Rattle.std.specs.Prelude.{◌≡◌, ℕ, ◌<◌, ◌≤◌, nat_le, List, Option, Some, None, if◌then◌else◌}
+use Rattle.std.specs.Prelude.{◌≡◌, ℕ, nat_le, List, Option, Some, None, if◌then◌else◌}
 use Rattle.std.specs.Option.{option_map_or}
 use Rattle.street_base.specs.declared.net.NetSpec.{NetSpec}
 use Rattle.street_base.specs.Network.{link_at}
-use Rattle.street_base.specs.Faults.{Fault, plan_fault, whole_plan_fault}
+use Rattle.street_base.specs.Faults.{Fault, plan_fault}
 use Rattle.street_base.specs.Machine.{entry_of}
 use Rattle.street_net.specs.declared.faults.NetFault.{NetFault}
 use Rattle.street_net.specs.declared.faults.NetFault.TheVariants.{Bad as BadLoad, Starved as StarvedLoad}
@@ -15,17 +15,11 @@ abbrev pub TellsFault : Option Fault → NetFault → Type 0
 TellsFault first (BadLoad part at) = first ≡ Some (record { part = part; at = at })
 TellsFault first StarvedLoad = Unit {0}
 
+-- ---- plans
+
 -- how many lanes the first link of a plan has
 abbrev pub entry_lanes : NetSpec → List ℕ → ℕ → ℕ
 entry_lanes net plan lane = (link_at net (entry_of net plan lane).link).lanes
-
--- the plan comes before the lane, and the lane before memory
-abbrev pub TellsPlanFault : NetSpec → List ℕ → ℕ → PlanFault → Type 0
-TellsPlanFault net plan lane (BadPlan at) = plan_fault net plan ≡ Some at
-TellsPlanFault net plan lane Lane = (plan_fault net plan ≡ None) × (entry_lanes net plan lane ≤ lane)
-TellsPlanFault net plan lane StarvedPlan = (plan_fault net plan ≡ None) × (lane < entry_lanes net plan lane)
-
--- ---- plans of several links
 
 -- why a plan is refused that has no bad entry: its first link has not the lane
 abbrev pub lane_refusal : NetSpec → List ℕ → ℕ → Option PlanFault
@@ -33,7 +27,7 @@ lane_refusal net plan lane = if nat_le (entry_lanes net plan lane) lane then Som
 
 -- why a plan is refused: its first bad entry, or else the lane
 abbrev pub plan_refusal : NetSpec → List ℕ → ℕ → Option PlanFault
-plan_refusal net plan lane = option_map_or (λ at. Some (BadPlan at)) (whole_plan_fault net plan) (lane_refusal net plan lane)
+plan_refusal net plan lane = option_map_or (λ at. Some (BadPlan at)) (plan_fault net plan) (lane_refusal net plan lane)
 
 -- a plan without such a reason is refused only for want of memory, and any other for its reason
 abbrev pub TellsRefusal : Option PlanFault → PlanFault → Type 0

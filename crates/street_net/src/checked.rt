@@ -1,12 +1,11 @@
 //! The checked network.
-ghost use Rattle.std.specs.Prelude.{◌≡◌, ◌∷◌, ◌<◌, [], None, Some, length, map, option_map, slice_get, IfOk, IfErr, IfSome, OnOk};
+ghost use Rattle.std.specs.Prelude.{◌≡◌, ◌<◌, None, Some, length, map, option_map, slice_get, IfOk, IfErr, IfSome, OnOk};
 ghost use Rattle.street_base.specs.Network.{Place, link_at, link_of, node_of, end_node, turn, serves};
-ghost use Rattle.street_base.specs.Faults.{network_fault, plan_fault};
-ghost use Rattle.street_base.specs.Machine.{plan_links};
+ghost use Rattle.street_base.specs.Faults.{network_fault};
 ghost use Rattle.street_net.specs.Tables.{place_of, in_places, turn_by_position};
-ghost use Rattle.street_net.specs.Refused.{TellsFault, TellsPlanFault, entry_lanes};
+ghost use Rattle.street_net.specs.Refused.{TellsFault};
 
-use crate::faults::{NetFault, PlanFault};
+use crate::faults::NetFault;
 use crate::keys::{find_link, find_node};
 use crate::lanes::{LaneId, ends_of_links, lanes_by_end};
 use crate::lists::{read_links, read_nodes, read_turns, values_fault};
@@ -14,7 +13,7 @@ use crate::turns::{LISTS, list_of, turn_to, turns_by_lane};
 use indexmap::IndexSet;
 use std::alloc::{AllocError, Global};
 use std::marker::Model;
-use street_base::{LaneNo, LinkIx, Listing, NetSpec, NodeIx, Part, Plan, Speed, Turn};
+use street_base::{LaneNo, LinkIx, Listing, NetSpec, NodeIx, Part, Speed, Turn};
 
 /// A network without faults, with constant-time look-ups of identifiers. Contracts see what it was loaded from.
 #[derive(Drop)]
@@ -161,52 +160,11 @@ impl Network {
         self.spec.links.as_slice()[link.position()].limit as Speed
     }
 
-    /// The one link of a plan of identifiers, or the position of the plan's first fault.
-    fn only_link(&self, plan: &[u64]) -> Result<LinkIx, u64>
-        ensures links { IfOk result (λ link. plan_links self.now plan.now ≡ link ∷ []) }
-        ensures within { IfOk result (λ link. link < length self.now.links) }
-        ensures faultless { OnOk result (plan_fault self.now plan.now ≡ None) }
-        ensures fault { IfErr result (λ at. plan_fault self.now plan.now ≡ Some at) }
-    {
-        match plan {
-            [] => Err(0),
-            [id] => self.link_of(*id).ok_or(0),
-            [id, ..] => match self.link_of(*id) {
-                Some(_) => Err(1),
-                None => Err(0),
-            },
-        }
-    }
-
     /// How many lanes the link at a position has.
     pub(crate) fn lanes_of(&self, link: LinkIx) -> LaneNo
         requires { link < length self.now.links }
         ensures { result ≡ (link_at self.now link).lanes }
     {
         self.spec.links.as_slice()[link.position()].lanes as LaneNo
-    }
-
-    /// The links of a plan of identifiers, for a vehicle that enters on a lane of the first.
-    ///
-    /// # Errors
-    ///
-    /// `Bad` with the position of the plan's first fault; else `Lane` where the first link has no such lane; else `Starved`
-    /// where memory was refused.
-    pub fn check_plan(&self, alloc: Global, plan: &[u64], lane: u64) -> Result<Plan, PlanFault>
-        ensures links { IfOk result (λ links. links ≡ plan_links self.now plan.now) }
-        ensures some { IfOk result (λ links. 0 < length links) }
-        ensures faultless { OnOk result (plan_fault self.now plan.now ≡ None) }
-        ensures lane { OnOk result (lane < entry_lanes self.now plan.now lane) }
-        ensures fault { IfErr result (TellsPlanFault self.now plan.now lane) }
-    {
-        let link = match self.only_link(plan) {
-            Ok(link) => link,
-            Err(at) => return Err(PlanFault::Bad { at }),
-        };
-        if lane >= u64::from(self.lanes_of(link)) {
-            return Err(PlanFault::Lane);
-        }
-        let links = Vec::from_slice(alloc, &[link])?;
-        Ok(Plan::from_vec(links))
     }
 }

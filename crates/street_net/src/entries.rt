@@ -28,10 +28,10 @@ pub(crate) const MOST_RESIDENCE: u64 = 60;
 pub(crate) const MOST_CAPACITY: u64 = 64;
 
 /// How many lanes a link has at most.
-pub(crate) const MOST_LANES: u64 = 1;
+pub(crate) const MOST_LANES: u64 = 2;
 
 /// How many cells a lane has at most.
-pub(crate) const MOST_LENGTH: u64 = 1_000;
+pub(crate) const MOST_LENGTH: u64 = 1_000_000;
 
 /// The greatest speed limit, in cells a step.
 pub(crate) const MOST_LIMIT: u64 = 5;

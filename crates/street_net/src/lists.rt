@@ -16,10 +16,10 @@ use street_base::{LAST_CLOCK, NetSpec, Part};
 pub(crate) const MOST_ZONE: u64 = 1_000;
 
 /// The greatest dawdle, of 1,000.
-pub(crate) const MOST_DAWDLE: u64 = 0;
+pub(crate) const MOST_DAWDLE: u64 = 1_000;
 
 /// The greatest change, of 1,000.
-pub(crate) const MOST_CHANGE: u64 = 0;
+pub(crate) const MOST_CHANGE: u64 = 1_000;
 
 /// The identifiers of the nodes.
 ///

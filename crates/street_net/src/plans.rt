@@ -1,10 +1,10 @@
-//! Plans of several links: the first bad entry, and the links by their positions.
+//! Plans: the first bad entry, and the links by their positions.
 //!
 //! Source: this profile. An entry is good if it is a link, and the first or one to which a lane of the link before has a turn.
 ghost use Rattle.std.specs.Prelude.{◌≡◌, ◌-◌, ◌<◌, ℕ, true, false, None, Some, length, IfOk, IfErr, OnOk, MatchOption, slice_index};
 ghost use Rattle.std.specs.List.{list_any, range_with_len};
 ghost use Rattle.street_base.specs.Network.{Place, link_at, link_of, serves};
-ghost use Rattle.street_base.specs.Faults.{is_bad_entry, whole_plan_fault};
+ghost use Rattle.street_base.specs.Faults.{is_bad_entry, plan_fault};
 ghost use Rattle.street_base.specs.Machine.{plan_links};
 ghost use Rattle.street_net.specs.Refused.{TellsRefusal, plan_refusal};
 
@@ -50,8 +50,8 @@ impl Network {
         ensures link { IfOk result (λ link. link_of self.now (slice_index plan.now 0) ≡ Some link) }
         ensures is_link { IfOk result (λ link. link < length self.now.links) }
         ensures some { OnOk result (0 < length plan.now) }
-        ensures faultless { OnOk result (whole_plan_fault self.now plan.now ≡ None) }
-        ensures fault { IfErr result (λ at. whole_plan_fault self.now plan.now ≡ Some at) }
+        ensures faultless { OnOk result (plan_fault self.now plan.now ≡ None) }
+        ensures fault { IfErr result (λ at. plan_fault self.now plan.now ≡ Some at) }
     {
         let Some(id) = plan.first() else {
             return Err(0);
@@ -88,12 +88,7 @@ impl Network {
     /// # Errors
     ///
     /// What [`Network::plan_refusal`] tells; else `Starved` where memory was refused.
-    pub fn check_whole_plan(
-        &self,
-        alloc: Global,
-        plan: &[u64],
-        lane: u64,
-    ) -> Result<Plan, PlanFault>
+    pub fn check_plan(&self, alloc: Global, plan: &[u64], lane: u64) -> Result<Plan, PlanFault>
         ensures links { IfOk result (λ links. links ≡ plan_links self.now plan.now) }
         ensures some { IfOk result (λ links. 0 < length links) }
         ensures faultless { OnOk result (plan_refusal self.now plan.now lane ≡ None) }

@@ -44,8 +44,8 @@ const GOOD: Small = Small {
             id: 40,
             from: 7,
             to: 7,
-            lanes: 1,
-            length: 1_000,
+            lanes: 2,
+            length: 1_000_000,
             limit: 5,
         },
     ),
@@ -64,8 +64,8 @@ const GOOD: Small = Small {
         },
     ),
     zone: 1_000,
-    dawdle: 0,
-    change: 0,
+    dawdle: 1_000,
+    change: 1_000,
     start: 1_000_000_000,
 };
 
@@ -410,29 +410,29 @@ fn two_of(links: &Plan) -> Option<(usize, usize)> {
 }
 
 #[test]
-fn whole_plans(rt: HostRuntime) -> Result<(), Fail> {
+fn plans_of_two_links(rt: HostRuntime) -> Result<(), Fail> {
     let net = one_after_another(rt.alloc())?;
     assert!(rt; net.plan_refusal(&[10, 20], 0).is_none());
-    let links = net.check_whole_plan(rt.alloc(), &[10, 20], 0)?;
+    let links = net.check_plan(rt.alloc(), &[10, 20], 0)?;
     assert_eq!(rt; two_of(&links), Some((0, 1)));
     Ok(())
 }
 
-/// The answers to six whole plans.
-fn whole_answers(alloc: Global) -> Result<[Answer; 6], NetFault> {
+/// The answers to six plans over two links.
+fn answers_over_two(alloc: Global) -> Result<[Answer; 6], NetFault> {
     let net = one_after_another(alloc)?;
     Ok([
-        told(net.check_whole_plan(alloc, &[20], 0)),
-        told(net.check_whole_plan(alloc, &[], 1)),
-        told(net.check_whole_plan(alloc, &[30], 0)),
-        told(net.check_whole_plan(alloc, &[10, 10], 1)),
-        told(net.check_whole_plan(alloc, &[20, 10, 30], 0)),
-        told(net.check_whole_plan(alloc, &[10, 20], 1)),
+        told(net.check_plan(alloc, &[20], 0)),
+        told(net.check_plan(alloc, &[], 1)),
+        told(net.check_plan(alloc, &[30], 0)),
+        told(net.check_plan(alloc, &[10, 10], 1)),
+        told(net.check_plan(alloc, &[20, 10, 30], 0)),
+        told(net.check_plan(alloc, &[10, 20], 1)),
     ])
 }
 
 #[test]
-fn refuses_whole_plans(rt: HostRuntime) -> Result<(), Fail> {
+fn refuses_plans(rt: HostRuntime) -> Result<(), Fail> {
     let wanted = [
         Answer::From(1),
         Answer::Bad(0),
@@ -441,25 +441,25 @@ fn refuses_whole_plans(rt: HostRuntime) -> Result<(), Fail> {
         Answer::Bad(1),
         Answer::NoLane,
     ];
-    assert_eq!(rt; whole_answers(rt.alloc())?, wanted);
+    assert_eq!(rt; answers_over_two(rt.alloc())?, wanted);
     Ok(())
 }
 
 /// How many links the longest plan has, and the answer to one of a link more.
 fn longest(alloc: Global) -> Result<(usize, Answer), NetFault> {
     let net = Network::build(alloc, &GOOD.load(alloc)?)?;
-    let links = match net.check_whole_plan(alloc, &vec![in alloc; 30; 1_024]?, 0) {
+    let links = match net.check_plan(alloc, &vec![in alloc; 30; 1_024]?, 0) {
         Ok(links) => links.as_slice().len(),
         Err(_) => 0,
     };
     Ok((
         links,
-        told(net.check_whole_plan(alloc, &vec![in alloc; 30; 1_025]?, 0)),
+        told(net.check_plan(alloc, &vec![in alloc; 30; 1_025]?, 0)),
     ))
 }
 
 #[test]
-fn whole_plans_have_at_most_1_024_links(rt: HostRuntime) -> Result<(), Fail> {
+fn plans_have_at_most_1_024_links(rt: HostRuntime) -> Result<(), Fail> {
     assert_eq!(rt; longest(rt.alloc())?, (1_024, Answer::Bad(1_024)));
     Ok(())
 }

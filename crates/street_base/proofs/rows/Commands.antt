@@ -78,12 +78,12 @@ pub ends_by_number : Converses (
 unfolding machine_computed
 ends_by_number = refl
 
--- ---- what is refused once a network is loaded; plans have one link today
+-- ---- what is refused once a network is loaded
 
 pub bad_plans : Converses (
     (Load two_links, Loaded 2 3 1)
     ∷ (Enter [] 0 0, Refused (BadPlan 0))
-    ∷ (Enter (10 ∷ 20 ∷ []) 0 0, Refused (BadPlan 1))
+    ∷ (Enter (10 ∷ 10 ∷ []) 0 0, Refused (BadPlan 1))
     ∷ (Enter (99 ∷ []) 0 0, Refused (BadPlan 0))
     ∷ (Enter (99 ∷ 20 ∷ []) 0 0, Refused (BadPlan 0))
     ∷ [])
@@ -139,12 +139,12 @@ pub clock_ends : Converses (
 unfolding machine_computed
 clock_ends = refl
 
--- ---- what is not served yet
+-- ---- detectors are not served yet
 
 abbrev later : List Command
-later = Signal 2 0 [] ∷ CloseLane 10 0 5 5 ∷ ReopenLane 10 0 5 5 ∷ TakeOut 0 ∷ PlaceMeter 10 0 3 2 ∷ ReadMeter 0 ∷ AskLane 10 0 ∷ Count ∷ []
+later = PlaceMeter 10 0 3 2 ∷ ReadMeter 0 ∷ []
 
--- before a load all are refused as any other command, and after it by name
+-- before a load they are refused as any other command, and after it by name
 pub not_yet : Converses (map (λ c. (c, Refused NotLoaded)) later ++ (Load two_links, Loaded 2 3 1) ∷ map (λ c. (c, Refused NotYet)) later)
 unfolding machine_computed
 not_yet = refl
@@ -153,6 +153,12 @@ not_yet = refl
 
 pub not_loaded : Converses (
     (Enter (10 ∷ []) 0 0, Refused NotLoaded)
+    ∷ (Signal 2 0 [], Refused NotLoaded)
+    ∷ (CloseLane 10 0 5 5, Refused NotLoaded)
+    ∷ (ReopenLane 10 0 5 5, Refused NotLoaded)
+    ∷ (TakeOut 0, Refused NotLoaded)
+    ∷ (AskLane 10 0, Refused NotLoaded)
+    ∷ (Count, Refused NotLoaded)
     ∷ (Advance 0, Refused NotLoaded)
     ∷ (Advance 10001, Refused NotLoaded)
     ∷ (AskVehicle 0, Refused NotLoaded)

@@ -56,7 +56,7 @@ abbrev limited : ℕ → ℕ → LinkSpec
 limited size limit = record (link 30 1 2 1 size) { limit = limit }
 
 -- a link may end where it begins; a load may have none
-pub links_good : (of_links [] ≡ None) × (of_links (link 0 1 1 1 1 ∷ link 4294967295 1 2 1 1000 ∷ limited 1 1 ∷ []) ≡ None)
+pub links_good : (of_links [] ≡ None) × (of_links (link 0 1 1 1 1 ∷ link 4294967295 1 2 2 1000000 ∷ limited 1 1 ∷ []) ≡ None)
 unfolding machine_computed
 links_good = (refl, refl)
 
@@ -72,20 +72,16 @@ pub link_bounds :
     (of_links (link 4294967296 1 2 1 10 ∷ []) ≡ Some (BadNetwork Links 0))
     × (of_links (link 10 1 2 0 10 ∷ []) ≡ Some (BadNetwork Links 0))
     × (of_links (link 10 1 2 1 0 ∷ []) ≡ Some (BadNetwork Links 0))
-    × (of_links (link 10 1 2 1 1001 ∷ []) ≡ Some (BadNetwork Links 0))
+    × (of_links (link 10 1 2 3 10 ∷ []) ≡ Some (BadNetwork Links 0))
+    × (of_links (link 10 1 2 1 1000001 ∷ []) ≡ Some (BadNetwork Links 0))
     × (of_links (limited 10 0 ∷ []) ≡ Some (BadNetwork Links 0))
     × (of_links (limited 10 6 ∷ []) ≡ Some (BadNetwork Links 0))
 unfolding machine_computed
-link_bounds = (refl, refl, refl, refl, refl, refl)
+link_bounds = (refl, refl, refl, refl, refl, refl, refl)
 
 -- a good link may stand at position 4,095, and none at 4,096
 pub link_positions : (is_bad_link two_links 4095 (link 30 1 2 1 10) ≡ false) × (is_bad_link two_links 4096 (link 30 1 2 1 10) ≡ true)
 link_positions = (refl, refl)
-
--- links of two lanes are refused today
-pub two_lanes_today : of_links (link 10 1 2 2 10 ∷ []) ≡ Some (BadNetwork Links 0)
-unfolding machine_computed
-two_lanes_today = refl
 
 -- ---- turns
 
@@ -120,16 +116,13 @@ abbrev of_values : ℕ → ℕ → ℕ → ℕ → Option Refusal
 of_values zone dawdle change start = load (record two_links { zone = zone; dawdle = dawdle; change = change; start = start; seed = 18446744073709551615 })
 
 pub values_bounds :
-    (of_values 1000 0 0 1000000000 ≡ None)
+    (of_values 1000 1000 1000 1000000000 ≡ None)
     × (of_values 1001 0 0 0 ≡ Some (BadNetwork Values 0))
+    × (of_values 0 1001 1001 0 ≡ Some (BadNetwork Values 1))
+    × (of_values 0 0 1001 0 ≡ Some (BadNetwork Values 2))
     × (of_values 0 0 0 1000000001 ≡ Some (BadNetwork Values 3))
 unfolding machine_computed
-values_bounds = (refl, refl, refl)
-
--- dawdling and changing are refused today
-pub chance_today : (of_values 0 1 0 0 ≡ Some (BadNetwork Values 1)) × (of_values 0 0 1 0 ≡ Some (BadNetwork Values 2)) × (of_values 0 1 1 0 ≡ Some (BadNetwork Values 1))
-unfolding machine_computed
-chance_today = (refl, refl, refl)
+values_bounds = (refl, refl, refl, refl, refl)
 
 -- ---- nodes come before links, links before turns, turns before values
 pub in_order :

@@ -1,4 +1,4 @@
--- Worked rows: all twelve commands, as they are served once none is refused by NotYet.
+-- Worked rows: all twelve commands once a network is loaded; those of detectors as they will be served.
 use Rattle.street_base.proofs.rows.Unfolded.{machine_computed}
 use Rattle.std.proofs.Common.{◌≡◌, ℕ, List, [], ◌∷◌, map, length, refl}
 use Rattle.std.specs.Prelude.{Option, Some, None, true, false}
@@ -15,8 +15,14 @@ use Rattle.street_base.specs.declared.reply.Whereabouts.TheVariants.{Cell, Buffe
 use Rattle.street_base.specs.declared.reply.End.TheVariants.{Taken as WasTaken}
 use Rattle.street_base.specs.State.{State, Traffic}
 use Rattle.street_base.specs.Faults.{is_bad_entry, is_bad_phase}
-use Rattle.street_base.specs.Machine.{loaded, whole_refusal, done, answered}
+use Rattle.street_base.specs.Machine.{when_loaded, place_refusal, read_refusal, refusal, loaded, done, answered}
 use Rattle.street_base.proofs.rows.States.{two_links, node, link, turn_of, net_of}
+
+-- the refusals of a command; those of detectors are the ones that are to come
+abbrev served_refusal : State → Command → Option Refusal
+served_refusal m (PlaceMeter link lane cell period) = when_loaded (place_refusal link lane cell period) m
+served_refusal m (ReadMeter meter) = when_loaded (read_refusal meter) m
+served_refusal m c = refusal m c
 
 -- a command done or refused, and its reply
 abbrev served_as : State → Command → Option Refusal → State × Reply
@@ -26,7 +32,7 @@ served_as m c (Some r) = (m, Refused r)
 abbrev replies : State → List Command → List Reply
 replies m [] = []
 replies m (c ∷ cs) =
-    let one = served_as m c (whole_refusal m c) in
+    let one = served_as m c (served_refusal m c) in
     one.1 ∷ replies one.0 cs
 
 -- once this network is loaded, each command gets the reply beside it
@@ -283,16 +289,16 @@ unfolding machine_computed
 refused_places = refl
 
 -- before a load each is refused
-pub not_loaded : map (λ c. whole_refusal None c) (Signal 2 0 [] ∷ CloseLane 10 0 5 5 ∷ ReopenLane 10 0 5 5 ∷ TakeOut 0 ∷ PlaceMeter 10 0 3 2 ∷ ReadMeter 0 ∷ AskLane 10 0 ∷ Count ∷ [])
+pub not_loaded : map (λ c. refusal None c) (Signal 2 0 [] ∷ CloseLane 10 0 5 5 ∷ ReopenLane 10 0 5 5 ∷ TakeOut 0 ∷ PlaceMeter 10 0 3 2 ∷ ReadMeter 0 ∷ AskLane 10 0 ∷ Count ∷ [])
     ≡ Some NotLoaded ∷ Some NotLoaded ∷ Some NotLoaded ∷ Some NotLoaded ∷ Some NotLoaded ∷ Some NotLoaded ∷ Some NotLoaded ∷ Some NotLoaded ∷ []
 not_loaded = refl
 
 -- 1,024 detectors stand, and no more; a detector may be placed where 1,023 stand
-pub no_more_detectors : (m : Traffic) → m.network ≡ two_links → length m.detectors ≡ 1024 → whole_refusal (Some m) (PlaceMeter 10 0 3 2) ≡ Some TooMany
+pub no_more_detectors : (m : Traffic) → m.network ≡ two_links → length m.detectors ≡ 1024 → place_refusal 10 0 3 2 m ≡ Some TooMany
 unfolding machine_computed
 no_more_detectors m is_network count = simp (is_network, count) refl
 
-pub one_more_detector : (m : Traffic) → m.network ≡ two_links → length m.detectors ≡ 1023 → whole_refusal (Some m) (PlaceMeter 10 0 3 100000) ≡ None
+pub one_more_detector : (m : Traffic) → m.network ≡ two_links → length m.detectors ≡ 1023 → place_refusal 10 0 3 100000 m ≡ None
 unfolding machine_computed
 one_more_detector m is_network count = simp (is_network, count) refl
 

@@ -3,11 +3,11 @@ use Rattle.std.specs.Prelude.{List, ℕ}
 use Rattle.std.proofs.lemmas.List.{append-nil}
 use Rattle.std.specs.declared.alloc.Global.{Global}
 use Rattle.street_base.specs.declared.names.LinkIx.{LinkIx}
-use Rattle.street_base.specs.Faults.{whole_plan_fault}
+use Rattle.street_base.specs.Faults.{plan_fault}
 use Rattle.street_base.specs.Machine.{plan_links}
 use Rattle.street_net.proofs.Planning.{some-link, not-refused, links-more, all-taken}
-use Rattle.street_net.proofs.checked.Network.check_whole_plan.Goals as goal
-use Rattle.street_net.proofs.checked.Network.check_whole_plan.Goals.{in-Some-link_of+in_ok-push, in_default-link_of}
+use Rattle.street_net.proofs.checked.Network.check_plan.Goals as goal
+use Rattle.street_net.proofs.checked.Network.check_plan.Goals.{in-Some-link_of+in_ok-push, in_default-link_of}
 
 pub loop-id-preserved : goal.loop-id-preserved
 loop-id-preserved c =
@@ -31,6 +31,6 @@ pub returns-clause-some : goal.returns-clause-some
 returns-clause-some c =
     let net = c.args.self.now in
     let plan = c.args.plan.now in
-    let faultless : whole_plan_fault net plan ≡ None = not-refused _ _ (sym c.plan_refusal.ensures ∙ c.in_default.is) in
+    let faultless : plan_fault net plan ≡ None = not-refused _ _ (sym c.plan_refusal.ensures ∙ c.in_default.is) in
     let links : c.from_vec.result ≡ plan_links net plan = c.from_vec.ensures ∙ c.loop-id.invariant ∙ all-taken net plan c.loop-id.id-index c.loop-id-test.false in
     omega (arith, some-link net plan faultless, ap length links)
