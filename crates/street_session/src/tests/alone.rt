@@ -82,7 +82,7 @@ struct Session {
     replies: &'static str,
 }
 
-static SESSIONS: [Session; 7] = [
+static SESSIONS: [Session; 9] = [
     Session {
         name: "arrives in step 4",
         load: TEN_CELLS,
@@ -166,10 +166,54 @@ static SESSIONS: [Session; 7] = [
 "#,
     },
     Session {
-        name: "not served yet",
+        name: "through a buffer to the next link",
         load: TEN_CELLS,
-        lines: r#"{"cmd":"count"}
+        lines: r#"{"cmd":"enter","plan":[10,20],"lane":0,"depart":0}
+{"cmd":"advance","steps":5}
+{"cmd":"vehicle","car":0}
+{"cmd":"advance","steps":1}
+{"cmd":"vehicle","car":0}
+{"cmd":"count"}
+"#,
+        replies: r#"{"car":0}
+{"clock":5}
+{"car":0,"lane":0,"link":10,"plan":[10,20],"ready":5,"speed":4,"state":"buffer"}
+{"clock":6}
+{"car":0,"cell":0,"lane":0,"link":20,"plan":[20],"speed":4,"state":"cell"}
+{"admitted":1,"arrived":0,"buffers":0,"cells":1,"clock":6,"taken":0,"waiting":0}
+"#,
+    },
+    Session {
+        name: "red, closed, and taken out",
+        load: TEN_CELLS,
+        lines: r#"{"cmd":"signal","node":2,"offset":0,"phases":[[10,[]]]}
+{"cmd":"close","link":20,"lane":0,"first":3,"last":5}
+{"cmd":"reopen","link":20,"lane":0,"first":4,"last":9}
+{"cmd":"lane","link":20,"lane":0}
+{"cmd":"enter","plan":[10,20],"lane":0,"depart":0}
+{"cmd":"advance","steps":6}
 {"cmd":"lane","link":10,"lane":0}
+{"cmd":"takeout","car":0}
+{"cmd":"vehicle","car":0}
+{"cmd":"takeout","car":0}
+"#,
+        replies: r#"{"cycle":10}
+{"closed":3}
+{"closed":1}
+{"buffer":[],"cells":[],"closed":[[3,3]],"waiting":[]}
+{"car":0}
+{"clock":6}
+{"buffer":[],"cells":[[0,9,0]],"closed":[],"waiting":[]}
+{"taken":0}
+{"car":0,"state":"taken","step":6}
+{"error":11,"name":"Gone"}
+"#,
+    },
+    Session {
+        name: "detectors are not served yet",
+        load: TEN_CELLS,
+        lines: r#"{"cmd":"meter","link":10,"lane":0,"cell":3,"period":2}
+{"cmd":"read","meter":0}
 "#,
         replies: r#"{"error":19,"name":"NotYet"}
 {"error":19,"name":"NotYet"}
