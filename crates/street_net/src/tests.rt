@@ -264,10 +264,10 @@ fn told(outcome: Result<Plan, PlanFault>) -> Answer {
 fn answers(alloc: Global) -> Result<[Answer; 4], NetFault> {
     let net = Network::build(alloc, &GOOD.load(alloc)?)?;
     Ok([
-        told(net.check_plan(alloc, &[40], 0)),
+        told(net.check_plan(alloc, &[40], 1)),
         told(net.check_plan(alloc, &[], 1)),
         told(net.check_plan(alloc, &[40, 40], 1)),
-        told(net.check_plan(alloc, &[40], 1)),
+        told(net.check_plan(alloc, &[40], 2)),
     ])
 }
 
