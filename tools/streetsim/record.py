@@ -24,6 +24,7 @@ class Settings:
 class Records:
     counts: dict = field(default_factory=dict)  # (link, lane): rows by their begin
     uncounted: int = 0  # lanes without a detector, as there are more than 1,024
+    has_detectors: bool = True  # whether the program serves any
     queues: list = field(default_factory=list)  # (clock, link, lane, vehicles)
     censuses: list = field(default_factory=list)
     ends: list = field(default_factory=list)  # for each vehicle of the file its last reply, or none if it never entered
@@ -191,7 +192,8 @@ class Recorder:
         )
 
     def place_meters(self):
-        """A detector at the last cell of each lane; where there are too many lanes, of those on most plans."""
+        """A detector at the last cell of each lane; where there are too many lanes, of those on most plans. None where
+        the program does not serve detectors yet."""
         lanes = self.places
         if len(lanes) > limits.METERS:
             use = Counter(link for line in self.run.enters for link in line.command["plan"])
@@ -208,9 +210,13 @@ class Recorder:
             for link, lane in lanes
         )
         refused = [reply for reply in replies if isinstance(reply, Exception)]
-        if refused:
+        if refused and isinstance(refused[0], NotYet):
+            self.records.has_detectors = False
+            self.records.uncounted = 0
+        elif refused:
             raise Fault(f"a detector was refused: {refused[0]}")
-        self.meters = lanes
+        else:
+            self.meters = lanes
 
     def read_meters(self):
         replies = self.sim.batch({"cmd": "read", "meter": meter} for meter in range(len(self.meters)))

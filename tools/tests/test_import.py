@@ -161,7 +161,8 @@ class Tool(Case):
         edges = [(f"e{at}", "A", "B", [lane(f"e{at}", 0)]) for at in range(4097)]
         self.refused("too large for streetsim: 4,097 links, at most 4,096", net(edges, []))
         self.refused(
-            "1 links above 1,000 cells of 7.5 m: edges a", net([("a", "A", "B", [lane("a", 0, metres=7600)])], [])
+            "1 links above 1,000,000 cells of 7.5 m: edges a",
+            net([("a", "A", "B", [lane("a", 0, metres=7_600_000)])], []),
         )
 
     def test_most_links_fit(self):
