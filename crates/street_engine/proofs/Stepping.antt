@@ -1,71 +1,52 @@
--- The lanes of a network while they are stepped one after another.
-use Rattle.std.proofs.Common.{◌≡◌, ℕ, ◌+◌, ◌-◌, ◌<◌, suc, List, [], ◌∷◌, length, map, set, get_or, drop, refl, sym, ◌∙◌, ap, arith}
-use Rattle.std.specs.Prelude.{Option, Some, None, filter_map, option_map}
-use Rattle.std.specs.Option.{option_map_or}
-use Rattle.std.specs.List.{zip, cons_option}
-use Rattle.std.proofs.lemmas.List.{drop_all, drop_more, get_or-map, get_or_default, length-map}
-use Rattle.std.proofs.lemmas.Slice.Zip.{length-zip, get_or-zip}
-use Rattle.street_base.specs.declared.net.LinkSpec.{LinkSpec}
-use Rattle.street_base.specs.declared.reply.End.{End}
-use Rattle.street_base.specs.declared.reply.End.TheVariants.{Arrived}
-use Rattle.street_base.specs.Vehicle.{Vehicle}
-use Rattle.street_base.specs.State.{LaneState, Traffic}
-use Rattle.street_base.specs.Step.{with_arrivals, step, steps}
-use Rattle.street_engine.specs.Simple.{moved_road, gone_from, gone_number}
-use Rattle.street_engine.proofs.Arrivals.{with_arrivals-append, with_arrivals-none, with_arrivals-one}
-use Rattle.street_engine.proofs.Writing.{IsWritten, written-start, written-old, written-next, written-all}
+-- Steps.
+use Rattle.std.proofs.Common.{◌≡◌, ℕ, ◌+◌, ◌<◌, ◌≤◌, refl, ap, subst, arith}
+use Rattle.std.specs.Prelude.{Some, None}
+use Rattle.std.proofs.lemmas.Bool.{lt-ltb, le-ltb}
+use Rattle.street_base.specs.declared.command.Command.TheVariants.{Advance}
+use Rattle.street_base.specs.declared.refusal.Refusal.TheVariants.{BadCount, ClockEnd}
+use Rattle.street_base.specs.declared.reply.Reply.TheVariants.{Clock, Refused, Starved as StarvedReply, Short as ShortReply}
+use Rattle.street_base.specs.declared.reply.Outcome.TheVariants.{Whole, Starved, Short}
+use Rattle.street_base.specs.Limits.{most_steps, last_clock}
+use Rattle.street_base.specs.State.{Traffic, State}
+use Rattle.street_base.specs.Step.{steps}
+use Rattle.street_base.specs.Machine.{advance_refusal}
+use Rattle.street_base.specs.Outcomes.{Answers}
+use Rattle.street_traffic.specs.Streets.{StreetsView, StandsFor as StreetsStandFor, Goes}
+use Rattle.street_engine.specs.Refines.{View, StandsFor, Serves}
+use Rattle.street_engine.proofs.Serving.{at-some, some-stands, same-clock, streets-refused, streets-starved, streets-done}
 
--- who leaves arrives first, and then the others
-arrives-first : (clock : ℕ) (gone : Option Vehicle) (others : List ℕ) (ends : List (Option End)) →
-    with_arrivals clock others (option_map_or (λ v. set ends v.number (Some (Arrived clock))) gone ends) ≡ with_arrivals clock (cons_option (option_map (λ v. v.number) gone) others) ends
-arrives-first clock None others ends = refl
-arrives-first clock (Some v) others ends =
-    ap (with_arrivals clock others) (sym (with_arrivals-one clock v.number ends)) ∙ sym (with_arrivals-append clock (v.number ∷ []) others ends)
+module _ (x : View) (s : StreetsView) (n : ℕ) (is : x ≡ Some s) where
+  pub too-many-steps : most_steps < n → Serves x (Advance n) (Refused BadCount) Whole (Some s)
+  too-many-steps more = streets-refused x s (Advance n) is (Some s) refl BadCount (λ m stands. let e = lt-ltb most_steps n more in rw e refl)
 
-module _ (clock : ℕ) (links : List LinkSpec) (old : List LaneState) (first : List (Option End)) where
-  -- the lanes before i are moved, those from i on are as before, and the arrivals of these are to come
-  pub record IsStepped (i : ℕ) (now : List LaneState) (ends : List (Option End)) : Type 0 where
-    pub lanes : IsWritten (map moved_road (zip links old)) old i now
-    pub arrivals : with_arrivals clock (filter_map gone_number (drop i (zip links old))) ends ≡ with_arrivals clock (filter_map gone_number (zip links old)) first
+  pub past-the-end : n ≤ most_steps → last_clock < s.clock + n → Serves x (Advance n) (Refused ClockEnd) Whole (Some s)
+  past-the-end few past = streets-refused x s (Advance n) is (Some s) refl ClockEnd (λ m stands.
+      let a = le-ltb most_steps n few in
+      let b = lt-ltb last_clock (m.clock + n) (omega (arith, past, same-clock s m stands)) in
+      rw (a, b) refl)
 
-  pub stepped-start : IsStepped 0 old first
-  stepped-start = record { lanes = written-start _ _; arrivals = refl }
+  module _ (few : n ≤ most_steps) (in_time : s.clock + n ≤ last_clock) where
+    accepted : (m : Traffic) → StreetsStandFor s m → advance_refusal n m ≡ None
+    accepted m stands =
+        let a = le-ltb most_steps n few in
+        let b = le-ltb last_clock (m.clock + n) (omega (arith, in_time, same-clock s m stands)) in
+        rw (a, b) refl
 
-  module _ (same : length old ≡ length links) where
-    long : length (zip links old) ≡ length old
-    long = length-zip links old ∙ omega (arith, same)
+    pub all-made : (t : StreetsView) (k clock : ℕ) → k ≡ n → clock ≡ s.clock + k → Goes (steps k) s t → Serves x (Advance n) (Clock clock) Whole (Some t)
+    all-made t k clock all after goes = streets-done x s (Advance n) is t (Clock clock) (steps n) (λ m. refl) (subst (λ j. Goes (steps j) s t) all goes)
+        (λ m stands. (accepted m stands, ap Clock (omega (arith, all, after, same-clock s m stands))))
 
-    even : length (map moved_road (zip links old)) ≡ length old
-    even = length-map (zip links old) moved_road ∙ long
+    pub none-made : (t : StreetsView) (k : ℕ) → k ≡ 0 → 0 < n → Goes (steps k) s t → Serves x (Advance n) StarvedReply Starved (Some t)
+    none-made t k none some goes = streets-starved x s (Advance n) is t (λ m stands. (some, accepted m stands)) (subst (λ j. Goes (steps j) s t) none goes)
 
-    pub stepped-next : (i : ℕ) (now : List LaneState) (ends ends' : List (Option End)) (d : LinkSpec) (e after : LaneState) (gone : Option Vehicle) → i < length old → length now ≡ length old → after ≡ moved_road (get_or links i d, get_or now i e) → gone ≡ gone_from (get_or links i d).limit (get_or now i e) → ends' ≡ option_map_or (λ v. set ends v.number (Some (Arrived clock))) gone ends → IsStepped i now ends → IsStepped (i + 1) (set now i after) ends'
-    stepped-next i now ends ends' d e after gone h l is_after is_gone arrives s =
-        let link : LinkSpec = get_or links i d in
-        let lane : LaneState = get_or now i e in
-        let is_link : get_or links i link ≡ link = sym (get_or_default links i d link (omega (arith, same))) in
-        let is_lane : get_or old i lane ≡ lane = sym (written-old _ _ i now lane s.lanes) ∙ sym (get_or_default now i e lane (omega (arith, l))) in
-        let within : i < length (zip links old) = rw long h in
-        let pair : ◌≡◌ {A = LinkSpec × LaneState} (get_or links i link, get_or old i lane) (link, lane) = cc in
-        let road : get_or (zip links old) i (link, lane) ≡ (link, lane) = get_or-zip links old i (link, lane) (omega (arith, same)) h ∙ pair in
-        let value : after ≡ get_or (map moved_road (zip links old)) i after = is_after ∙ sym (get_or-map moved_road (zip links old) i (link, lane) after within ∙ ap moved_road road) in
-        let head : drop i (zip links old) ≡ (link, lane) ∷ drop (i + 1) (zip links old) = drop_more (zip links old) i (link, lane) within ∙ ap (λ r. r ∷ drop (i + 1) (zip links old)) road in
-        let numbers : filter_map gone_number (drop i (zip links old)) ≡ cons_option (option_map (λ v. v.number) gone) (filter_map gone_number (drop (i + 1) (zip links old))) =
-        ap (filter_map gone_number) head ∙ ap (λ (o : Option Vehicle). cons_option (option_map (λ v. v.number) o) (filter_map gone_number (drop (i + 1) (zip links old)))) (sym is_gone) in
-        record {
-          lanes = written-next _ _ even i now after h l value s.lanes;
-          arrivals = ap (with_arrivals clock (filter_map gone_number (drop (i + 1) (zip links old)))) arrives ∙ arrives-first clock gone _ ends ∙ sym (ap (λ ns. with_arrivals clock ns ends) numbers) ∙ s.arrivals;
-        }
-
-    pub stepped-all : (now : List LaneState) (ends : List (Option End)) → length now ≡ length old → IsStepped (length old) now ends → (now ≡ map moved_road (zip links old)) × (ends ≡ with_arrivals clock (filter_map gone_number (zip links old)) first)
-    stepped-all now ends l s = (
-      written-all _ _ even now l s.lanes,
-      sym (with_arrivals-none clock ends) ∙ ap (λ rs. with_arrivals clock (filter_map gone_number rs) ends) (sym (drop_all (length old) (zip links old) (omega (arith, long)))) ∙ s.arrivals,
-    )
-
--- the rest of several steps, one on
-pub steps-more : (count done : ℕ) (m : Traffic) → done < count → steps (count - done) m ≡ steps (count - (done + 1)) (step m)
-steps-more count done m h = let e : count - done ≡ suc (count - (done + 1)) = omega arith in rw e refl
-
-pub clock-step : (m : Traffic) → (step m).clock ≡ m.clock + 1
-unfolding step
-clock-step m = refl
+    pub some-made : (t : StreetsView) (k clock : ℕ) → 1 ≤ k → k < n → clock ≡ s.clock + k → Goes (steps k) s t → Serves x (Advance n) (ShortReply clock k) (Short k) (Some t)
+    some-made t k clock some part after goes = at-some x s (λ m. (new : State) × Answers m (Advance n) (ShortReply clock k) (Short k) new × StandsFor (Some t) new) is
+        (λ m stands. (
+          Some (steps k m),
+          record {
+            allowed = (some, part, accepted m stands);
+            state_is = refl;
+            reply_is = ap (λ j. ShortReply j k) (omega (arith, after, same-clock s m stands));
+          },
+          some-stands t (steps k m) (goes m stands),
+        ))

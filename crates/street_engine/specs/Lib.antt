@@ -1,3 +1,1 @@
-pub mod LaneView
-pub mod Simple
 pub mod Refines

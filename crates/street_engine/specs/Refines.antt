@@ -1,19 +1,23 @@
 -- What an engine stands for, and what it owes at each command.
-use Rattle.std.specs.Prelude.{◌≡◌, List}
+use Rattle.std.specs.Prelude.{List, Option, Some, None}
 use Rattle.street_base.specs.declared.command.Command.{Command}
 use Rattle.street_base.specs.declared.reply.Reply.{Reply}
 use Rattle.street_base.specs.declared.reply.Outcome.{Outcome}
 use Rattle.street_base.specs.State.{State}
 use Rattle.street_base.specs.Outcomes.{Answers}
 use Rattle.street_base.specs.Run.{Runs}
+use Rattle.street_traffic.specs.Streets.{StreetsView, StandsFor as StreetsStandFor}
 
--- what contracts see of an engine
+-- what contracts see of an engine: nothing loaded, or its streets
 abbrev pub View : Type 0
-View = State
+View = Option StreetsView
 
--- an engine stands for a state of the machine
+-- an engine stands for a state of the machine: both have nothing loaded, or its streets stand for the traffic
 unfoldable pub StandsFor : View → State → Type 0
-StandsFor view state = view ≡ state
+StandsFor None None = Unit {0}
+StandsFor None (Some m) = ⊥
+StandsFor (Some x) None = ⊥
+StandsFor (Some x) (Some m) = StreetsStandFor x m
 
 -- whatever state it stood for, it then stands for the machine's, and the reply is the machine's
 abbrev pub Serves : View → Command → Reply → Outcome → View → Type 0

@@ -1,71 +1,93 @@
-//! Commands over what is loaded: refusals in their order, then what is done.
+//! Each command by its name: refusals in their order, then what is done.
 //!
 //! Source: this profile.
-ghost use Rattle.std.specs.Prelude.{◌≡◌, List, Some, option_map};
-ghost use Rattle.street_base.specs.declared.command.Command.TheVariants.{Load, Enter, Advance, Vehicle};
-ghost use Rattle.street_base.specs.declared.reply.Outcome.TheVariants.{Whole};
-ghost use Rattle.street_base.specs.Machine.{not_yet as refused_yet};
-ghost use Rattle.street_base.specs.Outcomes.{Answers};
+ghost use Rattle.std.specs.Prelude.{◌≡◌, ◌≤◌};
+ghost use Rattle.street_base.specs.declared.command.Command.{Command};
+ghost use Rattle.street_base.specs.declared.command.Command.TheVariants.{Load};
+ghost use Rattle.street_base.specs.State.{State};
+ghost use Rattle.street_base.specs.Machine.{refusal, not_yet as refused_yet};
+ghost use Rattle.street_engine.specs.Refines.{Serves};
 
-use crate::streets::Streets;
+use crate::clock::{advance, count};
+use crate::places::{close_lane, lane, reopen_lane, signal};
+use crate::vehicles::{enter, take_out, vehicle};
 use std::alloc::Global;
-use street_base::{
-    CarNo, Command, LAST_CLOCK, NetSpec, Outcome, Refusal, Reply, Step, Whereabouts,
-};
-use street_net::{NetFault, PlanFault};
+use std::thread::Threads;
+use street_base::{Command, NetSpec, Outcome, Refusal, Reply};
+use street_net::NetFault;
+use street_tile::Gate;
+use street_traffic::Streets;
 
-const MOST_VEHICLES: CarNo = 1_000_000;
-
-const MOST_STEPS: u64 = 10_000;
-
-/// One command, and what it answers.
-pub(crate) fn serve(
+/// One command, and what it answers. Steps are made by so many workers, 1 to 64.
+pub(crate) fn serve<R: Threads + Sync, G: Gate + Sync>(
+    rt: &R,
+    gate: &G,
     alloc: Global,
+    workers: usize,
     state: &mut Option<Streets>,
     command: &Command,
 ) -> (Reply, Outcome)
-    ensures { Answers state.old command.now result.0 result.1 state.new }
+    requires some { 1 ≤ workers }
+    requires few { workers ≤ 64 }
+    ensures { Serves state.old command.now result.0 result.1 state.new }
 {
     match command {
-        Command::Load(net) => load(alloc, state, net),
-        Command::Enter { plan, lane, depart } => enter(
-            alloc,
-            state,
-            plan.as_slice(),
-            *lane,
-            *depart,
-        ),
-        Command::Advance { steps } => advance(state, *steps),
+        Command::Load(net) => load(alloc, workers, state, net),
+        Command::Signal {
+            node,
+            offset,
+            phases,
+        } => signal(alloc, state, *node, *offset, phases.as_slice()),
+        Command::Enter { plan, lane, depart } => {
+            enter(alloc, state, plan.as_slice(), *lane, *depart)
+        }
+        Command::Advance { steps } => advance(rt, gate, state, *steps),
+        Command::CloseLane {
+            link,
+            lane,
+            first,
+            last,
+        } => close_lane(state, *link, *lane, *first, *last),
+        Command::ReopenLane {
+            link,
+            lane,
+            first,
+            last,
+        } => reopen_lane(state, *link, *lane, *first, *last),
+        Command::TakeOut { car } => take_out(state, *car),
+        Command::PlaceMeter { .. } => not_yet(state),
+        Command::ReadMeter { .. } => not_yet(state),
         Command::Vehicle { car } => vehicle(alloc, state, *car),
-        Command::Signal { .. }
-        | Command::CloseLane { .. }
-        | Command::ReopenLane { .. }
-        | Command::TakeOut { .. }
-        | Command::PlaceMeter { .. }
-        | Command::ReadMeter { .. }
-        | Command::Lane { .. }
-        | Command::Count => (not_yet(state), Outcome::Whole),
+        Command::Lane { link, lane: number } => lane(alloc, state, *link, *number),
+        Command::Count => count(state),
     }
 }
 
-/// The reply to a command that is not served yet.
-fn not_yet(state: &Option<Streets>) -> Reply
-    ensures { option_map (λ r. Reply.Refused r) (refused_yet state.now) ≡ Some result }
+/// A command that is not served yet.
+fn not_yet(state: &Option<Streets>) -> (Reply, Outcome)
+    ensures { (command : Command) → ((m : State) → refusal m command ≡ refused_yet m)
+        → Serves state.now command result.0 result.1 state.now }
 {
-    let refusal = match state {
-        Some(_) => Refusal::NotYet,
-        None => Refusal::NotLoaded,
-    };
-    Reply::Refused(refusal)
+    match state {
+        Some(_) => (Reply::Refused(Refusal::NotYet), Outcome::Whole),
+        None => (Reply::Refused(Refusal::NotLoaded), Outcome::Whole),
+    }
 }
 
-fn load(alloc: Global, state: &mut Option<Streets>, net: &NetSpec) -> (Reply, Outcome)
-    ensures { Answers state.old (Load net.now) result.0 result.1 state.new }
+fn load(
+    alloc: Global,
+    workers: usize,
+    state: &mut Option<Streets>,
+    net: &NetSpec,
+) -> (Reply, Outcome)
+    requires some { 1 ≤ workers }
+    requires few { workers ≤ 64 }
+    ensures { Serves state.old (Load net.now) result.0 result.1 state.new }
 {
     if state.is_some() {
         return (Reply::Refused(Refusal::AlreadyLoaded), Outcome::Whole);
     }
-    match Streets::load(alloc, net) {
+    match Streets::load(alloc, net, workers) {
         Ok(streets) => {
             let reply = Reply::Loaded {
                 links: net.links.as_slice().len() as u64,
@@ -80,72 +102,5 @@ fn load(alloc: Global, state: &mut Option<Streets>, net: &NetSpec) -> (Reply, Ou
             Outcome::Whole,
         ),
         Err(NetFault::Starved) => (Reply::Starved, Outcome::Starved),
-    }
-}
-
-fn enter(
-    alloc: Global,
-    state: &mut Option<Streets>,
-    plan: &[u64],
-    lane: u64,
-    depart: u64,
-) -> (Reply, Outcome)
-    ensures { Answers state.old (Enter plan.now lane depart) result.0 result.1 state.new }
-{
-    let Some(streets) = state else {
-        return (Reply::Refused(Refusal::NotLoaded), Outcome::Whole);
-    };
-    let car = streets.admitted();
-    if car >= MOST_VEHICLES {
-        return (Reply::Refused(Refusal::TooMany), Outcome::Whole);
-    }
-    let checked = streets.network().check_plan(alloc, plan, lane);
-    match checked {
-        Err(PlanFault::Bad { at }) => (Reply::Refused(Refusal::BadPlan { at }), Outcome::Whole),
-        Err(PlanFault::Lane) => (Reply::Refused(Refusal::NoLane), Outcome::Whole),
-        _ if depart > u64::from(LAST_CLOCK) => (Reply::Refused(Refusal::BadRange), Outcome::Whole),
-        Err(PlanFault::Starved) => (Reply::Starved, Outcome::Starved),
-        Ok(links) => match streets.admit(alloc, links, lane, depart as Step) {
-            Ok(()) => (Reply::Entered { car: car as u64 }, Outcome::Whole),
-            Err(_) => (Reply::Starved, Outcome::Starved),
-        },
-    }
-}
-
-fn advance(state: &mut Option<Streets>, steps: u64) -> (Reply, Outcome)
-    ensures { Answers state.old (Advance steps) result.0 result.1 state.new }
-{
-    let Some(streets) = state else {
-        return (Reply::Refused(Refusal::NotLoaded), Outcome::Whole);
-    };
-    if steps > MOST_STEPS {
-        return (Reply::Refused(Refusal::BadCount), Outcome::Whole);
-    }
-    let clock = u64::from(streets.clock()) + steps;
-    if clock > u64::from(LAST_CLOCK) {
-        return (Reply::Refused(Refusal::ClockEnd), Outcome::Whole);
-    }
-    streets.steps(steps);
-    (Reply::Clock { clock }, Outcome::Whole)
-}
-
-fn vehicle(alloc: Global, state: &Option<Streets>, car: u64) -> (Reply, Outcome)
-    ensures { Answers state.now (Vehicle car) result.0 result.1 state.now }
-{
-    let Some(streets) = state else {
-        return (Reply::Refused(Refusal::NotLoaded), Outcome::Whole);
-    };
-    if car >= u64::from(streets.admitted()) {
-        return (Reply::Refused(Refusal::NoVehicle), Outcome::Whole);
-    }
-    let number = car as CarNo;
-    if let Some(end) = streets.end_of(number) {
-        let whereabouts = Whereabouts::Ended(end);
-        return (Reply::Vehicle { car, whereabouts }, Outcome::Whole);
-    }
-    match streets.find(alloc, number) {
-        Ok(Some(whereabouts)) => (Reply::Vehicle { car, whereabouts }, Outcome::Whole),
-        Ok(None) => (Reply::Refused(Refusal::NoVehicle), Outcome::Whole),
-        Err(_) => (Reply::Starved, Outcome::Starved),
     }
 }

@@ -3,33 +3,35 @@ ghost use Rattle.std.specs.Prelude.{◌≡◌, ◌≤◌, IfOk, OnErr, None};
 ghost use Rattle.street_engine.specs.Refines.{StandsFor, Serves, ServesAll};
 
 use crate::commands::serve;
-use crate::streets::Streets;
 use std::alloc::{AllocError, Global};
 use std::marker::Model;
+use std::thread::Threads;
 use street_base::{Command, Outcome, Reply};
+use street_tile::Gate;
+use street_traffic::Streets;
 
-/// Who watches the workers. It has no functions so far.
-pub trait Gate {}
-
-/// Serves commands over one network, or over nothing loaded.
+/// Serves commands over one network, or over nothing loaded. The gate is called by the workers of each step.
 #[derive(Drop)]
-pub struct Engine<G: Gate + Drop> {
+pub struct Engine<G: Gate + Sync + Drop> {
     alloc: Global,
     workers: u32,
     gate: G,
     streets: Option<Streets>,
 }
 
-impl<G: Gate + Drop> Model for Engine<G> {
+impl<G: Gate + Sync + Drop> Model for Engine<G> {
+    ghost use Rattle.std.specs.Prelude.{◌≤◌};
     ghost use Rattle.street_engine.specs.Refines.{View};
 
     ghost Value = { View };
 
     ghost view = { λ e. e.streets };
+
+    ghost invariant = { λ e. (1 ≤ e.workers) × (e.workers ≤ 64) };
 }
 
-impl<G: Gate + Drop> Engine<G> {
-    /// An engine with nothing loaded. Takes no memory. The workers are kept and not used so far.
+impl<G: Gate + Sync + Drop> Engine<G> {
+    /// An engine with nothing loaded, whose steps are made by so many workers, 1 to 64. Takes no memory.
     pub fn new(alloc: Global, workers: u32, gate: G) -> Self
         requires some { 1 ≤ workers }
         requires few { workers ≤ 64 }
@@ -45,28 +47,36 @@ impl<G: Gate + Drop> Engine<G> {
 
     /// Serves one command: whatever state of the machine the engine stood for, it then stands for the machine's state after
     /// the command, and the reply is the machine's, both under the outcome answered.
-    pub fn apply(&mut self, command: &Command) -> (Reply, Outcome)
+    pub fn apply<R: Threads + Sync>(&mut self, rt: &R, command: &Command) -> (Reply, Outcome)
         ensures { Serves self.old command.now result.0 result.1 self.new }
     {
-        serve(self.alloc, &mut self.streets, command)
+        serve(
+            rt,
+            &self.gate,
+            self.alloc,
+            self.workers as usize,
+            &mut self.streets,
+            command,
+        )
     }
 
     /// Serves all commands in order.
     ///
     /// # Errors
     /// Memory for the list of answers was refused; nothing was served.
-    pub fn apply_all(&mut self, commands: &[Command]) -> Result<Vec<(Reply, Outcome)>, AllocError>
+    pub fn apply_all<R: Threads + Sync>(
+        &mut self,
+        rt: &R,
+        commands: &[Command],
+    ) -> Result<Vec<(Reply, Outcome)>, AllocError>
         ensures run { IfOk result (λ replies.
             ServesAll self.old commands.now replies.items self.new) }
         ensures err { OnErr result (self.new ≡ self.old) }
     {
         let mut replies = Vec::with_capacity(self.alloc, commands.len())?;
         for command in commands {
-            let answer = self.apply(command);
-            match replies.push(answer) {
-                Ok(()) => {}
-                Err(_) => unreachable!(),
-            }
+            let answer = self.apply(rt, command);
+            replies.push_reserved(answer);
         }
         Ok(replies)
     }
@@ -75,14 +85,9 @@ impl<G: Gate + Drop> Engine<G> {
 #[cfg(test)]
 mod tests {
     use super::*;
+    use crate::unwatched::Unwatched;
     use std::test::Fail;
     use street_base::{LinkSpec, Listing, NetSpec, NodeSpec, Whereabouts};
-
-    /// A gate that nobody watches.
-    #[derive(Drop)]
-    struct Unwatched;
-
-    impl Gate for Unwatched {}
 
     /// One link, named 10, of 11 cells.
     fn one_link(alloc: Global) -> Result<NetSpec, AllocError> {
@@ -140,7 +145,7 @@ mod tests {
         commands.push(Command::Advance { steps: 5 })?;
         commands.push(Command::Vehicle { car: 0 })?;
         let mut engine = Engine::new(alloc, 1, Unwatched);
-        let replies = engine.apply_all(commands.as_slice())?;
+        let replies = engine.apply_all(&rt, commands.as_slice())?;
         assert_eq!(rt; replies.len(), 4);
         assert_eq!(rt; told(replies.as_slice().get(3)), Some((10, 4, 10)));
         Ok(())

@@ -1,7 +1,6 @@
-use Rattle.std.proofs.Common.{refl}
 use Rattle.street_engine.specs.Refines.{StandsFor}
 use Rattle.street_engine.proofs.engine.Engine.new.Goals as goal
 
 pub returns : goal.returns
 unfolding StandsFor
-returns g c = refl
+returns g c = tt

@@ -1,0 +1,51 @@
+//! Commands of the clock and of all vehicles together.
+ghost use Rattle.std.specs.Prelude.{◌≡◌};
+ghost use Rattle.street_base.specs.declared.command.Command.TheVariants.{Advance, Count};
+ghost use Rattle.street_engine.specs.Refines.{Serves};
+
+use std::thread::Threads;
+use street_base::{LAST_CLOCK, Outcome, Refusal, Reply};
+use street_tile::Gate;
+use street_traffic::Streets;
+
+const MOST_STEPS: u64 = 10_000;
+
+/// Takes memory before each step.
+pub(crate) fn advance<R: Threads + Sync, G: Gate + Sync>(
+    rt: &R,
+    gate: &G,
+    state: &mut Option<Streets>,
+    steps: u64,
+) -> (Reply, Outcome)
+    ensures { Serves state.old (Advance steps) result.0 result.1 state.new }
+{
+    let Some(streets) = state else {
+        return (Reply::Refused(Refusal::NotLoaded), Outcome::Whole);
+    };
+    if steps > MOST_STEPS {
+        return (Reply::Refused(Refusal::BadCount), Outcome::Whole);
+    }
+    let before = u64::from(streets.clock());
+    if before + steps > u64::from(LAST_CLOCK) {
+        return (Reply::Refused(Refusal::ClockEnd), Outcome::Whole);
+    }
+    let made = streets.steps(rt, gate, steps);
+    let clock = before + made;
+    if made == steps {
+        (Reply::Clock { clock }, Outcome::Whole)
+    } else if made == 0 {
+        (Reply::Starved, Outcome::Starved)
+    } else {
+        (Reply::Short { clock, short: made }, Outcome::Short(made))
+    }
+}
+
+/// Takes no memory.
+pub(crate) fn count(state: &Option<Streets>) -> (Reply, Outcome)
+    ensures { Serves state.now Count result.0 result.1 state.now }
+{
+    match state {
+        Some(streets) => (streets.census(), Outcome::Whole),
+        None => (Reply::Refused(Refusal::NotLoaded), Outcome::Whole),
+    }
+}

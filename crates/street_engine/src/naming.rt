@@ -1,0 +1,98 @@
+//! Lanes and cells that a command names by numbers of its own.
+ghost use Rattle.std.specs.Prelude.{◌≡◌, ℕ, ◌≤◌, ◌<◌, ◌++◌, None, Some, length, List, Bool, IfOk, IfErr, OnOk};
+ghost use Rattle.street_base.specs.declared.refusal.Refusal.{Refusal};
+ghost use Rattle.street_base.specs.Network.{link_at};
+ghost use Rattle.street_base.specs.Faults.{network_fault};
+ghost use Rattle.street_base.specs.State.{Traffic};
+ghost use Rattle.street_base.specs.Effects.{named_lane as lane_named};
+ghost use Rattle.street_base.specs.Machine.{first_of, lane_tests, closure_refusal};
+ghost use Rattle.street_net.specs.Tables.{place_of};
+ghost use Rattle.street_lanes.specs.Lanes.{IsLane};
+
+use street_base::{CellNo, LaneNo, LinkIx, LinkSpec, Refusal};
+use street_net::{LaneId, Network};
+
+/// Cells of a lane from the first to the last.
+#[derive(Clone, Copy)]
+pub(crate) struct Cells {
+    /// The lane.
+    pub(crate) at: LaneId,
+    /// The first cell.
+    pub(crate) first: CellNo,
+    /// The last cell, in the lane and not before the first.
+    pub(crate) last: CellNo,
+}
+
+/// A link as it was loaded.
+fn link_spec(net: &Network, link: LinkIx) -> &LinkSpec
+    requires { link < length net.now.links }
+    ensures spec { result.now ≡ link_at net.now link }
+    ensures faultless { network_fault net.now ≡ None }
+{
+    &net.spec().links.as_slice()[link.position()]
+}
+
+/// The lane of the link with an identifier.
+///
+/// # Errors
+/// `NoLink`, or else `NoLane`.
+pub(crate) fn named_lane(net: &Network, link: u64, lane: u64) -> Result<LaneId, Refusal>
+    ensures place { IfOk result (λ at. place_of at ≡ lane_named net.now link lane) }
+    ensures there { IfOk result (λ at. IsLane net.now (place_of at)) }
+    ensures passed { OnOk result ((m : Traffic) (rest : List (Bool × Refusal)) → m.network ≡ net.now
+        → first_of (lane_tests link lane m ++ rest) ≡ first_of rest) }
+    ensures refused { IfErr result (λ refusal. (m : Traffic) (rest : List (Bool × Refusal)) → m.network ≡ net.now
+        → first_of (lane_tests link lane m ++ rest) ≡ Some refusal) }
+{
+    let Some(position) = net.link_of(link) else {
+        return Err(Refusal::NoLink);
+    };
+    if lane >= link_spec(net, position).lanes {
+        return Err(Refusal::NoLane);
+    }
+    Ok(LaneId {
+        link: position,
+        lane: lane_number(net, lane),
+    })
+}
+
+/// The number of a lane that some link has.
+pub(crate) fn lane_number(net: &Network, lane: u64) -> LaneNo
+    requires { (link : ℕ) × (lane < (link_at net.now link).lanes) }
+    ensures { result ≡ lane }
+{
+    let _faultless = net.spec();
+    lane as LaneNo
+}
+
+/// Cells of the lane of the link with an identifier.
+///
+/// # Errors
+/// `NoLink`, or else `NoLane`, or else `BadRange` where the first is above the last, or the last is not in the lane.
+pub(crate) fn named_cells(
+    net: &Network,
+    link: u64,
+    lane: u64,
+    first: u64,
+    last: u64,
+) -> Result<Cells, Refusal>
+    ensures place { IfOk result (λ cells. place_of cells.at ≡ lane_named net.now link lane) }
+    ensures there { IfOk result (λ cells. IsLane net.now (place_of cells.at)) }
+    ensures first { IfOk result (λ cells. cells.first ≡ first) }
+    ensures last { IfOk result (λ cells. cells.last ≡ last) }
+    ensures order { OnOk result (first ≤ last) }
+    ensures within { IfOk result (λ cells. last < (link_at net.now cells.at.link).length) }
+    ensures passed { OnOk result ((m : Traffic) → m.network ≡ net.now → closure_refusal link lane first last m ≡ None) }
+    ensures refused { IfErr result (λ refusal. (m : Traffic) → m.network ≡ net.now
+        → closure_refusal link lane first last m ≡ Some refusal) }
+{
+    let at = named_lane(net, link, lane)?;
+    if first > last || last >= link_spec(net, at.link).length {
+        return Err(Refusal::BadRange);
+    }
+    Ok(Cells {
+        at,
+        first: first as CellNo,
+        last: last as CellNo,
+    })
+}
