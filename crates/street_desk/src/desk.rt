@@ -19,6 +19,7 @@ use std::marker::Model;
 use std::sync::Wait;
 use std::sync::atomic::{AtomicU64, Ordering};
 use std::thread;
+use std::thread::Threads;
 use street_base::{Command, Reply, Starved};
 use street_engine::{Engine, Gate};
 
@@ -51,7 +52,7 @@ impl<G: Gate + Drop + Send> Model for Desk<G> {
         × (d.table.shared.table_id.slots ≡ 1) };
 }
 
-impl<G: Gate + Drop + Send> Desk<G> {
+impl<G: Gate + Drop + Send + Sync> Desk<G> {
     /// A load of the turn word.
     fn look(&self, seat: &mut Chair<G>) -> u64
         requires { seat.old.table_id ≡ self.now.table }
@@ -78,7 +79,14 @@ impl<G: Gate + Drop + Send> Desk<G> {
     }
 
     /// Uses the turn of a seat that has it, and gives it back: the engine is taken out, called, and put back.
-    fn turn(&self, seat: &mut Chair<G>, at: u64, session: u64, command: Command) -> Reply
+    fn turn<R: Threads + Sync>(
+        &self,
+        rt: &R,
+        seat: &mut Chair<G>,
+        at: u64,
+        session: u64,
+        command: Command,
+    ) -> Reply
         requires desk { seat.old.table_id ≡ self.now.table }
         requires turn { (seat.old.me.0.turn ≡ true) × (seat.old.me.0.owns ≡ true) × (seat.old.me.0.live ≡ true) }
         requires slot { seat.old.me.1 ≡ (0, Some (recorded seat.old.me.0.seen seat.old.me.0.calls)) ∷ [] }
@@ -93,7 +101,7 @@ impl<G: Gate + Drop + Send> Desk<G> {
     {
         match self.table.shared.exchange(seat, 0, None) {
             Some(mut recorder) => {
-                let (reply, _) = recorder.call(session, command);
+                let (reply, _) = recorder.call(rt, session, command);
                 self.table.shared.exchange(seat, 0, Some(recorder));
                 self.table.shared.store::<Release>(seat, 0, at + 2);
                 reply
@@ -125,7 +133,7 @@ impl<G: Gate + Drop + Send> Desk<G> {
     }
 
     /// A call by a seat.
-    fn call_from<R: Wait>(
+    fn call_from<R: Threads + Wait + Sync>(
         &self,
         rt: &R,
         seat: &mut Chair<G>,
@@ -154,7 +162,7 @@ impl<G: Gate + Drop + Send> Desk<G> {
                     });
                 }
                 if self.grab(seat, found) {
-                    let reply = self.turn(seat, found, session, command);
+                    let reply = self.turn(rt, seat, found, session, command);
                     self.wake();
                     return Ok(reply);
                 }
@@ -240,7 +248,12 @@ impl<G: Gate + Drop + Send> Desk<G> {
     ///
     /// The journal has no place left. The command was not applied and comes back; the pass has then seen the whole history,
     /// with its own calls as before.
-    pub fn call<R: Wait>(&self, rt: &R, pass: &mut Pass<G>, command: Command) -> Result<Reply, Full>
+    pub fn call<R: Threads + Wait + Sync>(
+        &self,
+        rt: &R,
+        pass: &mut Pass<G>,
+        command: Command,
+    ) -> Result<Reply, Full>
         requires { pass.old.desk ≡ self.now }
         ensures answered { IfOk result (λ reply. Answered pass.old command reply pass.new) }
         ensures full { IfErr result (λ full. (full.command ≡ command)

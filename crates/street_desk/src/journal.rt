@@ -6,6 +6,7 @@ ghost use Rattle.street_desk.specs.History.{entry, state_of, IsLegal};
 
 use std::alloc::{AllocError, Global};
 use std::marker::Model;
+use std::thread::Threads;
 use street_base::{Command, Outcome, Reply};
 use street_engine::{Engine, Gate};
 
@@ -75,7 +76,7 @@ impl<G: Gate + Drop> Model for Recorder<G> {
         × (r.calls ≤ vec_capacity r.entries) };
 }
 
-impl<G: Gate + Drop> Recorder<G> {
+impl<G: Gate + Drop + Sync> Recorder<G> {
     /// An engine with nothing loaded, and room for so many calls.
     pub(crate) fn new(
         alloc: Global,
@@ -94,7 +95,12 @@ impl<G: Gate + Drop> Recorder<G> {
     }
 
     /// Applies a command and writes it down. The journal takes no memory.
-    pub(crate) fn call(&mut self, session: u64, command: Command) -> (Reply, Outcome)
+    pub(crate) fn call<R: Threads + Sync>(
+        &mut self,
+        rt: &R,
+        session: u64,
+        command: Command,
+    ) -> (Reply, Outcome)
         requires { length self.old.history < self.old.calls }
         ensures allowed { Allows (state_of self.old.history) command result.1 }
         ensures reply { result.0 ≡ reply_to (state_of self.old.history) command result.1 }
@@ -102,7 +108,7 @@ impl<G: Gate + Drop> Recorder<G> {
         ensures room { self.new.calls ≡ self.old.calls }
         ensures legal { IsLegal self.new.history }
     {
-        let (reply, outcome) = self.engine.apply(&command);
+        let (reply, outcome) = self.engine.apply(rt, &command);
         self.entries.push_reserved(Entry {
             session,
             command,

@@ -10,13 +10,7 @@ use std::thread::{Threads, join};
 use street_base::{
     Command, LinkSpec, Listing, NetSpec, NodeSpec, Outcome, Reply, Starved, Whereabouts,
 };
-use street_engine::{Engine, Gate};
-
-/// A gate that nobody watches.
-#[derive(Drop)]
-struct Unwatched;
-
-impl Gate for Unwatched {}
+use street_engine::{Engine, Gate, Unwatched};
 
 /// One link, named 10, of 10 cells.
 fn one_link(alloc: Global) -> Result<NetSpec, AllocError> {
@@ -63,7 +57,7 @@ struct Told {
 }
 
 /// What a call answers, if the journal has a place for it.
-fn ask<G: Gate + Drop + Send, R: Wait>(
+fn ask<G: Gate + Drop + Send + Sync, R: Threads + Wait + Sync>(
     rt: &R,
     desk: &Desk<G>,
     pass: &mut Pass<G>,
@@ -79,7 +73,7 @@ fn ask<G: Gate + Drop + Send, R: Wait>(
 }
 
 /// Loads, enters a vehicle and asks for it.
-fn load_enter_ask<G: Gate + Drop + Send, R: Wait>(
+fn load_enter_ask<G: Gate + Drop + Send + Sync, R: Threads + Wait + Sync>(
     rt: &R,
     desk: &Desk<G>,
     mut pass: Pass<G>,
@@ -157,7 +151,7 @@ fn check_journal(rt: &impl Abort, journal: &Journal) {
 }
 
 /// Both know of all calls, one hears the other, and there is no place for a seventh.
-fn check_full<G: Gate + Drop + Send, R: Wait + Abort>(
+fn check_full<G: Gate + Drop + Send + Sync, R: Threads + Wait + Abort + Sync>(
     rt: &R,
     desk: &Desk<G>,
     one: &mut Pass<G>,

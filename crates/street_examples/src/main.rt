@@ -11,10 +11,15 @@ mod session;
 
 use session::Session;
 use std::process::ExitCode;
+use std::thread::Threads;
 use std::{env, fs, io};
 
 fn main(rt: HostRuntime) -> ExitCode {
-    match run(&rt) {
+    let agree = match named_sessions(&rt) {
+        Ok(sessions) => report(&rt, sessions.as_slice()),
+        Err(error) => Err(error),
+    };
+    match agree {
         Ok(true) => ExitCode::SUCCESS,
         Ok(false) => ExitCode::FAILURE,
         Err(error) => {
@@ -25,8 +30,8 @@ fn main(rt: HostRuntime) -> ExitCode {
     }
 }
 
-/// Serves all sessions that the words name, and tells each. Whether all are answered as they should be.
-fn run(rt: &HostRuntime) -> io::Result<bool> {
+/// The sessions that the words of the command line name, in their order.
+fn named_sessions(rt: &HostRuntime) -> io::Result<Vec<Session>> {
     let words: Vec<String> = env::args(rt)?.collect(rt.alloc())?;
     let mut sessions = Vec::new(rt.alloc());
     for word in words.iter().skip(1) {
@@ -38,14 +43,17 @@ fn run(rt: &HostRuntime) -> io::Result<bool> {
         };
         sessions.append(&mut found)?;
     }
-    report(rt, sessions.as_slice())
+    Ok(sessions)
 }
 
-/// Tells of each session whether it agrees, and at the end how many do. Whether all do.
-fn report(rt: &HostRuntime, sessions: &[Session]) -> io::Result<bool> {
+/// Serves each session, and tells whether it agrees, and at the end how many do. Whether all do.
+fn report<R: Threads + Sync + Print + AllocGlobal>(
+    rt: &R,
+    sessions: &[Session],
+) -> io::Result<bool> {
     let mut agreeing: usize = 0;
     for session in sessions {
-        let answers = session::answers(rt.alloc(), session.lines.as_slice())?;
+        let answers = session::answers(rt, rt.alloc(), session.lines.as_slice())?;
         if answers == session.replies {
             agreeing = agreeing.saturating_add(1);
             println!(rt; "{}: agrees", session.name)?;

@@ -7,8 +7,9 @@ ghost use Rattle.street_line.specs.Running.{Goes};
 
 use std::alloc::{AllocError, Global};
 use std::io;
-use street_engine::{Engine, Gate};
-use street_line::{Counted, run_engine};
+use std::thread::Threads;
+use street_engine::{Engine, Unwatched};
+use street_line::{Counted, EngineSession, run_engine};
 
 /// What is sent to a program with nothing loaded, and what it is to answer.
 #[derive(Drop)]
@@ -61,24 +62,18 @@ fn push_line(text: &mut Vec<u8>, line: &str) -> Result<(), AllocError>
     Ok(())
 }
 
-/// A gate that nobody watches.
-#[derive(Drop)]
-struct Unwatched;
-
-impl Gate for Unwatched {}
-
 /// What is answered to the lines of a text where nothing is loaded at first: what the machine says to them.
 ///
 /// # Errors
 ///
 /// An error where the lines were not served to their end, for want of memory.
-pub fn answers(alloc: Global, lines: &[u8]) -> io::Result<Vec<u8>>
+pub fn answers<R: Threads + Sync>(rt: &R, alloc: Global, lines: &[u8]) -> io::Result<Vec<u8>>
     ensures { IfOk result (λ out. (state : State) × Goes MachineServes None (lines_of lines.now) out.items state) }
 {
     let mut reader = Counted::new(lines);
     let mut writer = Counted::new(Vec::new(alloc));
-    let mut engine = Engine::new(alloc, 1, Unwatched);
-    match run_engine(alloc, &mut engine, &mut reader, &mut writer) {
+    let mut session = EngineSession::new(rt, Engine::new(alloc, 1, Unwatched));
+    match run_engine(alloc, &mut session, &mut reader, &mut writer) {
         Ok(_tally) => Ok(writer.end),
         Err(_fault) => Err(io::Error::from(io::ErrorKind::OutOfMemory)),
     }

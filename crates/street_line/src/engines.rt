@@ -1,6 +1,6 @@
 //! Lines served by an engine.
 //! Source: this profile.
-ghost use Rattle.std.specs.Prelude.{ℕ, List, IfOk, IfErr};
+ghost use Rattle.std.specs.Prelude.{◌≡◌, ℕ, List, IfOk, IfErr};
 ghost use Rattle.std.specs.Io.KnownBytes.{Appends, Consumes, IsAtEnd};
 ghost use Rattle.street_base.specs.State.{State};
 ghost use Rattle.street_ends.specs.Ends.{IsFresh};
@@ -14,17 +14,54 @@ use crate::running::run_lines;
 use crate::service::{Served, Service};
 use std::alloc::Global;
 use std::io::{Read, Write};
+use std::marker::Model;
+use std::thread::Threads;
 use street_base::Command;
 use street_ends::{Counted, RunFault, Tally};
-use street_engine::{Engine, Gate};
+use street_engine::{Engine, Unwatched};
 
-impl<G: Gate + Drop> Service for Engine<G> {
+/// An engine as a service, with the runtime whose threads its workers run on.
+#[derive(Drop)]
+pub struct EngineSession<'a, R: Threads + Sync> {
+    rt: &'a R,
+    engine: Engine<Unwatched>,
+}
+
+impl<'a, R: Threads + Sync> Model for EngineSession<'a, R> {
+    ghost use Rattle.street_engine.specs.Refines.{View};
+
+    ghost Value = { View };
+
+    ghost view = { λ s. s.engine };
+}
+
+impl<'a, R: Threads + Sync> EngineSession<'a, R> {
+    /// The engine as it stands. Takes no memory.
+    pub fn new(rt: &'a R, engine: Engine<Unwatched>) -> EngineSession<'a, R>
+        ensures { result ≡ engine }
+    {
+        EngineSession { rt, engine }
+    }
+
+    /// The engine as it stands. Takes no memory.
+    pub fn into_engine(self) -> Engine<Unwatched>
+        ensures { result ≡ self.entry }
+    {
+        let EngineSession { engine, .. } = self;
+        engine
+    }
+}
+
+impl<'a, R: Threads + Sync> Service for EngineSession<'a, R> {
+    ghost use Rattle.std.specs.Thread.{IsSync};
     ghost use Rattle.street_line.specs.Engines.{EngineServes};
 
     ghost serves = { EngineServes };
 
+    ghost ready = { IsSync R.row };
+
     fn serve(&mut self, command: Command) -> Served {
-        let (reply, _outcome) = self.apply(&command);
+        let (reply, _outcome) = self.engine.apply(self.rt, &command);
         Served::Answered(reply)
     }
 }
@@ -36,29 +73,29 @@ impl<G: Gate + Drop> Service for Engine<G> {
 /// # Errors
 ///
 /// Those of [`run_lines`].
-pub fn run_engine<G: Gate + Drop, R: Read, W: Write>(
+pub fn run_engine<R: Threads + Sync, D: Read, W: Write>(
     alloc: Global,
-    engine: &mut Engine<G>,
-    reader: &mut Counted<R>,
+    session: &mut EngineSession<'_, R>,
+    reader: &mut Counted<D>,
     writer: &mut Counted<W>,
 ) -> Result<Tally, RunFault>
     requires reader { IsFresh reader.old }
     requires writer { IsFresh writer.old }
-    ensures served { IfOk result (λ tally. (old : State) → StandsFor engine.old old
+    ensures served { IfOk result (λ tally. (old : State) → StandsFor session.old old
         → (text : List ℕ) × (out : List ℕ) × (new : State)
-        × Consumes (R.remaining reader.old.end) (R.remaining reader.new.end) text
-        × IsAtEnd (R.remaining reader.new.end)
+        × Consumes (D.remaining reader.old.end) (D.remaining reader.new.end) text
+        × IsAtEnd (D.remaining reader.new.end)
         × Goes MachineServes old (lines_of text) out new
-        × StandsFor engine.new new
+        × StandsFor session.new new
         × Appends (W.contents writer.old.end) (W.contents writer.new.end) out
         × IsTally tally (lines_of text) out) }
-    ensures broken { IfErr result (λ fault. (old : State) → StandsFor engine.old old
+    ensures broken { IfErr result (λ fault. (old : State) → StandsFor session.old old
         → (text : List ℕ) × (new : State)
-        × Consumes (R.remaining reader.old.end) (R.remaining reader.new.end) text
+        × Consumes (D.remaining reader.old.end) (D.remaining reader.new.end) text
         × Breaks MachineServes old (W.contents writer.old.end) text
         new (W.contents writer.new.end) fault.kind fault.tally
-        × StandsFor engine.new new) }
+        × StandsFor session.new new) }
     ensures caused { IfErr result (λ fault. IsCaused fault.kind reader.new writer.new 1000000000) }
 {
-    run_lines(alloc, engine, reader, writer)
+    run_lines(alloc, session, reader, writer)
 }

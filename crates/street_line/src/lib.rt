@@ -13,7 +13,7 @@ mod service;
 mod tests;
 mod writing;
 
-pub use engines::run_engine;
+pub use engines::{EngineSession, run_engine};
 pub use laws::lines_are_a_run;
 pub use running::{run_lines, run_lines_within};
 pub use service::{Served, Service};

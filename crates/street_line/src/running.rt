@@ -34,7 +34,8 @@ fn answer<S: Service>(
     line: &[u8],
     calls: &mut u128,
 ) -> Result<Vec<u8>, Starved>
-    requires { calls.old < 2 ^ 64 }
+    requires ready { S.ready }
+    requires room { calls.old < 2 ^ 64 }
     ensures done { IfOk result (λ text. Done S.serves service.old (said_by (reading line.now)) text.items service.new) }
     ensures counted { OnOk result (calls.new ≡ calls.old + (if is_call (said_by (reading line.now)) then 1 else 0)) }
     ensures starved { OnErr result (Unanswered S.serves service.old (said_by (reading line.now)) service.new calls.old calls.new) }
@@ -57,6 +58,7 @@ fn end_line<S: Service, W: Write>(
     part: &PartialLine,
     tally: &mut Tally,
 ) -> Result<(), FaultKind>
+    requires ready { S.ready }
     requires within { IsWithin tally.old }
     requires room { tally.old.lines < 2 ^ 62 }
     ensures served { (line : List ℕ) → IsPart longest_line part.now line → OnOk result ((out : List ℕ)
@@ -86,6 +88,7 @@ fn take_byte<S: Service, W: Write>(
     progress: &mut Progress,
     byte: u8,
 ) -> Result<(), FaultKind>
+    requires ready { S.ready }
     requires within { IsWithin progress.old.tally }
     requires room { progress.old.tally.lines < 2 ^ 62 }
     ensures feeds { OnOk result (Feeds S.serves service.old (W.contents writer.old.end) progress.old (byte ∷ [])
@@ -112,6 +115,7 @@ fn feed<S: Service, W: Write>(
     progress: &mut Progress,
     bytes: &[u8],
 ) -> Result<(), FaultKind>
+    requires ready { S.ready }
     requires within { IsWithin progress.old.tally }
     requires room { progress.old.tally.lines + length bytes.now < 2 ^ 62 }
     ensures feeds { OnOk result (Feeds S.serves service.old (W.contents writer.old.end) progress.old bytes.now
@@ -135,6 +139,7 @@ fn serve_bytes<S: Service, W: Write>(
     progress: &mut Progress,
     bytes: &[u8],
 ) -> Result<(), FaultKind>
+    requires ready { S.ready }
     requires within { IsWithin progress.old.tally }
     requires room { progress.old.tally.lines + length bytes.now < 2 ^ 62 }
     ensures feeds { OnOk result (Feeds S.serves service.old (W.contents writer.old.end) progress.old bytes.now
@@ -156,6 +161,7 @@ fn finish<S: Service, W: Write>(
     writer: &mut Counted<W>,
     progress: &mut Progress,
 ) -> Result<(), FaultKind>
+    requires ready { S.ready }
     requires within { IsWithin progress.old.tally }
     requires room { progress.old.tally.lines < 2 ^ 62 }
     ensures finishes { OnOk result (Finishes S.serves service.old (W.contents writer.old.end) progress.old
@@ -178,6 +184,7 @@ fn serve_end<S: Service, W: Write>(
     writer: &mut Counted<W>,
     progress: &mut Progress,
 ) -> Result<(), FaultKind>
+    requires ready { S.ready }
     requires within { IsWithin progress.old.tally }
     requires room { progress.old.tally.lines < 2 ^ 62 }
     ensures finishes { OnOk result (Finishes S.serves service.old (W.contents writer.old.end) progress.old
@@ -200,6 +207,7 @@ fn serve_all<S: Service, R: Read, W: Write>(
     reads: u32,
     progress: &mut Progress,
 ) -> Result<(), FaultKind>
+    requires ready { S.ready }
     requires fresh { IsFresh reader.old }
     requires part { IsPart longest_line progress.old.part [] }
     requires tally { IsTally progress.old.tally [] [] }
@@ -248,6 +256,7 @@ pub fn run_lines_within<S: Service, R: Read, W: Write>(
     writer: &mut Counted<W>,
     reads: u32,
 ) -> Result<Tally, RunFault>
+    requires ready { S.ready }
     requires reader { IsFresh reader.old }
     requires writer { IsFresh writer.old }
     ensures served { IfOk result (λ tally. (text : List ℕ) × (out : List ℕ)
@@ -291,6 +300,7 @@ pub fn run_lines<S: Service, R: Read, W: Write>(
     reader: &mut Counted<R>,
     writer: &mut Counted<W>,
 ) -> Result<Tally, RunFault>
+    requires ready { S.ready }
     requires reader { IsFresh reader.old }
     requires writer { IsFresh writer.old }
     ensures served { IfOk result (λ tally. (text : List ℕ) × (out : List ℕ)

@@ -11,15 +11,19 @@ pub enum Served {
     Full,
 }
 
-/// What serves commands one after another. Its meaning is a relation between the old state, the command, what was served
-/// and the new state.
+/// What serves commands one after another. Its meaning, `serves`, is a relation between the old state, the command, what was
+/// served and the new state. `ready` is what a service asks of its type parameters: one that starts threads asks that they
+/// may use its runtime too, which every function whose bounds say so knows.
 pub trait Service {
     ghost use Rattle.street_base.specs.declared.command.Command.{Command};
     ghost use Rattle.street_line.specs.declared.service.Served.{Served};
 
     ghost serves: { Self → Command → Served → Self → Type 0 };
 
+    ghost ready: { Type 0 };
+
     /// Serves one command.
     fn serve(&mut self, command: Command) -> Served
+        requires { ready }
         ensures { serves self.old command result self.new };
 }

@@ -8,7 +8,6 @@ use crate::{Counted, Served, Service, Tally, run_lines};
 use std::process::Abort;
 use std::test::Fail;
 use street_base::{Command, Reply};
-use street_engine::{Engine, Gate};
 
 /// A service with a clock, which has no place for vehicles.
 #[derive(Drop)]
@@ -18,6 +17,8 @@ struct Toy {
 
 impl Service for Toy {
     ghost serves = { λ old command served new. Unit {0} };
+
+    ghost ready = { Unit {0} };
 
     fn serve(&mut self, command: Command) -> Served {
         if let Command::Advance { steps } = command {

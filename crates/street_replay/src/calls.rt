@@ -12,6 +12,7 @@ ghost use Rattle.street_replay.specs.Progress.{CallStops, IsOfCall};
 ghost use Rattle.street_replay.specs.Replies.{IsReplayable, clock_in};
 
 use crate::stop::Stop;
+use std::thread::Threads;
 use street_base::{Command, LAST_CLOCK, Outcome, Reply};
 use street_desk::Entry;
 use street_ends::FaultKind;
@@ -30,11 +31,15 @@ fn is_within(clock: u64, steps: u64) -> bool
 
 /// Whether the machine would not refuse an advance of so many steps. An advance of 0 steps tells the clock, and changes
 /// nothing.
-fn may_advance<G: Gate + Drop>(engine: &mut Engine<G>, steps: u64) -> bool
+fn may_advance<R: Threads + Sync, G: Gate + Drop + Sync>(
+    rt: &R,
+    engine: &mut Engine<G>,
+    steps: u64,
+) -> bool
     ensures { (old : State) → StandsFor engine.old old → StandsFor engine.new old
         × MatchBool result (refusal old (Advance steps) ≡ None) (refusal old (Advance steps) ≡ None → ⊥) }
 {
-    let (reply, _) = engine.apply(&Command::Advance { steps: 0 });
+    let (reply, _) = engine.apply(rt, &Command::Advance { steps: 0 });
     match reply {
         Reply::Clock { clock } => is_within(clock, steps),
         _ => false,
@@ -42,14 +47,18 @@ fn may_advance<G: Gate + Drop>(engine: &mut Engine<G>, steps: u64) -> bool
 }
 
 /// A call that was done whole.
-fn call_whole<G: Gate + Drop>(engine: &mut Engine<G>, command: &Command) -> Result<Reply, Stop>
+fn call_whole<R: Threads + Sync, G: Gate + Drop + Sync>(
+    rt: &R,
+    engine: &mut Engine<G>,
+    command: &Command,
+) -> Result<Reply, Stop>
     ensures done { IfOk result (λ reply. (old : State) → StandsFor engine.old old
         → (reply ≡ reply_to old command.now Whole) × StandsFor engine.new (state_after old command.now Whole)) }
     ensures stops { IfErr result (λ stop. (old : State) → StandsFor engine.old old
         → CallStops old command.now Whole engine.new stop) }
     ensures kind { IfErr result (λ stop. IsOfCall stop) }
 {
-    let (reply, outcome) = engine.apply(command);
+    let (reply, outcome) = engine.apply(rt, command);
     match outcome {
         Outcome::Whole => Ok(reply),
         _ => Err(Stop::Fault(FaultKind::Starved)),
@@ -67,19 +76,24 @@ fn clock_of(reply: &Reply) -> Option<u64>
 }
 
 /// An advance that was done whole; its reply tells the clock where it was not refused.
-fn advance_whole<G: Gate + Drop>(engine: &mut Engine<G>, steps: u64) -> Result<Option<u64>, Stop>
+fn advance_whole<R: Threads + Sync, G: Gate + Drop + Sync>(
+    rt: &R,
+    engine: &mut Engine<G>,
+    steps: u64,
+) -> Result<Option<u64>, Stop>
     ensures done { IfOk result (λ clock. (old : State) → StandsFor engine.old old
         → (clock ≡ clock_in (reply_to old (Advance steps) Whole)) × StandsFor engine.new (state_after old (Advance steps) Whole)) }
     ensures stops { IfErr result (λ stop. (old : State) → StandsFor engine.old old
         → CallStops old (Advance steps) Whole engine.new stop) }
     ensures kind { IfErr result (λ stop. IsOfCall stop) }
 {
-    let reply = call_whole(engine, &Command::Advance { steps })?;
+    let reply = call_whole(rt, engine, &Command::Advance { steps })?;
     Ok(clock_of(&reply))
 }
 
 /// A call of which so many steps were made: an advance of these steps alone.
-fn call_short<G: Gate + Drop>(
+fn call_short<R: Threads + Sync, G: Gate + Drop + Sync>(
+    rt: &R,
     engine: &mut Engine<G>,
     command: &Command,
     made: u64,
@@ -97,17 +111,18 @@ fn call_short<G: Gate + Drop>(
     if made == 0 || made >= *steps {
         return Err(Stop::BadEntry);
     }
-    if !may_advance(engine, *steps) {
+    if !may_advance(rt, engine, *steps) {
         return Err(Stop::BadEntry);
     }
-    match advance_whole(engine, made)? {
+    match advance_whole(rt, engine, made)? {
         Some(clock) => Ok(Reply::Short { clock, short: made }),
         None => Err(Stop::BadEntry),
     }
 }
 
 /// A call of a tape, as it went at the desk.
-pub(crate) fn call_again<G: Gate + Drop>(
+pub(crate) fn call_again<R: Threads + Sync, G: Gate + Drop + Sync>(
+    rt: &R,
     engine: &mut Engine<G>,
     call: &Entry,
 ) -> Result<Reply, Stop>
@@ -120,8 +135,8 @@ pub(crate) fn call_again<G: Gate + Drop>(
     ensures kind { IfErr result (λ stop. IsOfCall stop) }
 {
     match call.outcome {
-        Outcome::Whole => call_whole(engine, &call.command),
+        Outcome::Whole => call_whole(rt, engine, &call.command),
         Outcome::Starved => Ok(Reply::Starved),
-        Outcome::Short(made) => call_short(engine, &call.command, made),
+        Outcome::Short(made) => call_short(rt, engine, &call.command, made),
     }
 }

@@ -10,6 +10,7 @@ use crate::calls::call_again;
 use crate::stop::Stop;
 use std::alloc::Global;
 use std::io::Write;
+use std::thread::Threads;
 use street_desk::Entry;
 use street_ends::{Counted, FaultKind, PartialLine, Tally, write_reply};
 use street_engine::{Engine, Gate};
@@ -43,7 +44,8 @@ fn read_call(alloc: Global, line: &[u8]) -> Result<Entry, Stop>
 }
 
 /// A further line: its call is applied, and the reply written.
-fn take_call<G: Gate + Drop, W: Write>(
+fn take_call<R: Threads + Sync, G: Gate + Drop + Sync, W: Write>(
+    rt: &R,
     alloc: Global,
     engine: &mut Engine<G>,
     writer: &mut Counted<W>,
@@ -65,7 +67,7 @@ fn take_call<G: Gate + Drop, W: Write>(
 {
     tally.lines += 1;
     let call = read_call(alloc, line)?;
-    let reply = call_again(engine, &call)?;
+    let reply = call_again(rt, engine, &call)?;
     tally.calls += 1;
     let text = reply_text(alloc, &reply)?;
     write_reply(writer, text.as_slice(), tally)?;
@@ -73,7 +75,8 @@ fn take_call<G: Gate + Drop, W: Write>(
 }
 
 /// A line has ended.
-pub(crate) fn end_line<G: Gate + Drop, W: Write>(
+pub(crate) fn end_line<R: Threads + Sync, G: Gate + Drop + Sync, W: Write>(
+    rt: &R,
     alloc: Global,
     engine: &mut Engine<G>,
     writer: &mut Counted<W>,
@@ -95,7 +98,7 @@ pub(crate) fn end_line<G: Gate + Drop, W: Write>(
 {
     let line = part.as_slice();
     if tally.lines > 0 {
-        take_call(alloc, engine, writer, line, tally)?;
+        take_call(rt, alloc, engine, writer, line, tally)?;
         return Ok(());
     }
     take_head(alloc, line)?;

@@ -18,6 +18,7 @@ use crate::lines::end_line;
 use crate::stop::Stop;
 use std::alloc::Global;
 use std::io::{Read, Write};
+use std::thread::Threads;
 use street_ends::{Counted, FaultKind, PartialLine, RunFault, Tally, flush_out};
 use street_engine::{Engine, Gate};
 use street_tape::LONGEST_TAPE_LINE;
@@ -33,7 +34,8 @@ struct Progress {
 }
 
 /// A byte more of the tape.
-fn take_byte<G: Gate + Drop, W: Write>(
+fn take_byte<R: Threads + Sync, G: Gate + Drop + Sync, W: Write>(
+    rt: &R,
     alloc: Global,
     engine: &mut Engine<G>,
     writer: &mut Counted<W>,
@@ -50,7 +52,14 @@ fn take_byte<G: Gate + Drop, W: Write>(
     ensures caused { IfErr result (λ stop. IsCausedHere stop writer.new) }
 {
     if byte == b'\n' {
-        end_line(alloc, engine, writer, &progress.part, &mut progress.tally)?;
+        end_line(
+            rt,
+            alloc,
+            engine,
+            writer,
+            &progress.part,
+            &mut progress.tally,
+        )?;
         progress.part.clear();
         return Ok(());
     }
@@ -59,7 +68,8 @@ fn take_byte<G: Gate + Drop, W: Write>(
 }
 
 /// Some bytes more of the tape.
-fn feed<G: Gate + Drop, W: Write>(
+fn feed<R: Threads + Sync, G: Gate + Drop + Sync, W: Write>(
+    rt: &R,
     alloc: Global,
     engine: &mut Engine<G>,
     writer: &mut Counted<W>,
@@ -76,13 +86,14 @@ fn feed<G: Gate + Drop, W: Write>(
     ensures caused { IfErr result (λ stop. IsCausedHere stop writer.new) }
 {
     for byte in bytes {
-        take_byte(alloc, engine, writer, progress, *byte)?;
+        take_byte(rt, alloc, engine, writer, progress, *byte)?;
     }
     Ok(())
 }
 
 /// Some bytes more of the tape, and their replies passed on.
-fn take_bytes<G: Gate + Drop, W: Write>(
+fn take_bytes<R: Threads + Sync, G: Gate + Drop + Sync, W: Write>(
+    rt: &R,
     alloc: Global,
     engine: &mut Engine<G>,
     writer: &mut Counted<W>,
@@ -98,13 +109,14 @@ fn take_bytes<G: Gate + Drop, W: Write>(
         engine.new (W.contents writer.new.end) stop progress.new.tally) }
     ensures caused { IfErr result (λ stop. IsCausedHere stop writer.new) }
 {
-    feed(alloc, engine, writer, progress, bytes)?;
+    feed(rt, alloc, engine, writer, progress, bytes)?;
     flush_out(writer)?;
     Ok(())
 }
 
 /// The tape has ended, perhaps within a line, and its last replies are passed on. A tape without a first line is none.
-fn finish<G: Gate + Drop, W: Write>(
+fn finish<R: Threads + Sync, G: Gate + Drop + Sync, W: Write>(
+    rt: &R,
     alloc: Global,
     engine: &mut Engine<G>,
     writer: &mut Counted<W>,
@@ -124,12 +136,20 @@ fn finish<G: Gate + Drop, W: Write>(
         }
         return Ok(());
     }
-    end_line(alloc, engine, writer, &progress.part, &mut progress.tally)?;
+    end_line(
+        rt,
+        alloc,
+        engine,
+        writer,
+        &progress.part,
+        &mut progress.tally,
+    )?;
     Ok(())
 }
 
 /// The tape has ended, and its last replies are passed on.
-fn take_end<G: Gate + Drop, W: Write>(
+fn take_end<R: Threads + Sync, G: Gate + Drop + Sync, W: Write>(
+    rt: &R,
     alloc: Global,
     engine: &mut Engine<G>,
     writer: &mut Counted<W>,
@@ -143,15 +163,16 @@ fn take_end<G: Gate + Drop, W: Write>(
         engine.new (W.contents writer.new.end) stop progress.new.tally) }
     ensures caused { IfErr result (λ stop. IsCausedHere stop writer.new) }
 {
-    finish(alloc, engine, writer, progress)?;
+    finish(rt, alloc, engine, writer, progress)?;
     flush_out(writer)?;
     Ok(())
 }
 
 /// Reads the tape to its end, and replays its lines.
-fn replay_lines<G: Gate + Drop, R: Read, W: Write>(
+fn replay_lines<R: Threads + Sync, G: Gate + Drop + Sync, D: Read, W: Write>(
+    rt: &R,
     alloc: Global,
-    reader: &mut Counted<R>,
+    reader: &mut Counted<D>,
     engine: &mut Engine<G>,
     writer: &mut Counted<W>,
     reads: u32,
@@ -161,15 +182,15 @@ fn replay_lines<G: Gate + Drop, R: Read, W: Write>(
     requires part { IsPart longest_tape_line progress.old.part [] }
     requires tally { IsBlank progress.old.tally }
     ensures replayed { OnOk result ((text : List ℕ)
-        × Consumes (R.remaining reader.old.end) (R.remaining reader.new.end) text
-        × IsAtEnd (R.remaining reader.new.end)
+        × Consumes (D.remaining reader.old.end) (D.remaining reader.new.end) text
+        × IsAtEnd (D.remaining reader.new.end)
         × ((start : State) → StandsFor engine.old start
         → Stands start (W.contents writer.old.end) (lines_of text) engine.new (W.contents writer.new.end) progress.new.tally
         × (0 < length (lines_of text)))) }
     ensures stops { IfErr result (λ stop. (text : List ℕ)
-        × Consumes (R.remaining reader.old.end) (R.remaining reader.new.end) text
+        × Consumes (D.remaining reader.old.end) (D.remaining reader.new.end) text
         × ((start : State) → StandsFor engine.old start
-        → Stops (IsAtEnd (R.remaining reader.new.end)) start (W.contents writer.old.end) text
+        → Stops (IsAtEnd (D.remaining reader.new.end)) start (W.contents writer.old.end) text
         engine.new (W.contents writer.new.end) stop progress.new.tally)) }
     ensures caused { IfErr result (λ stop. IsTapeCaused (fault_of stop progress.new.tally) reader.new writer.new reads) }
 {
@@ -180,10 +201,10 @@ fn replay_lines<G: Gate + Drop, R: Read, W: Write>(
             Err(_) => return Err(Stop::Fault(FaultKind::Read)),
         };
         if count == 0 {
-            take_end(alloc, engine, writer, progress)?;
+            take_end(rt, alloc, engine, writer, progress)?;
             return Ok(());
         }
-        take_bytes(alloc, engine, writer, progress, &buffer[..count])?;
+        take_bytes(rt, alloc, engine, writer, progress, &buffer[..count])?;
     }
     Err(Stop::Fault(FaultKind::Endless))
 }
@@ -204,9 +225,10 @@ fn fault_of(stop: Stop, tally: Tally) -> TapeFault
 /// # Errors
 ///
 /// Those of [`replay`]; `Endless` after so many reads.
-pub fn replay_within<G: Gate + Drop, R: Read, W: Write>(
+pub fn replay_within<R: Threads + Sync, G: Gate + Drop + Sync, D: Read, W: Write>(
+    rt: &R,
     alloc: Global,
-    reader: &mut Counted<R>,
+    reader: &mut Counted<D>,
     engine: &mut Engine<G>,
     writer: &mut Counted<W>,
     reads: u32,
@@ -215,15 +237,15 @@ pub fn replay_within<G: Gate + Drop, R: Read, W: Write>(
     requires writer { IsFresh writer.old }
     requires engine { StandsFor engine.old None }
     ensures replayed { IfOk result (λ tally. (text : List ℕ) × (es : List Entry)
-        × Consumes (R.remaining reader.old.end) (R.remaining reader.new.end) text
-        × IsAtEnd (R.remaining reader.new.end)
+        × Consumes (D.remaining reader.old.end) (D.remaining reader.new.end) text
+        × IsAtEnd (D.remaining reader.new.end)
         × (tape_reading text ≡ Some es) × AreReplayable None es
         × StandsFor engine.new (state_of es)
         × Appends (W.contents writer.old.end) (W.contents writer.new.end) (output_from None es)
         × IsTapeTally tally (lines_of text) es (output_from None es)) }
     ensures stops { IfErr result (λ fault. (text : List ℕ)
-        × Consumes (R.remaining reader.old.end) (R.remaining reader.new.end) text
-        × TapeBreaks (IsAtEnd (R.remaining reader.new.end)) None (W.contents writer.old.end) text
+        × Consumes (D.remaining reader.old.end) (D.remaining reader.new.end) text
+        × TapeBreaks (IsAtEnd (D.remaining reader.new.end)) None (W.contents writer.old.end) text
         engine.new (W.contents writer.new.end) fault) }
     ensures caused { IfErr result (λ fault. IsTapeCaused fault reader.new writer.new reads) }
 {
@@ -236,7 +258,7 @@ pub fn replay_within<G: Gate + Drop, R: Read, W: Write>(
             bytes: 0,
         },
     };
-    match replay_lines(alloc, reader, engine, writer, reads, &mut progress) {
+    match replay_lines(rt, alloc, reader, engine, writer, reads, &mut progress) {
         Ok(()) => Ok(progress.tally),
         Err(stop) => Err(fault_of(stop, progress.tally)),
     }
@@ -257,9 +279,10 @@ pub fn replay_within<G: Gate + Drop, R: Read, W: Write>(
 /// written. `Run` where a read failed, a write or a flush failed or a write took no bytes, memory was wanting, or after
 /// 1,000,000,000 reads: the first `tally.calls` calls are applied, and of an advance after them perhaps the first steps, and
 /// of their replies the first `tally.bytes` bytes are written.
-pub fn replay<G: Gate + Drop, R: Read, W: Write>(
+pub fn replay<R: Threads + Sync, G: Gate + Drop + Sync, D: Read, W: Write>(
+    rt: &R,
     alloc: Global,
-    reader: &mut Counted<R>,
+    reader: &mut Counted<D>,
     engine: &mut Engine<G>,
     writer: &mut Counted<W>,
 ) -> Result<Tally, TapeFault>
@@ -267,17 +290,17 @@ pub fn replay<G: Gate + Drop, R: Read, W: Write>(
     requires writer { IsFresh writer.old }
     requires engine { StandsFor engine.old None }
     ensures replayed { IfOk result (λ tally. (text : List ℕ) × (es : List Entry)
-        × Consumes (R.remaining reader.old.end) (R.remaining reader.new.end) text
-        × IsAtEnd (R.remaining reader.new.end)
+        × Consumes (D.remaining reader.old.end) (D.remaining reader.new.end) text
+        × IsAtEnd (D.remaining reader.new.end)
         × (tape_reading text ≡ Some es) × AreReplayable None es
         × StandsFor engine.new (state_of es)
         × Appends (W.contents writer.old.end) (W.contents writer.new.end) (output_from None es)
         × IsTapeTally tally (lines_of text) es (output_from None es)) }
     ensures stops { IfErr result (λ fault. (text : List ℕ)
-        × Consumes (R.remaining reader.old.end) (R.remaining reader.new.end) text
-        × TapeBreaks (IsAtEnd (R.remaining reader.new.end)) None (W.contents writer.old.end) text
+        × Consumes (D.remaining reader.old.end) (D.remaining reader.new.end) text
+        × TapeBreaks (IsAtEnd (D.remaining reader.new.end)) None (W.contents writer.old.end) text
         engine.new (W.contents writer.new.end) fault) }
     ensures caused { IfErr result (λ fault. IsTapeCaused fault reader.new writer.new 1000000000) }
 {
-    replay_within(alloc, reader, engine, writer, MOST_READS)
+    replay_within(rt, alloc, reader, engine, writer, MOST_READS)
 }

@@ -9,7 +9,7 @@ use std::process::Abort;
 use std::test::Fail;
 use street_base::{Command, Reply, Whereabouts};
 use street_ends::{Counted, Tally};
-use street_engine::Engine;
+use street_engine::{Engine, Unwatched};
 
 /// One vehicle that drives along one link and arrives: its tape.
 static ARRIVES: &str = concat!(
@@ -42,8 +42,8 @@ fn a_session_is_replayed(rt: HostRuntime) -> Result<(), Fail> {
     let alloc = rt.alloc();
     let mut reader = Counted::new(ARRIVES.as_bytes());
     let mut writer = Counted::new(Vec::new(alloc));
-    let mut engine = Engine::new(alloc, 1, ends::Unwatched);
-    let tally = replay(alloc, &mut reader, &mut engine, &mut writer)?;
+    let mut engine = Engine::new(alloc, 1, Unwatched);
+    let tally = replay(&rt, alloc, &mut reader, &mut engine, &mut writer)?;
     assert_eq!(rt; writer.end.as_slice(), ARRIVES_OUTPUT.as_bytes());
     assert_eq!(rt;
         tally,
@@ -54,7 +54,7 @@ fn a_session_is_replayed(rt: HostRuntime) -> Result<(), Fail> {
             bytes: ARRIVES_OUTPUT.len() as u128,
         }
     );
-    let (reply, _) = engine.apply(&Command::Vehicle { car: 0 });
+    let (reply, _) = engine.apply(&rt, &Command::Vehicle { car: 0 });
     assert!(rt;
         matches!(
             &reply,
@@ -110,7 +110,14 @@ static OUTCOMES_OUTPUT: &str = concat!(
 #[test]
 fn each_outcome_is_replayed(rt: HostRuntime) -> Result<(), Fail> {
     let alloc = rt.alloc();
-    let ran = replayed(alloc, OUTCOMES.as_bytes(), 4096, Taking::all(alloc), 100);
+    let ran = replayed(
+        &rt,
+        alloc,
+        OUTCOMES.as_bytes(),
+        4096,
+        Taking::all(alloc),
+        100,
+    );
     assert_eq!(rt; ran.fault, None);
     assert_eq!(rt; ran.taken.as_slice(), OUTCOMES_OUTPUT.as_bytes());
     assert_eq!(rt; ran.flushed, OUTCOMES_OUTPUT.len());
@@ -143,16 +150,23 @@ fn what_is_no_tape_is_told(rt: HostRuntime) -> Result<(), Fail> {
     let alloc = rt.alloc();
     for text in &NO_TAPES {
         for piece in [1, 4096] {
-            let ran = replayed(alloc, text.as_bytes(), piece, Taking::all(alloc), 1000);
+            let ran = replayed(&rt, alloc, text.as_bytes(), piece, Taking::all(alloc), 1000);
             assert_eq!(rt; ran.fault, Some(TapeFault::NotTape), "at {text}");
             assert!(rt; ran.taken.is_empty(), "at {text}");
         }
     }
     let mut long = vec![in alloc; b' '; 2_097_153 - 10]?;
     long.extend_from_slice(b"{\"tape\":1}\n")?;
-    let ran = replayed(alloc, long.as_slice(), 4096, Taking::all(alloc), 1000);
+    let ran = replayed(&rt, alloc, long.as_slice(), 4096, Taking::all(alloc), 1000);
     assert_eq!(rt; ran.fault, Some(TapeFault::NotTape));
-    let ran = replayed(alloc, &long.as_slice()[1..], 4096, Taking::all(alloc), 1000);
+    let ran = replayed(
+        &rt,
+        alloc,
+        &long.as_slice()[1..],
+        4096,
+        Taking::all(alloc),
+        1000,
+    );
     assert_eq!(rt; ran.fault, None);
     Ok(())
 }
@@ -194,16 +208,16 @@ fn a_bad_entry_is_told_by_its_line(rt: HostRuntime) -> Result<(), Fail> {
     for line in &BAD_ENTRIES {
         let mut text = Vec::from_slice(alloc, BEGIN.as_bytes())?;
         text.extend_from_slice(line.as_bytes())?;
-        let ran = replayed(alloc, text.as_slice(), 100, Taking::all(alloc), 1000);
+        let ran = replayed(&rt, alloc, text.as_slice(), 100, Taking::all(alloc), 1000);
         check_bad(&rt, &ran, 4, BEGIN_OUTPUT, line);
     }
     let text =
         "{\"tape\":1}\n{\"command\":{\"cmd\":\"advance\",\"steps\":5},\"outcome\":1,\"session\":0}\n";
-    let ran = replayed(alloc, text.as_bytes(), 4096, Taking::all(alloc), 1000);
+    let ran = replayed(&rt, alloc, text.as_bytes(), 4096, Taking::all(alloc), 1000);
     check_bad(&rt, &ran, 2, "", text);
     let mut text = Vec::from_slice(alloc, BEGIN.as_bytes())?;
     text.extend_from_slice(vec![in alloc; b' '; 2_097_153]?.as_slice())?;
-    let ran = replayed(alloc, text.as_slice(), 4096, Taking::all(alloc), 1000);
+    let ran = replayed(&rt, alloc, text.as_slice(), 4096, Taking::all(alloc), 1000);
     check_bad(&rt, &ran, 4, BEGIN_OUTPUT, "a long line");
     Ok(())
 }

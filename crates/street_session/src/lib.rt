@@ -12,4 +12,4 @@ mod tests;
 
 pub use running::{run_alone, run_session};
 pub use script::{Script, answer_all, run_scripts};
-pub use session::{DeskSession, Unwatched};
+pub use session::DeskSession;

@@ -13,6 +13,7 @@ use crate::session::DeskSession;
 use std::alloc::Global;
 use std::io::{Read, Write};
 use std::sync::Wait;
+use std::thread::Threads;
 use street_line::{Counted, RunFault, Tally, run_lines};
 
 /// Serves the lines of a text through a desk, beside the desk's other callers, as `run_lines` of street_line does: each
@@ -22,7 +23,7 @@ use street_line::{Counted, RunFault, Tally, run_lines};
 /// # Errors
 ///
 /// Those of `run_lines`.
-pub fn run_session<R: Wait, D: Read, W: Write>(
+pub fn run_session<R: Threads + Wait + Sync, D: Read, W: Write>(
     alloc: Global,
     session: &mut DeskSession<'_, R>,
     reader: &mut Counted<D>,
@@ -53,7 +54,7 @@ pub fn run_session<R: Wait, D: Read, W: Write>(
 /// # Errors
 ///
 /// Those of `run_lines`.
-pub fn run_alone<R: Wait, D: Read, W: Write>(
+pub fn run_alone<R: Threads + Wait + Sync, D: Read, W: Write>(
     alloc: Global,
     session: &mut DeskSession<'_, R>,
     reader: &mut Counted<D>,

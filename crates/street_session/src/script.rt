@@ -19,7 +19,7 @@ use street_line::{Counted, FaultKind};
 
 /// A file of commands, with the session that serves it.
 #[derive(Drop)]
-pub struct Script<'a, R: Wait> {
+pub struct Script<'a, R: Threads + Wait + Sync> {
     /// The file, until it is served.
     pub file: Option<File>,
     /// Who calls.
@@ -31,7 +31,7 @@ pub struct Script<'a, R: Wait> {
     pub fault: Option<FaultKind>,
 }
 
-impl<'a, R: Wait> Script<'a, R> {
+impl<'a, R: Threads + Wait + Sync> Script<'a, R> {
     /// A script whose file is opened, or has the fault that it could not be.
     pub fn open<F: Files<File = File>>(
         files: &F,
@@ -73,7 +73,7 @@ impl<'a, R: Wait> Script<'a, R> {
 
 /// The replies to the lines of a text, served as `run_session` does, and what ended them before the text did: want of memory
 /// to keep them is told as that, and never as a failed write.
-pub fn answer_all<R: Wait, D: Read + Drop>(
+pub fn answer_all<R: Threads + Wait + Sync, D: Read + Drop>(
     alloc: Global,
     session: &mut DeskSession<'_, R>,
     reader: D,

@@ -5,26 +5,21 @@ ghost use Rattle.street_session.specs.Sessions.{DeskServes};
 
 use std::marker::Model;
 use std::sync::Wait;
+use std::thread::Threads;
 use street_base::Command;
 use street_desk::{Desk, Pass};
-use street_engine::Gate;
+use street_engine::Unwatched;
 use street_line::{Served, Service};
-
-/// A gate that nobody watches.
-#[derive(Drop)]
-pub struct Unwatched;
-
-impl Gate for Unwatched {}
 
 /// A desk with one of its passes, as a service: what it serves is what the pass is told of the calls.
 #[derive(Drop)]
-pub struct DeskSession<'a, R: Wait> {
+pub struct DeskSession<'a, R: Threads + Wait + Sync> {
     rt: &'a R,
     desk: &'a Desk<Unwatched>,
     pass: Pass<Unwatched>,
 }
 
-impl<'a, R: Wait> Model for DeskSession<'a, R> {
+impl<'a, R: Threads + Wait + Sync> Model for DeskSession<'a, R> {
     ghost use Rattle.std.specs.Prelude.{◌≡◌};
     ghost use Rattle.street_desk.specs.Passes.{PassView};
 
@@ -35,7 +30,7 @@ impl<'a, R: Wait> Model for DeskSession<'a, R> {
     ghost invariant = { λ s. s.pass.desk ≡ s.desk.now };
 }
 
-impl<'a, R: Wait> DeskSession<'a, R> {
+impl<'a, R: Threads + Wait + Sync> DeskSession<'a, R> {
     /// The desk as this pass calls it. Takes no memory.
     pub fn new(rt: &'a R, desk: &'a Desk<Unwatched>, pass: Pass<Unwatched>) -> DeskSession<'a, R>
         requires { pass.desk ≡ desk.now }
@@ -53,8 +48,12 @@ impl<'a, R: Wait> DeskSession<'a, R> {
     }
 }
 
-impl<'a, R: Wait> Service for DeskSession<'a, R> {
+impl<'a, R: Threads + Wait + Sync> Service for DeskSession<'a, R> {
+    ghost use Rattle.std.specs.Thread.{IsSync};
+
     ghost serves = { DeskServes };
+
+    ghost ready = { IsSync R.row };
 
     fn serve(&mut self, command: Command) -> Served {
         match self.desk.call(self.rt, &mut self.pass, command) {

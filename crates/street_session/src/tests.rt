@@ -3,14 +3,15 @@ ghost use Rattle.std.specs.Prelude.{◌≡◌};
 
 mod alone;
 
-use crate::{DeskSession, Unwatched, run_alone};
+use crate::{DeskSession, run_alone};
 use std::alloc::Global;
 use std::process::Abort;
 use std::sync::Wait;
 use std::test::Fail;
+use std::thread::Threads;
 use street_base::{Command, Refusal, Reply};
 use street_desk::{Desk, Pass};
-use street_engine::Engine;
+use street_engine::{Engine, Unwatched};
 use street_line::{Counted, Tally};
 
 const NOT_LOADED: &str = r#"{"error":1,"name":"NotLoaded"}
@@ -41,7 +42,11 @@ fn one_call(rt: HostRuntime) -> Result<(), Fail> {
 }
 
 /// Counts before any load.
-fn check_count<R: Wait + Abort>(rt: &R, desk: &Desk<Unwatched>, pass: &mut Pass<Unwatched>)
+fn check_count<R: Threads + Wait + Abort + Sync>(
+    rt: &R,
+    desk: &Desk<Unwatched>,
+    pass: &mut Pass<Unwatched>,
+)
     requires { pass.old.desk ≡ desk.now }
     ensures { pass.new.desk ≡ desk.now }
 {

@@ -15,17 +15,17 @@ use std::sync::Wait;
 use std::thread::Threads;
 use street_base::Starved;
 use street_desk::{Desk, Pass};
-use street_engine::Engine;
+use street_engine::{Engine, Unwatched};
 use street_line::Counted;
 use street_options::Options;
-use street_session::{DeskSession, Script, Unwatched, run_alone, run_scripts};
+use street_session::{DeskSession, Script, run_alone, run_scripts};
 
 /// Serves standard input as one session, writes each reply as it comes, and at the end the tape, if one is asked for.
 ///
 /// # Errors
 ///
 /// The fault of the session, else that of the tape.
-pub fn serve_input<'a, R: Wait + Input + Print + AllocGlobal + Files<File = File>>(
+pub fn serve_input<'a, R: Threads + Wait + Sync + Input + Print + AllocGlobal + Files<File = File>>(
     rt: &R,
     options: &Options<'a>,
 ) -> Result<(), Fault<'a>>
@@ -74,7 +74,7 @@ pub fn serve_scripts<'a, R: Threads + Wait + Sync + Print + AllocGlobal + Files<
 
 /// The scripts with their files opened and a session for each, the last first: the session of each has its place among the
 /// names as its number.
-fn open_scripts<'a, R: Wait + Files<File = File>>(
+fn open_scripts<'a, R: Threads + Wait + Sync + Files<File = File>>(
     rt: &'a R,
     alloc: Global,
     desk: &'a Desk<Unwatched>,
@@ -100,7 +100,10 @@ fn open_scripts<'a, R: Wait + Files<File = File>>(
 }
 
 /// The first fault in the order of the names; the last script stands first.
-fn first_fault<'a, R: Wait>(scripts: &[Script<'_, R>], names: &[&'a str]) -> Result<(), Fault<'a>> {
+fn first_fault<'a, R: Threads + Wait + Sync>(
+    scripts: &[Script<'_, R>],
+    names: &[&'a str],
+) -> Result<(), Fault<'a>> {
     for (script, name) in scripts.iter().rev().zip(names) {
         if let Some(kind) = script.fault {
             return Err(Fault::of_run(kind, name, name));
@@ -110,7 +113,7 @@ fn first_fault<'a, R: Wait>(scripts: &[Script<'_, R>], names: &[&'a str]) -> Res
 }
 
 /// Writes the replies of scripts in the order of their names; the last script stands first.
-fn print_replies<R: Wait, W: Write>(
+fn print_replies<R: Threads + Wait + Sync, W: Write>(
     writer: &mut Counted<W>,
     scripts: &[Script<'_, R>],
 ) -> Result<(), Fault<'static>> {
@@ -121,7 +124,7 @@ fn print_replies<R: Wait, W: Write>(
 }
 
 /// The pass of the first script, which stands last.
-fn first_pass<R: Wait>(mut scripts: Vec<Script<'_, R>>) -> Pass<Unwatched>
+fn first_pass<R: Threads + Wait + Sync>(mut scripts: Vec<Script<'_, R>>) -> Pass<Unwatched>
     requires { 0 < vec_len scripts }
     ensures { (desk : DeskView) → All (λ s. s.session.desk ≡ desk) scripts.entry.items → result.desk ≡ desk }
 {

@@ -9,8 +9,8 @@ use std::io;
 use std::io::Write;
 use std::rt::Files;
 use street_desk::{Desk, Journal, Pass};
+use street_engine::Unwatched;
 use street_line::Counted;
-use street_session::Unwatched;
 use street_tape::write_tape;
 
 /// The name of standard input in faults.

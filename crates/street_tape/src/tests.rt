@@ -9,17 +9,12 @@ use std::io::Write;
 use std::process::Abort;
 use std::sync::Wait;
 use std::test::Fail;
+use std::thread::Threads;
 use street_base::{Command, Outcome};
 use street_desk::{Desk, Entry, Journal, Pass};
 use street_ends::{Counted, FaultKind, Tally};
-use street_engine::{Engine, Gate};
+use street_engine::{Engine, Unwatched};
 use street_text::{LineFault, read_command};
-
-/// A gate that nobody watches.
-#[derive(Drop)]
-struct Unwatched;
-
-impl Gate for Unwatched {}
 
 /// One vehicle that drives along one link and arrives.
 static LINES: [&str; 4] = [
@@ -44,7 +39,7 @@ static TAPE: &str = concat!(
 );
 
 /// Calls the command of a line.
-fn call<R: Wait>(
+fn call<R: Threads + Wait + Sync>(
     rt: &R,
     alloc: Global,
     desk: &Desk<Unwatched>,
@@ -64,7 +59,7 @@ fn call<R: Wait>(
 }
 
 /// The journal of the four lines.
-fn journal_of<R: Wait>(rt: &R, alloc: Global) -> Result<Journal, Fail> {
+fn journal_of<R: Threads + Wait + Sync>(rt: &R, alloc: Global) -> Result<Journal, Fail> {
     let (desk, mut pass) = Desk::start(alloc, Engine::new(alloc, 1, Unwatched), 4, 1)?;
     call(rt, alloc, &desk, &mut pass, LINES[0])?;
     call(rt, alloc, &desk, &mut pass, LINES[1])?;

@@ -1,27 +1,28 @@
 //! Ends in memory that fail when they are told to, and an engine between them.
 
-use crate::{Counted, FaultKind, RunFault, Served, Service, Tally, run_lines_within};
+use crate::{
+    Counted, EngineSession, FaultKind, RunFault, Served, Service, Tally, run_lines_within,
+};
 use std::alloc::Global;
 use std::io;
 use std::io::{Read, Write};
+use std::thread::Threads;
 use street_base::Command;
-use street_engine::{Engine, Gate};
-
-/// A gate that nobody watches.
-#[derive(Drop)]
-pub(super) struct Unwatched;
-
-impl Gate for Unwatched {}
+use street_engine::{Engine, Unwatched};
 
 /// An engine, and how many commands it had.
 #[derive(Drop)]
-struct Watched {
-    engine: Engine<Unwatched>,
+struct Watched<'a, R: Threads + Sync> {
+    engine: EngineSession<'a, R>,
     commands: u128,
 }
 
-impl Service for Watched {
+impl<'a, R: Threads + Sync> Service for Watched<'a, R> {
+    ghost use Rattle.std.specs.Thread.{IsSync};
+
     ghost serves = { λ old command served new. Unit {0} };
+
+    ghost ready = { IsSync R.row };
 
     fn serve(&mut self, command: Command) -> Served {
         self.commands = self.commands.saturating_add(1);
@@ -107,11 +108,17 @@ pub(super) fn outcome(run: Result<Tally, RunFault>) -> (Option<FaultKind>, Tally
 }
 
 /// Runs an engine with nothing loaded over these ends.
-pub(super) fn run(alloc: Global, reader: Given<'_>, writer: Taking, reads: u32) -> Ran {
+pub(super) fn run<R: Threads + Sync>(
+    rt: &R,
+    alloc: Global,
+    reader: Given<'_>,
+    writer: Taking,
+    reads: u32,
+) -> Ran {
     let mut reader = Counted::new(reader);
     let mut writer = Counted::new(writer);
     let mut service = Watched {
-        engine: Engine::new(alloc, 1, Unwatched),
+        engine: EngineSession::new(rt, Engine::new(alloc, 1, Unwatched)),
         commands: 0,
     };
     let run = run_lines_within(alloc, &mut service, &mut reader, &mut writer, reads);

@@ -1,12 +1,13 @@
 //! Each read and each write fails in turn, and the text ends after each byte.
 
 use crate::tests::cases::{ARRIVES, ARRIVES_OUTPUT, CASES, Case};
-use crate::tests::ends::{Given, Ran, Taking, Unwatched, outcome, run};
-use crate::{Counted, FaultKind, Tally, run_engine};
+use crate::tests::ends::{Given, Ran, Taking, outcome, run};
+use crate::{Counted, EngineSession, FaultKind, Tally, run_engine};
 use std::alloc::{AllocGlobal, Global};
 use std::process::Abort;
 use std::test::Fail;
-use street_engine::Engine;
+use std::thread::Threads;
+use street_engine::{Engine, Unwatched};
 
 /// The lines that end in a text.
 fn lines_in(text: &[u8]) -> usize {
@@ -79,12 +80,18 @@ fn tally_after(case: &Case, lines: usize, replies: usize, bytes: usize) -> Tally
 }
 
 /// Each read of a case fails in turn, and then none.
-fn check_reads(rt: &(impl Abort + AllocGlobal), case: &Case) -> Result<(), Fail> {
+fn check_reads(rt: &(impl Threads + Abort + AllocGlobal + Sync), case: &Case) -> Result<(), Fail> {
     let text = case.whole_text(rt.alloc())?;
     let all = text.as_slice();
     for reads in 0..case.reads {
         let writer = taking(rt.alloc(), 4096, 4096, true);
-        let ran = run(rt.alloc(), given(case, all, reads), writer, case.most_reads);
+        let ran = run(
+            rt,
+            rt.alloc(),
+            given(case, all, reads),
+            writer,
+            case.most_reads,
+        );
         let lines = lines_in(all.get(..reads.saturating_mul(case.piece)).unwrap_or(all));
         let want = first_lines(case.output, lines);
         let tally = tally_after(case, lines, lines, want.len());
@@ -107,6 +114,7 @@ fn check_reads(rt: &(impl Abort + AllocGlobal), case: &Case) -> Result<(), Fail>
     }
     let writer = taking(rt.alloc(), 4096, 4096, true);
     let ran = run(
+        rt,
         rt.alloc(),
         given(case, all, case.reads),
         writer,
@@ -141,7 +149,7 @@ fn each_read_fails_in_turn(rt: HostRuntime) -> Result<(), Fail> {
 
 /// Each write of a case fails in turn, by an error or by taking no byte.
 fn check_writes(
-    rt: &(impl Abort + AllocGlobal),
+    rt: &(impl Threads + Abort + AllocGlobal + Sync),
     case: &Case,
     piece: usize,
     fails: bool,
@@ -151,7 +159,7 @@ fn check_writes(
         let room = at.saturating_mul(case.step);
         let writer = taking(rt.alloc(), piece, room, fails);
         let reader = given(case, text.as_slice(), case.reads);
-        let ran = run(rt.alloc(), reader, writer, case.most_reads);
+        let ran = run(rt, rt.alloc(), reader, writer, case.most_reads);
         let want = case.output.get(..room).unwrap_or(case.output);
         let replies = lines_in(want);
         let tally = tally_after(case, replies.saturating_add(1), replies, room);
@@ -201,7 +209,7 @@ fn the_text_ends_after_each_byte(rt: HostRuntime) -> Result<(), Fail> {
         want.extend_from_slice(rest)?;
         let mut reader = Counted::new(text);
         let mut writer = Counted::new(Vec::new(rt.alloc()));
-        let mut engine = Engine::new(rt.alloc(), 1, Unwatched);
+        let mut engine = EngineSession::new(&rt, Engine::new(rt.alloc(), 1, Unwatched));
         let run = run_engine(rt.alloc(), &mut engine, &mut reader, &mut writer);
         let tally = Tally {
             lines: lines as u128,
@@ -219,7 +227,7 @@ fn the_text_ends_after_each_byte(rt: HostRuntime) -> Result<(), Fail> {
 fn a_writer_is_full_in_the_second_reply(rt: HostRuntime) -> Result<(), Fail> {
     let mut reader = Counted::new(b"{\"cmd\":\"count\"}\n{\"cmd\":\"count\"}\n".as_slice());
     let mut writer = Counted::new(taking(rt.alloc(), 4096, 40, true));
-    let mut engine = Engine::new(rt.alloc(), 1, Unwatched);
+    let mut engine = EngineSession::new(&rt, Engine::new(rt.alloc(), 1, Unwatched));
     let run = run_engine(rt.alloc(), &mut engine, &mut reader, &mut writer);
     let tally = Tally {
         lines: 2,
@@ -257,7 +265,7 @@ fn deep_and_wide_lines(rt: HostRuntime) -> Result<(), Fail> {
         b"{\"error\":21,\"name\":\"BadCommand\"}\n{\"error\":20,\"name\":\"NotJson\"}\n{\"error\":1,\"name\":\"NotLoaded\"}\n";
     let mut reader = Counted::new(text.as_slice());
     let mut writer = Counted::new(Vec::new(rt.alloc()));
-    let mut engine = Engine::new(rt.alloc(), 1, Unwatched);
+    let mut engine = EngineSession::new(&rt, Engine::new(rt.alloc(), 1, Unwatched));
     let run = run_engine(rt.alloc(), &mut engine, &mut reader, &mut writer);
     let tally = Tally {
         lines: 3,

@@ -4,14 +4,9 @@ use crate::{TapeFault, replay_within};
 use std::alloc::Global;
 use std::io;
 use std::io::{Read, Write};
+use std::thread::Threads;
 use street_ends::{Counted, Tally};
-use street_engine::{Engine, Gate};
-
-/// A gate that nobody watches.
-#[derive(Drop)]
-pub(super) struct Unwatched;
-
-impl Gate for Unwatched {}
+use street_engine::{Engine, Unwatched};
 
 /// Gives a text, so many bytes a read at most. Fails at a read, after so many others.
 #[derive(Drop)]
@@ -86,11 +81,24 @@ pub(super) struct Ran {
 }
 
 /// Replays a text from a reader on an engine with nothing loaded.
-pub(super) fn replayed_from(alloc: Global, reader: Given<'_>, writer: Taking, reads: u32) -> Ran {
+pub(super) fn replayed_from<R: Threads + Sync>(
+    rt: &R,
+    alloc: Global,
+    reader: Given<'_>,
+    writer: Taking,
+    reads: u32,
+) -> Ran {
     let mut reader = Counted::new(reader);
     let mut writer = Counted::new(writer);
     let mut engine = Engine::new(alloc, 1, Unwatched);
-    let (fault, tally) = match replay_within(alloc, &mut reader, &mut engine, &mut writer, reads) {
+    let (fault, tally) = match replay_within(
+        rt,
+        alloc,
+        &mut reader,
+        &mut engine,
+        &mut writer,
+        reads,
+    ) {
         Ok(tally) => (None, Some(tally)),
         Err(fault) => (Some(fault), None),
     };
@@ -103,7 +111,8 @@ pub(super) fn replayed_from(alloc: Global, reader: Given<'_>, writer: Taking, re
 }
 
 /// Replays a text that is read in pieces.
-pub(super) fn replayed(
+pub(super) fn replayed<R: Threads + Sync>(
+    rt: &R,
     alloc: Global,
     text: &[u8],
     piece: usize,
@@ -116,5 +125,5 @@ pub(super) fn replayed(
         piece,
         reads_left: 1_000_000,
     };
-    replayed_from(alloc, reader, writer, reads)
+    replayed_from(rt, alloc, reader, writer, reads)
 }

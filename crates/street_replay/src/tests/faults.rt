@@ -46,7 +46,7 @@ fn each_write_fails_in_turn(rt: HostRuntime) -> Result<(), Fail> {
             room,
             fails: room % 2 == 0,
         };
-        let ran = replayed(alloc, REFUSED.as_bytes(), 30, writer, 100);
+        let ran = replayed(&rt, alloc, REFUSED.as_bytes(), 30, writer, 100);
         let want = match room < one {
             true => run_fault(FaultKind::Write, 2, 1, 0, room),
             false => run_fault(FaultKind::Write, 3, 2, 1, room),
@@ -71,7 +71,7 @@ fn each_read_fails_in_turn(rt: HostRuntime) -> Result<(), Fail> {
             piece: 1,
             reads_left,
         };
-        let ran = replayed_from(alloc, reader, Taking::all(alloc), 1000);
+        let ran = replayed_from(&rt, alloc, reader, Taking::all(alloc), 1000);
         let ended = REFUSED
             .as_bytes()
             .iter()
@@ -96,7 +96,7 @@ fn each_read_fails_in_turn(rt: HostRuntime) -> Result<(), Fail> {
 #[test]
 fn a_reader_without_end_is_told(rt: HostRuntime) {
     let alloc = rt.alloc();
-    let ran = replayed(alloc, REFUSED.as_bytes(), 20, Taking::all(alloc), 4);
+    let ran = replayed(&rt, alloc, REFUSED.as_bytes(), 20, Taking::all(alloc), 4);
     assert_eq!(rt;
         ran.fault,
         Some(run_fault(FaultKind::Endless, 2, 1, 1, REFUSAL.len()))

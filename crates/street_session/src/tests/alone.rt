@@ -1,12 +1,13 @@
 //! Whole sessions over bytes in memory, each alone at its desk. What is wanted was worked out by hand from the rules of lines and of motion.
 
-use crate::{DeskSession, Unwatched, run_alone};
+use crate::{DeskSession, run_alone};
 use std::alloc::{AllocError, Global};
 use std::process::Abort;
 use std::sync::Wait;
 use std::test::Fail;
+use std::thread::Threads;
 use street_desk::Desk;
-use street_engine::Engine;
+use street_engine::{Engine, Unwatched};
 use street_line::Counted;
 
 /// One link of 10 cells that vehicles leave at its end, and a link after it.
@@ -51,7 +52,11 @@ fn text_of(alloc: Global, parts: &[(&[u8], u32)]) -> Result<Vec<u8>, AllocError>
 }
 
 /// What is written to these lines where nothing is loaded at first.
-fn replies<R: Wait>(rt: &R, alloc: Global, session: &[u8]) -> Result<Vec<u8>, Fail> {
+fn replies<R: Threads + Wait + Sync>(
+    rt: &R,
+    alloc: Global,
+    session: &[u8],
+) -> Result<Vec<u8>, Fail> {
     let (desk, pass) = Desk::start(alloc, Engine::new(alloc, 1, Unwatched), 100, 1)?;
     let mut own = DeskSession::new(rt, &desk, pass);
     let mut reader = Counted::new(session);
@@ -62,7 +67,7 @@ fn replies<R: Wait>(rt: &R, alloc: Global, session: &[u8]) -> Result<Vec<u8>, Fa
 
 /// A session of these parts is answered by those.
 fn check_session(
-    rt: &(impl Abort + Wait + AllocGlobal),
+    rt: &(impl Threads + Abort + Wait + AllocGlobal + Sync),
     name: &str,
     parts: &[(&[u8], u32)],
     want: &[(&[u8], u32)],
