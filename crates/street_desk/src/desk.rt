@@ -28,13 +28,13 @@ const TRIES: u32 = 64;
 
 /// An engine that many threads call in turn, each with a pass of its own.
 #[derive(Drop)]
-pub struct Desk<G: Gate + Drop + Send> {
+pub struct Desk<G: Gate + Sync + Drop + Send> {
     table: Table<Option<Recorder<G>>, View, Limits, Turns, Global>,
     calls: u64,
     sleepers: AtomicU64,
 }
 
-impl<G: Gate + Drop + Send> Model for Desk<G> {
+impl<G: Gate + Sync + Drop + Send> Model for Desk<G> {
     ghost use Rattle.std.specs.Prelude.{◌≡◌, ◌≤◌};
     ghost use Rattle.street_desk.specs.Passes.{DeskView};
 
@@ -52,7 +52,7 @@ impl<G: Gate + Drop + Send> Model for Desk<G> {
         × (d.table.shared.table_id.slots ≡ 1) };
 }
 
-impl<G: Gate + Drop + Send + Sync> Desk<G> {
+impl<G: Gate + Sync + Drop + Send> Desk<G> {
     /// A load of the turn word.
     fn look(&self, seat: &mut Chair<G>) -> u64
         requires { seat.old.table_id ≡ self.now.table }

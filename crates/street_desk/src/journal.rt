@@ -55,13 +55,13 @@ impl Journal {
 /// An engine with the journal of all that it was called for: the journal is legal, the engine stands for the state that it
 /// leaves, and there is room for so many calls.
 #[derive(Drop)]
-pub(crate) struct Recorder<G: Gate + Drop> {
+pub(crate) struct Recorder<G: Gate + Sync + Drop> {
     engine: Engine<G>,
     entries: Vec<Entry>,
     calls: u64,
 }
 
-impl<G: Gate + Drop> Model for Recorder<G> {
+impl<G: Gate + Sync + Drop> Model for Recorder<G> {
     ghost use Rattle.std.specs.Prelude.{◌≤◌, vec_capacity};
     ghost use Rattle.street_engine.specs.Refines.{StandsFor};
     ghost use Rattle.street_desk.specs.History.{state_of, IsLegal};
@@ -76,7 +76,7 @@ impl<G: Gate + Drop> Model for Recorder<G> {
         × (r.calls ≤ vec_capacity r.entries) };
 }
 
-impl<G: Gate + Drop + Sync> Recorder<G> {
+impl<G: Gate + Sync + Drop> Recorder<G> {
     /// An engine with nothing loaded, and room for so many calls.
     pub(crate) fn new(
         alloc: Global,

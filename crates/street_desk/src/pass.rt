@@ -11,13 +11,13 @@ pub(crate) type Chair<G> = Seat<Option<Recorder<G>>, View>;
 
 /// What one caller knows of a desk, and the session numbers that it owns. It calls as the least of them.
 #[derive(Drop)]
-pub struct Pass<G: Gate + Drop> {
+pub struct Pass<G: Gate + Sync + Drop> {
     pub(crate) seat: Chair<G>,
     pub(crate) least: u64,
     pub(crate) greatest: u64,
 }
 
-impl<G: Gate + Drop> Model for Pass<G> {
+impl<G: Gate + Sync + Drop> Model for Pass<G> {
     ghost use Rattle.std.specs.Prelude.{◌≡◌, ◌≤◌, [], ◌∷◌};
     ghost use Rattle.street_desk.specs.Passes.{PassView, pass_view, Rests};
 
@@ -34,11 +34,11 @@ impl<G: Gate + Drop> Model for Pass<G> {
 
 /// What a pass had seen, for another to hear.
 #[derive(Drop)]
-pub struct Note<G: Gate + Drop> {
+pub struct Note<G: Gate + Sync + Drop> {
     pub(crate) seat: Chair<G>,
 }
 
-impl<G: Gate + Drop> Model for Note<G> {
+impl<G: Gate + Sync + Drop> Model for Note<G> {
     ghost use Rattle.std.specs.Prelude.{◌≡◌, [], ◌∷◌};
     ghost use Rattle.street_desk.specs.Passes.{NoteView, note_view};
 

@@ -57,7 +57,7 @@ struct Told {
 }
 
 /// What a call answers, if the journal has a place for it.
-fn ask<G: Gate + Drop + Send + Sync, R: Threads + Wait + Sync>(
+fn ask<G: Gate + Sync + Drop + Send, R: Threads + Wait + Sync>(
     rt: &R,
     desk: &Desk<G>,
     pass: &mut Pass<G>,
@@ -73,7 +73,7 @@ fn ask<G: Gate + Drop + Send + Sync, R: Threads + Wait + Sync>(
 }
 
 /// Loads, enters a vehicle and asks for it.
-fn load_enter_ask<G: Gate + Drop + Send + Sync, R: Threads + Wait + Sync>(
+fn load_enter_ask<G: Gate + Sync + Drop + Send, R: Threads + Wait + Sync>(
     rt: &R,
     desk: &Desk<G>,
     mut pass: Pass<G>,
@@ -101,7 +101,7 @@ fn load_enter_ask<G: Gate + Drop + Send + Sync, R: Threads + Wait + Sync>(
 }
 
 /// Two callers, each on a thread of its own.
-fn both<G: Gate + Drop + Send + Sync, R: Threads + Wait + Sync>(
+fn both<G: Gate + Sync + Drop + Send, R: Threads + Wait + Sync>(
     rt: &R,
     desk: &Desk<G>,
     one: (Pass<G>, Command, Command),
@@ -151,7 +151,7 @@ fn check_journal(rt: &impl Abort, journal: &Journal) {
 }
 
 /// Both know of all calls, one hears the other, and there is no place for a seventh.
-fn check_full<G: Gate + Drop + Send + Sync, R: Threads + Wait + Abort + Sync>(
+fn check_full<G: Gate + Sync + Drop + Send, R: Threads + Wait + Abort + Sync>(
     rt: &R,
     desk: &Desk<G>,
     one: &mut Pass<G>,

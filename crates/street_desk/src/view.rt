@@ -42,7 +42,7 @@ pub struct Limits {
 /// The rule of the table.
 pub struct Turns;
 
-impl<G: Gate + Drop> TableRule<Option<Recorder<G>>, View, Limits> for Turns {
+impl<G: Gate + Sync + Drop> TableRule<Option<Recorder<G>>, View, Limits> for Turns {
     ghost use Rattle.street_desk.specs.Rule.{Kept, first_view};
 
     ghost holds = { λ k. Kept k.calls k.sessions };
@@ -53,7 +53,7 @@ impl<G: Gate + Drop> TableRule<Option<Recorder<G>>, View, Limits> for Turns {
 /// A load.
 pub(crate) struct Look;
 
-impl<G: Gate + Drop> Play<Option<Recorder<G>>, View> for Look {
+impl<G: Gate + Sync + Drop> Play<Option<Recorder<G>>, View> for Look {
     ghost use Rattle.street_desk.specs.Steps.{look};
 
     ghost then = { look };
@@ -62,7 +62,7 @@ impl<G: Gate + Drop> Play<Option<Recorder<G>>, View> for Look {
 /// A compare-exchange, which may take the turn.
 pub(crate) struct Grab;
 
-impl<G: Gate + Drop> Play<Option<Recorder<G>>, View> for Grab {
+impl<G: Gate + Sync + Drop> Play<Option<Recorder<G>>, View> for Grab {
     ghost use Rattle.street_desk.specs.Steps.{grab};
 
     ghost then = { grab };
@@ -71,7 +71,7 @@ impl<G: Gate + Drop> Play<Option<Recorder<G>>, View> for Grab {
 /// The store that gives the turn back.
 pub(crate) struct Release;
 
-impl<G: Gate + Drop> Play<Option<Recorder<G>>, View> for Release {
+impl<G: Gate + Sync + Drop> Play<Option<Recorder<G>>, View> for Release {
     ghost use Rattle.street_desk.specs.Steps.{release};
 
     ghost then = { release };

@@ -1,5 +1,5 @@
-//! The sessions of documents and of folders of examples: each is served, and its replies are compared with those that
-//! stand beside it.
+//! The sessions of documents and of folders of examples: each is served by 1, 2, 3 and 64 workers in turn, and its replies
+//! are compared with those that stand beside it.
 //!
 //! Each word of the command line is a document `NAME.md`, or a folder whose files `NAME.jsonl` and `NAME.out` are the lines
 //! and the replies of a session. The status is 1 where a session is answered otherwise.
@@ -46,6 +46,32 @@ fn named_sessions(rt: &HostRuntime) -> io::Result<Vec<Session>> {
     Ok(sessions)
 }
 
+/// How many workers serve each session in turn.
+const WORKERS: [u32; 4] = [1, 2, 3, 64];
+
+/// Where a session is answered otherwise than it should be.
+struct Difference {
+    /// How many workers served it.
+    workers: u32,
+    /// How many replies agree before the first that does not.
+    same: usize,
+}
+
+/// Serves a session by each number of workers.
+fn first_difference<R: Threads + Sync + AllocGlobal>(
+    rt: &R,
+    session: &Session,
+) -> io::Result<Option<Difference>> {
+    for workers in WORKERS {
+        let answers = session::answers(rt, rt.alloc(), workers, session.lines.as_slice())?;
+        if answers != session.replies {
+            let same = session::same_lines(answers.as_slice(), session.replies.as_slice());
+            return Ok(Some(Difference { workers, same }));
+        }
+    }
+    Ok(None)
+}
+
 /// Serves each session, and tells whether it agrees, and at the end how many do. Whether all do.
 fn report<R: Threads + Sync + Print + AllocGlobal>(
     rt: &R,
@@ -53,13 +79,17 @@ fn report<R: Threads + Sync + Print + AllocGlobal>(
 ) -> io::Result<bool> {
     let mut agreeing: usize = 0;
     for session in sessions {
-        let answers = session::answers(rt, rt.alloc(), session.lines.as_slice())?;
-        if answers == session.replies {
-            agreeing = agreeing.saturating_add(1);
-            println!(rt; "{}: agrees", session.name)?;
-        } else {
-            let same = session::same_lines(answers.as_slice(), session.replies.as_slice());
-            println!(rt; "{}: differs after {same} replies", session.name)?;
+        match first_difference(rt, session)? {
+            None => {
+                agreeing = agreeing.saturating_add(1);
+                println!(rt; "{}: agrees", session.name)?;
+            }
+            Some(Difference { workers, same }) => {
+                println!(rt;
+                    "{}: differs after {same} replies, served by {workers}",
+                    session.name
+                )?;
+            }
         }
     }
     println!(rt; "{agreeing} of {} sessions agree", sessions.len())?;

@@ -62,17 +62,24 @@ fn push_line(text: &mut Vec<u8>, line: &str) -> Result<(), AllocError>
     Ok(())
 }
 
-/// What is answered to the lines of a text where nothing is loaded at first: what the machine says to them.
+/// What is answered to the lines of a text where nothing is loaded at first: what the machine says to them, whatever the
+/// number of workers. That is 1 to 64.
 ///
 /// # Errors
 ///
 /// An error where the lines were not served to their end, for want of memory.
-pub fn answers<R: Threads + Sync>(rt: &R, alloc: Global, lines: &[u8]) -> io::Result<Vec<u8>>
+pub fn answers<R: Threads + Sync>(
+    rt: &R,
+    alloc: Global,
+    workers: u32,
+    lines: &[u8],
+) -> io::Result<Vec<u8>>
+    requires { (1 ≤ workers) × (workers ≤ 64) }
     ensures { IfOk result (λ out. (state : State) × Goes MachineServes None (lines_of lines.now) out.items state) }
 {
     let mut reader = Counted::new(lines);
     let mut writer = Counted::new(Vec::new(alloc));
-    let mut session = EngineSession::new(rt, Engine::new(alloc, 1, Unwatched));
+    let mut session = EngineSession::new(rt, Engine::new(alloc, workers, Unwatched));
     match run_engine(alloc, &mut session, &mut reader, &mut writer) {
         Ok(_tally) => Ok(writer.end),
         Err(_fault) => Err(io::Error::from(io::ErrorKind::OutOfMemory)),

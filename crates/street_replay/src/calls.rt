@@ -31,7 +31,7 @@ fn is_within(clock: u64, steps: u64) -> bool
 
 /// Whether the machine would not refuse an advance of so many steps. An advance of 0 steps tells the clock, and changes
 /// nothing.
-fn may_advance<R: Threads + Sync, G: Gate + Drop + Sync>(
+fn may_advance<R: Threads + Sync, G: Gate + Sync + Drop>(
     rt: &R,
     engine: &mut Engine<G>,
     steps: u64,
@@ -47,7 +47,7 @@ fn may_advance<R: Threads + Sync, G: Gate + Drop + Sync>(
 }
 
 /// A call that was done whole.
-fn call_whole<R: Threads + Sync, G: Gate + Drop + Sync>(
+fn call_whole<R: Threads + Sync, G: Gate + Sync + Drop>(
     rt: &R,
     engine: &mut Engine<G>,
     command: &Command,
@@ -76,7 +76,7 @@ fn clock_of(reply: &Reply) -> Option<u64>
 }
 
 /// An advance that was done whole; its reply tells the clock where it was not refused.
-fn advance_whole<R: Threads + Sync, G: Gate + Drop + Sync>(
+fn advance_whole<R: Threads + Sync, G: Gate + Sync + Drop>(
     rt: &R,
     engine: &mut Engine<G>,
     steps: u64,
@@ -92,7 +92,7 @@ fn advance_whole<R: Threads + Sync, G: Gate + Drop + Sync>(
 }
 
 /// A call of which so many steps were made: an advance of these steps alone.
-fn call_short<R: Threads + Sync, G: Gate + Drop + Sync>(
+fn call_short<R: Threads + Sync, G: Gate + Sync + Drop>(
     rt: &R,
     engine: &mut Engine<G>,
     command: &Command,
@@ -121,7 +121,7 @@ fn call_short<R: Threads + Sync, G: Gate + Drop + Sync>(
 }
 
 /// A call of a tape, as it went at the desk.
-pub(crate) fn call_again<R: Threads + Sync, G: Gate + Drop + Sync>(
+pub(crate) fn call_again<R: Threads + Sync, G: Gate + Sync + Drop>(
     rt: &R,
     engine: &mut Engine<G>,
     call: &Entry,

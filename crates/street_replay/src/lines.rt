@@ -44,7 +44,7 @@ fn read_call(alloc: Global, line: &[u8]) -> Result<Entry, Stop>
 }
 
 /// A further line: its call is applied, and the reply written.
-fn take_call<R: Threads + Sync, G: Gate + Drop + Sync, W: Write>(
+fn take_call<R: Threads + Sync, G: Gate + Sync + Drop, W: Write>(
     rt: &R,
     alloc: Global,
     engine: &mut Engine<G>,
@@ -75,7 +75,7 @@ fn take_call<R: Threads + Sync, G: Gate + Drop + Sync, W: Write>(
 }
 
 /// A line has ended.
-pub(crate) fn end_line<R: Threads + Sync, G: Gate + Drop + Sync, W: Write>(
+pub(crate) fn end_line<R: Threads + Sync, G: Gate + Sync + Drop, W: Write>(
     rt: &R,
     alloc: Global,
     engine: &mut Engine<G>,

@@ -34,7 +34,7 @@ struct Progress {
 }
 
 /// A byte more of the tape.
-fn take_byte<R: Threads + Sync, G: Gate + Drop + Sync, W: Write>(
+fn take_byte<R: Threads + Sync, G: Gate + Sync + Drop, W: Write>(
     rt: &R,
     alloc: Global,
     engine: &mut Engine<G>,
@@ -68,7 +68,7 @@ fn take_byte<R: Threads + Sync, G: Gate + Drop + Sync, W: Write>(
 }
 
 /// Some bytes more of the tape.
-fn feed<R: Threads + Sync, G: Gate + Drop + Sync, W: Write>(
+fn feed<R: Threads + Sync, G: Gate + Sync + Drop, W: Write>(
     rt: &R,
     alloc: Global,
     engine: &mut Engine<G>,
@@ -92,7 +92,7 @@ fn feed<R: Threads + Sync, G: Gate + Drop + Sync, W: Write>(
 }
 
 /// Some bytes more of the tape, and their replies passed on.
-fn take_bytes<R: Threads + Sync, G: Gate + Drop + Sync, W: Write>(
+fn take_bytes<R: Threads + Sync, G: Gate + Sync + Drop, W: Write>(
     rt: &R,
     alloc: Global,
     engine: &mut Engine<G>,
@@ -115,7 +115,7 @@ fn take_bytes<R: Threads + Sync, G: Gate + Drop + Sync, W: Write>(
 }
 
 /// The tape has ended, perhaps within a line, and its last replies are passed on. A tape without a first line is none.
-fn finish<R: Threads + Sync, G: Gate + Drop + Sync, W: Write>(
+fn finish<R: Threads + Sync, G: Gate + Sync + Drop, W: Write>(
     rt: &R,
     alloc: Global,
     engine: &mut Engine<G>,
@@ -148,7 +148,7 @@ fn finish<R: Threads + Sync, G: Gate + Drop + Sync, W: Write>(
 }
 
 /// The tape has ended, and its last replies are passed on.
-fn take_end<R: Threads + Sync, G: Gate + Drop + Sync, W: Write>(
+fn take_end<R: Threads + Sync, G: Gate + Sync + Drop, W: Write>(
     rt: &R,
     alloc: Global,
     engine: &mut Engine<G>,
@@ -169,7 +169,7 @@ fn take_end<R: Threads + Sync, G: Gate + Drop + Sync, W: Write>(
 }
 
 /// Reads the tape to its end, and replays its lines.
-fn replay_lines<R: Threads + Sync, G: Gate + Drop + Sync, D: Read, W: Write>(
+fn replay_lines<R: Threads + Sync, G: Gate + Sync + Drop, D: Read, W: Write>(
     rt: &R,
     alloc: Global,
     reader: &mut Counted<D>,
@@ -225,7 +225,7 @@ fn fault_of(stop: Stop, tally: Tally) -> TapeFault
 /// # Errors
 ///
 /// Those of [`replay`]; `Endless` after so many reads.
-pub fn replay_within<R: Threads + Sync, G: Gate + Drop + Sync, D: Read, W: Write>(
+pub fn replay_within<R: Threads + Sync, G: Gate + Sync + Drop, D: Read, W: Write>(
     rt: &R,
     alloc: Global,
     reader: &mut Counted<D>,
@@ -279,7 +279,7 @@ pub fn replay_within<R: Threads + Sync, G: Gate + Drop + Sync, D: Read, W: Write
 /// written. `Run` where a read failed, a write or a flush failed or a write took no bytes, memory was wanting, or after
 /// 1,000,000,000 reads: the first `tally.calls` calls are applied, and of an advance after them perhaps the first steps, and
 /// of their replies the first `tally.bytes` bytes are written.
-pub fn replay<R: Threads + Sync, G: Gate + Drop + Sync, D: Read, W: Write>(
+pub fn replay<R: Threads + Sync, G: Gate + Sync + Drop, D: Read, W: Write>(
     rt: &R,
     alloc: Global,
     reader: &mut Counted<D>,
