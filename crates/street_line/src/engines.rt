@@ -36,7 +36,7 @@ impl<'a, R: Threads + Sync> Model for EngineSession<'a, R> {
 }
 
 impl<'a, R: Threads + Sync> EngineSession<'a, R> {
-    /// The engine as it stands. Takes no memory.
+    /// The engine as a service. Takes no memory.
     pub fn new(rt: &'a R, engine: Engine<Unwatched>) -> EngineSession<'a, R>
         ensures { result ≡ engine }
     {

@@ -12,8 +12,8 @@ pub enum Served {
 }
 
 /// What serves commands one after another. Its meaning, `serves`, is a relation between the old state, the command, what was
-/// served and the new state. `ready` is what a service asks of its type parameters: one that starts threads asks that they
-/// may use its runtime too, which every function whose bounds say so knows.
+/// served and the new state. `ready` is what it asks of its type parameters, as that all threads may use its runtime: a
+/// function whose bounds say so has it.
 pub trait Service {
     ghost use Rattle.street_base.specs.declared.command.Command.{Command};
     ghost use Rattle.street_line.specs.declared.service.Served.{Served};
