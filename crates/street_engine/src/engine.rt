@@ -150,39 +150,4 @@ mod tests {
         assert_eq!(rt; told(replies.as_slice().get(3)), Some((10, 4, 10)));
         Ok(())
     }
-
-    /// As many links as a network may have, each of two lanes of a million cells.
-    fn long_links(alloc: Global) -> Result<NetSpec, AllocError> {
-        let mut net = one_link(alloc)?;
-        let mut links = Vec::new(alloc);
-        for id in 1..=4_096 {
-            links.push(LinkSpec {
-                id,
-                from: 1,
-                to: 1,
-                lanes: 2,
-                length: 1_000_000,
-                limit: 5,
-            })?;
-        }
-        net.links = Listing::from_vec(links);
-        Ok(net)
-    }
-
-    /// Arrays of so many cells would take eight gigabytes, and more than a test's time.
-    #[test]
-    fn lanes_are_no_arrays(rt: HostRuntime) -> Result<(), Fail> {
-        let alloc = rt.alloc();
-        let mut engine = Engine::new(alloc, 1, Unwatched);
-        let answer = engine.apply(&rt, &Command::Load(long_links(alloc)?));
-        assert!(rt;
-            matches!(
-                &answer,
-                (Reply::Loaded { links: 4_096, .. }, Outcome::Whole)
-            )
-        );
-        let answer = engine.apply(&rt, &Command::Advance { steps: 5 });
-        assert!(rt; matches!(&answer, (Reply::Clock { clock: 5 }, Outcome::Whole)));
-        Ok(())
-    }
 }
