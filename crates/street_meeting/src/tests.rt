@@ -5,6 +5,7 @@ use std::alloc::{AllocError, Global};
 use std::process::Abort;
 use std::sync::atomic::Ordering;
 use std::test::Fail;
+use std::thread::Threads;
 use street_base::{Command, LinkSpec, Listing, NetSpec, NodeSpec, Outcome, Reply, TurnSpec};
 use street_engine::Engine;
 
@@ -70,6 +71,21 @@ fn check_calls(rt: &impl Abort, calls: &Calls) {
     assert_eq!(rt; calls.leaves.load(Ordering::SeqCst), 15);
 }
 
+/// Whether an engine of two workers serves the commands, watched by this gate.
+fn is_served<R: Threads + Sync>(
+    rt: &R,
+    alloc: Global,
+    meeting: &Meeting,
+) -> Result<bool, AllocError> {
+    let commands = commands(alloc)?;
+    let mut engine = Engine::new(alloc, 2, Watched(meeting));
+    let replies = engine.apply_all(rt, commands.as_slice())?;
+    Ok(matches!(
+        replies.as_slice().last(),
+        Some((Reply::Clock { clock: 3 }, Outcome::Whole))
+    ))
+}
+
 /// In each phase one worker is held until the other has left it: the second first, then the other way round. So no thread
 /// runs both their tiles in a phase. Each call tells the tile as it is before the worker's part of the phase, or after it.
 #[test]
@@ -77,10 +93,7 @@ fn two_workers_meet(rt: HostRuntime) -> Result<(), Fail> {
     let alloc = rt.alloc();
     for held in [0, 1] {
         let meeting = Meeting::of(held);
-        let mut engine = Engine::new(alloc, 2, Watched(&meeting));
-        let replies = engine.apply_all(&rt, commands(alloc)?.as_slice())?;
-        let last = replies.as_slice().get(3);
-        assert!(rt; matches!(last, Some((Reply::Clock { clock: 3 }, Outcome::Whole))));
+        assert!(rt; is_served(&rt, alloc, &meeting)?);
         assert_eq!(rt;
             meeting.alone.load(Ordering::SeqCst),
             0,
