@@ -1,10 +1,9 @@
 //! Tiles that are cut and stepped; what is wanted was worked out by hand.
 ghost use Rattle.std.specs.Prelude.{◌≡◌, IfOk};
 
-use crate::{Gate, Hints, Tile, View, step_all};
+use crate::Tile;
 use std::alloc::{AllocError, Global};
 use std::process::Abort;
-use std::sync::atomic::{AtomicU64, Ordering};
 use std::test::Fail;
 use street_base::{LinkSpec, Listing, NetSpec, NodeSpec};
 use street_net::Network;
@@ -62,58 +61,5 @@ fn two_tiles(rt: HostRuntime) -> Result<(), Fail> {
         }
         _ => panic!(&rt; "two tiles are wanted"),
     }
-    Ok(())
-}
-
-/// Counts its calls, with a digit for each phase.
-#[derive(Drop)]
-struct Calls {
-    arrivals: AtomicU64,
-    leaves: AtomicU64,
-}
-
-/// The place of a phase's digit.
-fn digit(phase: u32) -> u64 {
-    match phase {
-        0 => 1,
-        1 => 10,
-        2 => 100,
-        3 => 1000,
-        4 => 10000,
-        _ => 0,
-    }
-}
-
-impl Gate for Calls {
-    fn arrive(&self, worker: u32, phase: u32, tile: &Tile) {
-        self.arrivals.fetch_add(digit(phase), Ordering::SeqCst);
-    }
-
-    fn leave(&self, worker: u32, phase: u32, tile: &Tile) {
-        self.leaves.fetch_add(digit(phase), Ordering::SeqCst);
-    }
-}
-
-/// Each of two workers comes and goes once in each of five phases.
-#[test]
-fn calls_of_a_gate(rt: HostRuntime) -> Result<(), Fail> {
-    let alloc = rt.alloc();
-    let net = Network::build(alloc, &two_nodes(alloc, &[])?)?;
-    let mut tiles = Tile::cut(alloc, &net, 2)?;
-    let mut view = View::new(alloc, &net)?;
-    let gate = Calls {
-        arrivals: AtomicU64::new(0),
-        leaves: AtomicU64::new(0),
-    };
-    step_all(
-        &rt,
-        &net,
-        &mut tiles,
-        &mut view,
-        &mut Hints::new(alloc),
-        &gate,
-    );
-    assert_eq!(rt; gate.arrivals.load(Ordering::SeqCst), 22222);
-    assert_eq!(rt; gate.leaves.load(Ordering::SeqCst), 22222);
     Ok(())
 }
