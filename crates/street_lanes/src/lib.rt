@@ -14,6 +14,7 @@ mod lanes;
 mod lists;
 mod seeking;
 mod showing;
+mod standing;
 #[cfg(test)]
 mod tests;
 mod waiting;
