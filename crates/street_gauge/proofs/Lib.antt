@@ -1,0 +1,4 @@
+mod Clearing
+mod Noting
+mod Reading
+mod Placing

@@ -1,0 +1,2 @@
+pub mod Gauges
+pub mod Inside
