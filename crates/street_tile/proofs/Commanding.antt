@@ -73,10 +73,11 @@ module _ (net : NetSpec) (x : Part) (tile : IsTileOf net x) where
     pub does-if : (P : LaneState → Type 0) → GoesIf n P rule x.own own → DoesIf net (λ m. P (lane_at m p)) (at_place p rule) x (record x { own = own })
     unfolding at_place
     does-if P goes = record {
-      same = record { low = refl; high = refl; links = refl; own = goes.same };
+      same = record { low = refl; high = refl; links = refl; own = goes.same; gauged = refl };
       handed = refl;
       coming = refl;
       arrived = refl;
+      gauges = refl;
       stands = λ m on holds s. record {
         clock = s.clock;
         signals = s.signals;
@@ -111,10 +112,11 @@ module _ (net : NetSpec) (x : Part) (tile : IsTileOf net x) where
 pub does-plan : (net : NetSpec) (x : Part) (node : ℕ) (plan other : SignalPlan) → x.low ≤ node → node - x.low < length x.signals → ShowsAs plan other → DoesIf net (λ m. node < length m.signals) (planned node other) x (record x { signals = set x.signals (node - x.low) (Some plan) })
 unfolding planned
 does-plan net x node plan other low within shows = record {
-  same = record { low = refl; high = refl; links = refl; own = same-none x.own };
+  same = record { low = refl; high = refl; links = refl; own = same-none x.own; gauged = refl };
   handed = refl;
   coming = refl;
   arrived = refl;
+  gauges = refl;
   stands = λ m on there s. record {
     clock = s.clock;
     lanes = s.lanes;

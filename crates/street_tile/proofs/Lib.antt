@@ -16,7 +16,9 @@ pub mod Composing
 pub mod Moving
 mod Numbers
 pub mod Commanding
+pub mod Metering
 mod Parting
+pub mod Placing
 mod Ticking
 mod Cutting
 mod Making

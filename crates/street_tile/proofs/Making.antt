@@ -7,12 +7,14 @@ use Rattle.std.proofs.lemmas.List.{get_or_append_left, get_or_push}
 use Rattle.street_base.specs.declared.net.NetSpec.{NetSpec}
 use Rattle.street_base.specs.Machine.{loaded}
 use Rattle.street_tile.specs.Tiles.{Part, IsShare, IsIdle, StandsFor, AreTiles}
+use Rattle.street_tile.specs.Metering.{MetersStand, AllMetersStand}
 
 -- a tile with its share of the nodes, and nobody on it
 pub record IsMade (net : NetSpec) (k i : ℕ) (x : Part) : Type 0 where
   pub share : IsShare net k i x
   pub idle : IsIdle x
   pub stands : StandsFor x (loaded net)
+  pub meters : MetersStand x (loaded net)
 
 -- the tiles before i are made
 pub record AreMade (net : NetSpec) (k i : ℕ) (xs : List Part) : Type 0 where
@@ -50,3 +52,6 @@ module _ (net : NetSpec) (k i : ℕ) (xs : List Part) (made : AreMade net k i xs
 
   pub made-stand : All (λ x. StandsFor x (loaded net)) xs
   made-stand j d h = let long = made.long in (made.each j d (omega arith)).stands
+
+  pub made-meters : AllMetersStand xs (loaded net)
+  made-meters j d h = let long = made.long in (made.each j d (omega arith)).meters

@@ -10,14 +10,17 @@ use Rattle.street_base.specs.Step.{changed, driven, arrival, leaver_of}
 use Rattle.street_lanes.specs.Views.{LaneStands}
 use Rattle.street_lanes.specs.Lanes.{Lanes, AllLanes, Same, place_at}
 use Rattle.street_lanes.specs.Whole.{IsOn, LanesStand, LanesGo, AllFree}
+use Rattle.street_gauge.specs.Gauges.{Gauges}
 use Rattle.street_tile.specs.Halves.{Entry, vehicle_in, crossing, let_go, placed, placed_lane}
 use Rattle.street_tile.specs.Tiles.{Part, IsTileOf, StandsFor, Shows, ShowSignals, ArePairs, nobody, is_own}
+use Rattle.street_tile.specs.Metering.{KeepMeters, HaveWatched}
 use Rattle.street_tile.specs.Phases.{Changes, Moves, Releases, Enters}
 use Rattle.street_tile.specs.Walks.{IsWalk, IsReleasing}
 use Rattle.street_tile.proofs.Going.{place-is}
 use Rattle.street_tile.proofs.Each.{lane_at-entered}
 use Rattle.street_tile.proofs.Owning.{own-lanes, own-walk, filter-holds}
 use Rattle.street_tile.proofs.Pairs.{own-pairs}
+use Rattle.street_tile.proofs.Metering.{keep-sizes}
 
 -- nobody comes to any of so many lanes
 pub nobody-in : (os : List (Option Entry)) (ps : List Place) → length os ≡ length ps → map vehicle_in (map (λ c. None) os) ≡ map (λ p. None) ps
@@ -40,8 +43,9 @@ module _ (net : NetSpec) (x : Part) (tile : IsTileOf net x) where
   unfolding changed
   changes-of own same room stand = record {
     arrived = refl;
+    gauges = refl;
     goes = record {
-      same = record { low = refl; high = refl; links = refl; own = same };
+      same = record { low = refl; high = refl; links = refl; own = same; gauged = refl };
       handed = refl;
       coming = refl;
       room = room;
@@ -49,14 +53,18 @@ module _ (net : NetSpec) (x : Part) (tile : IsTileOf net x) where
     };
   }
 
-  pub moves-of : (own : Lanes) (arrived : List ℕ) → Same x.own own → x.own.room ≤ own.room
+  pub moves-of : (own : Lanes) (arrived : List ℕ) (gauges : List Gauges) → Same x.own own → x.own.room ≤ own.room
       → ((m : Traffic) → IsOn net m → m.clock ≡ x.clock → ShowSignals x.low x.high x.signals m → LanesStand x.own.places x.own.lanes m → LanesStand own.places own.lanes (driven m))
-      → ((m : Traffic) → IsOn net m → m.clock ≡ x.clock → ShowSignals x.low x.high x.signals m → LanesStand x.own.places x.own.lanes m → arrived ≡ filter_map (λ p. arrival (leaver_of m p)) x.own.places) → Moves net x (record x { own = own; arrived = arrived })
+      → ((m : Traffic) → IsOn net m → m.clock ≡ x.clock → ShowSignals x.low x.high x.signals m → LanesStand x.own.places x.own.lanes m → arrived ≡ filter_map (λ p. arrival (leaver_of m p)) x.own.places)
+      → KeepMeters x.gauges gauges
+      → ((m : Traffic) → IsOn net m → m.clock ≡ x.clock → ShowSignals x.low x.high x.signals m → LanesStand x.own.places x.own.lanes m → HaveWatched m x.own.places gauges) → Moves net x (record x { own = own; arrived = arrived; gauges = gauges })
   unfolding driven
-  moves-of own arrived same room stand gone = record {
+  moves-of own arrived gauges same room stand gone keep watched = record {
     arrived = λ m on s. gone m on (sym s.clock) s.signals s.lanes;
+    gauges = keep;
+    watched = λ m on s. watched m on (sym s.clock) s.signals s.lanes;
     goes = record {
-      same = record { low = refl; high = refl; links = refl; own = same };
+      same = record { low = refl; high = refl; links = refl; own = same; gauged = keep-sizes x.gauges gauges keep };
       handed = refl;
       coming = refl;
       room = room;
@@ -78,9 +86,10 @@ module _ (net : NetSpec) (x : Part) (tile : IsTileOf net x) where
       → ((m : Traffic) → IsReleasing net x.clock x.own view m → handed ≡ filter_map (crossing m) x.own.places) → Releases net view x (record x { own = own; handed = handed })
   unfolding let_go
   releases-of view own handed same room stand gone = record {
-    same = record { low = refl; high = refl; links = refl; own = same };
+    same = record { low = refl; high = refl; links = refl; own = same; gauged = refl };
     arrived = refl;
     coming = refl;
+    gauges = refl;
     room = room;
     stands = λ m on shows s. record { clock = s.clock; lanes = stand m (releasing view m on shows s); signals = s.signals };
     handed = λ m on shows s. gone m (releasing view m on shows s);
@@ -91,10 +100,11 @@ module _ (net : NetSpec) (x : Part) (tile : IsTileOf net x) where
       → Enters net x (record x { own = own; coming = nobody x })
   unfolding departed placed
   enters-of own same goes = record {
-    same = record { low = refl; high = refl; links = refl; own = same };
+    same = record { low = refl; high = refl; links = refl; own = same; gauged = refl };
     handed = refl;
     arrived = refl;
     coming = refl;
+    gauges = refl;
     stands = λ m entry on s coming free. record {
       clock = s.clock;
       signals = s.signals;

@@ -105,10 +105,11 @@ module _ (number : ℕ) where
 
       pub taken-does : 0 < gone → (y : Lanes) → GoesIf n (λ s. in_lane number s ≤ 1) (lane_without number) x.own y → DoesIf net (λ m. HaveAtMostOne x.own.places m number) (without number) x (record x { own = y })
       taken-does some y goes = record {
-        same = record { low = refl; high = refl; links = refl; own = goes.same };
+        same = record { low = refl; high = refl; links = refl; own = goes.same; gauged = refl };
         handed = refl;
         coming = refl;
         arrived = refl;
+        gauges = refl;
         stands = λ m on few s. record {
           clock = s.clock ∙ sym (clock-without m);
           lanes = λ k p l at is.

@@ -13,11 +13,14 @@ use Rattle.street_lanes.specs.Lanes.{IsLane}
 use Rattle.street_lanes.specs.Whole.{IsOn}
 use Rattle.street_tile.specs.Halves.{Entry, takes, entry_on, crossing}
 use Rattle.street_tile.specs.Tiles.{Part, IsRoads, IsTileOf, IsShare, AreTiles, SameTile, Each, AllStand, IsIdle, IsPrepared, nobody, Shows}
+use Rattle.street_gauge.specs.Gauges.{Gauges}
+use Rattle.street_tile.specs.Metering.{gauges_at, HaveWatched, MetersStand, AllMetersStand, noted_by}
 use Rattle.street_tile.specs.Phases.{Changes, Moves, Releases, Enters, ticked, Ticks}
 use Rattle.street_tile.specs.Moves.{all_handed, received}
 use Rattle.street_tile.proofs.Rows.{AreInRow}
 use Rattle.street_tile.proofs.Owning.{lane-of}
 use Rattle.street_tile.proofs.Keeping.{tile-then, same-moved, tile-of-same}
+use Rattle.street_tile.proofs.Metering.{meters-through}
 use Rattle.street_tile.proofs.Composing.{row-same, goes-all, on-changed, on-driven, on-ticked, enters-all, ends-step}
 
 -- each hand-over leads to a lane of the network
@@ -180,6 +183,15 @@ pub clock-through : (m : Traffic) → (departed (released (driven (changed m))))
 unfolding departed released driven changed
 clock-through m = refl
 
+pub detectors-through : (m : Traffic) → (departed (released (driven (changed m)))).detectors ≡ m.detectors
+unfolding departed released driven changed
+detectors-through m = refl
+
+-- what the detectors note in the last phase is what they note in the step
+ends-meters : (x : Part) (m : Traffic) → MetersStand x (noted_by (changed m) (departed (released (driven (changed m))))) → MetersStand x (step m)
+unfolding step noted_by
+ends-meters x m s = s
+
 -- a step whole: whatever the tiles stood for, they then stand for the machine's next state
 module _ (net : NetSpec) (roads : IsRoads net) (view : List Bool) (x0 x1 x2 x3 x4 x5 : List Part) (e1 : length x1 ≡ length x0) (e2 : length x2 ≡ length x0) (e3 : length x3 ≡ length x0) (e4 : length x4 ≡ length x0) (e5 : length x5 ≡ length x0)
     (row : AreInRow net x0) (lanes : Each (Changes net) x0 x1) (motion : Each (Moves net) x1 x2) (shows : (m : Traffic) → AllStand net x2 m → Shows net view m)
@@ -201,3 +213,22 @@ module _ (net : NetSpec) (roads : IsRoads net) (view : List Bool) (x0 x1 x2 x3 x
   arrived-step x6 e6 meter m s i d h =
       (meter i d (omega arith)).arrived ∙ (enters i d (omega arith)).arrived ∙ ap (λ (t : Part). t.arrived) (moves i d (omega arith)) ∙ (releases i d (omega arith)).arrived
       ∙ arrived-motion net x0 x1 x2 e1 e2 lanes motion m s i d h
+
+  -- the detectors note the step
+  pub meters-step : (x6 : List Part) → length x6 ≡ length x0 → Each (Ticks net) x5 x6 → (m : Traffic) → AllStand net x0 m → AllMetersStand x0 m → AllMetersStand x6 (step m)
+  meters-step x6 e6 meter m s stands i d h =
+      let weaved = changed m in
+      let after = departed (released (driven weaved)) in
+      let wove = lanes i d (omega arith) in
+      let moved = motion i d (omega arith) in
+      let left = releases i d (omega arith) in
+      let came = moves i d (omega arith) in
+      let entered = enters i d (omega arith) in
+      let one = goes-all net changed x0 x1 e1 (λ j e l. (lanes j e l).goes) m (on-changed net m s.on) s in
+      let five = stand-enter m s in
+      let places : (get_or x5 i d).own.places ≡ (get_or x1 i d).own.places = entered.same.own.places ∙ ap (λ (t : Part). t.own.places) came ∙ left.same.own.places ∙ moved.goes.same.own.places in
+      let gauges : (get_or x5 i d).gauges ≡ (get_or x2 i d).gauges = entered.gauges ∙ ap (λ (t : Part). t.gauges) came ∙ left.gauges in
+      let saw : HaveWatched weaved (get_or x5 i d).own.places (get_or x5 i d).gauges = rw (places, gauges) (moved.watched weaved one.on (one.each i d (omega arith))) in
+      let meters : (k : ℕ) → (gauges_at (get_or x5 i d).gauges k).meters ≡ (gauges_at (get_or x0 i d).gauges k).meters = λ k. ap (λ gs. (gauges_at gs k).meters) gauges ∙ ap (λ (g : Gauges). g.meters) (moved.gauges.each k) ∙ ap (λ gs. (gauges_at gs k).meters) wove.gauges in
+      let stood = meters-through (get_or x0 i d) (get_or x5 i d) m after (places ∙ wove.goes.same.own.places) meters (detectors-through m) (stands i d (omega arith)) in
+      ends-meters (get_or x6 i d) m ((meter i d (omega arith)).noted weaved after five.on (five.each i d (omega arith)) saw stood)

@@ -34,6 +34,7 @@ pub record DoesIf (net : NetSpec) (P : Traffic → Type 0) (f : Traffic → Traf
   pub handed : y.handed ≡ x.handed
   pub coming : y.coming ≡ x.coming
   pub arrived : y.arrived ≡ x.arrived
+  pub gauges : y.gauges ≡ x.gauges
   pub stands : (m : Traffic) → IsOn net m → P m → StandsFor x m → StandsFor y (f m)
 
 abbrev pub Does : NetSpec → (Traffic → Traffic) → Part → Part → Type 0

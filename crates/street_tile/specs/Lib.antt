@@ -1,5 +1,6 @@
 pub mod Halves
 pub mod Tiles
+pub mod Metering
 pub mod Phases
 pub mod Walks
 pub mod Moves

@@ -13,7 +13,9 @@ use Rattle.street_base.specs.Signal.{SignalPlan}
 use Rattle.street_base.specs.State.{Traffic, lane_at}
 use Rattle.street_lanes.specs.Lanes.{Lanes, IsOf, Same, no_place}
 use Rattle.street_lanes.specs.Whole.{IsOn, LanesStand}
-use Rattle.street_lanes.specs.Driving.{PlanStands}
+use Rattle.street_lanes.specs.Driving.{PlanStands, cells_on}
+use Rattle.street_meter.specs.Meter.{next_step}
+use Rattle.street_gauge.specs.Gauges.{Gauges}
 use Rattle.street_tile.specs.Halves.{Entry}
 
 -- ---- the network
@@ -49,7 +51,8 @@ ShowSignals low high signals m = (node : ℕ) → low ≤ node → node < high �
 -- ---- a tile
 
 -- what contracts see of a tile: its nodes from low up to high, how many links the network has, its own lanes, the clock and
--- the signal plans of its nodes; who was let go and not yet moved, who comes to each of its lanes, and who arrived
+-- the signal plans of its nodes; who was let go and not yet moved, who comes to each of its lanes, and who arrived; and the
+-- detectors of each own lane
 pub record Part : Type 0 where
   pub low : ℕ
   pub high : ℕ
@@ -60,6 +63,7 @@ pub record Part : Type 0 where
   pub handed : List Entry
   pub coming : List (Option Vehicle)
   pub arrived : List ℕ
+  pub gauges : List Gauges
 
 -- the link of this lane runs to a node from low up to high
 abbrev pub is_own : NetSpec → ℕ → ℕ → Place → Bool
@@ -68,6 +72,10 @@ is_own net low high p = option_map_or (λ node. nat_le low node && nat_lt node h
 abbrev pub own_places : NetSpec → ℕ → ℕ → List Place
 own_places net low high = filter (is_own net low high) (places net)
 
+-- how many cells each of these lanes has, by its detectors
+abbrev pub sizes_of : List Gauges → List ℕ
+sizes_of gauges = map (λ g. g.size) gauges
+
 -- a tile of this network
 pub record IsTileOf (net : NetSpec) (x : Part) : Type 0 where
   pub roads : IsRoads net
@@ -75,6 +83,7 @@ pub record IsTileOf (net : NetSpec) (x : Part) : Type 0 where
   pub within : x.high ≤ length net.nodes
   pub places : x.own.places ≡ own_places net x.low x.high
   pub own : IsOf net x.own
+  pub gauged : sizes_of x.gauges ≡ map (cells_on net) x.own.places
 
 -- of these lanes lane 1 of a link comes right after lane 0
 pub record ArePairs (net : NetSpec) (ps : List Place) : Type 0 where
@@ -93,14 +102,19 @@ pub record AreNumbers (links : ℕ) (ps : List Place) (numbers : List ℕ) : Typ
   pub wide : length numbers ≡ 2 * links
   pub at : (k : ℕ) (p : Place) → slice_get ps k ≡ Some p → slice_index_or numbers (slot_of p) 0 ≡ k
 
--- what a tile keeps beside its lanes: a place for each of its nodes, links and lanes, and room for a hand-over and an arrival of each lane
-pub record IsKept (low high links : ℕ) (ps : List Place) (numbers : List ℕ) (signals mouths coming handed arrived : ℕ) : Type 0 where
+-- the next step that each of these detectors notes is this one
+abbrev pub AreDue : ℕ → List Gauges → Type 0
+AreDue clock gauges = All (λ g. All (λ x. next_step x ≡ clock) g.meters) gauges
+
+-- what a tile keeps beside its lanes: a place for each of its nodes, links and lanes, and room for a hand-over and an arrival of each lane; its detectors have noted all steps so far
+pub record IsKept (low high links : ℕ) (ps : List Place) (numbers : List ℕ) (signals mouths coming handed arrived clock : ℕ) (gauges : List Gauges) : Type 0 where
   pub nodes : low + signals ≡ high
   pub numbered : AreNumbers links ps numbers
   pub mouths_wide : mouths ≡ 2 * links
   pub coming_long : coming ≡ length ps
   pub handed_room : length ps ≤ handed
   pub arrived_room : length ps ≤ arrived
+  pub due : AreDue clock gauges
 
 -- nobody is on the way to a tile
 abbrev pub nobody : Part → List (Option Vehicle)
@@ -122,6 +136,7 @@ pub record SameTile (x y : Part) : Type 0 where
   pub high : y.high ≡ x.high
   pub links : y.links ≡ x.links
   pub own : Same x.own y.own
+  pub gauged : sizes_of y.gauges ≡ sizes_of x.gauges
 
 -- ---- all tiles
 

@@ -3,14 +3,17 @@ ghost use Rattle.std.specs.Prelude.{◌≡◌, ℕ, ◌+◌, ◌*◌, ◌/◌, �
 ghost use Rattle.std.specs.List.{All, range_with_len};
 ghost use Rattle.street_base.specs.Machine.{loaded};
 ghost use Rattle.street_net.specs.Tables.{place_of};
+ghost use Rattle.street_lanes.specs.Lanes.{AllLanes};
 ghost use Rattle.street_tile.specs.Tiles.{IsTileOf, IsIdle, StandsFor, AreTiles, AreNumbers, own_places};
+ghost use Rattle.street_tile.specs.Metering.{bare, MetersStand, AllMetersStand};
 ghost use Rattle.street_tile.specs.Walks.{AtMostOnce};
 
 use crate::hand_over::HandOver;
 use crate::tile::Tile;
 use crate::view::slot;
 use std::alloc::{AllocError, Global};
-use street_base::{LaneNo, LinkIx, Starved, Step};
+use street_base::{CellNo, LaneNo, LinkIx, Starved, Step};
+use street_gauge::Gauges;
 use street_lanes::Lanes;
 use street_net::{LaneId, Network};
 use street_node::SignalPlan;
@@ -82,6 +85,23 @@ fn nones<T: Drop>(alloc: Global, count: usize) -> Result<Vec<Option<T>>, AllocEr
     Ok(nones)
 }
 
+/// For each of these lanes its detectors, none so far.
+///
+/// # Errors
+/// Memory was refused.
+fn gauges_of(alloc: Global, net: &Network, own: &[LaneId]) -> Result<Vec<Gauges>, AllocError>
+    requires { AllLanes net.now (map place_of own.now) }
+    ensures { IfOk result (λ gauges. gauges.items ≡ map (bare net.now) own.now) }
+{
+    let links = net.spec().links.as_slice();
+    let mut gauges = Vec::with_capacity(alloc, own.len())?;
+    for at in own {
+        let length = links[at.link.position()].length as CellNo;
+        gauges.push(Gauges::new(alloc, length))?;
+    }
+    Ok(gauges)
+}
+
 impl Tile {
     /// The tile of the nodes from `low` up to `high`, with nobody on it.
     ///
@@ -94,6 +114,7 @@ impl Tile {
         ensures nodes { IfOk result (λ tile. (tile.low ≡ low) × (tile.high ≡ high)) }
         ensures idle { IfOk result IsIdle }
         ensures stands { IfOk result (λ tile. StandsFor tile (loaded net.now)) }
+        ensures meters { IfOk result (λ tile. MetersStand tile (loaded net.now)) }
     {
         let links = net.spec().links.as_slice().len();
         let places = own_lanes(alloc, net, low, high)?;
@@ -110,6 +131,7 @@ impl Tile {
             handed: Vec::with_capacity(alloc, lanes)?,
             coming: nones(alloc, lanes)?,
             arrived: Vec::with_capacity(alloc, lanes)?,
+            gauges: gauges_of(alloc, net, &places)?,
         })
     }
 
@@ -125,6 +147,7 @@ impl Tile {
         ensures count { IfOk result (λ tiles. length tiles.items ≡ min workers (length net.now.nodes)) }
         ensures idle { IfOk result (λ tiles. All IsIdle tiles.items) }
         ensures stand { IfOk result (λ tiles. All (λ x. StandsFor x (loaded net.now)) tiles.items) }
+        ensures meters { IfOk result (λ tiles. AllMetersStand tiles.items (loaded net.now)) }
     {
         let nodes = net.spec().nodes.as_slice().len();
         let count = workers.min(nodes);

@@ -1,5 +1,5 @@
 //! Lane changes and motion on a tile's own lanes.
-ghost use Rattle.std.specs.Prelude.{◌≡◌, ℕ, ◌+◌, ◌<◌, ◌≤◌, length, ◌++◌, filter_map, true, IsTrue, ◌↔◌, vec_len, vec_capacity};
+ghost use Rattle.std.specs.Prelude.{◌≡◌, ℕ, ◌+◌, ◌<◌, ◌≤◌, length, map, ◌++◌, filter_map, true, IsTrue, ◌↔◌, vec_len, vec_capacity};
 ghost use Rattle.street_base.specs.Limits.{last_clock};
 ghost use Rattle.street_base.specs.Network.{link_at};
 ghost use Rattle.street_base.specs.State.{Traffic, lane_at};
@@ -7,9 +7,13 @@ ghost use Rattle.street_base.specs.Step.{changed, driven, driven_lane, arrival, 
 ghost use Rattle.street_lanes.specs.Views.{LaneStands};
 ghost use Rattle.street_lanes.specs.Lanes.{Same, Others, IsOf, lane_of, place_at};
 ghost use Rattle.street_lanes.specs.Whole.{IsOn, LanesStand};
-ghost use Rattle.street_tile.specs.Tiles.{IsRoads, ArePairs, ShowSignals, is_own};
+ghost use Rattle.street_lanes.specs.Driving.{cells_on};
+ghost use Rattle.street_gauge.specs.Gauges.{watch_of};
+ghost use Rattle.street_tile.specs.Tiles.{IsRoads, ArePairs, ShowSignals, is_own, sizes_of};
+ghost use Rattle.street_tile.specs.Metering.{KeepMeters, HaveWatched};
 
 use street_base::{CarNo, Step};
+use street_gauge::Gauges;
 use street_lanes::Lanes;
 use street_net::Network;
 use street_node::SignalPlan;
@@ -42,9 +46,10 @@ pub(crate) fn change_lanes(own: &mut Lanes, net: &Network, clock: Step)
 }
 
 /// Motion on lane `n`, by the signal plan of the node that its link runs to. `signals` are the plans of the nodes from
-/// `low` on. Answers who arrived.
+/// `low` on. The lane's detectors watch. Answers who arrived.
 fn drive_lane(
     own: &mut Lanes,
+    gauges: &mut Gauges,
     net: &Network,
     n: usize,
     clock: Step,
@@ -55,6 +60,7 @@ fn drive_lane(
     requires of { IsOf net.now own.old }
     requires in_time { clock ≤ last_clock }
     requires node { is_own net.now low (low + length signals.now) (place_at own.old n) ≡ true }
+    requires size { gauges.old.size ≡ length (lane_of own.old n).track.cells }
     ensures same { Same own.old own.new }
     ensures stands { (m : Traffic) → IsOn net.now m → m.clock ≡ clock
         → ShowSignals low (low + length signals.now) signals.now m
@@ -66,15 +72,21 @@ fn drive_lane(
         → result ≡ arrival (leaver_of m (place_at own.old n)) }
     ensures others { Others n own.old own.new }
     ensures room { own.old.room ≤ own.new.room }
+    ensures meters { gauges.new ≡ record gauges.old { watches = gauges.new.watches } }
+    ensures watched { (m : Traffic) → IsOn net.now m → m.clock ≡ clock
+        → ShowSignals low (low + length signals.now) signals.now m
+        → LaneStands (lane_of own.old n) (lane_at m (place_at own.old n))
+        → gauges.new.watches ≡ map (watch_of m (place_at own.old n)) gauges.old.meters }
 {
     let node = net.end_of(own.at(n).link);
     let plan = signals[node.position() - low].as_ref();
-    own.drive(net, n, clock, plan, &mut [])
+    gauges.drive(own, net, n, clock, plan)
 }
 
-/// Motion on each of these lanes. The numbers of those who arrived are added to `arrived`.
+/// Motion on each of these lanes, which their detectors watch. The numbers of those who arrived are added to `arrived`.
 pub(crate) fn drive_lanes(
     own: &mut Lanes,
+    gauges: &mut [Gauges],
     net: &Network,
     clock: Step,
     low: usize,
@@ -84,6 +96,7 @@ pub(crate) fn drive_lanes(
     requires of { IsOf net.now own.old }
     requires in_time { clock ≤ last_clock }
     requires nodes { (n : ℕ) → n < length own.old.places → is_own net.now low (low + length signals.now) (place_at own.old n) ≡ true }
+    requires gauged { sizes_of gauges.old ≡ map (cells_on net.now) own.old.places }
     requires room { vec_len arrived.old + length own.old.places ≤ vec_capacity arrived.old }
     ensures same { Same own.old own.new }
     ensures room { own.old.room ≤ own.new.room }
@@ -95,9 +108,13 @@ pub(crate) fn drive_lanes(
         → LanesStand own.old.places own.old.lanes m
         → arrived.new.items ≡ arrived.old.items ++ filter_map (λ p. arrival (leaver_of m p)) own.old.places }
     ensures capacity { vec_capacity arrived.old ≤ vec_capacity arrived.new }
+    ensures meters { KeepMeters gauges.old gauges.new }
+    ensures watched { (m : Traffic) → IsOn net.now m → m.clock ≡ clock
+        → ShowSignals low (low + length signals.now) signals.now m
+        → LanesStand own.old.places own.old.lanes m → HaveWatched m own.old.places gauges.new }
 {
     for n in 0..own.len() {
-        if let Some(number) = drive_lane(own, net, n, clock, low, signals) {
+        if let Some(number) = drive_lane(own, &mut gauges[n], net, n, clock, low, signals) {
             arrived.push_reserved(number);
         }
     }

@@ -13,6 +13,7 @@ mod gate;
 mod hand_over;
 mod hints;
 mod lanes;
+mod meters;
 mod release;
 mod show;
 mod step;

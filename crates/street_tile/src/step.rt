@@ -8,6 +8,7 @@ ghost use Rattle.street_net.specs.Tables.{place_of};
 ghost use Rattle.street_lanes.specs.Lanes.{IsLane};
 ghost use Rattle.street_tile.specs.Halves.{Entry};
 ghost use Rattle.street_tile.specs.Tiles.{Part, IsTileOf, IsIdle, IsPrepared, Each, AreTiles, AllStand, Shows, is_own, nobody};
+ghost use Rattle.street_tile.specs.Metering.{AllMetersStand};
 ghost use Rattle.street_tile.specs.Phases.{Changes, Moves, Releases, Enters, Ticks};
 ghost use Rattle.street_tile.specs.Moves.{Awaits, IsMoved, all_handed, received};
 ghost use Rattle.street_tile.specs.Hinted.{KeepsHints};
@@ -127,6 +128,7 @@ fn all_enter<R: Threads + Sync, G: Gate + Sync>(rt: &R, net: &Network, tiles: &m
 /// Phase 4 of all tiles.
 fn all_meter<R: Threads + Sync, G: Gate + Sync>(rt: &R, net: &Network, tiles: &mut [Tile], gate: &G)
     requires few { length tiles.old ≤ 64 }
+    requires tiles { All (IsTileOf net.now) tiles.old }
     requires in_time { All (λ x. x.clock < last_clock) tiles.old }
     ensures { Each (Ticks net.now) tiles.old tiles.new }
 {
@@ -136,7 +138,7 @@ fn all_meter<R: Threads + Sync, G: Gate + Sync>(rt: &R, net: &Network, tiles: &m
         tiles,
         threads,
         &|i, tile: &mut Tile|
-            requires { (i < 64) × (tile.now.clock < last_clock) }
+            requires { (i < 64) × IsTileOf net.now tile.now × (tile.now.clock < last_clock) }
             ensures { Ticks net.entry.now tile.entry.now tile.exit.now }
         {
             gate.arrive(i as u32, 4, tile);
@@ -237,6 +239,8 @@ pub fn step_all<R: Threads + Sync, G: Gate + Sync>(
     ensures machine { (m : Traffic) → AllStand net.now tiles.old m → AllStand net.now tiles.new (step m) }
     ensures arrived { (m : Traffic) → AllStand net.now tiles.old m
         → Each (λ x y. y.arrived ≡ filter_map (λ p. arrival (leaver_of (changed m) p)) x.own.places) tiles.old tiles.new }
+    ensures meters { (m : Traffic) → AllStand net.now tiles.old m → AllMetersStand tiles.old m
+        → AllMetersStand tiles.new (step m) }
     ensures tiles { AreTiles net.now tiles.new }
     ensures handed { All (λ x. (x.handed ≡ []) × (x.coming ≡ nobody x)) tiles.new }
     ensures view { length view.new ≡ length view.old }

@@ -14,11 +14,13 @@ ghost use Rattle.street_tile.specs.Moves.{Awaits};
 use crate::enter::enter_lanes;
 use crate::hand_over::HandOver;
 use crate::lanes::{change_lanes, drive_lanes};
+use crate::meters::note_lanes;
 use crate::release::release_lanes;
 use crate::show::show_lanes;
 use crate::view::{View, slot};
 use std::marker::Model;
 use street_base::{CarNo, Starved, Step};
+use street_gauge::Gauges;
 use street_lanes::Lanes;
 use street_net::Network;
 use street_node::SignalPlan;
@@ -37,6 +39,7 @@ pub struct Tile {
     pub(crate) handed: Vec<HandOver>,
     pub(crate) coming: Vec<Option<HandOver>>,
     pub(crate) arrived: Vec<CarNo>,
+    pub(crate) gauges: Vec<Gauges>,
 }
 
 impl Model for Tile {
@@ -56,9 +59,10 @@ impl Model for Tile {
       handed = t.handed.items;
       coming = map vehicle_in t.coming.items;
       arrived = t.arrived.items;
+      gauges = t.gauges.items;
     } };
 
-    ghost invariant = { λ t. IsKept t.low t.high t.links t.own.places t.numbers.items (length t.signals.items) (length t.mouths.items) (length t.coming.items) (vec_capacity t.handed) (vec_capacity t.arrived) };
+    ghost invariant = { λ t. IsKept t.low t.high t.links t.own.places t.numbers.items (length t.signals.items) (length t.mouths.items) (length t.coming.items) (vec_capacity t.handed) (vec_capacity t.arrived) t.clock t.gauges.items };
 }
 
 impl Tile {
@@ -70,7 +74,7 @@ impl Tile {
         change_lanes(&mut self.own, net, self.clock);
     }
 
-    /// Motion on each own lane; the tile then holds the numbers of those who arrived. Takes no memory.
+    /// Motion on each own lane, seen by its detectors; the tile then holds the numbers of those who arrived. Takes no memory.
     pub fn phase_motion(&mut self, net: &Network)
         requires tile { IsTileOf net.now self.old }
         requires none { self.old.arrived ≡ [] }
@@ -79,6 +83,7 @@ impl Tile {
     {
         drive_lanes(
             &mut self.own,
+            &mut self.gauges,
             net,
             self.clock,
             self.low,
@@ -127,11 +132,13 @@ impl Tile {
         enter_lanes(&mut self.own, &mut self.coming, self.clock);
     }
 
-    /// The clock goes on. Takes no memory.
+    /// Each detector notes the step, and the clock goes on. Takes no memory.
     pub fn phase_meter(&mut self, net: &Network)
-        requires { self.old.clock < last_clock }
+        requires tile { IsTileOf net.now self.old }
+        requires in_time { self.old.clock < last_clock }
         ensures { Ticks net.now self.old self.new }
     {
+        note_lanes(&mut self.gauges, &self.own);
         self.clock += 1;
     }
 

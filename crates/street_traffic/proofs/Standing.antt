@@ -181,7 +181,7 @@ noted-stand net xs ys m long each s = record {
 }
 
 pub noted-tiles : (net : NetSpec) (xs ys : List Part) → length ys ≡ length xs → Each (λ x y. y ≡ record x { arrived = [] }) xs ys → AreTiles net xs → AreTiles net ys
-noted-tiles net xs ys long each = tiles-same net xs ys long (λ k d l. subst (SameTile (get_or xs k d)) (sym (each k d l)) (record { low = refl; high = refl; links = refl; own = record { places = refl; sizes = refl; odds = refl } }))
+noted-tiles net xs ys long each = tiles-same net xs ys long (λ k d l. subst (SameTile (get_or xs k d)) (sym (each k d l)) (record { low = refl; high = refl; links = refl; own = record { places = refl; sizes = refl; odds = refl }; gauged = refl }))
 
 pub noted-idle : (xs ys : List Part) → length ys ≡ length xs → Each (λ x y. y ≡ record x { arrived = [] }) xs ys → All (λ x. (x.handed ≡ []) × (x.coming ≡ nobody x)) xs → All IsIdle ys
 noted-idle xs ys long each handed k d l =

@@ -60,10 +60,11 @@ one-does net P f xs i y d tiles idle h does on elsewhere = record {
 -- a tile that is as it was, reserved room apart
 keeps-does : (net : NetSpec) (x y : Part) → KeepsAll x y → DoesIf net (λ m. Unit {0}) (λ m. m) x y
 keeps-does net x y e = subst (DoesIf net (λ m. Unit {0}) (λ m. m) x) (sym e) (record {
-  same = record { low = refl; high = refl; links = refl; own = record { places = refl; sizes = refl; odds = refl } };
+  same = record { low = refl; high = refl; links = refl; own = record { places = refl; sizes = refl; odds = refl }; gauged = refl };
   handed = refl;
   coming = refl;
   arrived = refl;
+  gauges = refl;
   stands = λ m on holds s. record { clock = s.clock; lanes = s.lanes; signals = s.signals };
 })
 

@@ -3,7 +3,12 @@ use Rattle.std.specs.Prelude.{Some}
 use Rattle.std.specs.Option.{option_copied}
 use Rattle.street_base.specs.Network.{Place, link_at, node_of}
 use Rattle.street_lanes.specs.Lanes.{place_at}
+use Rattle.street_base.specs.State.{lane_at}
+use Rattle.street_base.specs.Step.{drive_on}
+use Rattle.street_rule.specs.Watching.{watched}
+use Rattle.street_gauge.specs.Gauges.{cleared}
 use Rattle.street_tile.proofs.Driving.{plan-shown}
+use Rattle.street_tile.proofs.Metering.{map-twice}
 use Rattle.street_tile.proofs.lanes.drive_lane.Goals as goal
 
 pub returns-clause-stands : goal.returns-clause-stands
@@ -12,7 +17,7 @@ returns-clause-stands c = λ m on clock shows stands.
     let node : node_of c.args.net.now (link_at c.args.net.now (place_at c.args.own.now c.args.n).link).to ≡ Some c.end_of-node.result = rw (← link) c.end_of-node.ensures.position in
     let plan : option_copied c.as_ref-plan.result ≡ get_or c.args.signals.now (c.end_of-node.result - c.args.low) c.index-signals-position.result =
     c.as_ref-plan.ensures.value ∙ c.index-signals-position.is ∙ ap (λ n. get_or c.args.signals.now (n - c.args.low) c.index-signals-position.result) c.position.ensures in
-    c.drive.ensures.goes m (record {
+    c.drive.ensures.drives.goes m (record {
       network = on.network;
       clock = clock;
       in_time = c.requires.in_time;
@@ -25,9 +30,23 @@ returns-clause-arrived c = λ m on clock shows stands.
     let node : node_of c.args.net.now (link_at c.args.net.now (place_at c.args.own.now c.args.n).link).to ≡ Some c.end_of-node.result = rw (← link) c.end_of-node.ensures.position in
     let plan : option_copied c.as_ref-plan.result ≡ get_or c.args.signals.now (c.end_of-node.result - c.args.low) c.index-signals-position.result =
     c.as_ref-plan.ensures.value ∙ c.index-signals-position.is ∙ ap (λ n. get_or c.args.signals.now (n - c.args.low) c.index-signals-position.result) c.position.ensures in
-    c.drive.ensures.arrived m (record {
+    c.drive.ensures.drives.arrived m (record {
       network = on.network;
       clock = clock;
       in_time = c.requires.in_time;
       plan = plan-shown c.args.net.now m on.network c.args.low c.args.signals.now (place_at c.args.own.now c.args.n) c.end_of-node.result node c.requires.node shows (option_copied c.as_ref-plan.result) c.index-signals-position.result plan;
     }) stands
+
+pub returns-clause-watched : goal.returns-clause-watched
+returns-clause-watched c = λ m on clock shows stands.
+    let link = ap (λ (p : Place). p.link) c.at.ensures in
+    let node : node_of c.args.net.now (link_at c.args.net.now (place_at c.args.own.now c.args.n).link).to ≡ Some c.end_of-node.result = rw (← link) c.end_of-node.ensures.position in
+    let plan : option_copied c.as_ref-plan.result ≡ get_or c.args.signals.now (c.end_of-node.result - c.args.low) c.index-signals-position.result =
+    c.as_ref-plan.ensures.value ∙ c.index-signals-position.is ∙ ap (λ n. get_or c.args.signals.now (n - c.args.low) c.index-signals-position.result) c.position.ensures in
+    c.drive.ensures.drives.watched m (record {
+      network = on.network;
+      clock = clock;
+      in_time = c.requires.in_time;
+      plan = plan-shown c.args.net.now m on.network c.args.low c.args.signals.now (place_at c.args.own.now c.args.n) c.end_of-node.result node c.requires.node shows (option_copied c.as_ref-plan.result) c.index-signals-position.result plan;
+    }) stands
+    ∙ map-twice (watched (drive_on m (place_at c.args.own.now c.args.n)) (lane_at m (place_at c.args.own.now c.args.n)).track) cleared c.args.gauges.now.meters

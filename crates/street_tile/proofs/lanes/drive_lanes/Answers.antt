@@ -1,15 +1,19 @@
-use Rattle.std.proofs.Common.{◌≡◌, ◌+◌, ◌<◌, length, arith, refl, sym, ap, subst, ◌∙◌}
+use Rattle.std.proofs.Common.{◌≡◌, ◌+◌, ◌<◌, length, map, get_or, arith, refl, sym, ap, subst, ◌∙◌}
 use Rattle.std.specs.Prelude.{Some, None}
 use Rattle.std.proofs.lemmas.List.{append-nil}
+use Rattle.std.proofs.lemmas.Option.{slice_get_within}
 use Rattle.street_base.specs.Network.{Place}
 use Rattle.street_base.specs.State.{Traffic, lane_at}
 use Rattle.street_base.specs.Step.{driven, driven_lane, arrival, leaver_of}
 use Rattle.street_lanes.specs.Views.{LaneStands}
 use Rattle.street_lanes.specs.Lanes.{lane_of, place_at}
 use Rattle.street_lanes.specs.Whole.{IsOn, LanesStand}
+use Rattle.street_lanes.specs.Driving.{cells_on}
+use Rattle.street_gauge.specs.Gauges.{watch_of}
 use Rattle.street_tile.specs.Tiles.{ShowSignals}
 use Rattle.street_tile.proofs.Going.{same-then, same-long, of-same, lanes-here, lanes-next, lanes-all, place-is}
 use Rattle.street_tile.proofs.Driving.{lane_at-driven, arrivals-more, arrivals-all}
+use Rattle.street_tile.proofs.Metering.{keep-sizes, gauges-even, size-at, keep-next, watched-next}
 use Rattle.street_tile.proofs.lanes.drive_lanes.Goals as goal
 use Rattle.street_tile.proofs.lanes.drive_lanes.Goals.{in-Some, in_default}
 
@@ -21,6 +25,14 @@ drive_lane-requires-clause-of c = of-same c.args.net.now c.args.own.now c.loop-n
 
 pub drive_lane-requires-clause-node : goal.drive_lane-requires-clause-node
 drive_lane-requires-clause-node c = rw c.loop-n.invariant.same.places (c.requires.nodes c.loop-n.n (omega arith))
+
+pub drive_lane-requires-clause-size : goal.drive_lane-requires-clause-size
+drive_lane-requires-clause-size c =
+    let of = of-same c.args.net.now c.args.own.now c.loop-n.own c.loop-n.invariant.same c.requires.of in
+    let places = c.loop-n.invariant.same.places in
+    let long : length c.loop-n.own.places ≡ length c.args.own.now.places = ap length places in
+    let gauged = keep-sizes c.args.gauges.now c.loop-n.gauges c.loop-n.invariant.gauges ∙ c.requires.gauged ∙ ap (map (cells_on c.args.net.now)) (sym places) in
+    size-at c.args.net.now c.loop-n.own of c.loop-n.gauges gauged c.loop-n.n (omega arith) _
 
 module _ (c : goal.Joined-drive_lane) (m : Traffic) (on : IsOn c.args.net.now m) (in_time : m.clock ≡ c.args.clock) (shows : ShowSignals c.args.low (c.args.low + length c.args.signals.now) c.args.signals.now m) (stand : LanesStand c.args.own.now.places c.args.own.now.lanes m) where
   within : c.loop-n.n < length c.args.own.now.places
@@ -37,6 +49,14 @@ module _ (c : goal.Joined-drive_lane) (m : Traffic) (on : IsOn c.args.net.now m)
 
   gone : c.drive_lane.result ≡ arrival (leaver_of m (place_at c.args.own.now c.loop-n.n))
   gone = c.drive_lane.ensures.arrived m on in_time shows here ∙ ap (λ (p : Place). arrival (leaver_of m p)) same_place
+
+  saw : c.drive_lane.new.gauges.watches ≡ map (watch_of m (place_at c.args.own.now c.loop-n.n)) (get_or c.loop-n.gauges c.loop-n.n c.index-gauges-n.result).meters
+  saw = c.drive_lane.ensures.watched m on in_time shows here ∙ ap (λ (p : Place). map (watch_of m p) (get_or c.loop-n.gauges c.loop-n.n c.index-gauges-n.result).meters) same_place
+
+there : (c : goal.Joined-drive_lane) → c.loop-n.n < length c.args.gauges.now
+there c =
+    let long = gauges-even c.args.net.now c.args.own.now c.requires.of c.args.gauges.now c.requires.gauged in
+    omega arith
 
 pub loop-n-preserved : goal.loop-n-preserved
 loop-n-preserved c = record {
@@ -59,6 +79,10 @@ loop-n-preserved c = record {
         | in-Some w ↦ rw w.arrived-is (arrivals-more m ps c.loop-n.n (place_at c.args.own.now c.loop-n.n) (place-is c.args.own.now c.loop-n.n (within c m on in_time shows stand)) c.args.arrived.now.items c.loop-n.arrived.items w.push_reserved.new.self.items (Some w.in-Some.number) before (sym w.in-Some.is ∙ number) w.push_reserved.ensures.items)
         | in_default w ↦ rw w.arrived-is (arrivals-more m ps c.loop-n.n (place_at c.args.own.now c.loop-n.n) (place-is c.args.own.now c.loop-n.n (within c m on in_time shows stand)) c.args.arrived.now.items c.loop-n.arrived.items c.loop-n.arrived.items None before (sym w.in_default.is ∙ number) (sym (append-nil c.loop-n.arrived.items)))
       ];
+  gauges = keep-next c.args.gauges.now c.loop-n.gauges c.loop-n.invariant.gauges c.loop-n.n (there c) c.drive_lane.new.gauges c.index-gauges-n.result c.drive_lane.ensures.meters;
+  watched = λ m on in_time shows stand.
+      watched-next c.args.gauges.now c.loop-n.gauges c.loop-n.invariant.gauges c.loop-n.n (there c) c.drive_lane.new.gauges c.index-gauges-n.result c.drive_lane.ensures.meters m c.args.own.now.places
+      (c.loop-n.invariant.watched m on in_time shows stand) (place_at c.args.own.now c.loop-n.n) (place-is c.args.own.now c.loop-n.n (within c m on in_time shows stand)) (saw c m on in_time shows stand);
 }
 
 pub returns-clause-stand : goal.returns-clause-stand
@@ -68,3 +92,8 @@ returns-clause-stand c = λ m on in_time shows stand.
 
 pub returns-clause-arrived : goal.returns-clause-arrived
 returns-clause-arrived c = λ m on in_time shows stand. arrivals-all m c.args.own.now.places c.loop-n.n c.args.arrived.now.items c.loop-n.arrived.items (c.loop-n.invariant.arrived m on in_time shows stand) (omega arith)
+
+pub returns-clause-watched : goal.returns-clause-watched
+returns-clause-watched c = λ m on in_time shows stand k p at.
+    let within = slice_get_within c.args.own.now.places k p at in
+    c.loop-n.invariant.watched m on in_time shows stand k p (omega arith) at

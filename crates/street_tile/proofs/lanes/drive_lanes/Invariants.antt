@@ -1,10 +1,13 @@
-use Rattle.std.proofs.Common.{◌≡◌, ◌+◌, ◌-◌, ◌≤◌, length, take, vec_len, vec_capacity}
-use Rattle.std.specs.Prelude.{◌++◌, filter_map}
+use Rattle.std.proofs.Common.{◌≡◌, ℕ, ◌+◌, ◌-◌, ◌<◌, ◌≤◌, length, map, take, vec_len, vec_capacity}
+use Rattle.std.specs.Prelude.{◌++◌, Some, filter_map, slice_get}
+use Rattle.street_base.specs.Network.{Place}
 use Rattle.street_base.specs.State.{Traffic}
 use Rattle.street_base.specs.Step.{driven_lane, arrival, leaver_of}
 use Rattle.street_lanes.specs.Lanes.{Same}
 use Rattle.street_lanes.specs.Whole.{IsOn, LanesStand}
+use Rattle.street_gauge.specs.Gauges.{watch_of}
 use Rattle.street_tile.specs.Tiles.{ShowSignals}
+use Rattle.street_tile.specs.Metering.{KeepMeters, gauges_at}
 use Rattle.street_tile.proofs.Going.{LanesDone}
 use Rattle.street_tile.proofs.lanes.drive_lanes.Given as goal
 
@@ -16,4 +19,6 @@ invariant-loop-n l = record {
   capacity : vec_capacity l.fn.arrived ≤ vec_capacity l.arrived;
   done : (m : Traffic) → IsOn l.net m → m.clock ≡ l.clock → ShowSignals l.low (l.low + length l.signals) l.signals m → LanesStand l.fn.own.places l.fn.own.lanes m → LanesDone (driven_lane m) m l.fn.own l.n l.own;
   arrived : (m : Traffic) → IsOn l.net m → m.clock ≡ l.clock → ShowSignals l.low (l.low + length l.signals) l.signals m → LanesStand l.fn.own.places l.fn.own.lanes m → l.arrived.items ≡ l.fn.arrived.items ++ filter_map (λ p. arrival (leaver_of m p)) (take l.n l.fn.own.places);
+  gauges : KeepMeters l.fn.gauges l.gauges;
+  watched : (m : Traffic) → IsOn l.net m → m.clock ≡ l.clock → ShowSignals l.low (l.low + length l.signals) l.signals m → LanesStand l.fn.own.places l.fn.own.lanes m → (k : ℕ) (p : Place) → k < l.n → slice_get l.fn.own.places k ≡ Some p → (gauges_at l.gauges k).watches ≡ map (watch_of m p) (gauges_at l.gauges k).meters;
 }

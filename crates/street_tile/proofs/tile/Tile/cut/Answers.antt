@@ -1,7 +1,7 @@
 use Rattle.std.proofs.Common.{◌≡◌, ℕ, ◌+◌, ◌*◌, ◌/◌, length, refl, ◌∙◌, ap, arith}
 use Rattle.std.proofs.lemmas.Nat.{mul-le}
 use Rattle.street_tile.proofs.Cutting.{faultless-roads}
-use Rattle.street_tile.proofs.Making.{made-more, made-tiles}
+use Rattle.street_tile.proofs.Making.{made-more, made-tiles, made-meters}
 use Rattle.street_tile.proofs.tile.Tile.cut.Goals as goal
 
 pub overflow_mul-i : goal.overflow_mul-i
@@ -43,4 +43,8 @@ loop-i-preserved c =
       };
       idle = c.in_ok-tile.ensures.idle;
       stands = c.in_ok-tile.ensures.stands;
+      meters = c.in_ok-tile.ensures.meters;
     })
+
+pub returns-clause-meters : goal.returns-clause-meters
+returns-clause-meters c = made-meters c.args.net.now c.min-count.result c.loop-i.i c.loop-i.tiles.items c.loop-i.invariant (omega arith) (omega arith)

@@ -1,6 +1,6 @@
-use Rattle.std.proofs.Common.{◌≡◌, ◌<◌, ◌≤◌, List, length, map, get_or, refl, sym, ◌∙◌, ap, subst, arith}
-use Rattle.std.specs.Prelude.{Option, Some, slice_get, option_map}
-use Rattle.std.proofs.lemmas.List.{length-map}
+use Rattle.std.proofs.Common.{rules, ◌≡◌, ◌-◌, ◌<◌, ◌≤◌, List, length, map, get_or, refl, sym, ◌∙◌, ap, subst, arith}
+use Rattle.std.specs.Prelude.{Option, Some, None, slice_get, option_map}
+use Rattle.std.proofs.lemmas.List.{length-map, length-replicate}
 use Rattle.std.proofs.lemmas.Option.{slice_get-map, slice_get-get_or}
 use Rattle.street_base.specs.Network.{Place}
 use Rattle.street_base.specs.Machine.{loaded}
@@ -10,11 +10,13 @@ use Rattle.street_base.proofs.FaultLemmas.{few_links, good_start}
 use Rattle.street_net.specs.Tables.{place_of}
 use Rattle.street_lanes.specs.Lanes.{Lanes, IsLane, AllLanes}
 use Rattle.street_lanes.specs.Whole.{LanesStand}
+use Rattle.street_lanes.specs.Driving.{cells_on}
 use Rattle.street_tile.specs.Halves.{vehicle_in}
-use Rattle.street_tile.specs.Tiles.{ShowSignals, own_places}
+use Rattle.street_tile.specs.Tiles.{ShowSignals, AreNumbers, AreDue, own_places, sizes_of}
 use Rattle.street_tile.specs.Walks.{AtMostOnce}
 use Rattle.street_tile.proofs.Owning.{own-lanes, own-once}
 use Rattle.street_tile.proofs.Cutting.{faultless-roads, loaded-lanes, loaded-clock, loaded-signals, nobody-comes}
+use Rattle.street_tile.proofs.Metering.{bare-sizes, bare-due, bare-stand}
 use Rattle.street_tile.proofs.tile.Tile.of_nodes.Goals as goal
 
 pub new-requires : goal.new-requires
@@ -62,6 +64,7 @@ returns-clause-tile c =
       within = c.requires.within;
       places = ap (λ (x : Lanes). x.places) c.in_ok-new.ensures.fresh ∙ is;
       own = c.in_ok-new.ensures.of;
+      gauged = ap sizes_of c.in_ok-gauges_of.ensures ∙ bare-sizes c.args.net.now c.deref-3.result.now ∙ ap (map (cells_on c.args.net.now)) (ap (map place_of) (c.deref-3.ensures.value ∙ sym c.deref.ensures.value) ∙ sym (ap (λ (x : Lanes). x.places) c.in_ok-new.ensures.fresh));
     }
 
 pub returns-clause-idle : goal.returns-clause-idle
@@ -90,4 +93,38 @@ returns-clause-stands c =
       clock = start ∙ sym (loaded-clock net);
       lanes = subst (λ (x : Lanes). LanesStand x.places x.lanes (loaded net)) (sym c.in_ok-new.ensures.fresh) (loaded-lanes net ps all);
       signals = subst (λ (ss : List (Option SignalPlan)). ShowSignals c.args.low c.args.high ss (loaded net)) (sym c.in_ok-nones.ensures) (loaded-signals net c.args.low c.args.high c.requires.within);
+    }
+
+pub returns-clause-meters : goal.returns-clause-meters
+returns-clause-meters c = bare-stand c.args.net.now c.in_ok-new.field-0.places c.deref-3.result.now c.in_ok-gauges_of.field-0.items c.in_ok-gauges_of.ensures
+
+pub gauges_of-requires : goal.gauges_of-requires
+gauges_of-requires c =
+    let is : map place_of c.deref-3.result.now ≡ own_places c.args.net.now c.args.low c.args.high = ap (map place_of) c.deref-3.ensures.value ∙ c.in_ok-places.ensures in
+    subst (AllLanes c.args.net.now) (sym is) (own-lanes c.args.net.now c.args.low c.args.high)
+
+pub invariant_of-result : goal.invariant_of-result
+invariant_of-result c =
+    let net = c.args.net.now in
+    let ps = c.in_ok-new.field-0.places in
+    let places : ps ≡ map place_of c.deref.result.now = ap (λ (x : Lanes). x.places) c.in_ok-new.ensures.fresh in
+    let lanes = c.len-lanes.ensures in
+    let items = c.deref.ensures.len in
+    let mapped = length-map c.deref.result.now place_of in
+    let same : length ps ≡ length (map place_of c.deref.result.now) = ap length places in
+    let long : c.len-lanes.result ≡ length ps = omega arith in
+    let numbers : map place_of c.deref-2.result.now ≡ ps = ap (map place_of) (c.deref-2.ensures.value ∙ sym c.deref.ensures.value) ∙ sym places in
+    let plans : length c.in_ok-nones.field-0.items ≡ c.args.high - c.args.low = ap length c.in_ok-nones.ensures ∙ length-replicate (c.args.high - c.args.low) None in
+    let slots : length c.in_ok-nones-2.field-0.items ≡ c.len-lanes.result = ap length c.in_ok-nones-2.ensures ∙ length-replicate c.len-lanes.result None in
+    let order = c.requires.order in
+    let handed = c.in_ok-with_capacity.ensures.exact in
+    let arrived = c.in_ok-with_capacity-2.ensures.exact in
+    record {
+      nodes = omega arith;
+      numbered = subst (λ qs. AreNumbers (length c.as_slice-links.result.now) qs c.in_ok-numbers_of.field-0.items) numbers c.in_ok-numbers_of.ensures;
+      mouths_wide = search rules;
+      coming_long = slots ∙ long;
+      handed_room = omega arith;
+      arrived_room = omega arith;
+      due = subst (AreDue c.spec-2.result.now.start) (sym c.in_ok-gauges_of.ensures) (bare-due net c.deref-3.result.now c.spec-2.result.now.start);
     }

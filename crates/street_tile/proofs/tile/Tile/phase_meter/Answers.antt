@@ -1,7 +1,50 @@
+use Rattle.std.proofs.Common.{◌≡◌, ◌+◌, ◌<◌, length, map, sym, subst, ap, ◌∙◌, arith}
+use Rattle.std.specs.Vec.{with_items}
+use Rattle.std.proofs.lemmas.List.{with_items_is}
+use Rattle.street_tile.specs.Halves.{vehicle_in}
+use Rattle.street_tile.specs.Tiles.{Part, IsTileOf, AreDue}
+use Rattle.street_tile.specs.Metering.{HaveNoted}
 use Rattle.street_tile.specs.Phases.{Ticks}
+use Rattle.street_tile.proofs.Going.{even-of}
 use Rattle.street_tile.proofs.Keeping.{at-view}
+use Rattle.street_tile.proofs.Metering.{gauges-even, noted-due}
 use Rattle.street_tile.proofs.Ticking.{ticks-of}
 use Rattle.street_tile.proofs.tile.Tile.phase_meter.Goals as goal
 
+pub note_lanes-requires-clause-even : goal.note_lanes-requires-clause-even
+note_lanes-requires-clause-even c =
+    let s = c.self.inside in
+    let x : Part = record { low = s.low; high = s.high; links = s.links; own = s.own; clock = s.clock; signals = s.signals.items; handed = s.handed.items; coming = map vehicle_in s.coming.items; arrived = s.arrived.items; gauges = s.gauges.items } in
+    let tile : IsTileOf c.args.net.now x = subst (IsTileOf c.args.net.now) (sym c.self.view_is) c.requires.tile in
+    ap length c.deref_mut.ensures.value ∙ gauges-even c.args.net.now s.own tile.own s.gauges.items tile.gauged ∙ sym (even-of c.args.net.now s.own tile.own)
+
+pub note_lanes-requires-clause-in_time : goal.note_lanes-requires-clause-in_time
+note_lanes-requires-clause-in_time c =
+    let s = c.self.inside in
+    let clock : s.clock ≡ c.args.self.now.clock = ap (λ (t : Part). t.clock) c.self.view_is in
+    (s.clock, (let h = c.requires.in_time in omega arith), subst (AreDue s.clock) (sym c.deref_mut.ensures.value) c.self.invariant.due)
+
 pub returns : goal.returns
-returns c = at-view (Ticks c.args.net.now) c.self.view_is (ticks-of c.args.net.now _)
+returns c =
+    let s = c.self.inside in
+    let x : Part = record { low = s.low; high = s.high; links = s.links; own = s.own; clock = s.clock; signals = s.signals.items; handed = s.handed.items; coming = map vehicle_in s.coming.items; arrived = s.arrived.items; gauges = s.gauges.items } in
+    let tile : IsTileOf c.args.net.now x = subst (IsTileOf c.args.net.now) (sym c.self.view_is) c.requires.tile in
+    let items : (with_items s.gauges c.note_lanes.new.gauges).items ≡ c.note_lanes.new.gauges = with_items_is s.gauges c.note_lanes.new.gauges (let e = c.note_lanes.auto.gauges in let f = c.deref_mut.ensures.len in let ok = s.gauges.ok in omega arith) in
+    let noted = subst (λ gs. HaveNoted s.own gs c.note_lanes.new.gauges) c.deref_mut.ensures.value c.note_lanes.ensures in
+    at-view (Ticks c.args.net.now) c.self.view_is (ticks-of c.args.net.now x _ tile (subst (HaveNoted s.own s.gauges.items) (sym items) noted))
+
+pub invariant_of-self : goal.invariant_of-self
+invariant_of-self c =
+    let s = c.self.inside in
+    let inv = c.self.invariant in
+    let items : (with_items s.gauges c.note_lanes.new.gauges).items ≡ c.note_lanes.new.gauges = with_items_is s.gauges c.note_lanes.new.gauges (let e = c.note_lanes.auto.gauges in let f = c.deref_mut.ensures.len in let ok = s.gauges.ok in omega arith) in
+    let noted = subst (λ gs. HaveNoted s.own gs c.note_lanes.new.gauges) c.deref_mut.ensures.value c.note_lanes.ensures in
+    record {
+      nodes = inv.nodes;
+      numbered = inv.numbered;
+      mouths_wide = inv.mouths_wide;
+      coming_long = inv.coming_long;
+      handed_room = inv.handed_room;
+      arrived_room = inv.arrived_room;
+      due = subst (AreDue (s.clock + 1)) (sym items) (noted-due s.own s.gauges.items s.clock c.note_lanes.new.gauges noted inv.due);
+    }

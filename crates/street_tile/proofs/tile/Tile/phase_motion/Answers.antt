@@ -1,31 +1,63 @@
-use Rattle.std.proofs.Common.{◌≡◌, ◌+◌, length, map, true, sym, subst, ap, ◌∙◌}
+use Rattle.std.proofs.Common.{◌≡◌, ◌+◌, length, map, true, sym, subst, ap, ◌∙◌, arith}
 use Rattle.std.specs.Prelude.{[]}
+use Rattle.std.specs.Vec.{with_items}
+use Rattle.std.proofs.lemmas.List.{with_items_is}
 use Rattle.street_base.specs.State.{Traffic}
 use Rattle.street_lanes.specs.Lanes.{place_at}
 use Rattle.street_tile.specs.Halves.{vehicle_in}
-use Rattle.street_tile.specs.Tiles.{Part, IsTileOf, ShowSignals, is_own}
+use Rattle.street_tile.specs.Tiles.{Part, IsTileOf, AreDue, ShowSignals, is_own, sizes_of}
+use Rattle.street_tile.specs.Metering.{KeepMeters, HaveWatched}
 use Rattle.street_tile.specs.Phases.{Moves}
 use Rattle.street_tile.proofs.Keeping.{at-view}
+use Rattle.street_tile.proofs.Metering.{keep-due}
 use Rattle.street_tile.proofs.Parting.{tile-owns, moves-of}
 use Rattle.street_tile.proofs.tile.Tile.phase_motion.Goals as goal
 
 pub drive_lanes-requires-clause-nodes : goal.drive_lanes-requires-clause-nodes
 drive_lanes-requires-clause-nodes c = λ n h.
     let s = c.self.inside in
-    let x : Part = record { low = s.low; high = s.high; links = s.links; own = s.own; clock = s.clock; signals = s.signals.items; handed = s.handed.items; coming = map vehicle_in s.coming.items; arrived = s.arrived.items } in
+    let x : Part = record { low = s.low; high = s.high; links = s.links; own = s.own; clock = s.clock; signals = s.signals.items; handed = s.handed.items; coming = map vehicle_in s.coming.items; arrived = s.arrived.items; gauges = s.gauges.items } in
     let tile : IsTileOf c.args.net.now x = subst (IsTileOf c.args.net.now) (sym c.self.view_is) c.requires.tile in
     let nodes : s.low + length c.deref.result.now ≡ s.high = rw c.deref.ensures.value c.self.invariant.nodes in
     subst (λ high. is_own c.args.net.now s.low high (place_at s.own n) ≡ true) (sym nodes) (tile-owns c.args.net.now x tile n h)
 
+pub drive_lanes-requires-clause-gauged : goal.drive_lanes-requires-clause-gauged
+drive_lanes-requires-clause-gauged c =
+    let s = c.self.inside in
+    let x : Part = record { low = s.low; high = s.high; links = s.links; own = s.own; clock = s.clock; signals = s.signals.items; handed = s.handed.items; coming = map vehicle_in s.coming.items; arrived = s.arrived.items; gauges = s.gauges.items } in
+    let tile : IsTileOf c.args.net.now x = subst (IsTileOf c.args.net.now) (sym c.self.view_is) c.requires.tile in
+    ap sizes_of c.deref_mut.ensures.value ∙ tile.gauged
+
+pub invariant_of-self : goal.invariant_of-self
+invariant_of-self c =
+    let s = c.self.inside in
+    let inv = c.self.invariant in
+    let places = c.drive_lanes.ensures.same.places in
+    let items : (with_items s.gauges c.drive_lanes.new.gauges).items ≡ c.drive_lanes.new.gauges = with_items_is s.gauges c.drive_lanes.new.gauges (let e = c.drive_lanes.auto.gauges in let f = c.deref_mut.ensures.len in let ok = s.gauges.ok in omega arith) in
+    let keep : KeepMeters s.gauges.items c.drive_lanes.new.gauges = subst (λ gs. KeepMeters gs c.drive_lanes.new.gauges) c.deref_mut.ensures.value c.drive_lanes.ensures.meters in
+    record {
+      nodes = inv.nodes;
+      numbered = rw places inv.numbered;
+      mouths_wide = inv.mouths_wide;
+      coming_long = rw places inv.coming_long;
+      handed_room = rw places inv.handed_room;
+      arrived_room = (let le = inv.arrived_room in let cap = c.drive_lanes.ensures.capacity in rw places (omega arith));
+      due = subst (AreDue s.clock) (sym items) (keep-due s.clock s.gauges.items c.drive_lanes.new.gauges keep inv.due);
+    }
+
 pub returns : goal.returns
 returns c =
     let s = c.self.inside in
-    let x : Part = record { low = s.low; high = s.high; links = s.links; own = s.own; clock = s.clock; signals = s.signals.items; handed = s.handed.items; coming = map vehicle_in s.coming.items; arrived = s.arrived.items } in
+    let x : Part = record { low = s.low; high = s.high; links = s.links; own = s.own; clock = s.clock; signals = s.signals.items; handed = s.handed.items; coming = map vehicle_in s.coming.items; arrived = s.arrived.items; gauges = s.gauges.items } in
     let tile : IsTileOf c.args.net.now x = subst (IsTileOf c.args.net.now) (sym c.self.view_is) c.requires.tile in
     let nodes : s.low + length c.deref.result.now ≡ s.high = rw c.deref.ensures.value c.self.invariant.nodes in
     let shows : (m : Traffic) → ShowSignals s.low s.high s.signals.items m → ShowSignals s.low (s.low + length c.deref.result.now) c.deref.result.now m = λ m h. rw (nodes, c.deref.ensures.value) h in
     let none : s.arrived.items ≡ [] = ap (λ (t : Part). t.arrived) c.self.view_is ∙ c.requires.none in
-    let moves = moves-of c.args.net.now x tile c.drive_lanes.new.own c.drive_lanes.new.arrived.items c.drive_lanes.ensures.same c.drive_lanes.ensures.room
+    let items : (with_items s.gauges c.drive_lanes.new.gauges).items ≡ c.drive_lanes.new.gauges = with_items_is s.gauges c.drive_lanes.new.gauges (let e = c.drive_lanes.auto.gauges in let f = c.deref_mut.ensures.len in let ok = s.gauges.ok in omega arith) in
+    let keep : KeepMeters s.gauges.items c.drive_lanes.new.gauges = subst (λ gs. KeepMeters gs c.drive_lanes.new.gauges) c.deref_mut.ensures.value c.drive_lanes.ensures.meters in
+    let moves = moves-of c.args.net.now x tile c.drive_lanes.new.own c.drive_lanes.new.arrived.items (with_items s.gauges c.drive_lanes.new.gauges).items c.drive_lanes.ensures.same c.drive_lanes.ensures.room
     (λ m on clock signals stand. c.drive_lanes.ensures.stand m on clock (shows m signals) stand)
-    (λ m on clock signals stand. rw none at (c.drive_lanes.ensures.arrived m on clock (shows m signals) stand)) in
+    (λ m on clock signals stand. rw none at (c.drive_lanes.ensures.arrived m on clock (shows m signals) stand))
+    (subst (KeepMeters s.gauges.items) (sym items) keep)
+    (λ m on clock signals stand. subst (HaveWatched m s.own.places) (sym items) (c.drive_lanes.ensures.watched m on clock (shows m signals) stand)) in
     at-view (Moves c.args.net.now) c.self.view_is moves

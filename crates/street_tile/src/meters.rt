@@ -1,0 +1,81 @@
+//! The detectors of a tile.
+ghost use Rattle.std.specs.Prelude.{◌≡◌, ℕ, ◌<◌, ◌≤◌, length, true, option_map, slice_get, IfOk, OnOk, OnErr};
+ghost use Rattle.street_base.specs.Limits.{last_clock};
+ghost use Rattle.street_base.specs.Network.{link_at};
+ghost use Rattle.street_base.specs.Shown.{shown_rows};
+ghost use Rattle.street_base.specs.State.{Traffic};
+ghost use Rattle.street_net.specs.Tables.{place_of};
+ghost use Rattle.street_lanes.specs.Lanes.{IsLane};
+ghost use Rattle.street_tile.specs.Tiles.{IsTileOf, AreDue, is_own};
+ghost use Rattle.street_tile.specs.Metering.{HaveNoted, MetersStand, PlacesMeter, detectors_on};
+
+use crate::tile::Tile;
+use std::alloc::Global;
+use street_base::{CellNo, Reply, Starved};
+use street_gauge::Gauges;
+use street_lanes::Lanes;
+use street_net::{LaneId, Network};
+
+/// The detectors of each of these lanes note the step.
+pub(crate) fn note_lanes(gauges: &mut [Gauges], own: &Lanes)
+    requires even { length gauges.old ≡ length own.now.lanes }
+    requires in_time { (clock : ℕ) × (clock < last_clock) × AreDue clock gauges.old }
+    ensures { HaveNoted own.now gauges.old gauges.new }
+{
+    for n in 0..own.len() {
+        gauges[n].note(own, n);
+    }
+}
+
+impl Tile {
+    /// Places one more detector in a cell of an own lane, with a period of 1 to 100,000 steps; it notes from the next step on.
+    /// Answers its number among the detectors of the lane.
+    ///
+    /// # Errors
+    /// Memory was refused; the tile is as it was.
+    pub fn place_meter(
+        &mut self,
+        alloc: Global,
+        net: &Network,
+        at: LaneId,
+        cell: CellNo,
+        period: u32,
+    ) -> Result<usize, Starved>
+        requires tile { IsTileOf net.now self.old }
+        requires lane { IsLane net.now (place_of at) }
+        requires own { is_own net.now self.old.low self.old.high (place_of at) ≡ true }
+        requires cell { cell < (link_at net.now at.link).length }
+        requires some { 1 ≤ period }
+        requires short { period ≤ 100000 }
+        requires in_time { self.old.clock ≤ last_clock }
+        ensures placed { OnOk result (PlacesMeter (place_of at) cell period self.old self.new) }
+        ensures number { IfOk result (λ number. (m : Traffic) → MetersStand self.old m → number ≡ length (detectors_on (place_of at) m.detectors)) }
+        ensures starved { OnErr result (self.new ≡ self.old) }
+    {
+        let LaneId { link, lane } = at;
+        let n = self.number(net, at);
+        let start = self.clock;
+        self.gauges[n].place(alloc, LaneId { link, lane }, cell, period, start)
+    }
+
+    /// The rows of a detector of an own lane, by its number among those of the lane, if there is one.
+    ///
+    /// # Errors
+    /// Memory was refused.
+    pub fn read_meter(
+        &self,
+        alloc: Global,
+        net: &Network,
+        at: LaneId,
+        number: usize,
+    ) -> Result<Option<Reply>, Starved>
+        requires tile { IsTileOf net.now self.now }
+        requires lane { IsLane net.now (place_of at) }
+        requires own { is_own net.now self.now.low self.now.high (place_of at) ≡ true }
+        ensures { IfOk result (λ reply. (m : Traffic) → MetersStand self.now m
+            → reply ≡ option_map shown_rows (slice_get (detectors_on (place_of at) m.detectors) number)) }
+    {
+        let n = self.number(net, at);
+        self.gauges[n].rows(alloc, number)
+    }
+}
