@@ -1,9 +1,11 @@
+mod Siting
 mod Together
 mod Placing
 mod Signalling
 mod Sums
 mod Ones
 mod Taking
+mod Metering
 mod Seeing
 mod Counting
 mod Arrivals

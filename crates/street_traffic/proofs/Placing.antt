@@ -59,10 +59,14 @@ module _ (net : NetSpec) (p : Place) (rule : LaneState → LaneState) where
     signals = s.signals;
   }
 
+  detectors : (m : Traffic) → (at_place p rule m).detectors ≡ m.detectors
+  unfolding at_place
+  detectors m = refl
+
   -- the tiles with that one changed stand for the traffic with that lane changed
   pub place-does : (P : Traffic → Type 0) (xs : List Part) (i : ℕ) (y d : Part) → AreTiles net xs → All IsIdle xs → i < length xs → ((e : Part) → is_own net (get_or xs i e).low (get_or xs i e).high p ≡ true) → KeepsLength rule
       → DoesIf net P (at_place p rule) (get_or xs i d) y → AllDoIf net P (at_place p rule) xs (set xs i y)
   place-does P xs i y d tiles idle h own same does =
       let row = in-row net xs tiles in
-      one-does net P (at_place p rule) xs i y d tiles idle h does (λ m holds on. on-place same m on) (λ k e m other l holds s.
-      elsewhere m s.on (get_or xs k e) (tiles-of net 0 (length net.nodes) xs row k e l) (row-alone net 0 (length net.nodes) xs row i k e p other h l (own e)) (s.each k e l))
+      one-does net P (at_place p rule) xs i y d tiles idle h (λ m holds on. on-place same m on) (λ k e m other l holds s.
+      elsewhere m s.on (get_or xs k e) (tiles-of net 0 (length net.nodes) xs row k e l) (row-alone net 0 (length net.nodes) xs row i k e p other h l (own e)) (s.each k e l)) detectors does

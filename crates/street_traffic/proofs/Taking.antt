@@ -24,6 +24,7 @@ use Rattle.street_tile.proofs.Rows.{in-row}
 use Rattle.street_tile.proofs.Moving.{row-alone}
 use Rattle.street_tile.proofs.Composing.{tiles-of}
 use Rattle.street_traffic.specs.Together.{AllDoIf}
+use Rattle.street_traffic.proofs.Siting.{same-meters}
 use Rattle.street_traffic.proofs.Together.{one-does}
 use Rattle.street_traffic.proofs.Ones.{on-one, have-one}
 
@@ -89,14 +90,19 @@ module _ (net : NetSpec) (number : ℕ) where
       let among : (r : Place) → list_any (is_place r) (places net) ≡ true → list_any (is_place r) (places m.network) ≡ true = λ r t. subst (λ (n : NetSpec). list_any (is_place r) (places n) ≡ true) (sym s.on.network) t in
       on-one m (record { formed = s.on.formed; whole = whole }) number p q (apart net xs tiles i k d e h hk other have.0 l p q have.2 at) (among p of_p.0) (among q of_q.0) have.3
 
+  detectors : (m : Traffic) → (without number m).detectors ≡ m.detectors
+  unfolding without
+  detectors m = refl
+
   pub take-does : (xs : List Part) (i : ℕ) (y d : Part) → AreTiles net xs → All IsIdle xs → i < length xs → DoesIf net (λ m. HaveAtMostOne (get_or xs i d).own.places m number) (without number) (get_or xs i d) y
       → ((m : Traffic) → IsOn net m → StandsFor (get_or xs i d) m → HaveAtMostOne (get_or xs i d).own.places m number → Have (get_or xs i d).own.places m number) → AllDoIf net IsWhole (without number) xs (set xs i y)
   take-does xs i y d tiles idle h does had =
       let at_most : (m : Traffic) → IsOn net m → IsWhole m → HaveAtMostOne (get_or xs i d).own.places m number = λ m on whole. have-one net (get_or xs i d) number m (tiles-of net 0 (length net.nodes) xs (in-row net xs tiles) i d h) on whole in
       one-does net IsWhole (without number) xs i y d tiles idle h
-      (record { same = does.same; handed = does.handed; coming = does.coming; arrived = does.arrived; stands = λ m on whole s. does.stands m on (at_most m on whole) s })
       (λ m whole on. on-without m on)
       (λ k e m other l whole s. not-there m s.on (get_or xs k e) (tiles-of net 0 (length net.nodes) xs (in-row net xs tiles) k e l) (had-elsewhere m whole xs tiles s i k d e h l other (had m s.on (s.each i d h) (at_most m s.on whole))) (s.each k e l))
+      detectors
+      (record { same = does.same; handed = does.handed; coming = does.coming; arrived = does.arrived; gauges = does.gauges; stands = λ m on whole s. does.stands m on (at_most m on whole) s })
 
   -- the tile that owns a lane has it there
   pub take-on-does : (xs : List Part) (i : ℕ) (y d : Part) (p : Place) → AreTiles net xs → All IsIdle xs → i < length xs → IsLane net p → is_own net (get_or xs i d).low (get_or xs i d).high p ≡ true
@@ -124,4 +130,5 @@ module _ (net : NetSpec) (number : ℕ) where
       on = on-without m s.on;
       each = λ k d l. not-there m s.on (get_or xs k d) (tiles-of net 0 (length net.nodes) xs (in-row net xs tiles) k d l) (none k d l m whole s) (s.each k d l);
     };
+    meters = λ m whole s kept k d l. same-meters (get_or xs k d) (get_or xs k d) m (without number m) refl refl (detectors m) (kept k d l);
   }

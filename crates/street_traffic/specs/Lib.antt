@@ -1,3 +1,4 @@
 pub mod Together
+pub mod Sites
 pub mod Streets
 pub mod Ending

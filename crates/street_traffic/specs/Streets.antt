@@ -1,6 +1,6 @@
 -- What contracts see of the traffic on a loaded network, and when it stands for traffic of the machine.
 -- Source: this profile.
-use Rattle.std.specs.Prelude.{ℕ, ◌≡◌, ◌*◌, ◌≤◌, List, [], length, Option}
+use Rattle.std.specs.Prelude.{ℕ, ◌≡◌, ◌*◌, ◌≤◌, List, length, Option}
 use Rattle.std.specs.List.{All}
 use Rattle.street_base.specs.declared.net.NetSpec.{NetSpec}
 use Rattle.street_base.specs.declared.reply.End.{End}
@@ -8,22 +8,27 @@ use Rattle.street_base.specs.Limits.{last_clock}
 use Rattle.street_base.specs.State.{Traffic}
 use Rattle.street_base.specs.Census.{IsSound}
 use Rattle.street_tile.specs.Tiles.{Part, AreTiles, AllStand, IsIdle}
+use Rattle.street_tile.specs.Metering.{AllMetersStand}
+use Rattle.street_traffic.specs.declared.sites.Site.{Site}
+use Rattle.street_traffic.specs.Sites.{AreSites}
 
--- the network, the clock, the tiles, and how each vehicle ended
+-- the network, where each detector is, the clock, the tiles, and how each vehicle ended
 pub record StreetsView : Type 0 where
   pub network : NetSpec
+  pub sites : List Site
   pub clock : ℕ
   pub tiles : List Part
   pub ends : List (Option End)
 
--- the tiles stand for the traffic, each at its own lanes and nodes; the traffic has each number in one place or ended, and a signal plan or none for each node; no detector stands so far
+-- the tiles and their detectors stand for the traffic, each tile at its own lanes and nodes; the traffic has each number in one place or ended, a signal plan or none for each node, and the detectors of these sites
 pub record IsTrafficOf (x : StreetsView) (m : Traffic) : Type 0 where
   pub clock : x.clock ≡ m.clock
   pub ends : x.ends ≡ m.ends
   pub tiles : AllStand x.network x.tiles m
   pub sound : IsSound m
   pub signals : length m.signals ≡ length x.network.nodes
-  pub detectors : m.detectors ≡ []
+  pub meters : AllMetersStand x.tiles m
+  pub sites : AreSites x.network x.sites m.detectors
 
 -- it stands for this traffic of the machine
 unfoldable pub StandsFor : StreetsView → Traffic → Type 0

@@ -5,13 +5,15 @@ use Rattle.std.specs.List.{All}
 use Rattle.street_base.specs.declared.net.NetSpec.{NetSpec}
 use Rattle.street_base.specs.State.{Traffic}
 use Rattle.street_tile.specs.Tiles.{Part, AreTiles, AllStand, IsIdle}
+use Rattle.street_tile.specs.Metering.{AllMetersStand}
 
--- whatever traffic the tiles stood for, if P held of that, they then stand for f of it; they are tiles of the network still, and idle
+-- whatever traffic the tiles stood for, if P held of that, they then stand for f of it, and so do their detectors; they are tiles of the network still, and idle
 pub record AllDoIf (net : NetSpec) (P : Traffic → Type 0) (f : Traffic → Traffic) (xs ys : List Part) : Type 0 where
   pub long : length ys ≡ length xs
   pub tiles : AreTiles net ys
   pub idle : All IsIdle ys
   pub stand : (m : Traffic) → P m → AllStand net xs m → AllStand net ys (f m)
+  pub meters : (m : Traffic) → P m → AllStand net xs m → AllMetersStand xs m → AllMetersStand ys (f m)
 
 -- they stand for what they stood for
 abbrev pub AllKeep : NetSpec → List Part → List Part → Type 0

@@ -1,16 +1,16 @@
 //! The traffic on a loaded network.
-ghost use Rattle.std.specs.Prelude.{◌≡◌, ℕ, ◌+◌, ◌<◌, ◌≤◌, List, length, Some, None, slice_index_or, true, false, IfOk, IfErr, OnOk, OnErr};
+ghost use Rattle.std.specs.Prelude.{◌≡◌, ℕ, ◌+◌, ◌<◌, ◌≤◌, List, length, Some, None, option_map, slice_get, slice_index_or, true, false, IfOk, IfErr, OnOk, OnErr};
 ghost use Rattle.std.specs.List.{All};
-ghost use Rattle.street_base.specs.Limits.{last_clock, most_plan, most_vehicles};
+ghost use Rattle.street_base.specs.Limits.{last_clock, most_plan, most_vehicles, most_period, most_detectors};
 ghost use Rattle.street_base.specs.Network.{link_at, node_of};
 ghost use Rattle.street_base.specs.Faults.{network_fault};
 ghost use Rattle.street_base.specs.Signal.{SignalPlan as PlanSeen};
 ghost use Rattle.street_base.specs.State.{Traffic, lane_at};
 ghost use Rattle.street_base.specs.Step.{step, steps};
 ghost use Rattle.street_base.specs.Closing.{with_closure};
-ghost use Rattle.street_base.specs.Effects.{signalled, taken_out};
+ghost use Rattle.street_base.specs.Effects.{signalled, taken_out, metered};
 ghost use Rattle.street_base.specs.Machine.{loaded, entered, plan_links, closed_after, seen};
-ghost use Rattle.street_base.specs.Shown.{shown_lane, census};
+ghost use Rattle.street_base.specs.Shown.{shown_lane, shown_rows, census};
 ghost use Rattle.street_net.specs.Tables.{place_of};
 ghost use Rattle.street_net.specs.Refused.{TellsFault};
 ghost use Rattle.street_node.specs.Greens.{ShowsAs};
@@ -19,7 +19,8 @@ ghost use Rattle.street_tile.specs.Tiles.{IsPrepared};
 ghost use Rattle.street_traffic.specs.Streets.{StandsFor, Goes};
 
 use crate::ends::Ends;
-use crate::{finding, single, stepping};
+use crate::sites::Site;
+use crate::{finding, meters, single, stepping};
 use std::alloc::Global;
 use std::marker::Model;
 use std::thread::Threads;
@@ -30,7 +31,7 @@ use street_net::{LaneId, NetFault, Network};
 use street_node::SignalPlan;
 use street_tile::{Gate, Hints, Tile, View, step_all};
 
-/// A loaded network, its clock, its tiles, how each vehicle ended, and on which link it was last put.
+/// A loaded network, its clock, its tiles, how each vehicle ended, on which link it was last put, and where each detector is.
 #[derive(Drop)]
 pub struct Streets {
     network: Network,
@@ -39,6 +40,7 @@ pub struct Streets {
     view: View,
     ends: Ends,
     hints: Hints,
+    sites: Vec<Site>,
 }
 
 impl Model for Streets {
@@ -47,9 +49,9 @@ impl Model for Streets {
 
     ghost Value = { StreetsView };
 
-    ghost view = { λ s. record { network = s.network; clock = s.clock; tiles = s.tiles.items; ends = s.ends.ends } };
+    ghost view = { λ s. record { network = s.network; sites = s.sites.items; clock = s.clock; tiles = s.tiles.items; ends = s.ends.ends } };
 
-    ghost invariant = { λ s. IsKept (record { network = s.network; clock = s.clock; tiles = s.tiles.items; ends = s.ends.ends }) (length s.view) };
+    ghost invariant = { λ s. IsKept (record { network = s.network; sites = s.sites.items; clock = s.clock; tiles = s.tiles.items; ends = s.ends.ends }) (length s.view) };
 }
 
 impl Streets {
@@ -78,6 +80,7 @@ impl Streets {
             view,
             ends: Ends::new(alloc),
             hints: Hints::new(alloc),
+            sites: Vec::new(alloc),
         })
     }
 
@@ -225,6 +228,66 @@ impl Streets {
         ensures { IfOk result (λ reply. (m : Traffic) → StandsFor self.now m → reply ≡ shown_lane (lane_at m (place_of at))) }
     {
         single::lane(alloc, &self.network, &self.tiles, at)
+    }
+
+    /// How many detectors stand.
+    pub fn detectors(&self) -> usize
+        ensures { result ≡ length self.now.sites }
+    {
+        self.sites.len()
+    }
+
+    /// One more detector stands in a cell of a lane, with a period of 1 to 100,000 steps; it notes from the next step on.
+    /// Fewer than 1,024 stood before it. Answers its number.
+    ///
+    /// # Errors
+    /// Memory was refused; the streets stand for what they stood for.
+    pub fn place_meter(
+        &mut self,
+        alloc: Global,
+        at: LaneId,
+        cell: CellNo,
+        period: u32,
+    ) -> Result<usize, Starved>
+        requires lane { IsLane self.old.network (place_of at) }
+        requires cell { cell < (link_at self.old.network at.link).length }
+        requires some { 1 ≤ period }
+        requires short { period ≤ most_period }
+        requires few { length self.old.sites < most_detectors }
+        ensures placed { OnOk result (Goes (λ m. metered m (place_of at) cell period) self.old self.new) }
+        ensures number { IfOk result (λ number. number ≡ length self.old.sites) }
+        ensures starved { OnErr result (Goes (λ m. m) self.old self.new) }
+    {
+        let LaneId { link, lane } = at;
+        let detector = self.sites.len();
+        self.sites.reserve(1)?;
+        let number = meters::place(
+            alloc,
+            &self.network,
+            &mut self.tiles,
+            LaneId { link, lane },
+            cell,
+            period,
+        )?;
+        self.sites.push_reserved(Site {
+            at: LaneId { link, lane },
+            number,
+        });
+        Ok(detector)
+    }
+
+    /// The rows of a detector, if there is one of this number. Takes memory for the list of rows.
+    ///
+    /// # Errors
+    /// Memory for the list was refused.
+    pub fn read_meter(&self, alloc: Global, number: usize) -> Result<Option<Reply>, Starved>
+        ensures { IfOk result (λ found. (m : Traffic) → StandsFor self.now m
+            → found ≡ option_map shown_rows (slice_get m.detectors number)) }
+    {
+        match self.sites.get(number) {
+            Some(site) => { meters::read(alloc, &self.network, &self.tiles, site.at, site.number) }
+            None => Ok(None),
+        }
     }
 
     /// The clock, and how many vehicles stand where or have ended how. Looks at counts that are kept.

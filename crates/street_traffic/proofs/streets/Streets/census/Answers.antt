@@ -17,7 +17,7 @@ sizes-sizes-requires-clause-stand c =
 pub returns : goal.returns
 returns c = λ m stands.
     let s = c.self.inside in
-    let t = traffic-of (view s.network s.clock s.tiles.items s.ends.ends) c.args.self.now m c.self.view_is stands in
+    let t = traffic-of (view s.network s.sites.items s.clock s.tiles.items s.ends.ends) c.args.self.now m c.self.view_is stands in
     let tiles : AllStand s.network c.deref.result.now m = subst (λ (ts : List Part). AllStand s.network ts m) (sym c.deref.ensures.value) t.tiles in
     census-is m c.from-admitted.result c.from.result c.sizes-sizes.result.buffers c.sizes-sizes.result.cells c.from-2.result c.from-3.result c.sizes-sizes.result.waiting
     (c.from-admitted.ensures ∙ c.len.ensures.count ∙ ap length t.ends)

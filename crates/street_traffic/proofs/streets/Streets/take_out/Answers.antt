@@ -25,7 +25,7 @@ invariant_of-self c =
     let given : number < length s.ends.ends = subst (λ (v : StreetsView). number < length v.ends) (sym c.self.view_is) c.requires.given in
     let d : AllDoIf s.network IsWhole (without number) xs ys = subst (λ (ts : List Part). AllDoIf s.network IsWhole (without number) ts ys) c.deref_mut.ensures.value c.take_out.ensures in
     let m = c.self.invariant.some.0 in
-    subst (λ (ts : List Part). IsKept (view s.network s.clock ts c.take.new.self.ends) (length s.view)) (sym items) (subst (λ (es : List (Option End)). IsKept (view s.network s.clock ys es) (length s.view)) (sym c.take.ensures) (kept-does s.network s.clock xs ys s.ends.ends after (length s.view) IsWhole (without number) c.self.invariant d (taken_out m number, taken-stands s.network s.clock xs ys s.ends.ends number d given m c.self.invariant.some.1)))
+    subst (λ (ts : List Part). IsKept (view s.network s.sites.items s.clock ts c.take.new.self.ends) (length s.view)) (sym items) (subst (λ (es : List (Option End)). IsKept (view s.network s.sites.items s.clock ys es) (length s.view)) (sym c.take.ensures) (kept-does s.network s.sites.items s.clock xs ys s.ends.ends after (length s.view) IsWhole (without number) c.self.invariant d (taken_out m number, taken-stands s.network s.sites.items s.clock xs ys s.ends.ends number d given m c.self.invariant.some.1)))
 
 pub returns : goal.returns
 returns c =
@@ -38,4 +38,4 @@ returns c =
     let items : (with_items s.tiles ys).items ≡ ys = with_items_is s.tiles ys (omega (arith, c.take_out.auto.tiles, c.deref_mut.ensures.len)) in
     let given : number < length s.ends.ends = subst (λ (v : StreetsView). number < length v.ends) (sym c.self.view_is) c.requires.given in
     let d : AllDoIf s.network IsWhole (without number) xs ys = subst (λ (ts : List Part). AllDoIf s.network IsWhole (without number) ts ys) c.deref_mut.ensures.value c.take_out.ensures in
-    subst (λ (ts : List Part). Goes f c.args.self.now (view s.network s.clock ts c.take.new.self.ends)) (sym items) (subst (λ (es : List (Option End)). Goes f c.args.self.now (view s.network s.clock ys es)) (sym c.take.ensures) (goes-with f (view s.network s.clock xs s.ends.ends) (view s.network s.clock ys after) c.args.self.now c.self.view_is (taken-stands s.network s.clock xs ys s.ends.ends number d given)))
+    subst (λ (ts : List Part). Goes f c.args.self.now (view s.network s.sites.items s.clock ts c.take.new.self.ends)) (sym items) (subst (λ (es : List (Option End)). Goes f c.args.self.now (view s.network s.sites.items s.clock ys es)) (sym c.take.ensures) (goes-with f (view s.network s.sites.items s.clock xs s.ends.ends) (view s.network s.sites.items s.clock ys after) c.args.self.now c.self.view_is (taken-stands s.network s.sites.items s.clock xs ys s.ends.ends number d given)))
