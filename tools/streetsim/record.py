@@ -5,7 +5,7 @@ from dataclasses import dataclass, field
 from math import lcm
 
 from . import limits
-from .client import Lane, NotYet, Rows, line_of
+from .client import Lane, Rows, line_of
 from .files import Fault
 
 MINUTE = 60
@@ -24,7 +24,6 @@ class Settings:
 class Records:
     counts: dict = field(default_factory=dict)  # (link, lane): rows by their begin
     uncounted: int = 0  # lanes without a detector, as there are more than 1,024
-    has_detectors: bool = True  # whether the program serves any
     queues: list = field(default_factory=list)  # (clock, link, lane, vehicles)
     censuses: list = field(default_factory=list)
     ends: list = field(default_factory=list)  # for each vehicle of the file its last reply, or none if it never entered
@@ -102,9 +101,8 @@ class Recorder:
         """Sends lines of the run; a refused one ends it."""
         for line, reply in zip(lines, self.sim.batch(line.text for line in lines), strict=True):
             if isinstance(reply, Exception):
-                more = f": this program does not serve {line.command['cmd']!r} yet" if isinstance(reply, NotYet) else ""
                 where = f"line {line.number} ({line.command['cmd']})" if line.number else f"--close {line.text}"
-                raise Fault(f"{self.run.path}: {where} was refused: {reply}{more}")
+                raise Fault(f"{self.run.path}: {where} was refused: {reply}")
 
     def send_timed(self, clock):
         due = []
@@ -192,8 +190,7 @@ class Recorder:
         )
 
     def place_meters(self):
-        """A detector at the last cell of each lane; where there are too many lanes, of those on most plans. None where
-        the program does not serve detectors yet."""
+        """A detector at the last cell of each lane; where there are too many lanes, of those on most plans."""
         lanes = self.places
         if len(lanes) > limits.METERS:
             use = Counter(link for line in self.run.enters for link in line.command["plan"])
@@ -210,13 +207,9 @@ class Recorder:
             for link, lane in lanes
         )
         refused = [reply for reply in replies if isinstance(reply, Exception)]
-        if refused and isinstance(refused[0], NotYet):
-            self.records.has_detectors = False
-            self.records.uncounted = 0
-        elif refused:
+        if refused:
             raise Fault(f"a detector was refused: {refused[0]}")
-        else:
-            self.meters = lanes
+        self.meters = lanes
 
     def read_meters(self):
         replies = self.sim.batch({"cmd": "read", "meter": meter} for meter in range(len(self.meters)))

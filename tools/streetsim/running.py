@@ -166,8 +166,6 @@ def one_run(words, run, mapping, settings, folder, shown):
 
 def notes(records):
     """What the tables do not have."""
-    if not records.has_detectors:
-        yield "counts: this program does not serve detectors yet, so counts.csv has none"
     if records.uncounted:
         yield (
             f"counts: {records.uncounted:,} lanes have no detector, there are at most {limits.METERS:,}; "

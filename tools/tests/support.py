@@ -17,8 +17,8 @@ BUILT = TOOLS.parent / "crates/street_sim/out/street_sim"
 PROGRAM = os.environ.get("STREETSIM_PROGRAM") or (str(BUILT) if BUILT.exists() else None)
 
 
-def why_not(*more):
-    """Why tests that run a simulation, and send these commands too, are skipped, or none."""
+def why_not():
+    """Why tests that run a simulation are skipped, or none."""
     if PROGRAM is None:
         return "no simulator: build streetsim, or set STREETSIM_PROGRAM"
     load = {"nodes": [[0, 1, 1], [1, 1, 1]], "links": [[0, 0, 1, 2, 9, 5], [1, 1, 0, 1, 9, 5]], "turns": [[0, 0, 1, 0]]}
@@ -28,10 +28,11 @@ def why_not(*more):
         {"cmd": "signal", "node": 1, "offset": 0, "phases": [[5, []]]},
         {"cmd": "close", "link": 0, "lane": 1, "first": 0, "last": 3},
         {"cmd": "reopen", "link": 0, "lane": 1, "first": 0, "last": 3},
+        {"cmd": "meter", "link": 0, "lane": 0, "cell": 3, "period": 5},
+        {"cmd": "read", "meter": 0},
         {"cmd": "lane", "link": 0, "lane": 0},
         {"cmd": "takeout", "car": 0},
         {"cmd": "count"},
-        *more,
     ]
     with Client(PROGRAM) as sim:
         replies = sim.batch(commands)
@@ -43,11 +44,6 @@ def why_not(*more):
 
 REASON = why_not()
 needs_simulator = unittest.skipIf(REASON, REASON or "")
-NO_DETECTORS = why_not(
-    {"cmd": "meter", "link": 0, "lane": 0, "cell": 3, "period": 5},
-    {"cmd": "read", "meter": 0},
-)
-needs_detectors = unittest.skipIf(NO_DETECTORS, NO_DETECTORS or "")
 
 # One link of 10 cells into another of 10, limit 5, nobody dawdles.
 STREET = {

@@ -3,7 +3,7 @@ import os
 import sys
 import unittest
 
-from support import PROGRAM, STREET, Case, needs_detectors, needs_simulator
+from support import PROGRAM, STREET, Case, needs_simulator
 from streetsim import client
 from streetsim.client import Client, ProgramEnded, Row, Starved, Vehicle
 
@@ -47,7 +47,6 @@ class Replies(Case):
             13: "TooMany",
             14: "BadCount",
             15: "ClockEnd",
-            19: "NotYet",
             20: "NotJson",
             21: "BadCommand",
             22: "LineTooLong",
@@ -103,7 +102,6 @@ class Simulator(Case):
         sim.advance()
         self.assertEqual(sim.vehicle(0), Vehicle(0, "arrived", step=4))
 
-    @needs_detectors
     def test_detector(self):
         sim = self.street()
         meter = sim.meter(10, 0, 3, 2)
@@ -142,19 +140,14 @@ class Simulator(Case):
             sim.signal(2, [])
         self.assertEqual(signal.exception.at, 0)
         self.refused(client.NoVehicle, sim.vehicle, 0)
+        self.refused(client.NoMeter, sim.read, 0)
         self.refused(client.BadCount, sim.advance, 10_001)
         self.refused(client.Gone, self.take_twice, sim)
         self.assertEqual(
-            sim.batch([b"x", b"[]", b"x" * 1_048_577]), [client.NotJson(), client.BadCommand(), client.LineTooLong()]
-        )
-
-    @needs_detectors
-    def test_refusals_of_detectors(self):
-        sim = self.enterContext(Client(PROGRAM))
-        sim.load(**STREET)
-        self.refused(client.NoMeter, sim.read, 0)
-        self.assertEqual(
             sim.batch([{"cmd": "meter", "link": 10, "lane": 0, "cell": 0, "period": 1}] * 1025)[-1], client.TooMany()
+        )
+        self.assertEqual(
+            sim.batch([b"x", b"[]", b"x" * 1_048_577]), [client.NotJson(), client.BadCommand(), client.LineTooLong()]
         )
 
     def refused(self, kind, call, *arguments, **fields):

@@ -4,7 +4,7 @@ import subprocess
 import unittest
 from statistics import fmean
 
-from support import PROGRAM, TOOLS, Case, needs_detectors, needs_simulator
+from support import PROGRAM, TOOLS, Case, needs_simulator
 
 EXAMPLES = TOOLS / "examples"
 
@@ -30,7 +30,6 @@ class Examples(Case):
         self.assertAlmostEqual(self.eastward() / 233.7, 1, delta=0.15)
         self.assertAlmostEqual(self.eastward(EXAMPLES / "corridor/wave.add.xml") / 166.3, 1, delta=0.15)
 
-    @needs_detectors
     def test_road_works(self):
         folder = EXAMPLES / "road_works"
         out = self.run_example(
@@ -48,7 +47,6 @@ class Examples(Case):
         for begin, expected in ((900, 3200), (2700, 1600), (4500, 3200)):
             self.assertAlmostEqual(passed[begin] / expected, 1, delta=0.05, msg=str(begin))
 
-    @needs_detectors
     def test_actuated(self):
         folder, run, mapped = EXAMPLES / "actuated", self.folder / "run.jsonl", self.folder / "map.json"
         network = folder / "cross.net.xml.gz"

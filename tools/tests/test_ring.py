@@ -1,11 +1,11 @@
 """The fundamental diagram of one lane in a ring, against what is published and what follows from the rules."""
 import unittest
 
-from support import PROGRAM, needs_detectors
+from support import PROGRAM, needs_simulator
 from streetsim.ring import measure
 
 
-@needs_detectors
+@needs_simulator
 class Ring(unittest.TestCase):
     def test_published_maximum(self):
         # Nagel and Schreckenberg (1992): a maximum of about 0.32 vehicles a step near 0.08 vehicles a cell, at limit 5

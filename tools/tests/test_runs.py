@@ -5,7 +5,7 @@ import json
 import subprocess
 import unittest
 
-from support import MAP, NO_DETECTORS, NUMBERED, PROGRAM, RED, Case, lane, needs_detectors, needs_simulator, net
+from support import MAP, NUMBERED, PROGRAM, RED, Case, lane, needs_simulator, net
 from streetsim import tables
 from streetsim.files import Fault
 from streetsim.record import Recorder, Settings, standing
@@ -43,7 +43,6 @@ def enter(plan, depart=0):
 
 @needs_simulator
 class Tables(Runs):
-    @needs_detectors
     def test_one_vehicle(self):
         # Cells 0, 1, 3, 6 after steps 0 to 3; in step 4 it leaves with speed 4 (108 km/h) and has arrived: 5 s after
         # departure.
@@ -59,15 +58,6 @@ class Tables(Runs):
         self.assertEqual(len(polls), 60)
         self.assertEqual(polls[3], {"clock": 4, "lanes": [[0, 0, [[0, 6, 3]], [], []]]})
         self.assertEqual(polls[5], {"clock": 6, "lanes": []})
-
-    @unittest.skipUnless(NO_DETECTORS, "the simulator serves detectors")
-    def test_without_detectors(self):
-        self.given(enter([0]), cars=["first"])
-        told, warned = self.run_tool("--until", 60, "--every", 1)
-        self.assertEqual(told, "1 vehicles, 1 arrived, mean trip 5.0 s, 0 rescues\n")
-        self.assertIn("does not serve detectors yet", warned)
-        self.assertEqual(self.table("counts.csv"), [])
-        self.assertEqual(self.table("summary.csv"), [["60", "1", "0", "0", "0", "1", "0"]])
 
     def test_queue_at_red(self):
         self.given(RED, enter([0, 1]), enter([0, 1]), enter([0, 1]), enter([0], 1000), cars=["x", "y", "z", "later"])
@@ -111,7 +101,6 @@ class Tables(Runs):
             [int(row[2]) for row in self.table("trips.csv")], [json.loads(line)["step"] + 1 for line in whole]
         )
 
-    @needs_detectors
     def test_counts_over_many_periods(self):
         # A detector keeps 32 rows; all 100 are there.
         self.given(enter([0]), enter([0], 950), cars="ab")

@@ -4,7 +4,7 @@ import gzip
 import re
 import unittest
 
-from support import DATA, PROGRAM, SCENARIOS, Case, needs_detectors, needs_simulator
+from support import DATA, PROGRAM, SCENARIOS, Case, needs_simulator
 from streetsim.compare import counts_of, geh, trips_of
 from streetsim.folder import read_folder
 
@@ -48,11 +48,9 @@ class Samples(Case):
         good = sum(geh(4 * here, 4 * there) < 5 for here, there in pairs)
         self.assertGreaterEqual(good / len(pairs), 0.85)
 
-    @needs_detectors
     def test_grid(self):
         self.compare("grid", DATA / "grid.net.xml.gz", DATA / "grid.rou.xml.gz")
 
-    @needs_detectors
     def test_town(self):
         self.compare("town", DATA / "town.net.xml.gz", DATA / "town.rou.xml.gz")
 

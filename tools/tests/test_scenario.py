@@ -2,7 +2,7 @@
 import json
 import unittest
 
-from support import FORK, PROGRAM, Case, needs_detectors, needs_simulator
+from support import FORK, PROGRAM, Case, needs_simulator
 from streetsim.scenario import NOWHERE, NotHere, Scenario
 
 ROUTES = '<routes><vehicle id="v" depart="0"><route edges="a b"/></vehicle></routes>'
@@ -94,7 +94,6 @@ class Scenarios(Case):
         self.sim.close("a_1", 15, 45)
         self.assertEqual((self.sim.lane_state("a_0").closed, self.sim.lane_state("a_1").closed), ((), ((2, 5),)))
 
-    @needs_detectors
     def test_detector(self):
         self.sim.inductionloop.add("d", "a_0", 29.0, 10)  # cell 3
         loop = self.sim.inductionloop

@@ -8,7 +8,7 @@ use Rattle.street_base.specs.declared.command.PhaseSpec.{PhaseSpec}
 use Rattle.street_base.specs.declared.command.Command.{Command}
 use Rattle.street_base.specs.declared.command.Command.TheVariants.{Load, Signal, Enter, Advance, CloseLane, ReopenLane, TakeOut, PlaceMeter, ReadMeter, Vehicle as AskVehicle, Lane as AskLane, Count}
 use Rattle.street_base.specs.declared.refusal.Refusal.{Refusal}
-use Rattle.street_base.specs.declared.refusal.Refusal.TheVariants.{NotLoaded, AlreadyLoaded, BadNetwork, NoNode, NoLink, NoLane, BadRange, BadPlan, BadSignal, NoVehicle, Gone, NoMeter, TooMany, BadCount, ClockEnd, NotYet}
+use Rattle.street_base.specs.declared.refusal.Refusal.TheVariants.{NotLoaded, AlreadyLoaded, BadNetwork, NoNode, NoLink, NoLane, BadRange, BadPlan, BadSignal, NoVehicle, Gone, NoMeter, TooMany, BadCount, ClockEnd}
 use Rattle.street_base.specs.declared.reply.Reply.{Reply}
 use Rattle.street_base.specs.declared.reply.Reply.TheVariants.{Loaded, Signalled, Entered, Clock, Closed, Taken, Placed, Vehicle as TellVehicle, Refused}
 use Rattle.street_base.specs.declared.reply.Whereabouts.{Whereabouts}
@@ -106,7 +106,7 @@ lane_refusal link lane m = first_of (lane_tests link lane m)
 abbrev pub closure_refusal : ℕ → ℕ → ℕ → ℕ → Traffic → Option Refusal
 closure_refusal link lane first last m = first_of (lane_tests link lane m ++ (nat_lt last first || is_past link last m, BadRange) ∷ [])
 
--- once detectors are served: one is refused for its lane, its cell and its period, and where too many stand
+-- a detector is refused for its lane, its cell and its period, and where too many stand
 abbrev pub place_refusal : ℕ → ℕ → ℕ → ℕ → Traffic → Option Refusal
 place_refusal link lane cell period m = first_of (
     lane_tests link lane m
@@ -115,13 +115,9 @@ place_refusal link lane cell period m = first_of (
     ∷ (nat_le most_detectors (length m.detectors), TooMany)
     ∷ [])
 
--- once detectors are served: no detector has this number
+-- no detector has this number
 abbrev pub read_refusal : ℕ → Traffic → Option Refusal
 read_refusal meter m = first_of ((nat_le (length m.detectors) meter, NoMeter) ∷ [])
-
--- detectors are not served yet: once a network is loaded, their commands are refused by that name
-abbrev pub not_yet : State → Option Refusal
-not_yet m = when_loaded (λ t. Some NotYet) m
 
 -- the refusals of each command, in their order
 abbrev pub refusal : State → Command → Option Refusal
@@ -132,8 +128,8 @@ refusal m (Advance n) = when_loaded (advance_refusal n) m
 refusal m (CloseLane link lane first last) = when_loaded (closure_refusal link lane first last) m
 refusal m (ReopenLane link lane first last) = when_loaded (closure_refusal link lane first last) m
 refusal m (TakeOut car) = when_loaded (takeout_refusal car) m
-refusal m (PlaceMeter link lane cell period) = not_yet m
-refusal m (ReadMeter meter) = not_yet m
+refusal m (PlaceMeter link lane cell period) = when_loaded (place_refusal link lane cell period) m
+refusal m (ReadMeter meter) = when_loaded (read_refusal meter) m
 refusal m (AskVehicle car) = when_loaded (vehicle_refusal car) m
 refusal m (AskLane link lane) = when_loaded (lane_refusal link lane) m
 refusal m Count = when_loaded (λ t. None) m

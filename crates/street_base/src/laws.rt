@@ -79,7 +79,7 @@ pub fn keeps_everyone()
     ensures { (n : ℕ) (m : Traffic) → IsSound m → IsSound (steps n m) }
 {}
 
-/// Each command keeps each number in one place or ended, once; so does the placing of a detector, which is not served yet.
+/// Each command keeps each number in one place or ended, once; so does the placing of a detector, wherever it is placed.
 pub fn each_command_keeps_everyone()
     ensures served { (old : State) (c : Command) → refusal old c ≡ None
         → IsSoundState old → IsSoundState (done old c) }

@@ -49,8 +49,6 @@ pub enum Refusal {
     BadCount,
     /// The steps lead past `LAST_CLOCK`.
     ClockEnd,
-    /// Detectors are not served yet.
-    NotYet,
 }
 
 /// A part of a load.
@@ -87,7 +85,6 @@ impl Refusal {
             Refusal::TooMany => 13,
             Refusal::BadCount => 14,
             Refusal::ClockEnd => 15,
-            Refusal::NotYet => 19,
         }
     }
 
@@ -111,7 +108,6 @@ impl Refusal {
             Refusal::TooMany => "TooMany",
             Refusal::BadCount => "BadCount",
             Refusal::ClockEnd => "ClockEnd",
-            Refusal::NotYet => "NotYet",
         }
     }
 }

@@ -7,3 +7,4 @@ pub mod Numbers
 pub mod Closing
 pub mod Signalling
 pub mod Entering
+pub mod Metering

@@ -1,5 +1,5 @@
 -- What it takes to serve a command: what is shown of all traffic that the streets stand for.
-use Rattle.std.proofs.Common.{◌≡◌, false, refl, sym, ◌∙◌, ap, subst}
+use Rattle.std.proofs.Common.{◌≡◌, false, length, refl, sym, ◌∙◌, ap, subst}
 use Rattle.std.specs.Prelude.{Option, Some, None, is_some}
 use Rattle.street_base.specs.declared.command.Command.{Command}
 use Rattle.street_base.specs.declared.refusal.Refusal.{Refusal}
@@ -70,6 +70,10 @@ module _ (s : StreetsView) (m : Traffic) (stands : StreetsStandFor s m) where
   pub same-ends : m.ends ≡ s.ends
   unfolding StreetsStandFor
   same-ends = sym stands.ends
+
+  pub same-count : length m.detectors ≡ length s.sites
+  unfolding StreetsStandFor
+  same-count = sym stands.sites.even
 
 module _ (x : View) (s : StreetsView) (c : Command) (is : x ≡ Some s) where
   -- where nothing is changed

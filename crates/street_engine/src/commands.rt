@@ -2,13 +2,11 @@
 //!
 //! Source: this profile.
 ghost use Rattle.std.specs.Prelude.{◌≡◌, ◌≤◌};
-ghost use Rattle.street_base.specs.declared.command.Command.{Command};
 ghost use Rattle.street_base.specs.declared.command.Command.TheVariants.{Load};
-ghost use Rattle.street_base.specs.State.{State};
-ghost use Rattle.street_base.specs.Machine.{refusal, not_yet as refused_yet};
 ghost use Rattle.street_engine.specs.Refines.{Serves};
 
 use crate::clock::{advance, count};
+use crate::meters::{place_meter, read_meter};
 use crate::places::{close_lane, lane, reopen_lane, signal};
 use crate::vehicles::{enter, take_out, vehicle};
 use std::alloc::Global;
@@ -55,22 +53,16 @@ pub(crate) fn serve<R: Threads + Sync, G: Gate + Sync>(
             last,
         } => reopen_lane(state, *link, *lane, *first, *last),
         Command::TakeOut { car } => take_out(state, *car),
-        Command::PlaceMeter { .. } => not_yet(state),
-        Command::ReadMeter { .. } => not_yet(state),
+        Command::PlaceMeter {
+            link,
+            lane,
+            cell,
+            period,
+        } => place_meter(alloc, state, *link, *lane, *cell, *period),
+        Command::ReadMeter { meter } => read_meter(alloc, state, *meter),
         Command::Vehicle { car } => vehicle(alloc, state, *car),
         Command::Lane { link, lane: number } => lane(alloc, state, *link, *number),
         Command::Count => count(state),
-    }
-}
-
-/// A command that is not served yet.
-fn not_yet(state: &Option<Streets>) -> (Reply, Outcome)
-    ensures { (command : Command) → ((m : State) → refusal m command ≡ refused_yet m)
-        → Serves state.now command result.0 result.1 state.now }
-{
-    match state {
-        Some(_) => (Reply::Refused(Refusal::NotYet), Outcome::Whole),
-        None => (Reply::Refused(Refusal::NotLoaded), Outcome::Whole),
     }
 }
 

@@ -7,6 +7,7 @@
 mod clock;
 mod commands;
 mod engine;
+mod meters;
 mod naming;
 mod places;
 mod unwatched;

@@ -4,7 +4,7 @@ use Rattle.serde_json.specs.Data.{Data}
 use Rattle.serde_json.specs.Written.{has_float, items_have_float}
 use Rattle.street_base.specs.declared.reply.End.TheVariants.{Arrived, Taken}
 use Rattle.street_base.specs.declared.refusal.Refusal.{Refusal}
-use Rattle.street_base.specs.declared.refusal.Refusal.TheVariants.{NotLoaded, AlreadyLoaded, BadNetwork, NoNode, NoLink, NoLane, BadRange, BadPlan, BadSignal, NoVehicle, Gone, NoMeter, TooMany, BadCount, ClockEnd, NotYet}
+use Rattle.street_base.specs.declared.refusal.Refusal.TheVariants.{NotLoaded, AlreadyLoaded, BadNetwork, NoNode, NoLink, NoLane, BadRange, BadPlan, BadSignal, NoVehicle, Gone, NoMeter, TooMany, BadCount, ClockEnd}
 use Rattle.street_base.specs.declared.reply.Reply.{Reply}
 use Rattle.street_base.specs.declared.reply.Reply.TheVariants.{Loaded, Signalled, Entered, Clock, Short, Closed, Placed, Rows, Vehicle, Lane, Census, Refused, Starved}
 use Rattle.street_base.specs.declared.reply.Whereabouts.{Whereabouts}
@@ -34,7 +34,6 @@ whole_refusal NoMeter = refl
 whole_refusal TooMany = refl
 whole_refusal BadCount = refl
 whole_refusal ClockEnd = refl
-whole_refusal NotYet = refl
 
 whole_vehicle : (car : ℕ) (w : Whereabouts) → has_float (vehicle_data car w) ≡ false
 whole_vehicle car (Cell link lane cell speed plan) = rw (whole_plan plan) refl

@@ -1,11 +1,11 @@
 -- Worked rows: commands from nothing loaded, what is refused, and what is answered.
 use Rattle.street_base.proofs.rows.Unfolded.{machine_computed}
-use Rattle.std.proofs.Common.{◌≡◌, ℕ, List, [], ◌∷◌, ◌++◌, length, map, refl}
+use Rattle.std.proofs.Common.{◌≡◌, ℕ, List, [], ◌∷◌, length, map, refl}
 use Rattle.std.specs.Prelude.{Some, None}
 use Rattle.street_base.specs.declared.net.NetSpec.{NetSpec}
 use Rattle.street_base.specs.declared.command.Command.{Command}
 use Rattle.street_base.specs.declared.command.Command.TheVariants.{Load, Signal, Enter, Advance, CloseLane, ReopenLane, TakeOut, PlaceMeter, ReadMeter, Vehicle as AskVehicle, Lane as AskLane, Count}
-use Rattle.street_base.specs.declared.refusal.Refusal.TheVariants.{NotLoaded, AlreadyLoaded, BadNetwork, NoLane, BadRange, BadPlan, NoVehicle, TooMany, BadCount, ClockEnd, NotYet}
+use Rattle.street_base.specs.declared.refusal.Refusal.TheVariants.{NotLoaded, AlreadyLoaded, BadNetwork, NoLane, BadRange, BadPlan, NoVehicle, TooMany, BadCount, ClockEnd}
 use Rattle.street_base.specs.declared.refusal.Part.TheVariants.{Values}
 use Rattle.street_base.specs.declared.reply.Reply.{Reply}
 use Rattle.street_base.specs.declared.reply.Reply.TheVariants.{Loaded, Entered, Clock, Vehicle as TellVehicle, Refused}
@@ -139,16 +139,6 @@ pub clock_ends : Converses (
 unfolding machine_computed
 clock_ends = refl
 
--- ---- detectors are not served yet
-
-abbrev later : List Command
-later = PlaceMeter 10 0 3 2 ∷ ReadMeter 0 ∷ []
-
--- before a load they are refused as any other command, and after it by name
-pub not_yet : Converses (map (λ c. (c, Refused NotLoaded)) later ++ (Load two_links, Loaded 2 3 1) ∷ map (λ c. (c, Refused NotYet)) later)
-unfolding machine_computed
-not_yet = refl
-
 -- ---- what is refused before
 
 pub not_loaded : Converses (
@@ -157,6 +147,8 @@ pub not_loaded : Converses (
     ∷ (CloseLane 10 0 5 5, Refused NotLoaded)
     ∷ (ReopenLane 10 0 5 5, Refused NotLoaded)
     ∷ (TakeOut 0, Refused NotLoaded)
+    ∷ (PlaceMeter 10 0 3 2, Refused NotLoaded)
+    ∷ (ReadMeter 0, Refused NotLoaded)
     ∷ (AskLane 10 0, Refused NotLoaded)
     ∷ (Count, Refused NotLoaded)
     ∷ (Advance 0, Refused NotLoaded)

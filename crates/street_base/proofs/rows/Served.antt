@@ -1,4 +1,4 @@
--- Worked rows: all twelve commands once a network is loaded; those of detectors as they will be served.
+-- Worked rows: all twelve commands once a network is loaded.
 use Rattle.street_base.proofs.rows.Unfolded.{machine_computed}
 use Rattle.std.proofs.Common.{◌≡◌, ℕ, List, [], ◌∷◌, map, length, refl}
 use Rattle.std.specs.Prelude.{Option, Some, None, true, false}
@@ -15,14 +15,8 @@ use Rattle.street_base.specs.declared.reply.Whereabouts.TheVariants.{Cell, Buffe
 use Rattle.street_base.specs.declared.reply.End.TheVariants.{Taken as WasTaken}
 use Rattle.street_base.specs.State.{State, Traffic}
 use Rattle.street_base.specs.Faults.{is_bad_entry, is_bad_phase}
-use Rattle.street_base.specs.Machine.{when_loaded, place_refusal, read_refusal, refusal, loaded, done, answered}
+use Rattle.street_base.specs.Machine.{place_refusal, refusal, loaded, done, answered}
 use Rattle.street_base.proofs.rows.States.{two_links, node, link, turn_of, net_of}
-
--- the refusals of a command; those of detectors are the ones that are to come
-abbrev served_refusal : State → Command → Option Refusal
-served_refusal m (PlaceMeter link lane cell period) = when_loaded (place_refusal link lane cell period) m
-served_refusal m (ReadMeter meter) = when_loaded (read_refusal meter) m
-served_refusal m c = refusal m c
 
 -- a command done or refused, and its reply
 abbrev served_as : State → Command → Option Refusal → State × Reply
@@ -32,7 +26,7 @@ served_as m c (Some r) = (m, Refused r)
 abbrev replies : State → List Command → List Reply
 replies m [] = []
 replies m (c ∷ cs) =
-    let one = served_as m c (served_refusal m c) in
+    let one = served_as m c (refusal m c) in
     one.1 ∷ replies one.0 cs
 
 -- once this network is loaded, each command gets the reply beside it

@@ -283,7 +283,6 @@ fn prints_each_refusal(rt: HostRuntime) -> Result<(), Fail> {
         (Refusal::TooMany, r#"{"error":13,"name":"TooMany"}"#),
         (Refusal::BadCount, r#"{"error":14,"name":"BadCount"}"#),
         (Refusal::ClockEnd, r#"{"error":15,"name":"ClockEnd"}"#),
-        (Refusal::NotYet, r#"{"error":19,"name":"NotYet"}"#),
     ] {
         check_text(&rt, Reply::Refused(refusal), want)?;
     }

@@ -215,13 +215,19 @@ static SESSIONS: [Session; 9] = [
 "#,
     },
     Session {
-        name: "detectors are not served yet",
+        name: "a detector counts who passes",
         load: TEN_CELLS,
         lines: r#"{"cmd":"meter","link":10,"lane":0,"cell":3,"period":2}
+{"cmd":"enter","plan":[10],"lane":0,"depart":0}
+{"cmd":"advance","steps":5}
 {"cmd":"read","meter":0}
+{"cmd":"read","meter":1}
 "#,
-        replies: r#"{"error":19,"name":"NotYet"}
-{"error":19,"name":"NotYet"}
+        replies: r#"{"meter":0}
+{"car":0}
+{"clock":5}
+{"now":[4,1,0,0,0],"rows":[[0,0,0,0],[2,1,3,1]]}
+{"error":12,"name":"NoMeter"}
 "#,
     },
     Session {
