@@ -17,6 +17,7 @@ import time
 MEBIBYTE = 1 << 20
 MOST_NODES = MOST_LINKS = 4_096
 TURNS_OF_A_LINK = 8
+ALL_CALLS = ["--calls", "1000000"]  # by default fewer are served
 FIRST_LINK = 100_000_000
 
 NOTHING = b'{"cmd":"advance","steps":0}\n'
@@ -72,7 +73,7 @@ def whole_run(program, text, wanted):
         source.write(text)
         source.seek(0)
         begun = time.perf_counter()
-        subprocess.run([program], stdin=source, stdout=target, check=True)
+        subprocess.run([program, *ALL_CALLS], stdin=source, stdout=target, check=True)
         spent = time.perf_counter() - begun
         target.seek(0)
         equal(target.read(), wanted)

@@ -101,8 +101,7 @@ def compare_trips(here, there, vehicles):
 
 
 def compare_counts(here, there, period):
-    """Lines on the counts of edges and periods that both have; an edge that SUMO does not list in a period had nobody.
-    Lines on the counts of edges and periods that both have; an edge that SUMO does not list in a period had nobody."""
+    """Lines on the counts of edges and periods that both have; an edge that SUMO does not list in a period had nobody."""
     periods = {key[:2] for key in here} & {key[:2] for key in there}
     edges = {key[2] for key in there}
     pairs = [(count, there.get(key, 0)) for key, count in here.items() if key[:2] in periods and key[2] in edges]

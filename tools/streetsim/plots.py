@@ -183,7 +183,9 @@ def draw_map(pyplot, folder, _words):
 
     shown = sorted(zip(series.densities(folder), folder.mapping.links, strict=True), key=lambda pair: pair[0])
     most = next((most for most in (25, 50) if shown[-1][0] <= most), 100)
-    figure, axes = pyplot.subplots(figsize=(9, 8))
+    width, height = (max(places) - min(places) for places in zip(*(point for _, link in shown for point in link.shape)))
+    wide = width > 2 * height
+    figure, axes = pyplot.subplots(figsize=(9, 4) if wide else (9, 8))
     axes.add_collection(LineCollection([link.shape for _, link in shown], colors="#bbbbbb", linewidths=2.5))
     lines = LineCollection(
         [link.shape for _, link in shown],
@@ -195,7 +197,8 @@ def draw_map(pyplot, folder, _words):
     axes.add_collection(lines)
     axes.autoscale_view()
     axes.set(aspect="equal", xlabel="x (m)", ylabel="y (m)", title="Mean density: wider and darker is denser")
-    figure.colorbar(lines, ax=axes, label="vehicles/km and lane", extend="max", shrink=0.7)
+    beside = {"orientation": "horizontal", "pad": 0.18} if wide else {}
+    figure.colorbar(lines, ax=axes, label="vehicles/km and lane", extend="max", shrink=0.7, **beside)
     return figure
 
 

@@ -72,8 +72,7 @@ def signal(node, turns, edges, light, program, permissive, report):
 
 
 def each_second(light, program, report):
-    """The program's state in each second of its cycle; durations are rounded by running sum, so that the cycle stays.
-    The program's state in each second of its cycle; durations are rounded by running sum, so that the cycle stays."""
+    """The program's state in each second of its cycle; durations are rounded by running sum, so that the cycle stays."""
     states, clock = [], 0.0
     for duration, state in program.phases:
         if duration > limits.PHASE_STEPS:

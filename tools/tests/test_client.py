@@ -159,6 +159,14 @@ class Simulator(Case):
         sim.takeout(car)
         sim.takeout(car)
 
+    def test_full(self):
+        if not client.most_calls(PROGRAM):
+            self.skipTest("this simulator does not count its calls")
+        sim = self.enterContext(Client(PROGRAM, calls=2))
+        sim.load(**STREET)
+        self.assertEqual(sim.count().clock, 0)
+        self.refused(client.Full, sim.advance, 5)
+
     def test_clock_end(self):
         self.refused(client.ClockEnd, self.street(start=999_999_999).advance, 2)
 

@@ -5,7 +5,7 @@ import unittest
 from support import FORK, PROGRAM, REASON, SCENARIOS, Case, lane, needs_simulator, net
 from streetsim.client import Client
 from streetsim.files import Fault
-from streetsim.importing import convert
+from streetsim.importing import convert, refuse_over_limits
 from streetsim.network import Options
 from streetsim.report import Report
 from streetsim.sumo_net import read_net
@@ -67,6 +67,30 @@ class Networks(Case):
             network, *_ = self.network(net([("a", "A", "B", lanes), *ends], connections))
             self.assertEqual([link.lanes for link in network.links if link.edge == "a"], expected)
 
+    def test_four_and_five_lanes(self):
+        for count, expected in ((4, [(0, 1), (2, 3)]), (5, [(0, 1), (2, 3), (4,)])):
+            lanes = [lane("a", index) for index in range(count)]
+            network, *_ = self.network(net([("a", "A", "B", lanes)], []))
+            self.assertEqual([link.lanes for link in network.links], expected)
+
+    def test_links_are_ordered_by_who_goes_first(self):
+        """The roundabout, then the greatest share of connections that need not give way, priority, speed, the file."""
+        names = ("slow", "also_slow", "fast", "yields", "half_yields", "main", "ring")
+        edges = [(name, name, "B", [lane(name, 0, speed=25 if name == "fast" else 10)]) for name in names]
+        connections = [(name, 0, out, 0, "") for name in names for out in ("out", "other")]
+        text = net([*edges, *((out, "B", out, [lane(out, 0, speed=5)]) for out in ("out", "other"))], connections)
+        for name, out in (("yields", "out"), ("yields", "other"), ("half_yields", "out"), ("ring", "out")):
+            place = f'from="{name}" to="{out}" fromLane="0" toLane="0" state='
+            text = text.replace(place + '"M"', place + '"m"')
+        text = text.replace(
+            '<edge id="main" from="main" to="B" priority="1"', '<edge id="main" from="main" to="B" priority="9"'
+        )
+        network, *_ = self.network(text.replace("</net>", '<roundabout nodes="B" edges="ring"/></net>'))
+        self.assertEqual(
+            [link.edge for link in network.links],
+            ["ring", "main", "fast", "slow", "also_slow", "half_yields", "yields", "out", "other"],
+        )
+
     def test_routes_share_parallel_links_by_lanes(self):
         lanes = [[lane(name, index) for index in range(3)] for name in "ab"]
         wide = net(
@@ -109,6 +133,13 @@ class Networks(Case):
         self.assertEqual(self.said.warnings, ["1 lanes are closed to passenger and left out, with 0 whole edges"])
         with self.assertRaisesRegex(Fault, "no lane is open to passenger; lanes are opened to: bus"):
             self.network(net([("a", "A", "B", [lane("a", 0, more='allow="bus"')])], []))
+
+    def test_too_many_vehicles_and_too_long_a_line(self):
+        network, *_ = self.network(FORK)
+        refuse_over_limits(network, "x" * 1_048_576, range(1_000_000))
+        words = "too large for streetsim: 1,000,001 vehicles, at most 1,000,000; a load line of 1,048,577 bytes, at most 1,048,576"
+        with self.assertRaisesRegex(Fault, words):
+            refuse_over_limits(network, "x" * 1_048_577, range(1_000_001))
 
     @needs_simulator
     def test_two_side_by_side(self):
@@ -164,6 +195,15 @@ class Tool(Case):
             "1 links above 1,000,000 cells of 7.5 m: edges a",
             net([("a", "A", "B", [lane("a", 0, metres=7_600_000)])], []),
         )
+
+    def test_too_many_turns(self):
+        edges = [
+            (f"{way}{at}", *ends, [lane(f"{way}{at}", 0)])
+            for way, ends in (("a", "AB"), ("b", "BC"))
+            for at in range(182)
+        ]
+        turns = [(f"a{at}", 0, f"b{other}", 0, "") for at in range(182) for other in range(182)]
+        self.refused("too large for streetsim: 33,124 turns, at most 32,768", net(edges, turns))
 
     def test_most_links_fit(self):
         self.run_tool(net([(f"e{at}", "A", "B", [lane(f"e{at}", 0)]) for at in range(4096)], []), status=0)

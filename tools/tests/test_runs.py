@@ -2,10 +2,12 @@
 import csv
 import gzip
 import json
+import os
+import pty
 import subprocess
 import unittest
 
-from support import MAP, NUMBERED, PROGRAM, RED, Case, lane, needs_simulator, net
+from support import MAP, NUMBERED, PROGRAM, RED, TOOLS, Case, lane, needs_simulator, net
 from streetsim import tables
 from streetsim.files import Fault
 from streetsim.record import Recorder, Settings, standing
@@ -128,6 +130,18 @@ class Tables(Runs):
         )
         self.assertEqual([row[0] for row in self.table("seeds.csv")], ["1", "2", "3"])
         self.assertTrue((self.folder / "out/seed-3/trips.csv").exists())
+
+    def test_progress_is_for_terminals(self):
+        self.given(enter([0]), cars=["v"])
+        self.assertEqual(self.run_tool("--until", 60)[1], "")
+        terminal, other_side = pty.openpty()
+        words = [TOOLS / "streetsim-run", self.run_file, "--map", self.map_file, "--program", PROGRAM]
+        words += ["--until", "60", "--out", self.folder / "out"]
+        subprocess.run(words, stdout=subprocess.DEVNULL, stderr=other_side, check=True)
+        os.close(other_side)
+        told = os.read(terminal, 4096).decode()
+        os.close(terminal)
+        self.assertRegex(told, r"\[#{30}\] 60 s, 0 on their way, 1 arrived, [\d,]+ steps/s")
 
     def test_refused_line_is_named(self):
         self.given(enter([7]))
