@@ -196,7 +196,15 @@ def draw_map(pyplot, folder, _words):
     )
     axes.add_collection(lines)
     axes.autoscale_view()
-    axes.set(aspect="equal", xlabel="x (m)", ylabel="y (m)", title="Mean density: wider and darker is denser")
+    low, high = axes.get_ylim()
+    more = max(0.0, 0.2 * width - (high - low)) / 2  # a street alone would be too flat a picture
+    axes.set(
+        aspect="equal",
+        ylim=(low - more, high + more),
+        xlabel="x (m)",
+        ylabel="y (m)",
+        title="Mean density: wider and darker is denser",
+    )
     beside = {"orientation": "horizontal", "pad": 0.18} if wide else {}
     figure.colorbar(lines, ax=axes, label="vehicles/km and lane", extend="max", shrink=0.7, **beside)
     return figure
