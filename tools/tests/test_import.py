@@ -2,13 +2,12 @@
 import json
 import unittest
 
-from support import FORK, PROGRAM, REASON, SCENARIOS, Case, lane, needs_simulator, net
+from support import FORK, PROGRAM, SCENARIOS, Case, lane, needs_simulator, net
 from streetsim.client import Client
 from streetsim.files import Fault
 from streetsim.importing import convert, refuse_over_limits
 from streetsim.network import Options
 from streetsim.report import Report
-from streetsim.sumo_net import read_net
 
 
 class Networks(Case):
@@ -226,21 +225,22 @@ class Tool(Case):
 
 
 @unittest.skipUnless(SCENARIOS.exists(), "Debian's sumo-tools is not installed")
+@needs_simulator
 class Shipped(Case):
     def test_every_network_is_read(self):
         """Each network that sumo-tools ships loads with all its signals, or is refused by the limit that it passes."""
-        for path in sorted(SCENARIOS.parents[3].rglob("*.net.xml")):
+        paths = sorted(SCENARIOS.parents[3].rglob("*.net.xml"))
+        self.assertGreater(len(paths), 20)
+        for path in paths:
             with self.subTest(path.name):
-                self.try_network(path)
+                self.try_network(str(path))
 
     def try_network(self, path):
         try:
-            network, _, commands, _ = convert(str(path), [], [], Options(), Report())
+            network, _, commands, _ = convert(path, [], [], Options(), Report())
+            refuse_over_limits(network, json.dumps(commands[0]), [])
         except Fault as fault:
-            self.assertIn("no lane is open to passenger", str(fault))
-            self.assertRaises(Fault, read_net, str(path), ("passenger",), Report())
-            return
-        if list(network.over_limits()) or REASON:
+            self.assertRegex(str(fault), "no lane is open to passenger|too large for streetsim")
             return
         with Client(PROGRAM) as sim:
             self.assertEqual([reply for reply in sim.batch(commands) if isinstance(reply, Exception)], [])

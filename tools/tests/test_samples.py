@@ -54,6 +54,19 @@ class Samples(Case):
     def test_town(self):
         self.compare("town", DATA / "town.net.xml.gz", DATA / "town.rou.xml.gz")
 
+    def test_any_number_of_workers(self):
+        """Lane changes, dawdling, signals and detectors on 120 links, shared by workers: equal bytes."""
+        run, mapped = self.folder / "run.jsonl", self.folder / "map.json"
+        self.tool("import", DATA / "grid.net.xml.gz", "--routes", DATA / "grid.rou.xml.gz", "-o", run, "--map", mapped)
+        words = ["run", run, "--map", mapped, "--until", 600, "--every", 50, "--period", 100, "--program", PROGRAM]
+        for workers in (1, 3, 4):
+            self.tool(*words, "--workers", workers, "--out", self.folder / str(workers))
+        for name in ("counts.csv", "trips.csv", "queues.csv", "summary.csv", "lanes.jsonl.gz"):
+            contents = {(self.folder / workers / name).read_bytes() for workers in "134"}
+            self.assertEqual(len(contents), 1, name)
+        with open(self.folder / "4/summary.csv", encoding="utf-8") as file:
+            self.assertGreater(int(list(csv.DictReader(file))[-1]["on_cells"]), 100)
+
     def test_rescues_resolve_a_locked_town(self):
         """With half as many vehicles again the town locks; with rescues all arrive."""
         with gzip.open(DATA / "town.rou.xml.gz", "rt", encoding="utf-8") as file:
