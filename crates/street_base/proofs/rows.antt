@@ -14,6 +14,8 @@ pub mod Signal
 pub mod Draw
 pub mod Commands
 pub mod Served
+pub mod EitherLane
+pub mod Bounds
 pub mod Outcomes
 pub mod OnTheWay
 pub mod Faults

@@ -14,33 +14,33 @@ use Rattle.street_base.specs.declared.reply.Reply.TheVariants.{Signalled, Entere
 use Rattle.street_base.specs.declared.reply.Whereabouts.TheVariants.{Cell, Buffer, Waiting as Waits, Ended}
 use Rattle.street_base.specs.declared.reply.End.TheVariants.{Taken as WasTaken}
 use Rattle.street_base.specs.State.{State, Traffic}
-use Rattle.street_base.specs.Faults.{is_bad_entry, is_bad_phase}
+use Rattle.street_base.specs.Faults.{is_bad_phase}
 use Rattle.street_base.specs.Machine.{place_refusal, refusal, loaded, done, answered}
 use Rattle.street_base.proofs.rows.States.{two_links, node, link, turn_of, net_of}
 
 -- a command done or refused, and its reply
-abbrev served_as : State → Command → Option Refusal → State × Reply
+abbrev pub served_as : State → Command → Option Refusal → State × Reply
 served_as m c None = (done m c, answered m c)
 served_as m c (Some r) = (m, Refused r)
 
-abbrev replies : State → List Command → List Reply
+abbrev pub replies : State → List Command → List Reply
 replies m [] = []
 replies m (c ∷ cs) =
     let one = served_as m c (refusal m c) in
     one.1 ∷ replies one.0 cs
 
 -- once this network is loaded, each command gets the reply beside it
-abbrev Converses : NetSpec → List (Command × Reply) → Type 0
+abbrev pub Converses : NetSpec → List (Command × Reply) → Type 0
 Converses net run = replies (Some (loaded net)) (map (λ e. e.0) run) ≡ map (λ e. e.1) run
 
-abbrev green : ℕ → ℕ → ℕ → GreenSpec
+abbrev pub green : ℕ → ℕ → ℕ → GreenSpec
 green link lane next = record { link = link; lane = lane; next = next }
 
-abbrev phase : ℕ → List GreenSpec → PhaseSpec
+abbrev pub phase : ℕ → List GreenSpec → PhaseSpec
 phase duration greens = record { duration = duration; greens = greens }
 
 -- what a lane holds: (number, speed, ready) in the buffer, (number, cell, speed) in cells, (first, last) closed, (number, depart) waiting
-abbrev lane_of : List (ℕ × ℕ × ℕ) → List (ℕ × ℕ × ℕ) → List (ℕ × ℕ) → List (ℕ × ℕ) → Reply
+abbrev pub lane_of : List (ℕ × ℕ × ℕ) → List (ℕ × ℕ × ℕ) → List (ℕ × ℕ) → List (ℕ × ℕ) → Reply
 lane_of buffer cells closed waiting = TellLane
     (map (λ e. record { car = e.0; speed = e.1; ready = e.2 }) buffer)
     (map (λ e. record { car = e.0; cell = e.1; speed = e.2 }) cells)
@@ -48,7 +48,7 @@ lane_of buffer cells closed waiting = TellLane
     (map (λ e. record { car = e.0; depart = e.1 }) waiting)
 
 -- the running row as (start, steps, passes, speeds, occupied), and the full ones without steps
-abbrev rows_of : ℕ × ℕ × ℕ × ℕ × ℕ → List (ℕ × ℕ × ℕ × ℕ) → Reply
+abbrev pub rows_of : ℕ × ℕ × ℕ × ℕ × ℕ → List (ℕ × ℕ × ℕ × ℕ) → Reply
 rows_of now full = Rows
     (record { start = now.0; steps = now.1; passes = now.2; speeds = now.3; occupied = now.4 })
     (map (λ e. record { start = e.0; passes = e.1; speeds = e.2; occupied = e.3 }) full)
@@ -295,10 +295,6 @@ no_more_detectors m is_network count = simp (is_network, count) refl
 pub one_more_detector : (m : Traffic) → m.network ≡ two_links → length m.detectors ≡ 1023 → place_refusal 10 0 3 100000 m ≡ None
 unfolding machine_computed
 one_more_detector m is_network count = simp (is_network, count) refl
-
--- a plan may have 1,024 links, and no entry past them is good
-pub plan_positions : (is_bad_entry two_links (10 ∷ []) 0 10 ≡ false) × (is_bad_entry two_links [] 1024 10 ≡ true)
-plan_positions = (refl, refl)
 
 -- a phase may stand at position 15, and none at 16
 pub phase_positions : (is_bad_phase two_links 2 15 (phase 1 []) ≡ false) × (is_bad_phase two_links 2 16 (phase 1 []) ≡ true)
