@@ -37,8 +37,7 @@ class Given(Case):
             {"clock": 3, "lanes": [[0, 0, [[1, 1, 1]], [0], [[8, 9]]]]},
             {"clock": 4, "lanes": [[1, 0, [[0, 0, 1]], [], []]]},
         ]
-        with gzip.open(self.folder / "lanes.jsonl.gz", "wt") as file:
-            file.writelines(json.dumps(poll) + "\n" for poll in polls)
+        self.write_polls(polls)
         self.write("trips.csv", ",".join(TRIPS) + "\nv,0,30,30,4,26,2,0,arrived\nw,1,,,4,,2,0,cell\n")
         self.write("queues.csv", ",".join(QUEUES) + "\n10,a,0,3,22.5\n20,a,0,1,7.5\n20,b,0,2,15\n")
         self.write(
@@ -47,6 +46,10 @@ class Given(Case):
             + "\n0,900,a,0,0,90,360.0,27.0,15.0\n900,1000,a,0,0,9,324.0,27.0,15.0\n0,900,b,1,0,0,0.0,,0.0\n",
         )
         self.given = read_folder(self.folder)
+
+    def write_polls(self, polls):
+        with gzip.open(self.folder / "lanes.jsonl.gz", "wt") as file:
+            file.writelines(json.dumps(poll) + "\n" for poll in polls)
 
 
 class Numbers(Given):
@@ -125,6 +128,13 @@ class Player(Given):
         self.assertEqual(
             self.shown(page, 2), {"clock": 2, "vehicles": 2, "buffered": 0, "standing": 1, "red": 0, "closed": 0}
         )
+
+    @unittest.skipUnless(CHROMIUM, "Debian's chromium is not installed")
+    def test_signals(self):
+        """Red from 5 to 14 of each 20 steps; the other link ends at no signal."""
+        self.write_polls({"clock": clock, "lanes": []} for clock in (4, 5, 14, 15, 25))
+        page = self.page()
+        self.assertEqual([self.shown(page, clock)["red"] for clock in (4, 5, 14, 15, 25)], [0, 1, 1, 0, 1])
 
     def shown(self, page, step):
         words = [
