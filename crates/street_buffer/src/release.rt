@@ -6,12 +6,13 @@ ghost use Rattle.street_base.specs.Network.{link_at};
 ghost use Rattle.street_base.specs.Vehicle.{vehicle_of, next_link};
 ghost use Rattle.street_net.specs.Tables.{place_of as lane_of, in_places};
 ghost use Rattle.street_yard.specs.Yard.{car_of, place_of};
+ghost use Rattle.street_yard.specs.View.{viewed};
 ghost use Rattle.street_buffer.specs.Buffers.{queue_of, AreListed, HaveShortPlans};
 ghost use Rattle.street_buffer.specs.Releases.{way_out, lane_to, slot_of, mouth, IsFront, SendsOn, Goes, Releases};
 
-use street_base::{Car, LaneNo, LinkIx, NodeIx, Speed, Step, Turn};
+use street_base::{LaneNo, LinkIx, NodeIx, Speed, Step, Turn};
 use street_net::{LaneId, Network};
-use street_yard::{Key, ListId, Yard};
+use street_yard::{CarView, Key, ListId, Yard};
 
 /// A vehicle on its way from a buffer into a lane of its next link.
 #[derive(Clone, Copy)]
@@ -23,8 +24,8 @@ pub struct Released {
 }
 
 /// The link after the present one of a car's plan.
-fn next_link(car: &Car) -> Option<LinkIx>
-    ensures { result ≡ next_link (vehicle_of car.now) }
+fn next_link(car: &CarView<'_>) -> Option<LinkIx>
+    ensures { result ≡ next_link (vehicle_of (viewed car.now)) }
 {
     car.plan.as_slice().get(usize::from(car.at) + 1).copied()
 }
@@ -46,7 +47,7 @@ fn front_to_go(
     if car.step > step {
         return None;
     }
-    let next = next_link(car)?;
+    let next = next_link(&car)?;
     let turn = network.turn(from.link, from.lane, next)?;
     Some(Released { key, turn })
 }

@@ -1,12 +1,12 @@
 -- What a driver decides, from what the code has looked up.
-use Rattle.std.proofs.Common.{◌≡◌, ℕ, ◌+◌, ◌<◌, ◌≤◌, Bool, true, false, List, [], ◌∷◌, ◌++◌, length, Option, Some, None, refl, sym, ap, subst, ◌∙◌, arith}
+use Rattle.std.proofs.Common.{◌≡◌, ℕ, ◌+◌, ◌<◌, ◌≤◌, Bool, true, false, List, [], ◌∷◌, ◌++◌, length, IsSome, Option, Some, None, refl, sym, ap, subst, ◌∙◌, arith}
 use Rattle.std.specs.Prelude.{MatchOption, ◌&&◌}
 use Rattle.std.specs.Option.{option_map, unwrap_or}
 use Rattle.street_base.specs.declared.car.Car.{Car}
 use Rattle.street_base.specs.Vehicle.{Vehicle, vehicle_of, next_link}
 use Rattle.street_base.specs.Lane.{Track, is_closed}
 use Rattle.street_base.specs.LaneChange.{Weave}
-use Rattle.street_yard.specs.Yard.{Yard, list_at, car_of, first_or, last_or, IsWhole}
+use Rattle.street_yard.specs.Yard.{Kept, Yard, list_at, entry_at, car_of, first_or, last_or, IsWhole}
 use Rattle.street_yard.specs.Listed.{cell_at, vehicle_with, IsFalling, IsLane, AllAbove}
 use Rattle.street_yard.proofs.Callers.{cell_is}
 use Rattle.street_yard.proofs.Placed.{falling-split}
@@ -48,6 +48,14 @@ pub room-by : (y : Yard) (count : ℕ) (lane seen : RoadLane) (cell speed : ℕ)
     → ((n : ℕ) → IsRoadLane y n seen → r ≡ has_room (track_of y n seen) cell speed) → r ≡ has_room (track_of y count lane) cell speed
 room-by y count lane seen cell speed r same ok is =
     is count (subst (IsRoadLane y count) (sym same) ok) ∙ ap (λ l. has_room (track_of y count l) cell speed) same
+
+-- the car of an entry
+pub its_car : (y : Yard) (key : ℕ) → IsSome (entry_at y key) → (car : Car) × (car_of y key ≡ Some car)
+its_car y key h = of_entry (entry_at y key) h
+  where
+    of_entry : (o : Option Kept) → IsSome o → (car : Car) × (option_map (λ (e : Kept). e.car) o ≡ Some car)
+    of_entry None h = absurd (cc)
+    of_entry (Some e) h = (e.car, refl)
 
 -- the same car
 some-vehicle : (car : Car) (v : Vehicle) (o : Option Car) → o ≡ Some car → option_map vehicle_of o ≡ Some v → vehicle_of car ≡ v

@@ -1,9 +1,10 @@
 //! What a driver sees on both lanes, and whether they wish to change and have room for it.
 //!
 //! Rule by Rickert, Nagel, Schreckenberg and Latour 1996, with this profile's turn zone and closed cells.
-ghost use Rattle.std.specs.Prelude.{◌≡◌, ℕ, ◌<◌, ◌≤◌, ◌-◌, length, Some, option_map};
+ghost use Rattle.std.specs.Prelude.{◌≡◌, ℕ, ◌<◌, ◌≤◌, ◌-◌, length, IsSome, Some, option_map};
+ghost use Rattle.street_base.specs.declared.car.Car.{Car};
 ghost use Rattle.street_base.specs.Vehicle.{Vehicle, vehicle_of, next_link};
-ghost use Rattle.street_yard.specs.Yard.{place_of};
+ghost use Rattle.street_yard.specs.Yard.{place_of, entry_at, car_of};
 ghost use Rattle.street_yard.specs.Listed.{cell_at, vehicle_with};
 ghost use Rattle.street_gap.specs.Closed.{IsWithin, closed_marks, is_in};
 ghost use Rattle.street_gap.specs.Sight.{lesser};
@@ -13,7 +14,7 @@ ghost use Rattle.street_change.specs.Sight.{odds_of, weave_of, gap_up, gap_down,
 
 use crate::places::{cell_of, last_above, next};
 use crate::road::{Road, RoadLane};
-use street_base::{Car, CellNo, LaneNo, LinkIx, Speed, Step};
+use street_base::{CellNo, LaneNo, LinkIx, Speed, Step};
 use street_draw::Dice;
 use street_gap::Closures;
 use street_yard::{Key, Yard};
@@ -68,23 +69,35 @@ fn is_at(place: Option<CellNo>, cell: CellNo) -> bool
     }
 }
 
-/// The link after the present one.
-fn next_link(car: &Car) -> Option<LinkIx>
-    ensures { result ≡ next_link (vehicle_of car.now) }
+/// The link after the present one of a key's vehicle.
+fn next_link(yard: &Yard, key: Key) -> Option<LinkIx>
+    requires { IsSome (entry_at yard.now key.0) }
+    ensures { (car : Car) → car_of yard.now key.0 ≡ Some car → result ≡ next_link (vehicle_of car) }
 {
+    let car = yard.car(key);
     car.plan.as_slice().get(usize::from(car.at) + 1).copied()
 }
 
-/// Whether a vehicle with this gap ahead wants the other lane: as it is slow, or in the turn zone for its next link.
-fn wishes(road: &Road<'_>, lane: LaneNo, gap: CellNo, cell: CellNo, speed: Speed, car: &Car) -> bool
-    requires { lane ≤ 1 }
-    ensures { (step : ℕ) → result ≡ wishes_with (weave_of road.now step) lane (length_of road.now) gap cell speed (next_link (vehicle_of car.now)) }
+/// Whether the vehicle of a key, with this gap ahead, wants the other lane: as it is slow, or in the turn zone for its next
+/// link. Its plan is read in the zone alone.
+fn wishes(
+    yard: &Yard,
+    key: Key,
+    road: &Road<'_>,
+    lane: LaneNo,
+    gap: CellNo,
+    cell: CellNo,
+    speed: Speed,
+) -> bool
+    requires lane { lane ≤ 1 }
+    requires key { IsSome (entry_at yard.now key.0) }
+    ensures { (step : ℕ) (car : Car) → car_of yard.now key.0 ≡ Some car → result ≡ wishes_with (weave_of road.now step) lane (length_of road.now) gap cell speed (next_link (vehicle_of car)) }
 {
     let slow = gap < CellNo::from(speed) + 1;
     if road.network().spec().zone < u64::from(road.length().saturating_sub(cell)) {
         return slow;
     }
-    match next_link(car) {
+    match next_link(yard, key) {
         None => slow,
         Some(next) => {
             let network = road.network();
@@ -170,9 +183,8 @@ pub(crate) fn decide(
 {
     let cell = yard.cell(key);
     let speed = yard.speed(key);
-    let car = yard.car(key);
     let gap = gap_ahead(road.lane(lane).closures, ahead, cell);
-    if !wishes(road, lane, gap, cell, speed, car) {
+    if !wishes(yard, key, road, lane, gap, cell, speed) {
         return Decision { above, goes: false };
     }
     let other = road.lane(1 - lane);
@@ -180,6 +192,6 @@ pub(crate) fn decide(
     if !has_room {
         return Decision { above, goes: false };
     }
-    let goes = dice.may_change(key.index(), step, car.number);
+    let goes = dice.may_change(key.index(), step, yard.number(key));
     Decision { above, goes }
 }

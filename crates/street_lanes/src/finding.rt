@@ -9,13 +9,15 @@ ghost use Rattle.street_net.specs.Tables.{place_of};
 ghost use Rattle.street_lanes.specs.Views.{LaneStands};
 ghost use Rattle.street_lanes.specs.Lanes.{lane_of, place_at, IsOf};
 ghost use Rattle.street_lanes.specs.Finding.{told_in_cell, told_in_buffer, told_waiting};
+ghost use Rattle.street_yard.specs.View.{viewed};
 
 use crate::lanes::Lanes;
 use crate::lists::{buffer_list, cells_list, waiting_list};
 use crate::seeking::seek;
 use std::alloc::{AllocError, Global};
-use street_base::{Car, CarNo, LinkIx, Listing, NetSpec, Starved, Whereabouts};
+use street_base::{CarNo, LinkIx, Listing, NetSpec, Starved, Whereabouts};
 use street_net::{LaneId, Network};
+use street_yard::CarView;
 
 /// The identifier of the link at a position, or 0 where the network has none.
 fn link_id(net: &NetSpec, link: LinkIx) -> u64
@@ -28,16 +30,20 @@ fn link_id(net: &NetSpec, link: LinkIx) -> u64
 }
 
 /// The plan of a car from its present link on.
-fn remaining_plan(car: &Car) -> &[LinkIx]
-    ensures { result.now ≡ remaining_plan (vehicle_of car.now) }
+fn remaining_plan<'a>(car: &CarView<'a>) -> &'a [LinkIx]
+    ensures { result.now ≡ remaining_plan (vehicle_of (viewed car.now)) }
 {
     let plan = car.plan.as_slice();
     &plan[usize::from(car.at).min(plan.len())..]
 }
 
 /// The identifiers of the remaining plan of a car.
-fn remaining_ids(alloc: Global, net: &NetSpec, car: &Car) -> Result<Listing<u64>, AllocError>
-    ensures { IfOk result (λ ids. ids ≡ remaining_ids net.now (vehicle_of car.now)) }
+fn remaining_ids(
+    alloc: Global,
+    net: &NetSpec,
+    car: &CarView<'_>,
+) -> Result<Listing<u64>, AllocError>
+    ensures { IfOk result (λ ids. ids ≡ remaining_ids net.now (vehicle_of (viewed car.now))) }
 {
     let plan = remaining_plan(car);
     let mut ids = Vec::with_capacity(alloc, plan.len())?;
@@ -52,9 +58,9 @@ fn told_in_cell(
     alloc: Global,
     net: &NetSpec,
     at: LaneId,
-    car: &Car,
+    car: &CarView<'_>,
 ) -> Result<Whereabouts, AllocError>
-    ensures { IfOk result (λ told. told ≡ told_in_cell net.now (place_of at) car.now) }
+    ensures { IfOk result (λ told. told ≡ told_in_cell net.now (place_of at) (viewed car.now)) }
 {
     Ok(Whereabouts::Cell {
         link: link_id(net, at.link),
@@ -70,9 +76,9 @@ fn told_in_buffer(
     alloc: Global,
     net: &NetSpec,
     at: LaneId,
-    car: &Car,
+    car: &CarView<'_>,
 ) -> Result<Whereabouts, AllocError>
-    ensures { IfOk result (λ told. told ≡ told_in_buffer net.now (place_of at) car.now) }
+    ensures { IfOk result (λ told. told ≡ told_in_buffer net.now (place_of at) (viewed car.now)) }
 {
     Ok(Whereabouts::Buffer {
         link: link_id(net, at.link),
@@ -88,9 +94,9 @@ fn told_waiting(
     alloc: Global,
     net: &NetSpec,
     at: LaneId,
-    car: &Car,
+    car: &CarView<'_>,
 ) -> Result<Whereabouts, AllocError>
-    ensures { IfOk result (λ told. told ≡ told_waiting net.now (place_of at) car.now) }
+    ensures { IfOk result (λ told. told ≡ told_waiting net.now (place_of at) (viewed car.now)) }
 {
     Ok(Whereabouts::Waiting {
         link: link_id(net, at.link),
@@ -122,13 +128,13 @@ impl Lanes {
         let spec = net.spec();
         let at = self.sites[lane].at;
         if let Some(key) = seek(&self.yard, cells_list(lane), number) {
-            return Ok(Some(told_in_cell(alloc, spec, at, self.yard.car(key))?));
+            return Ok(Some(told_in_cell(alloc, spec, at, &self.yard.car(key))?));
         }
         if let Some(key) = seek(&self.yard, buffer_list(lane), number) {
-            return Ok(Some(told_in_buffer(alloc, spec, at, self.yard.car(key))?));
+            return Ok(Some(told_in_buffer(alloc, spec, at, &self.yard.car(key))?));
         }
         if let Some(key) = seek(&self.yard, waiting_list(lane), number) {
-            return Ok(Some(told_waiting(alloc, spec, at, self.yard.car(key))?));
+            return Ok(Some(told_waiting(alloc, spec, at, &self.yard.car(key))?));
         }
         Ok(None)
     }

@@ -1,5 +1,4 @@
 //! The lanes of a tile.
-ghost use Rattle.std.specs.Option.{option_copied};
 ghost use Rattle.std.specs.Prelude.{◌≡◌, ℕ, ◌+◌, ◌*◌, ◌^◌, ◌<◌, ◌≤◌, length, map, replicate, count_by, is_some, true, [], Some, slice_get, IfOk, IfSome, OnOk, option_map};
 ghost use Rattle.std.specs.Option.{option_to_list};
 ghost use Rattle.street_base.specs.Vehicle.{vehicle_of};
@@ -10,6 +9,7 @@ ghost use Rattle.street_base.specs.Release.{with_entry};
 ghost use Rattle.street_base.specs.Departure.{departed_lane};
 ghost use Rattle.street_base.specs.Machine.{with_waiting};
 ghost use Rattle.street_net.specs.Tables.{place_of};
+ghost use Rattle.street_yard.specs.View.{viewed};
 ghost use Rattle.street_lanes.specs.Views.{LaneStands, waiting_of, queued_of, without_front};
 ghost use Rattle.street_lanes.specs.Lanes.{lane_of, place_at, AllLanes, IsOf, fresh, GoesAt, GoesIf};
 ghost use Rattle.street_lanes.specs.Lists.{HasShortPlan};
@@ -23,7 +23,7 @@ use street_base::{Car, CellNo, Starved, Step};
 use street_draw::Dice;
 use street_gap::Closures;
 use street_net::{LaneId, Network};
-use street_yard::Yard;
+use street_yard::{CarView, Yard};
 
 /// A lane's place in the network, and how many cells it has.
 #[derive(Clone, Copy)]
@@ -172,10 +172,10 @@ impl Lanes {
     }
 
     /// The front of a lane's buffer.
-    pub fn front(&self, lane: usize) -> Option<&Car>
+    pub fn front(&self, lane: usize) -> Option<CarView<'_>>
         requires { lane < length self.now.lanes }
-        ensures front { (s : LaneState) → LaneStands (lane_of self.now lane) s → option_map queued_of (option_copied result) ≡ slice_get s.queue 0 }
-        ensures short { IfSome result (λ car. HasShortPlan car.now) }
+        ensures front { (s : LaneState) → LaneStands (lane_of self.now lane) s → option_map queued_of (option_map viewed result) ≡ slice_get s.queue 0 }
+        ensures short { IfSome result (λ car. HasShortPlan (viewed car)) }
     {
         lists::first_car(&self.yard, buffer_list(lane))
     }

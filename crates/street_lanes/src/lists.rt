@@ -1,10 +1,10 @@
 //! The three lists of a lane.
-ghost use Rattle.std.specs.Prelude.{◌≡◌, ◌^◌, ◌<◌, length, slice_get};
-ghost use Rattle.std.specs.Option.{option_copied};
+ghost use Rattle.std.specs.Prelude.{◌≡◌, ◌^◌, ◌<◌, length, option_map, slice_get};
+ghost use Rattle.street_yard.specs.View.{viewed};
 ghost use Rattle.street_lanes.specs.Lists.{cells_list, buffer_list, waiting_list, cars_on, LetsGo};
 
 use street_base::Car;
-use street_yard::{ListId, Yard};
+use street_yard::{CarView, ListId, Yard};
 
 /// The list of those who stand in a lane's cells, the greatest cell first.
 pub(crate) fn cells_list(lane: usize) -> ListId
@@ -31,9 +31,9 @@ pub(crate) fn waiting_list(lane: usize) -> ListId
 }
 
 /// The first car of a list.
-pub(crate) fn first_car(yard: &Yard, list: ListId) -> Option<&Car>
+pub(crate) fn first_car(yard: &Yard, list: ListId) -> Option<CarView<'_>>
     requires { list.0 < length yard.now.lists }
-    ensures { option_copied result ≡ slice_get (cars_on yard.now list.0) 0 }
+    ensures { option_map viewed result ≡ slice_get (cars_on yard.now list.0) 0 }
 {
     let key = yard.list_front(list)?;
     Some(yard.car(key))

@@ -7,12 +7,13 @@ ghost use Rattle.street_lanes.specs.Views.{LaneStands};
 ghost use Rattle.street_lanes.specs.Lanes.{lane_of};
 ghost use Rattle.street_lanes.specs.Lists.{cars_on};
 ghost use Rattle.street_lanes.specs.Showing.{shown_in_buffer, shown_in_cell, shown_waiting, shown_stretch};
+ghost use Rattle.street_yard.specs.View.{viewed};
 
 use crate::lanes::Lanes;
 use crate::lists::{buffer_list, cells_list, waiting_list};
 use std::alloc::{AllocError, Global};
-use street_base::{BufferEntry, Car, CellEntry, Listing, Reply, Starved, Stretch, WaitingEntry};
-use street_yard::{ListId, Yard};
+use street_base::{BufferEntry, CellEntry, Listing, Reply, Starved, Stretch, WaitingEntry};
+use street_yard::{CarView, ListId, Yard};
 
 /// What a lane shows of a car.
 trait Entry: Sized {
@@ -20,14 +21,14 @@ trait Entry: Sized {
     ghost shown: { Driven → Self };
 
     /// What it shows of a car.
-    fn of(car: &Car) -> Self
-        ensures { result ≡ shown car.now };
+    fn of(car: &CarView<'_>) -> Self
+        ensures { result ≡ shown (viewed car.now) };
 }
 
 impl Entry for BufferEntry {
     ghost shown = { shown_in_buffer };
 
-    fn of(car: &Car) -> BufferEntry {
+    fn of(car: &CarView<'_>) -> BufferEntry {
         BufferEntry {
             car: u64::from(car.number),
             speed: u64::from(car.speed),
@@ -39,7 +40,7 @@ impl Entry for BufferEntry {
 impl Entry for CellEntry {
     ghost shown = { shown_in_cell };
 
-    fn of(car: &Car) -> CellEntry {
+    fn of(car: &CarView<'_>) -> CellEntry {
         CellEntry {
             car: u64::from(car.number),
             cell: u64::from(car.cell),
@@ -51,7 +52,7 @@ impl Entry for CellEntry {
 impl Entry for WaitingEntry {
     ghost shown = { shown_waiting };
 
-    fn of(car: &Car) -> WaitingEntry {
+    fn of(car: &CarView<'_>) -> WaitingEntry {
         WaitingEntry {
             car: u64::from(car.number),
             depart: u64::from(car.step),
@@ -72,7 +73,7 @@ fn entries<E: Entry + Drop>(
     let mut entries = Vec::with_capacity(alloc, yard.list_len(list))?;
     let mut cursor = yard.list_front(list);
     while let Some(key) = cursor {
-        entries.push(E::of(yard.car(key)))?;
+        entries.push(E::of(&yard.car(key)))?;
         cursor = yard.behind(key);
     }
     Ok(Listing::from_vec(entries))

@@ -3,13 +3,14 @@ ghost use Rattle.std.specs.Prelude.{◌≡◌, ◌<◌, ◌≤◌, length, optio
 ghost use Rattle.street_base.specs.Departure.{is_before};
 ghost use Rattle.street_lanes.specs.Views.{waiting_of};
 ghost use Rattle.street_lanes.specs.Lists.{HasShortPlan, IsPlaceFor, Joins};
+ghost use Rattle.street_yard.specs.View.{viewed};
 
 use street_base::Car;
-use street_yard::{Key, ListId, Yard};
+use street_yard::{CarView, Key, ListId, Yard};
 
 /// Whether a car departs before another: by depart, then by number.
-fn is_before(car: &Car, other: &Car) -> bool
-    ensures { result ≡ is_before (waiting_of car.now) (waiting_of other.now) }
+fn is_before(car: &Car, other: &CarView<'_>) -> bool
+    ensures { result ≡ is_before (waiting_of car.now) (waiting_of (viewed other.now)) }
 {
     car.step < other.step || car.step == other.step && car.number < other.number
 }
@@ -23,7 +24,7 @@ fn place_for(yard: &Yard, list: ListId, car: &Car) -> Option<Key>
     yard.whole();
     let mut cursor = yard.list_back(list);
     while let Some(key) = cursor {
-        if !is_before(car, yard.car(key)) {
+        if !is_before(car, &yard.car(key)) {
             return Some(key);
         }
         cursor = yard.ahead(key);

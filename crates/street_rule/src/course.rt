@@ -73,7 +73,8 @@ fn wished_speed(speed: Speed, limit: Speed, gap: CellNo) -> Speed
 }
 
 /// How the vehicle of a key drives on: by one faster, within the limit and the gap to the old cell of the one ahead or to
-/// an entrance, and by one slower if it dawdles. One that cannot go on is not asked whether it dawdles.
+/// an entrance, and by one slower if it dawdles. Each is asked whether it dawdles, also one that stands: a jump that goes now
+/// this way, now that way costs more than a look.
 pub(crate) fn reckon(
     yard: &Yard,
     key: Key,
@@ -92,8 +93,8 @@ pub(crate) fn reckon(
     let obstacle = nearest(ahead, closures.entrance_after(cell));
     let gap = gap_to(obstacle, cell, course.count, course.is_open);
     let wish = wished_speed(speed, course.limit, gap);
-    let slow = wish > 0 && dice.dawdles(key.index(), course.step, yard.car(key).number);
-    let new_speed = if slow { wish - 1 } else { wish };
+    let slow = dice.dawdles(key.index(), course.step, yard.number(key));
+    let new_speed = wish.saturating_sub(Speed::from(slow));
     Advance {
         cell,
         speed,

@@ -29,16 +29,14 @@ pub struct Leaver {
     pub speed: Speed,
 }
 
-/// Writes a car's new speed, and its new cell; nothing is written for one that stands where it stood.
+/// Writes a car's new speed, and its new cell.
 fn drive_car(yard: &mut Yard, key: Key, advance: Advance, place: CellNo)
     requires on { IsSome (place_of yard.old key.0) }
     requires car { IsSomeAnd (car_of yard.old key.0) (λ c. (c.cell ≡ advance.cell) × (c.speed ≡ advance.speed)) }
     requires place { place ≡ advance.cell + advance.new_speed }
     ensures { Drives yard.old yard.new key.0 advance.new_speed place }
 {
-    if advance.speed > 0 || advance.new_speed > 0 {
-        yard.drive(key, place, advance.new_speed);
-    }
+    yard.drive(key, place, advance.new_speed);
     yard.whole();
 }
 

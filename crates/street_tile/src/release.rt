@@ -6,6 +6,7 @@ ghost use Rattle.street_base.specs.Vehicle.{vehicle_of, next_link};
 ghost use Rattle.street_base.specs.Limits.{most_plan};
 ghost use Rattle.street_base.specs.Release.{on_next_link};
 ghost use Rattle.street_net.specs.Tables.{place_of as named};
+ghost use Rattle.street_yard.specs.View.{viewed};
 ghost use Rattle.street_lanes.specs.Views.{LaneStands, without_front};
 ghost use Rattle.street_lanes.specs.Lanes.{IsLane, AllLanes, Same, GoesAt, lane_of, place_at};
 ghost use Rattle.street_lanes.specs.Whole.{LanesStand};
@@ -15,13 +16,14 @@ ghost use Rattle.street_tile.specs.Walks.{IsReleasing};
 
 use crate::hand_over::HandOver;
 use crate::view::slot;
-use street_base::{Car, LinkIx, Step};
+use street_base::{LinkIx, Step};
 use street_lanes::Lanes;
 use street_net::{LaneId, Network};
+use street_yard::CarView;
 
 /// The link after the present one of a car's plan.
-fn next_link(car: &Car) -> Option<LinkIx>
-    ensures { result ≡ next_link (vehicle_of car.now) }
+fn next_link(car: &CarView<'_>) -> Option<LinkIx>
+    ensures { result ≡ next_link (vehicle_of (viewed car.now)) }
 {
     car.plan.as_slice().get(usize::from(car.at) + 1).copied()
 }
@@ -39,7 +41,7 @@ fn candidate(own: &Lanes, net: &Network, n: usize, clock: Step) -> Option<LaneId
     if front.step > clock {
         return None;
     }
-    let next = next_link(front)?;
+    let next = next_link(&front)?;
     let from = own.at(n);
     let turn = net.turn(from.link, from.lane, next)?;
     Some(LaneId {

@@ -6,12 +6,13 @@ use Rattle.std.proofs.lemmas.Bool.{cases_eq, cases_lt}
 use Rattle.std.proofs.lemmas.List.{append-nil, append_assoc, length-append, length-set, length-replicate, get_or_past, get_or_append_left}
 use Rattle.street_base.specs.declared.car.Car.{Car}
 use Rattle.street_yard.specs.declared.hot.Hot.{Hot}
+use Rattle.street_yard.specs.declared.hot.Cold.{Cold}
 use Rattle.street_yard.specs.declared.yard.Ends.{Ends}
 use Rattle.street_yard.specs.declared.yard.Place.{Place}
 use Rattle.street_yard.specs.declared.yard.Yard.TheInside.{Inside}
 use Rattle.street_yard.specs.Yard.{Kept, Yard, entry_at, place_of, Has, Away, IsApart, IsLoose, Updates}
 use Rattle.street_yard.specs.Thread.{linked, list_of, no_ends, StandsFor}
-use Rattle.street_yard.specs.Inside.{no_hot, hot_at, place_in, links_at, kept_with, kept_at, kept_in, lists_of, seen, IsPlaced, vacant, IsLaidOut, IsSound}
+use Rattle.street_yard.specs.Inside.{no_hot, hot_at, place_in, links_at, core, kept_of, kept_with, kept_at, kept_in, lists_of, seen, IsPlaced, vacant, IsLaidOut, IsSound}
 use Rattle.street_yard.proofs.Keys.{has_or_away, has-away, IsApart-split, IsApart-join}
 use Rattle.street_yard.proofs.Moves.{Has-other, keys-few, lists_of-stands}
 use Rattle.street_yard.proofs.Hots.{hot-same, hot-other, place-same, place-other, kept-read, kept_in-set, kept_in-same}
@@ -27,8 +28,8 @@ apart_push : (xs : List ℕ) (key : ℕ) → Away key xs → IsApart xs → IsAp
 apart_push xs key away apart = IsApart-join xs key [] away tt (subst IsApart (sym (append-nil xs)) apart)
 
 -- a vacant place has no car
-vacant_not : (p : Place) (c : Car) → p.car ≡ Some c → ◌≡◌ {A = Option Place} (Some p) (Some vacant) → ⊥
-vacant_not p c has e = (let same : p ≡ vacant = cc in let bad : ◌≡◌ {A = Option Car} (Some c) None = sym has ∙ ap (λ (x : Place). x.car) same in cc)
+vacant_not : (p : Place) (c : Cold) → p.car ≡ Some c → ◌≡◌ {A = Option Place} (Some p) (Some vacant) → ⊥
+vacant_not p c has e = (let same : p ≡ vacant = cc in let bad : ◌≡◌ {A = Option Cold} (Some c) None = sym has ∙ ap (λ (x : Place). x.car) same in cc)
 
 spare_below : (y : Inside) → IsSound y → (k : ℕ) → Has y.spare.items k → k < length y.hots.items
 spare_below y s k h = s.within k (subst IsSome (sym (s.spared k h)) refl)
@@ -38,7 +39,7 @@ spare-few y s = keys-few y.hots.items y.places.slots s.within y.spare.items s.ap
 
 -- a loose car is taken out
 module _ (y : Inside) (v : Yard) (key : ℕ) (s : IsSound y) (is_v : seen y ≡ v) (loose : IsLoose v key) where
-  pub taken_key : (p : Place) × (c : Car) × (place_in y.places.slots key ≡ Some p) × (p.car ≡ Some c) × (p.list ≡ None)
+  pub taken_key : (p : Place) × (c : Cold) × (place_in y.places.slots key ≡ Some p) × (p.car ≡ Some c) × (p.list ≡ None)
   taken_key = seen_loose y v key s is_v loose
 
   taken_below : key < length y.hots.items
@@ -77,10 +78,10 @@ module _ (y : Inside) (v : Yard) (key : ℕ) (s : IsSound y) (is_v : seen y ≡ 
     ]
 
     kept_gone : kept_at y.hots.items taken_slots key ≡ None
-    kept_gone = ap (kept_with (hot_at y.hots.items key).mark) taken_here
+    kept_gone = ap (kept_with (core (hot_at y.hots.items key))) taken_here
 
     kept_stays : (j : ℕ) → j ≢ key → kept_at y.hots.items taken_slots j ≡ kept_at y.hots.items y.places.slots j
-    kept_stays j ne = ap (kept_with (hot_at y.hots.items j).mark) (taken_other j ne)
+    kept_stays j ne = ap (kept_with (core (hot_at y.hots.items j))) (taken_other j ne)
 
     taken_stands : StandsFor (links_at y.hots.items taken_slots) y.ends.items (lists_of y.hots.items y.places.slots y.ends.items)
     taken_stands =
@@ -96,9 +97,9 @@ module _ (y : Inside) (v : Yard) (key : ℕ) (s : IsSound y) (is_v : seen y ≡ 
     taken-sound = record {
       stands = rw taken_lists taken_stands;
       within = taken_within;
-      placed = λ k. elim (cases_eq k key) as (λ _. IsPlaced (hot_at y.hots.items k) (place_in taken_slots k)) [
-        | inl e ↦ subst (λ j. IsPlaced (hot_at y.hots.items j) (place_in taken_slots j)) (sym e) (subst (IsPlaced (hot_at y.hots.items key)) (sym taken_here) refl)
-        | inr ne ↦ subst (IsPlaced (hot_at y.hots.items k)) (sym (taken_other k ne)) (s.placed k)
+      placed = λ k. elim (cases_eq k key) as (λ _. IsPlaced (place_in taken_slots k)) [
+        | inl e ↦ subst (λ j. IsPlaced (place_in taken_slots j)) (sym e) (subst IsPlaced (sym taken_here) refl)
+        | inr ne ↦ subst IsPlaced (sym (taken_other k ne)) (s.placed k)
       ];
       below = λ k h. elim (cases_eq k key) as (λ _. k < y.reached) [
         | inl e ↦ absurd (let h' : IsSome {T = Kept} None = subst IsSome kept_gone (subst (λ j. IsSome (kept_at y.hots.items taken_slots j)) e h) in cc)
@@ -119,6 +120,10 @@ module _ (y : Inside) (v : Yard) (key : ℕ) (s : IsSound y) (is_v : seen y ≡ 
         subst (λ w. ◌≡◌ {A = Yard} (record { lists = lists_of y.hots.items taken_slots y.ends.items; kept = kept_in y.hots.items taken_slots y.reached; room = length spare' }) (record w { kept = set w.kept key None; room = w.room + 1 })) is_v
         (yard-same _ _ _ _ _ _ taken_lists (kept_in-set y.hots.items y.hots.items y.places.slots taken_slots y.reached key None kept_stays (λ _. kept_gone)) (ap length spare_is ∙ length-append y.spare.items (key ∷ [])))
 
+-- the rest of a car
+abbrev pub cold_of : Car → Cold
+cold_of c = record { plan = c.plan; step = c.step; at = c.at }
+
 -- a car comes into a spare place
 module _ (y : Inside) (v : Yard) (key : ℕ) (s : IsSound y) (is_v : seen y ≡ v) (rest : List ℕ) (popped : y.spare.items ≡ rest ++ key ∷ []) where
   was_spare : Has y.spare.items key
@@ -131,14 +136,14 @@ module _ (y : Inside) (v : Yard) (key : ℕ) (s : IsSound y) (is_v : seen y ≡ 
   spare_key = spare_below y s key was_spare
 
   pub was_nobody : entry_at v key ≡ None
-  was_nobody = ap (λ w. entry_at w key) (sym is_v) ∙ entry_at-seen y s key ∙ ap (kept_with (hot_at y.hots.items key).mark) spare_place
+  was_nobody = ap (λ w. entry_at w key) (sym is_v) ∙ entry_at-seen y s key ∙ ap (kept_with (core (hot_at y.hots.items key))) spare_place
 
   parts : Away key rest × Away key [] × IsApart (rest ++ [])
   parts = IsApart-split rest key [] (subst IsApart popped s.apart)
 
-  module _ (car : Car) (ahead behind : Option ℕ) (new : Place) (new_is : new ≡ record { car = Some car; list = None }) (reached' : ℕ) (reaches : key < reached') (grows : y.reached ≤ reached') (capacity' : ℕ) (holds : length y.hots.items ≤ capacity') where
+  module _ (car : Car) (ahead behind : Option ℕ) (new : Place) (new_is : new ≡ record { car = Some (cold_of car); list = None }) (reached' : ℕ) (reaches : key < reached') (grows : y.reached ≤ reached') (capacity' : ℕ) (holds : length y.hots.items ≤ capacity') where
     abbrev pub new_hot : Hot
-    new_hot = record { ahead = ahead; behind = behind; cell = car.cell; speed = car.speed; mark = false }
+    new_hot = record { ahead = ahead; behind = behind; cell = car.cell; number = car.number; speed = car.speed; mark = false }
 
     abbrev pub new_hots : List Hot
     new_hots = set y.hots.items key new_hot
@@ -152,7 +157,7 @@ module _ (y : Inside) (v : Yard) (key : ℕ) (s : IsSound y) (is_v : seen y ≡ 
     new_length : length new_hots ≡ length y.hots.items
     new_length = length-set y.hots.items key new_hot
 
-    new_here : place_in new_slots key ≡ Some (record { car = Some car; list = None })
+    new_here : place_in new_slots key ≡ Some (record { car = Some (cold_of car); list = None })
     new_here = place-same y.places.slots key vacant new spare_place ∙ ap Some new_is
 
     new_other : (j : ℕ) → j ≢ key → place_in new_slots j ≡ place_in y.places.slots j
@@ -165,10 +170,10 @@ module _ (y : Inside) (v : Yard) (key : ℕ) (s : IsSound y) (is_v : seen y ≡ 
     ]
 
     kept_new : kept_at new_hots new_slots key ≡ Some (record { car = car; mark = false; list = None })
-    kept_new = ap (kept_with (hot_at new_hots key).mark) new_here ∙ ap (λ (h : Hot). Some (record { car = car; mark = h.mark; list = None })) hot_here
+    kept_new = ap (kept_with (core (hot_at new_hots key))) new_here ∙ ap (λ (h : Hot). Some (kept_of (core h) None (cold_of car))) hot_here
 
     kept_rest : (j : ℕ) → j ≢ key → kept_at new_hots new_slots j ≡ kept_at y.hots.items y.places.slots j
-    kept_rest j ne = ap (λ (h : Hot). kept_with h.mark (place_in new_slots j)) (hot-other y.hots.items key new_hot j ne) ∙ ap (kept_with (hot_at y.hots.items j).mark) (new_other j ne)
+    kept_rest j ne = ap (λ (h : Hot). kept_with (core h) (place_in new_slots j)) (hot-other y.hots.items key new_hot j ne) ∙ ap (kept_with (core (hot_at y.hots.items j))) (new_other j ne)
 
     new_below : (k : ℕ) → IsSome (kept_at new_hots new_slots k) → k < reached'
     new_below k h = elim (cases_eq k key) as (λ _. k < reached') [
@@ -193,9 +198,9 @@ module _ (y : Inside) (v : Yard) (key : ℕ) (s : IsSound y) (is_v : seen y ≡ 
     admitted-sound = record {
       stands = rw lists_stay new_stands;
       within = new_within;
-      placed = λ k. elim (cases_eq k key) as (λ _. IsPlaced (hot_at new_hots k) (place_in new_slots k)) [
-        | inl e ↦ subst (λ j. IsPlaced (hot_at new_hots j) (place_in new_slots j)) (sym e) (subst (IsPlaced (hot_at new_hots key)) (sym new_here) (ap (λ (h : Hot). h.cell) hot_here, ap (λ (h : Hot). h.speed) hot_here))
-        | inr ne ↦ subst (IsPlaced (hot_at new_hots k)) (sym (new_other k ne)) (subst (λ h. IsPlaced h (place_in y.places.slots k)) (sym (hot-other y.hots.items key new_hot k ne)) (s.placed k))
+      placed = λ k. elim (cases_eq k key) as (λ _. IsPlaced (place_in new_slots k)) [
+        | inl e ↦ subst (λ j. IsPlaced (place_in new_slots j)) (sym e) (subst IsPlaced (sym new_here) tt)
+        | inr ne ↦ subst IsPlaced (sym (new_other k ne)) (s.placed k)
       ];
       below = new_below;
       few = (let a = s.few in omega (arith, new_length));
@@ -237,8 +242,8 @@ module _ (y : Inside) (v : Yard) (s : IsSound y) (is_v : seen y ≡ v) (index : 
 
   kept_all : (j : ℕ) → kept_at more later j ≡ kept_at y.hots.items y.places.slots j
   kept_all j = elim (cases_eq j index) as (λ _. kept_at more later j ≡ kept_at y.hots.items y.places.slots j) [
-    | inl e ↦ ap (kept_at more later) e ∙ ap (kept_with (hot_at more index).mark) here ∙ sym (ap (kept_with (hot_at y.hots.items index).mark) was_none) ∙ ap (kept_at y.hots.items y.places.slots) (sym e)
-    | inr ne ↦ ap (λ (h : Hot). kept_with h.mark (place_in later j)) (hot_stays j ne) ∙ ap (kept_with (hot_at y.hots.items j).mark) (others j ne)
+    | inl e ↦ ap (kept_at more later) e ∙ ap (kept_with (core (hot_at more index))) here ∙ sym (ap (kept_with (core (hot_at y.hots.items index))) was_none) ∙ ap (kept_at y.hots.items y.places.slots) (sym e)
+    | inr ne ↦ ap (λ (h : Hot). kept_with (core h) (place_in later j)) (hot_stays j ne) ∙ ap (kept_with (core (hot_at y.hots.items j))) (others j ne)
   ]
 
   more_stands : StandsFor (links_at more later) y.ends.items (lists_of y.hots.items y.places.slots y.ends.items)
@@ -261,9 +266,9 @@ module _ (y : Inside) (v : Yard) (s : IsSound y) (is_v : seen y ≡ v) (index : 
   grown-sound = record {
     stands = rw more_lists more_stands;
     within = more_within;
-    placed = λ k. elim (cases_eq k index) as (λ _. IsPlaced (hot_at more k) (place_in later k)) [
-      | inl e ↦ subst (λ j. IsPlaced (hot_at more j) (place_in later j)) (sym e) (subst (IsPlaced (hot_at more index)) (sym here) refl)
-      | inr ne ↦ subst (IsPlaced (hot_at more k)) (sym (others k ne)) (subst (λ h. IsPlaced h (place_in y.places.slots k)) (sym (hot_stays k ne)) (s.placed k))
+    placed = λ k. elim (cases_eq k index) as (λ _. IsPlaced (place_in later k)) [
+      | inl e ↦ subst (λ j. IsPlaced (place_in later j)) (sym e) (subst IsPlaced (sym here) refl)
+      | inr ne ↦ subst IsPlaced (sym (others k ne)) (s.placed k)
     ];
     below = λ k h. s.below k (subst IsSome (kept_all k) h);
     few = omega (arith, more_length);
@@ -315,18 +320,18 @@ place-list y v k s is o there =
     through None = refl
     through (Some p) = refl
 
-loose_by_car : (mark : Bool) (car : Option Car) (list : Option ℕ) → is_some car ≡ true → (IsSomeAnd (option_map (λ c. record { car = c; mark = mark; list = list }) car) (λ (e : Kept). e.list ≡ None) → is_some list ≡ false) × (is_some list ≡ false → IsSomeAnd (option_map (λ c. record { car = c; mark = mark; list = list }) car) (λ (e : Kept). e.list ≡ None))
-loose_by_car mark None list h = absurd (cc)
-loose_by_car mark (Some c) None h = ((λ x. refl), (λ x. refl))
-loose_by_car mark (Some c) (Some n) h = ((λ x. absurd (cc)), (λ x. absurd (cc)))
+loose_by_car : (t : ℕ × ℕ × ℕ × Bool) (car : Option Cold) (list : Option ℕ) → is_some car ≡ true → (IsSomeAnd (option_map (kept_of t list) car) (λ (e : Kept). e.list ≡ None) → is_some list ≡ false) × (is_some list ≡ false → IsSomeAnd (option_map (kept_of t list) car) (λ (e : Kept). e.list ≡ None))
+loose_by_car t None list h = absurd (cc)
+loose_by_car t (Some c) None h = ((λ x. refl), (λ x. refl))
+loose_by_car t (Some c) (Some n) h = ((λ x. absurd (cc)), (λ x. absurd (cc)))
 
-no_car : (mark : Bool) (car : Option Car) (list : Option ℕ) → is_some car ≡ false → IsSomeAnd (option_map (λ c. record { car = c; mark = mark; list = list }) car) (λ (e : Kept). e.list ≡ None) → ⊥
-no_car mark None list h x = x
-no_car mark (Some c) list h x = cc
+no_car : (t : ℕ × ℕ × ℕ × Bool) (car : Option Cold) (list : Option ℕ) → is_some car ≡ false → IsSomeAnd (option_map (kept_of t list) car) (λ (e : Kept). e.list ≡ None) → ⊥
+no_car t None list h x = x
+no_car t (Some c) list h x = cc
 
 module _ (y : Inside) (v : Yard) (k : ℕ) (s : IsSound y) (is : seen y ≡ v) where
-  entry_by_place : (o : Option Place) → place_in y.places.slots k ≡ o → entry_at v k ≡ kept_with (hot_at y.hots.items k).mark o
-  entry_by_place o there = ap (λ w. entry_at w k) (sym is) ∙ entry_at-seen y s k ∙ ap (kept_with (hot_at y.hots.items k).mark) there
+  entry_by_place : (o : Option Place) → place_in y.places.slots k ≡ o → entry_at v k ≡ kept_with (core (hot_at y.hots.items k)) o
+  entry_by_place o there = ap (λ w. entry_at w k) (sym is) ∙ entry_at-seen y s k ∙ ap (kept_with (core (hot_at y.hots.items k))) there
 
   abbrev pub NoList : Option Kept → Type 0
   NoList o = IsSomeAnd o (λ (e : Kept). e.list ≡ None)
@@ -334,12 +339,12 @@ module _ (y : Inside) (v : Yard) (k : ℕ) (s : IsSound y) (is : seen y ≡ v) w
   -- a key with a car is loose just where its place names no list
   pub loose-tells : (p : Place) → place_in y.places.slots k ≡ Some p → is_some p.car ≡ true → (IsLoose v k → is_some p.list ≡ false) × (is_some p.list ≡ false → IsLoose v k)
   loose-tells p there has =
-      let both = loose_by_car (hot_at y.hots.items k).mark p.car p.list has in
+      let both = loose_by_car (core (hot_at y.hots.items k)) p.car p.list has in
       ((λ h. both.0 (subst NoList (entry_by_place (Some p) there) h)), (λ e. subst NoList (sym (entry_by_place (Some p) there)) (both.1 e)))
 
   -- and without a car it is not
   pub loose-not : (p : Place) → place_in y.places.slots k ≡ Some p → is_some p.car ≡ false → IsLoose v k → ⊥
-  loose-not p there has h = no_car (hot_at y.hots.items k).mark p.car p.list has (subst NoList (entry_by_place (Some p) there) h)
+  loose-not p there has h = no_car (core (hot_at y.hots.items k)) p.car p.list has (subst NoList (entry_by_place (Some p) there) h)
 
   pub loose-nowhere : place_in y.places.slots k ≡ None → IsLoose v k → ⊥
   loose-nowhere there h = subst NoList (entry_by_place None there) h

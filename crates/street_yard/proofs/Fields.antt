@@ -5,12 +5,13 @@ use Rattle.std.proofs.lemmas.Bool.{cases_eq, cases_lt}
 use Rattle.std.proofs.lemmas.List.{append-nil, append_assoc, length-map, get_or_past, get_or_default, length-replicate, get_or-replicate, length-append}
 use Rattle.street_base.specs.declared.car.Car.{Car}
 use Rattle.street_yard.specs.declared.hot.Hot.{Hot}
+use Rattle.street_yard.specs.declared.hot.Cold.{Cold}
 use Rattle.street_yard.specs.declared.yard.Ends.{Ends}
 use Rattle.street_yard.specs.declared.yard.Place.{Place}
 use Rattle.street_yard.specs.declared.yard.Yard.TheInside.{Inside}
 use Rattle.street_yard.specs.Yard.{Kept, Yard, list_at, entry_at, car_of, mark_of, place_of, without, put_behind, first_or, last_or, IsLoose, IsOnList, IsAhead, IsBehind, IsWhole}
 use Rattle.street_yard.specs.Thread.{Links, LinksAt, linked, list_of, IsThread, IsList, no_ends, StandsFor, modify, set_behind, set_ahead, rejoined, ends_joined, ends_behind, ends_ahead, next_of, behind_of}
-use Rattle.street_yard.specs.Inside.{hot_at, place_in, links_at, kept_with, kept_at, lists_of, seen, IsCopy, IsPlaced, IsSound, IsBelow}
+use Rattle.street_yard.specs.Inside.{hot_at, place_in, links_at, core, car_with, kept_of, kept_with, kept_at, lists_of, seen, IsBare, IsPlaced, IsSound, IsBelow}
 use Rattle.street_yard.proofs.Keys.{listed_within, IsApart-split, last_or-push, without-split, put_behind-split}
 use Rattle.street_yard.proofs.Threads.{IsThread-at, IsThread-split}
 use Rattle.street_yard.proofs.Stands.{IsThread-has, IsList-same, IsOn, IsOn-first, IsOn-last}
@@ -22,13 +23,13 @@ use Rattle.street_yard.proofs.Hots.{kept-read}
 pub entry_at-seen : (y : Inside) → IsSound y → (k : ℕ) → entry_at (seen y) k ≡ kept_at y.hots.items y.places.slots k
 entry_at-seen y s k = kept-read y.hots.items y.places.slots y.reached k (s.below k)
 
-list_by_car : (hot : Hot) (car : Option Car) (list : Option ℕ) → IsCopy hot.cell hot.speed list car → option_and_then (λ (e : Kept). e.list) (option_map (λ c. record { car = c; mark = hot.mark; list = list }) car) ≡ list
-list_by_car hot None list h = sym h
-list_by_car hot (Some c) list h = refl
+list_by_car : (t : ℕ × ℕ × ℕ × Bool) (car : Option Cold) (list : Option ℕ) → IsBare list car → option_and_then (λ (e : Kept). e.list) (option_map (kept_of t list) car) ≡ list
+list_by_car t None list h = sym h
+list_by_car t (Some c) list h = refl
 
-list_by_place : (hot : Hot) (o : Option Place) → IsPlaced hot o → option_and_then (λ (e : Kept). e.list) (kept_with hot.mark o) ≡ list_of (option_map (λ (p : Place). linked hot.ahead hot.behind p.list) o)
+list_by_place : (hot : Hot) (o : Option Place) → IsPlaced o → option_and_then (λ (e : Kept). e.list) (kept_with (core hot) o) ≡ list_of (option_map (λ (p : Place). linked hot.ahead hot.behind p.list) o)
 list_by_place hot None h = refl
-list_by_place hot (Some p) h = list_by_car hot p.car p.list h
+list_by_place hot (Some p) h = list_by_car (core hot) p.car p.list h
 
 pub place_of-seen : (y : Inside) → IsSound y → (k : ℕ) → place_of (seen y) k ≡ list_of (links_at y.hots.items y.places.slots k)
 place_of-seen y s k = ap (option_and_then (λ (e : Kept). e.list)) (entry_at-seen y s k) ∙ list_by_place (hot_at y.hots.items k) (place_in y.places.slots k) (s.placed k)
@@ -58,16 +59,16 @@ yard-same a b c d e f p q r = λ i. record { lists = p i; kept = q i; room = r i
 
 -- a key that is named has a place, with a car
 
-filled_copy : (mark : Bool) (o : Option Place) → IsSome (kept_with mark o) → (p : Place) × (c : Car) × (o ≡ Some p) × (p.car ≡ Some c)
-filled_copy mark None h = absurd (cc)
-filled_copy mark (Some p) h = car_of_place p.car refl
+filled_copy : (t : ℕ × ℕ × ℕ × Bool) (o : Option Place) → IsSome (kept_with t o) → (p : Place) × (c : Cold) × (o ≡ Some p) × (p.car ≡ Some c)
+filled_copy t None h = absurd (cc)
+filled_copy t (Some p) h = car_of_place p.car refl
   where
-    car_of_place : (car : Option Car) → p.car ≡ car → (q : Place) × (c : Car) × (Some p ≡ Some q) × (q.car ≡ Some c)
-    car_of_place None e = absurd (let bad : IsSome (kept_with mark (Some p)) = h in let none : kept_with mark (Some p) ≡ None = ap (option_map (λ c. record { car = c; mark = mark; list = p.list })) e in let s : IsSome {T = Kept} None = subst IsSome none bad in cc)
+    car_of_place : (car : Option Cold) → p.car ≡ car → (q : Place) × (c : Cold) × (Some p ≡ Some q) × (q.car ≡ Some c)
+    car_of_place None e = absurd (let none : kept_with t (Some p) ≡ None = ap (option_map (kept_of t p.list)) e in let s : IsSome {T = Kept} None = subst IsSome none h in cc)
     car_of_place (Some c) e = (p, c, refl, e)
 
-pub filled : (y : Inside) → IsSound y → (k : ℕ) → IsSome (entry_at (seen y) k) → (p : Place) × (c : Car) × (place_in y.places.slots k ≡ Some p) × (p.car ≡ Some c)
-filled y s k h = filled_copy (hot_at y.hots.items k).mark (place_in y.places.slots k) (subst IsSome (entry_at-seen y s k) h)
+pub filled : (y : Inside) → IsSound y → (k : ℕ) → IsSome (entry_at (seen y) k) → (p : Place) × (c : Cold) × (place_in y.places.slots k ≡ Some p) × (p.car ≡ Some c)
+filled y s k h = filled_copy (core (hot_at y.hots.items k)) (place_in y.places.slots k) (subst IsSome (entry_at-seen y s k) h)
 
 pub filled_below : (y : Inside) → IsSound y → (k : ℕ) → IsSome (entry_at (seen y) k) → k < length y.hots.items
 filled_below y s k h = let f = filled y s k h in s.within k (subst IsSome (sym f.2) refl)
@@ -195,7 +196,7 @@ loose_some None h = absurd h
 loose_some (Some e) h = (refl, h)
 
 -- a loose key has a car, and is on no list
-pub seen_loose : (y : Inside) (v : Yard) (k : ℕ) → IsSound y → seen y ≡ v → IsLoose v k → (p : Place) × (c : Car) × (place_in y.places.slots k ≡ Some p) × (p.car ≡ Some c) × (p.list ≡ None)
+pub seen_loose : (y : Inside) (v : Yard) (k : ℕ) → IsSound y → seen y ≡ v → IsLoose v k → (p : Place) × (c : Cold) × (place_in y.places.slots k ≡ Some p) × (p.car ≡ Some c) × (p.list ≡ None)
 seen_loose y v k s is loose =
     let l = loose_some (entry_at (seen y) k) (subst (λ w. IsLoose w k) (sym is) loose) in
     let f = filled y s k l.0 in
@@ -203,14 +204,14 @@ seen_loose y v k s is loose =
     let same : list_of (links_at y.hots.items y.places.slots k) ≡ f.0.list = ap (λ (o : Option Place). list_of (option_map (λ (p : Place). linked (hot_at y.hots.items k).ahead (hot_at y.hots.items k).behind p.list) o)) f.2 in
     (f.0, f.1, f.2, f.3, sym same ∙ none)
 
-pub seen_named : (y : Inside) (v : Yard) (k : ℕ) → IsSound y → seen y ≡ v → IsSome (entry_at v k) → (p : Place) × (c : Car) × (place_in y.places.slots k ≡ Some p) × (p.car ≡ Some c)
+pub seen_named : (y : Inside) (v : Yard) (k : ℕ) → IsSound y → seen y ≡ v → IsSome (entry_at v k) → (p : Place) × (c : Cold) × (place_in y.places.slots k ≡ Some p) × (p.car ≡ Some c)
 seen_named y v k s is h = filled y s k (subst (λ w. IsSome (entry_at w k)) (sym is) h)
 
 listed_some : (o : Option Kept) → IsSome (option_and_then (λ (e : Kept). e.list) o) → IsSome o
 listed_some None h = absurd (cc)
 listed_some (Some e) h = refl
 
-pub seen_listed : (y : Inside) (v : Yard) (k : ℕ) → IsSound y → seen y ≡ v → IsSome (place_of v k) → (p : Place) × (c : Car) × (place_in y.places.slots k ≡ Some p) × (p.car ≡ Some c)
+pub seen_listed : (y : Inside) (v : Yard) (k : ℕ) → IsSound y → seen y ≡ v → IsSome (place_of v k) → (p : Place) × (c : Cold) × (place_in y.places.slots k ≡ Some p) × (p.car ≡ Some c)
 seen_listed y v k s is h = seen_named y v k s is (listed_some (entry_at v k) h)
 
 links_of-place : (hots : List Hot) (slots : List (Option Place)) (k : ℕ) (p : Place) → place_in slots k ≡ Some p → links_at hots slots k ≡ Some (linked (hot_at hots k).ahead (hot_at hots k).behind p.list)
@@ -273,27 +274,23 @@ module _ (y : Inside) (v : Yard) (k : ℕ) (s : IsSound y) (is : seen y ≡ v) w
   loose_below h = named_below (loose_some (entry_at v k) h).0
 
 -- what is read of a car
-
-copied : (hot : Hot) (p : Place) (c : Car) → IsCopy hot.cell hot.speed p.list p.car → p.car ≡ Some c → (hot.cell ≡ c.cell) × (hot.speed ≡ c.speed)
-copied hot p c h e = subst (IsCopy hot.cell hot.speed p.list) e h
-
-module _ (y : Inside) (v : Yard) (k : ℕ) (s : IsSound y) (is : seen y ≡ v) (p : Place) (there : place_in y.places.slots k ≡ Some p) (c : Car) (has : p.car ≡ Some c) where
-  pub entry-read : entry_at v k ≡ Some (record { car = c; mark = (hot_at y.hots.items k).mark; list = p.list })
+module _ (y : Inside) (v : Yard) (k : ℕ) (s : IsSound y) (is : seen y ≡ v) (p : Place) (there : place_in y.places.slots k ≡ Some p) (c : Cold) (has : p.car ≡ Some c) where
+  pub entry-read : entry_at v k ≡ Some (kept_of (core (hot_at y.hots.items k)) p.list c)
   entry-read =
-      ap (λ w. entry_at w k) (sym is) ∙ entry_at-seen y s k ∙ ap (kept_with (hot_at y.hots.items k).mark) there
-      ∙ ap (option_map (λ d. record { car = d; mark = (hot_at y.hots.items k).mark; list = p.list })) has
+      ap (λ w. entry_at w k) (sym is) ∙ entry_at-seen y s k ∙ ap (kept_with (core (hot_at y.hots.items k))) there
+      ∙ ap (option_map (kept_of (core (hot_at y.hots.items k)) p.list)) has
 
-  pub car-read : car_of v k ≡ Some c
+  pub car-read : car_of v k ≡ Some (car_with (core (hot_at y.hots.items k)) c)
   car-read = ap (option_map (λ (e : Kept). e.car)) entry-read
 
   pub mark-read : mark_of v k ≡ Some (hot_at y.hots.items k).mark
   mark-read = ap (option_map (λ (e : Kept). e.mark)) entry-read
 
-  pub copy-read : ((hot_at y.hots.items k).cell ≡ c.cell) × ((hot_at y.hots.items k).speed ≡ c.speed)
-  copy-read = copied (hot_at y.hots.items k) p c (subst (IsPlaced (hot_at y.hots.items k)) there (s.placed k)) has
-
   pub cell-read : option_map (λ (d : Car). d.cell) (car_of v k) ≡ Some (hot_at y.hots.items k).cell
-  cell-read = ap (option_map (λ (d : Car). d.cell)) car-read ∙ ap Some (sym copy-read.0)
+  cell-read = ap (option_map (λ (d : Car). d.cell)) car-read
+
+  pub number-read : option_map (λ (d : Car). d.number) (car_of v k) ≡ Some (hot_at y.hots.items k).number
+  number-read = ap (option_map (λ (d : Car). d.number)) car-read
 
   pub speed-read : option_map (λ (d : Car). d.speed) (car_of v k) ≡ Some (hot_at y.hots.items k).speed
-  speed-read = ap (option_map (λ (d : Car). d.speed)) car-read ∙ ap Some (sym copy-read.1)
+  speed-read = ap (option_map (λ (d : Car). d.speed)) car-read

@@ -10,7 +10,7 @@ use Rattle.street_yard.specs.declared.hot.Hot.{Hot}
 use Rattle.street_yard.specs.declared.yard.Place.{Place}
 use Rattle.street_yard.specs.Yard.{Kept, kept_set}
 use Rattle.street_yard.specs.Thread.{Links, linked, modify, set_behind, set_ahead}
-use Rattle.street_yard.specs.Inside.{no_hot, hot_at, place_in, links_at, kept_at, kept_in, hots_behind, hots_ahead, hots_linked, IsBelow}
+use Rattle.street_yard.specs.Inside.{no_hot, hot_at, place_in, links_at, core, kept_at, kept_in, hots_behind, hots_ahead, hots_linked, IsBelow}
 use Rattle.street_yard.proofs.Threads.{modify-same, modify-other}
 
 -- one place is another
@@ -93,9 +93,6 @@ module _ (hots : List Hot) (slots : List (Option Place)) where
   links-linked key place new a b within is = λ i j. each_linked key place new a b within is j i
 
 -- what a change of neighbours keeps of each car
-
-abbrev pub core : Hot → ℕ × ℕ × Bool
-core h = (h.cell, h.speed, h.mark)
 
 core_set : (hots : List Hot) (k : ℕ) (h : Hot) → k < length hots → core h ≡ core (hot_at hots k) → (j : ℕ) → core (hot_at (set hots k h) j) ≡ core (hot_at hots j)
 core_set hots k h within same j =

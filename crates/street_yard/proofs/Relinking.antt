@@ -4,19 +4,19 @@ use Rattle.std.specs.Option.{option_map}
 use Rattle.std.specs.Prelude.{MatchOption}
 use Rattle.std.proofs.lemmas.Bool.{cases_eq}
 use Rattle.std.proofs.lemmas.List.{get_or_default, length-set}
-use Rattle.street_base.specs.declared.car.Car.{Car}
 use Rattle.street_yard.specs.declared.names.Key.{Key}
 use Rattle.street_yard.specs.declared.hot.Hot.{Hot}
+use Rattle.street_yard.specs.declared.hot.Cold.{Cold}
 use Rattle.street_yard.specs.declared.yard.Ends.{Ends}
 use Rattle.street_yard.specs.declared.yard.Place.{Place}
 use Rattle.street_yard.specs.declared.yard.Yard.TheInside.{Inside}
 use Rattle.street_yard.specs.Yard.{Yard, list_at, place_of, without, put_behind, Has, IsLoose}
 use Rattle.street_yard.specs.Thread.{Links, LinksAt, linked, list_of, no_ends, StandsFor, modify, rejoined, ends_behind, ends_ahead, next_of, behind_of}
-use Rattle.street_yard.specs.Inside.{no_hot, hot_at, place_in, links_at, lists_of, seen, IsSound, IsBelow, hots_behind, hots_ahead, hots_linked, next_behind_of}
+use Rattle.street_yard.specs.Inside.{no_hot, hot_at, place_in, links_at, core, lists_of, seen, IsSound, IsBelow, hots_behind, hots_ahead, hots_linked, next_behind_of}
 use Rattle.street_yard.proofs.Threads.{IsThread-Away}
 use Rattle.street_yard.proofs.Stands.{IsThread-has, IsOn}
 use Rattle.street_yard.proofs.Moves.{on_place, on_below, keys-few}
-use Rattle.street_yard.proofs.Hots.{core, core-behind, core-ahead, core-linked, length-behind, length-ahead, links-behind, links-ahead, links-linked}
+use Rattle.street_yard.proofs.Hots.{core-behind, core-ahead, core-linked, length-behind, length-ahead, links-behind, links-ahead, links-linked}
 use Rattle.street_yard.proofs.Fields.{names_within, links_steps, ends_steps, place, count_on, below-on, links_of-seen, place_of-seen, listed_below, seen_listed, seen_loose, seen_within, StandsFor-without, StandsFor-pushed, StandsFor-put, there_next, on_back}
 
 -- the three writes of a relinking
@@ -57,7 +57,7 @@ module _ (y : Inside) (v : Yard) (key : ℕ) (old : Place) (hot : Hot) (s : IsSo
   abbrev pub its_links : Links
   its_links = linked hot.ahead hot.behind old.list
 
-  pub its_car : (c : Car) × (old.car ≡ Some c)
+  pub its_car : (c : Cold) × (old.car ≡ Some c)
   its_car =
       let p = seen_listed y v key s is_v listed in
       let same : old ≡ p.0 = let both : ◌≡◌ {A = Option Place} (Some old) (Some p.0) = sym is ∙ p.2 in cc in
@@ -117,7 +117,7 @@ module _ (y : Inside) (v : Yard) (key n : ℕ) (s : IsSound y) (is_v : seen y �
   abbrev pub now_lists : List (List ℕ)
   now_lists = lists_of y.hots.items y.places.slots y.ends.items
 
-  pub loose_key : (p : Place) × (c : Car) × (place_in y.places.slots key ≡ Some p) × (p.car ≡ Some c) × (p.list ≡ None)
+  pub loose_key : (p : Place) × (c : Cold) × (place_in y.places.slots key ≡ Some p) × (p.car ≡ Some c) × (p.list ≡ None)
   loose_key = seen_loose y v key s is_v loose
 
   pub key_within : key < length y.hots.items

@@ -4,6 +4,7 @@ use Rattle.std.specs.Option.{option_map, option_and_then}
 use Rattle.std.specs.List.{range_with_len}
 use Rattle.street_base.specs.declared.car.Car.{Car}
 use Rattle.street_yard.specs.declared.hot.Hot.{Hot}
+use Rattle.street_yard.specs.declared.hot.Cold.{Cold}
 use Rattle.street_yard.specs.declared.yard.Place.{Place}
 use Rattle.street_yard.specs.declared.yard.Ends.{Ends}
 use Rattle.street_yard.specs.declared.yard.Yard.TheInside.{Inside}
@@ -12,7 +13,7 @@ use Rattle.street_yard.specs.Thread.{LinksAt, linked, StandsFor, walk}
 use Rattle.street_yard.specs.Yard.{Yard, Kept, Has, IsApart}
 
 abbrev pub no_hot : Hot
-no_hot = record { ahead = None; behind = None; cell = 0; speed = 0; mark = false }
+no_hot = record { ahead = None; behind = None; cell = 0; number = 0; speed = 0; mark = false }
 
 abbrev pub hot_at : List Hot → ℕ → Hot
 hot_at hots k = slice_index_or hots k no_hot
@@ -24,11 +25,22 @@ place_in slots k = slice_index_or slots k None
 abbrev pub links_at : List Hot → List (Option Place) → LinksAt
 links_at hots slots k = option_map (λ p. linked (hot_at hots k).ahead (hot_at hots k).behind p.list) (place_in slots k)
 
-abbrev pub kept_with : Bool → Option Place → Option Kept
-kept_with mark = option_and_then (λ p. option_map (λ c. record { car = c; mark = mark; list = p.list }) p.car)
+-- what the hot part keeps of a car, with its mark
+abbrev pub core : Hot → ℕ × ℕ × ℕ × Bool
+core h = (h.cell, h.number, h.speed, h.mark)
+
+-- the car of both parts
+abbrev pub car_with : ℕ × ℕ × ℕ × Bool → Cold → Car
+car_with t c = record { plan = c.plan; number = t.1; cell = t.0; step = c.step; at = c.at; speed = t.2 }
+
+abbrev pub kept_of : ℕ × ℕ × ℕ × Bool → Option ℕ → Cold → Kept
+kept_of t list c = record { car = car_with t c; mark = t.3; list = list }
+
+abbrev pub kept_with : ℕ × ℕ × ℕ × Bool → Option Place → Option Kept
+kept_with t = option_and_then (λ p. option_map (kept_of t p.list) p.car)
 
 abbrev pub kept_at : List Hot → List (Option Place) → ℕ → Option Kept
-kept_at hots slots k = kept_with (hot_at hots k).mark (place_in slots k)
+kept_at hots slots k = kept_with (core (hot_at hots k)) (place_in slots k)
 
 abbrev pub kept_in : List Hot → List (Option Place) → ℕ → List (Option Kept)
 kept_in hots slots count = map (kept_at hots slots) (range_with_len 0 count)
@@ -43,23 +55,23 @@ seen y = record {
   room = length y.spare.items;
 }
 
--- the cell and the speed are those of the car; without a car there is no list
-abbrev pub IsCopy : ℕ → ℕ → Option ℕ → Option Car → Type 0
-IsCopy cell speed list None = list ≡ None
-IsCopy cell speed list (Some car) = (cell ≡ car.cell) × (speed ≡ car.speed)
+-- without a car there is no list
+abbrev pub IsBare : Option ℕ → Option Cold → Type 0
+IsBare list None = list ≡ None
+IsBare list (Some c) = Unit {0}
 
-abbrev pub IsPlaced : Hot → Option Place → Type 0
-IsPlaced hot None = Unit {0}
-IsPlaced hot (Some p) = IsCopy hot.cell hot.speed p.list p.car
+abbrev pub IsPlaced : Option Place → Type 0
+IsPlaced None = Unit {0}
+IsPlaced (Some p) = IsBare p.list p.car
 
 abbrev pub vacant : Place
 vacant = record { car = None; list = None }
 
--- the links stand for lists, what lies beside a place is its car's, and the spare places are without a car
+-- the links stand for lists, a place without a car is on none, and the spare places are without a car
 pub record IsLaidOut (hots : List Hot) (slots : List (Option Place)) (spare : List ℕ) (reached capacity : ℕ) (ends : List Ends) : Type 0 where
   pub stands : StandsFor (links_at hots slots) ends (lists_of hots slots ends)
   pub within : (k : ℕ) → IsSome (place_in slots k) → k < length hots
-  pub placed : (k : ℕ) → IsPlaced (hot_at hots k) (place_in slots k)
+  pub placed : (k : ℕ) → IsPlaced (place_in slots k)
   pub below : (k : ℕ) → IsSome (kept_at hots slots k) → k < reached
   pub few : length hots ≤ nobody
   pub few_lists : length ends ≤ nobody
@@ -94,6 +106,6 @@ abbrev pub next_behind_of : List Hot → Ends → Option ℕ → Option ℕ
 next_behind_of hots e None = e.front
 next_behind_of hots e (Some k) = (hot_at hots k).behind
 
--- the place with f of its car
-abbrev pub with_car : (Car → Car) → Place → Place
-with_car f p = record p { car = option_map f p.car }
+-- the place with f of the rest of its car
+abbrev pub with_cold : (Cold → Cold) → Place → Place
+with_cold f p = record p { car = option_map f p.car }

@@ -3,3 +3,4 @@ pub mod Neighbour
 pub mod Thread
 pub mod Inside
 pub mod Listed
+pub mod View

@@ -1,10 +1,10 @@
-//! What walks read of a car.
+//! What walks read of a car, and the rest of it.
 ghost use Rattle.std.specs.Option.{option_map};
 ghost use Rattle.std.specs.Prelude.{◌≡◌, ◌<◌, None, MatchOption};
 
 use crate::names::Key;
 use std::marker::Model;
-use street_base::{CellNo, Speed};
+use street_base::{CarNo, CellNo, Plan, Speed, Step};
 
 /// The number that names nobody; keys lie below it.
 pub(crate) const NOBODY: u32 = u32::MAX;
@@ -61,12 +61,21 @@ impl Neighbour {
     }
 }
 
-/// The part of a car that walks read, 16 bytes: its neighbours on its list, and its cell and speed, which are the car's.
+/// The part of a car that walks read, 20 bytes: its neighbours on its list, its cell, number and speed, and its mark.
 #[derive(Clone, Copy)]
 pub(crate) struct Hot {
     pub(crate) ahead: Neighbour,
     pub(crate) behind: Neighbour,
     pub(crate) cell: CellNo,
+    pub(crate) number: CarNo,
     pub(crate) speed: Speed,
     pub(crate) mark: bool,
+}
+
+/// The rest of a car.
+#[derive(Drop)]
+pub(crate) struct Cold {
+    pub(crate) plan: Box<Plan>,
+    pub(crate) step: Step,
+    pub(crate) at: u16,
 }

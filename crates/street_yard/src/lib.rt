@@ -10,7 +10,9 @@ mod names;
 mod relink;
 #[cfg(test)]
 mod tests;
+mod view;
 mod yard;
 
 pub use names::{Key, ListId};
+pub use view::CarView;
 pub use yard::Yard;

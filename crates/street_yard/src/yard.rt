@@ -2,51 +2,27 @@
 ghost use Rattle.std.specs.Option.{option_map};
 ghost use Rattle.std.specs.Prelude.{◌≡◌, ◌+◌, ◌<◌, ◌≤◌, ◌↔◌, length, [], ◌∷◌, ◌++◌, IsTrue, Some, None, IsSome, false, OnOk, IfOk, if◌then◌else◌, is_ok, slice_set, replicate};
 
-use crate::hot::{Hot, NOBODY, Neighbour};
+use crate::hot::{Cold, Hot, NOBODY, Neighbour};
 use crate::names::{Key, ListId, list_named};
 use crate::relink::{next_behind, set_ahead, set_behind, set_links};
+use crate::view::CarView;
 use slab::Slab;
 use std::alloc::Global;
 use std::marker::Model;
-use street_base::{Car, CellNo, Speed, Starved, Step};
+use street_base::{Car, CarNo, CellNo, Speed, Starved, Step};
 
-/// A place of the arena: a car and the list that it is on, or nothing.
+/// A place of the arena: the rest of a car and the list that it is on, or nothing.
 #[derive(Drop)]
 pub(crate) struct Place {
-    pub(crate) car: Option<Car>,
+    pub(crate) car: Option<Cold>,
     pub(crate) list: Option<u32>,
 }
 
 impl Place {
-    ghost use Rattle.street_yard.specs.Inside.{with_car};
-
-    fn set_cell(&mut self, cell: CellNo)
-        ensures { self.new ≡ with_car (λ c. record c { cell = cell }) self.old }
-    {
-        if let Some(car) = &mut self.car {
-            car.cell = cell;
-        }
-    }
-
-    fn set_speed(&mut self, speed: Speed)
-        ensures { self.new ≡ with_car (λ c. record c { speed = speed }) self.old }
-    {
-        if let Some(car) = &mut self.car {
-            car.speed = speed;
-        }
-    }
-
-    fn drive(&mut self, cell: CellNo, speed: Speed)
-        ensures { self.new ≡ with_car (λ c. record c { cell = cell; speed = speed }) self.old }
-    {
-        if let Some(car) = &mut self.car {
-            car.cell = cell;
-            car.speed = speed;
-        }
-    }
+    ghost use Rattle.street_yard.specs.Inside.{with_cold};
 
     fn set_step(&mut self, step: Step)
-        ensures { self.new ≡ with_car (λ c. record c { step = step }) self.old }
+        ensures { self.new ≡ with_cold (λ c. record c { step = step }) self.old }
     {
         if let Some(car) = &mut self.car {
             car.step = step;
@@ -54,7 +30,7 @@ impl Place {
     }
 
     fn set_at(&mut self, at: u16)
-        ensures { self.new ≡ with_car (λ c. record c { at = at }) self.old }
+        ensures { self.new ≡ with_cold (λ c. record c { at = at }) self.old }
     {
         if let Some(car) = &mut self.car {
             car.at = at;
@@ -73,7 +49,7 @@ pub(crate) struct Ends {
 /// Cars by key, and lists of keys.
 ///
 /// The slab keeps the places, each with its key; a place that a car has left is used again. What walks read of a car lies
-/// beside it in `hots`.
+/// in `hots` under the same key, and nowhere else.
 #[derive(Drop)]
 pub struct Yard {
     places: Slab<Place>,
@@ -99,6 +75,7 @@ impl Model for Yard {
 
 impl Yard {
     ghost use Rattle.street_yard.specs.Yard.{list_at, entry_at, car_of, mark_of, place_of, without, put_behind, place_set, car_set, mark_set, IsLoose, IsOnList, IsAhead, IsBehind, IsWhole, Updates, first_or, last_or, Has};
+    ghost use Rattle.street_yard.specs.View.{viewed};
 
     /// So many lists without keys.
     pub fn new(alloc: Global, lists: usize) -> Result<Yard, Starved>
@@ -166,6 +143,7 @@ impl Yard {
             ahead: Neighbour::nobody(),
             behind: Neighbour::nobody(),
             cell: 0,
+            number: 0,
             speed: 0,
             mark: false,
         });
@@ -187,11 +165,16 @@ impl Yard {
             ahead: Neighbour::nobody(),
             behind: Neighbour::nobody(),
             cell: car.cell,
+            number: car.number,
             speed: car.speed,
             mark: false,
         };
         let place = &mut self.places[index];
-        place.car = Some(car);
+        place.car = Some(Cold {
+            plan: car.plan,
+            step: car.step,
+            at: car.at,
+        });
         if self.reached <= index {
             self.reached = index + 1;
         }
@@ -304,18 +287,43 @@ impl Yard {
         ensures car { car_of self.old key.0 ≡ Some result }
         ensures after { self.new ≡ record self.old { kept = slice_set self.old.kept key.0 None; room = self.old.room + 1 } }
     {
+        let hot = self.hots[key.0 as usize];
         let place = &mut self.places[key.0 as usize];
-        let car = place.car.take().unwrap();
+        let cold = place.car.take().unwrap();
         self.spare.push_reserved(key.0);
-        car
+        Car {
+            plan: cold.plan,
+            number: hot.number,
+            cell: hot.cell,
+            step: cold.step,
+            at: cold.at,
+            speed: hot.speed,
+        }
     }
 
     /// The car of a key.
-    pub fn car(&self, key: Key) -> &Car
+    pub fn car(&self, key: Key) -> CarView<'_>
         requires { IsSome (entry_at self.now key.0) }
-        ensures { car_of self.now key.0 ≡ Some result.now }
+        ensures { car_of self.now key.0 ≡ Some (viewed result) }
     {
-        self.places[key.0 as usize].car.as_ref().unwrap()
+        let hot = self.hots[key.0 as usize];
+        let cold = self.places[key.0 as usize].car.as_ref().unwrap();
+        CarView {
+            plan: &cold.plan,
+            number: hot.number,
+            cell: hot.cell,
+            step: cold.step,
+            at: cold.at,
+            speed: hot.speed,
+        }
+    }
+
+    /// The number of a car, read without the rest of it.
+    pub fn number(&self, key: Key) -> CarNo
+        requires { IsSome (entry_at self.now key.0) }
+        ensures { option_map (λ c. c.number) (car_of self.now key.0) ≡ Some result }
+    {
+        self.hots[key.0 as usize].number
     }
 
     /// The cell of a car, read without the rest of it.
@@ -349,8 +357,6 @@ impl Yard {
     {
         let hot = &mut self.hots[key.0 as usize];
         hot.cell = cell;
-        let place = &mut self.places[key.0 as usize];
-        place.set_cell(cell);
     }
 
     /// Writes the speed of a car.
@@ -360,8 +366,6 @@ impl Yard {
     {
         let hot = &mut self.hots[key.0 as usize];
         hot.speed = speed;
-        let place = &mut self.places[key.0 as usize];
-        place.set_speed(speed);
     }
 
     /// Writes the cell and the speed of a car.
@@ -372,8 +376,6 @@ impl Yard {
         let hot = &mut self.hots[key.0 as usize];
         hot.cell = cell;
         hot.speed = speed;
-        let place = &mut self.places[key.0 as usize];
-        place.drive(cell, speed);
     }
 
     /// Writes the step of a car.

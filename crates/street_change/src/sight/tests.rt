@@ -5,7 +5,7 @@ use crate::road::{Road, RoadLane};
 use std::alloc::Global;
 use std::process::Abort;
 use std::test::Fail;
-use street_base::{LinkSpec, Listing, NetSpec, NodeSpec, Plan, TurnSpec};
+use street_base::{Car, LinkSpec, Listing, NetSpec, NodeSpec, Plan, TurnSpec};
 use street_net::Network;
 use street_yard::ListId;
 
@@ -139,8 +139,9 @@ fn check_wishes<'a>(
     rt: &impl Abort,
     network: &'a Network,
     open: &'a Closures,
-    first: &Car,
-    last: &Car,
+    yard: &Yard,
+    first: Key,
+    last: Key,
 ) {
     assert_eq!(rt; network.spec().links.as_slice().len(), 1);
     let lane = RoadLane {
@@ -151,21 +152,31 @@ fn check_wishes<'a>(
     assert_eq!(rt; (road.length(), road.limit(), road.lanes()), (20, 5, 1));
     for (lane, gap, cell, speed, is_last, want, why) in &WISHES {
         assert!(rt; *lane <= 1);
-        let car = if *is_last { last } else { first };
+        let key = if *is_last { last } else { first };
+        is_named(rt, yard, key);
         assert_eq!(rt;
-            wishes(&road, *lane, *gap, *cell, *speed, car),
+            wishes(yard, key, &road, *lane, *gap, *cell, *speed),
             *want,
             "{why}"
         );
     }
 }
 
+// The key has a car: it is loose.
+fn is_named(rt: &impl Abort, yard: &Yard, key: Key)
+    ensures { IsSome (entry_at yard.now key.0) }
+{
+    assert!(rt; yard.is_loose(key));
+}
+
 #[test]
 fn drivers_wish_by_gap_and_zone(rt: HostRuntime) -> Result<(), Fail> {
-    let first = on_the_ring(rt.alloc(), 0)?;
-    let last = on_the_ring(rt.alloc(), 1)?;
+    let mut yard = Yard::new(rt.alloc(), 1)?;
+    yard.reserve(2)?;
+    let first = yard.admit_reserved(on_the_ring(rt.alloc(), 0)?);
+    let last = yard.admit_reserved(on_the_ring(rt.alloc(), 1)?);
     let network = ring(rt.alloc())?;
     let open = Closures::new(rt.alloc());
-    check_wishes(&rt, &network, &open, &first, &last);
+    check_wishes(&rt, &network, &open, &yard, first, last);
     Ok(())
 }

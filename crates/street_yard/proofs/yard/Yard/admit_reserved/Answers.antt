@@ -4,17 +4,17 @@ use Rattle.std.specs.Option.{option_to_list}
 use Rattle.street_base.specs.declared.car.Car.{Car}
 use Rattle.street_yard.specs.declared.yard.Place.{Place}
 use Rattle.street_yard.specs.Inside.{vacant}
-use Rattle.street_yard.proofs.Admitting.{spare_place, spare_key, was_nobody, admitted-sound, admitted-lists, admitted-updates}
+use Rattle.street_yard.proofs.Admitting.{cold_of, spare_place, spare_key, was_nobody, admitted-sound, admitted-lists, admitted-updates}
 use Rattle.street_yard.proofs.yard.Yard.admit_reserved.Goals as goal
 
 popped_is : (xs rest : List ℕ) (o : Option ℕ) (key : ℕ) → xs ≡ rest ++ option_to_list o → o ≡ Some key → xs ≡ rest ++ key ∷ []
 popped_is xs rest o key e is = e ∙ ap (λ p. rest ++ option_to_list p) is
 
-new_of : (car : Car) (p : Place) (o : Option Place) → o ≡ Some p → o ≡ Some vacant → ◌≡◌ {A = Place} (record { car = Some car; list = p.list }) (record { car = Some car; list = None })
+new_of : (car : Car) (p : Place) (o : Option Place) → o ≡ Some p → o ≡ Some vacant → ◌≡◌ {A = Place} (record { car = Some (cold_of car); list = p.list }) (record { car = Some (cold_of car); list = None })
 new_of car p o a b =
     let both : ◌≡◌ {A = Option Place} (Some p) (Some vacant) = sym a ∙ b in
     let same : p ≡ vacant = cc in
-    ap (λ (x : Place). record { car = Some car; list = x.list }) same
+    ap (λ (x : Place). record { car = Some (cold_of car); list = x.list }) same
 
 pub index_mut-requires : goal.index_mut-requires
 index_mut-requires c = let lt = spare_key c.self.inside c.args.self.now c.unwrap-key.result c.self.invariant c.self.view_is c.pop.new.self.items (popped_is _ _ _ _ c.pop.ensures.items c.unwrap-key.ensures) in omega arith

@@ -1,16 +1,18 @@
 use Rattle.std.proofs.Common.{◌≡◌, ◌≤◌, length, Option, Some, refl, sym, subst, ap, ◌∙◌, arith}
 use Rattle.std.specs.Prelude.{IsSome, vec_capacity}
 use Rattle.street_yard.specs.declared.yard.Place.{Place}
-use Rattle.street_yard.specs.Inside.{vacant}
-use Rattle.street_yard.proofs.Fields.{car-read}
+use Rattle.street_yard.specs.declared.hot.Hot.{Hot}
+use Rattle.street_yard.specs.Inside.{no_hot, core, car_with, vacant}
+use Rattle.std.proofs.lemmas.List.{get_or_default}
+use Rattle.street_yard.proofs.Fields.{car-read, loose_below}
 use Rattle.street_yard.proofs.Admitting.{taken_key, spare_room, taken-sound, taken-seen}
 use Rattle.street_yard.proofs.yard.Yard.take.Goals as goal
 
 pub index_mut-place-requires : goal.index_mut-place-requires
 index_mut-place-requires c = subst IsSome (sym (taken_key c.self.inside c.args.self.now c.args.key.0 c.self.invariant c.self.view_is c.requires).2) refl
 
-pub unwrap-car-requires : goal.unwrap-car-requires
-unwrap-car-requires c =
+pub unwrap-cold-requires : goal.unwrap-cold-requires
+unwrap-cold-requires c =
     let p = taken_key c.self.inside c.args.self.now c.args.key.0 c.self.invariant c.self.view_is c.requires in
     let both : ◌≡◌ {A = Option Place} (Some c.index_mut-place.result.now) (Some p.0) = sym c.index_mut-place.ensures.value ∙ p.2 in
     let same : c.index_mut-place.result.now ≡ p.0 = cc in
@@ -33,8 +35,14 @@ holds c = let a = c.self.invariant.holds_all in omega (arith, c.push_reserved.en
 pub invariant_of-self : goal.invariant_of-self
 invariant_of-self c = taken-sound c.self.inside c.args.self.now c.args.key.0 c.self.invariant c.self.view_is c.requires (record { car = c.take.new.self; list = c.index_mut-place.result.now.list }) (new_is c) c.push_reserved.new.self.items c.push_reserved.ensures.items (vec_capacity c.push_reserved.new.self) (holds c)
 
+pub index-hot-requires : goal.index-hot-requires
+index-hot-requires c = let lt = loose_below c.self.inside c.args.self.now c.args.key.0 c.self.invariant c.self.view_is c.requires in omega arith
+
 pub returns-clause-car : goal.returns-clause-car
-returns-clause-car c = car-read c.self.inside c.args.self.now c.args.key.0 c.self.invariant c.self.view_is c.index_mut-place.result.now c.index_mut-place.ensures.value c.unwrap-car.result (sym c.take.ensures.value ∙ c.unwrap-car.ensures)
+returns-clause-car c =
+    let lt = loose_below c.self.inside c.args.self.now c.args.key.0 c.self.invariant c.self.view_is c.requires in
+    car-read c.self.inside c.args.self.now c.args.key.0 c.self.invariant c.self.view_is c.index_mut-place.result.now c.index_mut-place.ensures.value c.unwrap-cold.result (sym c.take.ensures.value ∙ c.unwrap-cold.ensures)
+    ∙ ap (λ (h : Hot). Some (car_with (core h) c.unwrap-cold.result)) (sym (c.index-hot.ensures ∙ get_or_default c.self.inside.hots.items c.args.key.0 c.index-hot.result.now no_hot lt))
 
 pub returns-clause-after : goal.returns-clause-after
 returns-clause-after c = taken-seen c.self.inside c.args.self.now c.args.key.0 c.self.invariant c.self.view_is c.requires (record { car = c.take.new.self; list = c.index_mut-place.result.now.list }) (new_is c) c.push_reserved.new.self.items c.push_reserved.ensures.items (vec_capacity c.push_reserved.new.self) (holds c)
