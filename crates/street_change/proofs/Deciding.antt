@@ -62,8 +62,8 @@ some-vehicle : (car : Car) (v : Vehicle) (o : Option Car) → o ≡ Some car →
 some-vehicle car v o e f = (let s : ◌≡◌ {A = Option Vehicle} (Some (vehicle_of car)) (Some v) = sym (ap (option_map vehicle_of) e) ∙ f in cc)
 
 -- what is read of a car apart from the rest
-pub field-is : (get : Car → ℕ) (car : Car) (o : Option Car) (n : ℕ) → o ≡ Some car → option_map get o ≡ Some n → n ≡ get car
-field-is get car o n e f = (let s : ◌≡◌ {A = Option ℕ} (Some n) (Some (get car)) = sym f ∙ ap (option_map get) e in cc)
+pub field-is : {A : Type 0} (get : Car → A) (car : Car) (o : Option Car) (n : A) → o ≡ Some car → option_map get o ≡ Some n → n ≡ get car
+field-is {A = A} get car o n e f = (let s : ◌≡◌ {A = Option A} (Some n) (Some (get car)) = sym f ∙ ap (option_map get) e in cc)
 
 -- the decision by its parts: the wish, and room with the draw
 pub decided-by : (weave : Weave) (lane count : ℕ) (closed : List Bool) (ahead : Option ℕ) (other : Track) (y : Yard) (key : ℕ) (car : Car) (v : Vehicle) (cell speed gap : ℕ) (wish goes : Bool)

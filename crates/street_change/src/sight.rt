@@ -1,10 +1,9 @@
 //! What a driver sees on both lanes, and whether they wish to change and have room for it.
 //!
 //! Rule by Rickert, Nagel, Schreckenberg and Latour 1996, with this profile's turn zone and closed cells.
-ghost use Rattle.std.specs.Prelude.{◌≡◌, ℕ, ◌<◌, ◌≤◌, ◌-◌, length, IsSome, Some, option_map};
-ghost use Rattle.street_base.specs.declared.car.Car.{Car};
-ghost use Rattle.street_base.specs.Vehicle.{Vehicle, vehicle_of, next_link};
-ghost use Rattle.street_yard.specs.Yard.{place_of, entry_at, car_of};
+ghost use Rattle.std.specs.Prelude.{◌≡◌, ℕ, ◌<◌, ◌≤◌, ◌-◌, length, Some, option_map};
+ghost use Rattle.street_base.specs.Vehicle.{Vehicle};
+ghost use Rattle.street_yard.specs.Yard.{place_of};
 ghost use Rattle.street_yard.specs.Listed.{cell_at, vehicle_with};
 ghost use Rattle.street_gap.specs.Closed.{IsWithin, closed_marks, is_in};
 ghost use Rattle.street_gap.specs.Sight.{lesser};
@@ -69,35 +68,23 @@ fn is_at(place: Option<CellNo>, cell: CellNo) -> bool
     }
 }
 
-/// The link after the present one of a key's vehicle.
-fn next_link(yard: &Yard, key: Key) -> Option<LinkIx>
-    requires { IsSome (entry_at yard.now key.0) }
-    ensures { (car : Car) → car_of yard.now key.0 ≡ Some car → result ≡ next_link (vehicle_of car) }
-{
-    let car = yard.car(key);
-    car.plan.as_slice().get(usize::from(car.at) + 1).copied()
-}
-
-/// Whether the vehicle of a key, with this gap ahead, wants the other lane: as it is slow, or in the turn zone for its next
-/// link. Its plan is read in the zone alone.
+/// Whether a vehicle with this gap ahead wants the other lane: as it is slow, or in the turn zone for its next link.
 fn wishes(
-    yard: &Yard,
-    key: Key,
     road: &Road<'_>,
     lane: LaneNo,
     gap: CellNo,
     cell: CellNo,
     speed: Speed,
+    next: Option<LinkIx>,
 ) -> bool
-    requires lane { lane ≤ 1 }
-    requires key { IsSome (entry_at yard.now key.0) }
-    ensures { (step : ℕ) (car : Car) → car_of yard.now key.0 ≡ Some car → result ≡ wishes_with (weave_of road.now step) lane (length_of road.now) gap cell speed (next_link (vehicle_of car)) }
+    requires { lane ≤ 1 }
+    ensures { (step : ℕ) → result ≡ wishes_with (weave_of road.now step) lane (length_of road.now) gap cell speed next }
 {
     let slow = gap < CellNo::from(speed) + 1;
     if road.network().spec().zone < u64::from(road.length().saturating_sub(cell)) {
         return slow;
     }
-    match next_link(yard, key) {
+    match next {
         None => slow,
         Some(next) => {
             let network = road.network();
@@ -184,7 +171,7 @@ pub(crate) fn decide(
     let cell = yard.cell(key);
     let speed = yard.speed(key);
     let gap = gap_ahead(road.lane(lane).closures, ahead, cell);
-    if !wishes(yard, key, road, lane, gap, cell, speed) {
+    if !wishes(road, lane, gap, cell, speed, yard.next_link(key)) {
         return Decision { above, goes: false };
     }
     let other = road.lane(1 - lane);

@@ -12,7 +12,7 @@ use Rattle.street_yard.specs.declared.yard.Place.{Place}
 use Rattle.street_yard.specs.declared.yard.Yard.TheInside.{Inside}
 use Rattle.street_yard.specs.Yard.{Kept, Yard, entry_at, place_of, Has, Away, IsApart, IsLoose, Updates}
 use Rattle.street_yard.specs.Thread.{linked, list_of, no_ends, StandsFor}
-use Rattle.street_yard.specs.Inside.{no_hot, hot_at, place_in, links_at, core, kept_of, kept_with, kept_at, kept_in, lists_of, seen, IsPlaced, vacant, IsLaidOut, IsSound}
+use Rattle.street_yard.specs.Inside.{no_hot, hot_at, place_in, links_at, Core, core, kept_of, kept_with, kept_at, kept_in, lists_of, seen, link_after, IsPlaced, vacant, IsLaidOut, IsSound}
 use Rattle.street_yard.proofs.Keys.{has_or_away, has-away, IsApart-split, IsApart-join}
 use Rattle.street_yard.proofs.Moves.{Has-other, keys-few, lists_of-stands}
 use Rattle.street_yard.proofs.Hots.{hot-same, hot-other, place-same, place-other, kept-read, kept_in-set, kept_in-same}
@@ -97,9 +97,9 @@ module _ (y : Inside) (v : Yard) (key : ℕ) (s : IsSound y) (is_v : seen y ≡ 
     taken-sound = record {
       stands = rw taken_lists taken_stands;
       within = taken_within;
-      placed = λ k. elim (cases_eq k key) as (λ _. IsPlaced (place_in taken_slots k)) [
-        | inl e ↦ subst (λ j. IsPlaced (place_in taken_slots j)) (sym e) (subst IsPlaced (sym taken_here) refl)
-        | inr ne ↦ subst IsPlaced (sym (taken_other k ne)) (s.placed k)
+      placed = λ k. elim (cases_eq k key) as (λ _. IsPlaced (hot_at y.hots.items k).next (place_in taken_slots k)) [
+        | inl e ↦ subst (λ j. IsPlaced (hot_at y.hots.items j).next (place_in taken_slots j)) (sym e) (subst (IsPlaced (hot_at y.hots.items key).next) (sym taken_here) refl)
+        | inr ne ↦ subst (IsPlaced (hot_at y.hots.items k).next) (sym (taken_other k ne)) (s.placed k)
       ];
       below = λ k h. elim (cases_eq k key) as (λ _. k < y.reached) [
         | inl e ↦ absurd (let h' : IsSome {T = Kept} None = subst IsSome kept_gone (subst (λ j. IsSome (kept_at y.hots.items taken_slots j)) e h) in cc)
@@ -141,9 +141,9 @@ module _ (y : Inside) (v : Yard) (key : ℕ) (s : IsSound y) (is_v : seen y ≡ 
   parts : Away key rest × Away key [] × IsApart (rest ++ [])
   parts = IsApart-split rest key [] (subst IsApart popped s.apart)
 
-  module _ (car : Car) (ahead behind : Option ℕ) (new : Place) (new_is : new ≡ record { car = Some (cold_of car); list = None }) (reached' : ℕ) (reaches : key < reached') (grows : y.reached ≤ reached') (capacity' : ℕ) (holds : length y.hots.items ≤ capacity') where
+  module _ (car : Car) (ahead behind next : Option ℕ) (next_is : next ≡ link_after (cold_of car)) (new : Place) (new_is : new ≡ record { car = Some (cold_of car); list = None }) (reached' : ℕ) (reaches : key < reached') (grows : y.reached ≤ reached') (capacity' : ℕ) (holds : length y.hots.items ≤ capacity') where
     abbrev pub new_hot : Hot
-    new_hot = record { ahead = ahead; behind = behind; cell = car.cell; number = car.number; speed = car.speed; mark = false }
+    new_hot = record { ahead = ahead; behind = behind; cell = car.cell; number = car.number; next = next; speed = car.speed; mark = false }
 
     abbrev pub new_hots : List Hot
     new_hots = set y.hots.items key new_hot
@@ -198,9 +198,9 @@ module _ (y : Inside) (v : Yard) (key : ℕ) (s : IsSound y) (is_v : seen y ≡ 
     admitted-sound = record {
       stands = rw lists_stay new_stands;
       within = new_within;
-      placed = λ k. elim (cases_eq k key) as (λ _. IsPlaced (place_in new_slots k)) [
-        | inl e ↦ subst (λ j. IsPlaced (place_in new_slots j)) (sym e) (subst IsPlaced (sym new_here) tt)
-        | inr ne ↦ subst IsPlaced (sym (new_other k ne)) (s.placed k)
+      placed = λ k. elim (cases_eq k key) as (λ _. IsPlaced (hot_at new_hots k).next (place_in new_slots k)) [
+        | inl e ↦ subst (λ j. IsPlaced (hot_at new_hots j).next (place_in new_slots j)) (sym e) (subst (IsPlaced (hot_at new_hots key).next) (sym new_here) (ap (λ (h : Hot). h.next) hot_here ∙ next_is))
+        | inr ne ↦ subst (IsPlaced (hot_at new_hots k).next) (sym (new_other k ne)) (subst (λ (h : Hot). IsPlaced h.next (place_in y.places.slots k)) (sym (hot-other y.hots.items key new_hot k ne)) (s.placed k))
       ];
       below = new_below;
       few = (let a = s.few in omega (arith, new_length));
@@ -266,9 +266,9 @@ module _ (y : Inside) (v : Yard) (s : IsSound y) (is_v : seen y ≡ v) (index : 
   grown-sound = record {
     stands = rw more_lists more_stands;
     within = more_within;
-    placed = λ k. elim (cases_eq k index) as (λ _. IsPlaced (place_in later k)) [
-      | inl e ↦ subst (λ j. IsPlaced (place_in later j)) (sym e) (subst IsPlaced (sym here) refl)
-      | inr ne ↦ subst IsPlaced (sym (others k ne)) (s.placed k)
+    placed = λ k. elim (cases_eq k index) as (λ _. IsPlaced (hot_at more k).next (place_in later k)) [
+      | inl e ↦ subst (λ j. IsPlaced (hot_at more j).next (place_in later j)) (sym e) (subst (IsPlaced (hot_at more index).next) (sym here) refl)
+      | inr ne ↦ subst (IsPlaced (hot_at more k).next) (sym (others k ne)) (subst (λ (h : Hot). IsPlaced h.next (place_in y.places.slots k)) (sym (hot_stays k ne)) (s.placed k))
     ];
     below = λ k h. s.below k (subst IsSome (kept_all k) h);
     few = omega (arith, more_length);
@@ -320,12 +320,12 @@ place-list y v k s is o there =
     through None = refl
     through (Some p) = refl
 
-loose_by_car : (t : ℕ × ℕ × ℕ × Bool) (car : Option Cold) (list : Option ℕ) → is_some car ≡ true → (IsSomeAnd (option_map (kept_of t list) car) (λ (e : Kept). e.list ≡ None) → is_some list ≡ false) × (is_some list ≡ false → IsSomeAnd (option_map (kept_of t list) car) (λ (e : Kept). e.list ≡ None))
+loose_by_car : (t : Core) (car : Option Cold) (list : Option ℕ) → is_some car ≡ true → (IsSomeAnd (option_map (kept_of t list) car) (λ (e : Kept). e.list ≡ None) → is_some list ≡ false) × (is_some list ≡ false → IsSomeAnd (option_map (kept_of t list) car) (λ (e : Kept). e.list ≡ None))
 loose_by_car t None list h = absurd (cc)
 loose_by_car t (Some c) None h = ((λ x. refl), (λ x. refl))
 loose_by_car t (Some c) (Some n) h = ((λ x. absurd (cc)), (λ x. absurd (cc)))
 
-no_car : (t : ℕ × ℕ × ℕ × Bool) (car : Option Cold) (list : Option ℕ) → is_some car ≡ false → IsSomeAnd (option_map (kept_of t list) car) (λ (e : Kept). e.list ≡ None) → ⊥
+no_car : (t : Core) (car : Option Cold) (list : Option ℕ) → is_some car ≡ false → IsSomeAnd (option_map (kept_of t list) car) (λ (e : Kept). e.list ≡ None) → ⊥
 no_car t None list h x = x
 no_car t (Some c) list h x = cc
 

@@ -4,6 +4,7 @@ use Rattle.std.specs.Option.{option_map, option_and_then}
 use Rattle.std.proofs.lemmas.Bool.{cases_eq, cases_lt}
 use Rattle.std.proofs.lemmas.List.{append-nil, append_assoc, length-map, get_or_past, get_or_default, length-replicate, get_or-replicate, length-append}
 use Rattle.street_base.specs.declared.car.Car.{Car}
+use Rattle.street_base.specs.Vehicle.{vehicle_of, next_link}
 use Rattle.street_yard.specs.declared.hot.Hot.{Hot}
 use Rattle.street_yard.specs.declared.hot.Cold.{Cold}
 use Rattle.street_yard.specs.declared.yard.Ends.{Ends}
@@ -11,7 +12,7 @@ use Rattle.street_yard.specs.declared.yard.Place.{Place}
 use Rattle.street_yard.specs.declared.yard.Yard.TheInside.{Inside}
 use Rattle.street_yard.specs.Yard.{Kept, Yard, list_at, entry_at, car_of, mark_of, place_of, without, put_behind, first_or, last_or, IsLoose, IsOnList, IsAhead, IsBehind, IsWhole}
 use Rattle.street_yard.specs.Thread.{Links, LinksAt, linked, list_of, IsThread, IsList, no_ends, StandsFor, modify, set_behind, set_ahead, rejoined, ends_joined, ends_behind, ends_ahead, next_of, behind_of}
-use Rattle.street_yard.specs.Inside.{hot_at, place_in, links_at, core, car_with, kept_of, kept_with, kept_at, lists_of, seen, IsBare, IsPlaced, IsSound, IsBelow}
+use Rattle.street_yard.specs.Inside.{hot_at, place_in, links_at, Core, core, car_with, kept_of, kept_with, kept_at, lists_of, seen, IsFit, IsPlaced, link_after, IsSound, IsBelow}
 use Rattle.street_yard.proofs.Keys.{listed_within, IsApart-split, last_or-push, without-split, put_behind-split}
 use Rattle.street_yard.proofs.Threads.{IsThread-at, IsThread-split}
 use Rattle.street_yard.proofs.Stands.{IsThread-has, IsList-same, IsOn, IsOn-first, IsOn-last}
@@ -23,13 +24,13 @@ use Rattle.street_yard.proofs.Hots.{kept-read}
 pub entry_at-seen : (y : Inside) → IsSound y → (k : ℕ) → entry_at (seen y) k ≡ kept_at y.hots.items y.places.slots k
 entry_at-seen y s k = kept-read y.hots.items y.places.slots y.reached k (s.below k)
 
-list_by_car : (t : ℕ × ℕ × ℕ × Bool) (car : Option Cold) (list : Option ℕ) → IsBare list car → option_and_then (λ (e : Kept). e.list) (option_map (kept_of t list) car) ≡ list
-list_by_car t None list h = sym h
-list_by_car t (Some c) list h = refl
+list_by_car : (t : Core) (next : Option ℕ) (car : Option Cold) (list : Option ℕ) → IsFit next list car → option_and_then (λ (e : Kept). e.list) (option_map (kept_of t list) car) ≡ list
+list_by_car t next None list h = sym h
+list_by_car t next (Some c) list h = refl
 
-list_by_place : (hot : Hot) (o : Option Place) → IsPlaced o → option_and_then (λ (e : Kept). e.list) (kept_with (core hot) o) ≡ list_of (option_map (λ (p : Place). linked hot.ahead hot.behind p.list) o)
+list_by_place : (hot : Hot) (o : Option Place) → IsPlaced hot.next o → option_and_then (λ (e : Kept). e.list) (kept_with (core hot) o) ≡ list_of (option_map (λ (p : Place). linked hot.ahead hot.behind p.list) o)
 list_by_place hot None h = refl
-list_by_place hot (Some p) h = list_by_car (core hot) p.car p.list h
+list_by_place hot (Some p) h = list_by_car (core hot) hot.next p.car p.list h
 
 pub place_of-seen : (y : Inside) → IsSound y → (k : ℕ) → place_of (seen y) k ≡ list_of (links_at y.hots.items y.places.slots k)
 place_of-seen y s k = ap (option_and_then (λ (e : Kept). e.list)) (entry_at-seen y s k) ∙ list_by_place (hot_at y.hots.items k) (place_in y.places.slots k) (s.placed k)
@@ -59,7 +60,7 @@ yard-same a b c d e f p q r = λ i. record { lists = p i; kept = q i; room = r i
 
 -- a key that is named has a place, with a car
 
-filled_copy : (t : ℕ × ℕ × ℕ × Bool) (o : Option Place) → IsSome (kept_with t o) → (p : Place) × (c : Cold) × (o ≡ Some p) × (p.car ≡ Some c)
+filled_copy : (t : Core) (o : Option Place) → IsSome (kept_with t o) → (p : Place) × (c : Cold) × (o ≡ Some p) × (p.car ≡ Some c)
 filled_copy t None h = absurd (cc)
 filled_copy t (Some p) h = car_of_place p.car refl
   where
@@ -294,3 +295,9 @@ module _ (y : Inside) (v : Yard) (k : ℕ) (s : IsSound y) (is : seen y ≡ v) (
 
   pub speed-read : option_map (λ (d : Car). d.speed) (car_of v k) ≡ Some (hot_at y.hots.items k).speed
   speed-read = ap (option_map (λ (d : Car). d.speed)) car-read
+
+  pub next-is : (hot_at y.hots.items k).next ≡ link_after c
+  next-is = subst (IsFit (hot_at y.hots.items k).next p.list) has (subst (IsPlaced (hot_at y.hots.items k).next) there (s.placed k))
+
+  pub next-read : option_map (λ (d : Car). next_link (vehicle_of d)) (car_of v k) ≡ Some (hot_at y.hots.items k).next
+  next-read = ap (option_map (λ (d : Car). next_link (vehicle_of d))) car-read ∙ ap Some (sym next-is)

@@ -10,7 +10,7 @@ use Rattle.street_yard.specs.declared.hot.Hot.{Hot}
 use Rattle.street_yard.specs.declared.yard.Place.{Place}
 use Rattle.street_yard.specs.Yard.{Kept, kept_set}
 use Rattle.street_yard.specs.Thread.{Links, linked, modify, set_behind, set_ahead}
-use Rattle.street_yard.specs.Inside.{no_hot, hot_at, place_in, links_at, core, kept_at, kept_in, hots_behind, hots_ahead, hots_linked, IsBelow}
+use Rattle.street_yard.specs.Inside.{no_hot, hot_at, place_in, links_at, inner, kept_at, kept_in, hots_behind, hots_ahead, hots_linked, IsBelow}
 use Rattle.street_yard.proofs.Threads.{modify-same, modify-other}
 
 -- one place is another
@@ -94,22 +94,22 @@ module _ (hots : List Hot) (slots : List (Option Place)) where
 
 -- what a change of neighbours keeps of each car
 
-core_set : (hots : List Hot) (k : ℕ) (h : Hot) → k < length hots → core h ≡ core (hot_at hots k) → (j : ℕ) → core (hot_at (set hots k h) j) ≡ core (hot_at hots j)
+core_set : (hots : List Hot) (k : ℕ) (h : Hot) → k < length hots → inner h ≡ inner (hot_at hots k) → (j : ℕ) → inner (hot_at (set hots k h) j) ≡ inner (hot_at hots j)
 core_set hots k h within same j =
-    elim (cases_eq j k) as (λ _. core (hot_at (set hots k h) j) ≡ core (hot_at hots j)) [
-      | inl e ↦ ap (λ i. core (hot_at (set hots k h) i)) e ∙ ap core (hot-same hots k h within) ∙ same ∙ ap (λ i. core (hot_at hots i)) (sym e)
-      | inr ne ↦ ap core (hot-other hots k h j ne)
+    elim (cases_eq j k) as (λ _. inner (hot_at (set hots k h) j) ≡ inner (hot_at hots j)) [
+      | inl e ↦ ap (λ i. inner (hot_at (set hots k h) i)) e ∙ ap inner (hot-same hots k h within) ∙ same ∙ ap (λ i. inner (hot_at hots i)) (sym e)
+      | inr ne ↦ ap inner (hot-other hots k h j ne)
     ]
 
-pub core-behind : (hots : List Hot) (at to : Option ℕ) → IsBelow (length hots) at → (j : ℕ) → core (hot_at (hots_behind hots at to) j) ≡ core (hot_at hots j)
+pub core-behind : (hots : List Hot) (at to : Option ℕ) → IsBelow (length hots) at → (j : ℕ) → inner (hot_at (hots_behind hots at to) j) ≡ inner (hot_at hots j)
 core-behind hots None to b j = refl
 core-behind hots (Some a) to b j = core_set hots a (record (hot_at hots a) { behind = to }) b refl j
 
-pub core-ahead : (hots : List Hot) (at to : Option ℕ) → IsBelow (length hots) at → (j : ℕ) → core (hot_at (hots_ahead hots at to) j) ≡ core (hot_at hots j)
+pub core-ahead : (hots : List Hot) (at to : Option ℕ) → IsBelow (length hots) at → (j : ℕ) → inner (hot_at (hots_ahead hots at to) j) ≡ inner (hot_at hots j)
 core-ahead hots None to b j = refl
 core-ahead hots (Some a) to b j = core_set hots a (record (hot_at hots a) { ahead = to }) b refl j
 
-pub core-linked : (hots : List Hot) (key : ℕ) (a b : Option ℕ) → key < length hots → (j : ℕ) → core (hot_at (hots_linked hots key a b) j) ≡ core (hot_at hots j)
+pub core-linked : (hots : List Hot) (key : ℕ) (a b : Option ℕ) → key < length hots → (j : ℕ) → inner (hot_at (hots_linked hots key a b) j) ≡ inner (hot_at hots j)
 core-linked hots key a b within j = core_set hots key (record (hot_at hots key) { ahead = a; behind = b }) within refl j
 
 pub length-behind : (hots : List Hot) (at to : Option ℕ) → length (hots_behind hots at to) ≡ length hots

@@ -12,7 +12,7 @@ use Rattle.street_yard.specs.declared.yard.Place.{Place}
 use Rattle.street_yard.specs.declared.yard.Yard.TheInside.{Inside}
 use Rattle.street_yard.specs.Yard.{Yard, list_at, place_of, without, put_behind, Has, IsLoose}
 use Rattle.street_yard.specs.Thread.{Links, LinksAt, linked, list_of, no_ends, StandsFor, modify, rejoined, ends_behind, ends_ahead, next_of, behind_of}
-use Rattle.street_yard.specs.Inside.{no_hot, hot_at, place_in, links_at, core, lists_of, seen, IsSound, IsBelow, hots_behind, hots_ahead, hots_linked, next_behind_of}
+use Rattle.street_yard.specs.Inside.{no_hot, hot_at, place_in, links_at, inner, lists_of, seen, IsSound, IsBelow, hots_behind, hots_ahead, hots_linked, next_behind_of}
 use Rattle.street_yard.proofs.Threads.{IsThread-Away}
 use Rattle.street_yard.proofs.Stands.{IsThread-has, IsOn}
 use Rattle.street_yard.proofs.Moves.{on_place, on_below, keys-few}
@@ -36,11 +36,11 @@ module _ (hots h1 h2 h3 : List Hot) (slots : List (Option Place)) (key : ℕ) (o
   pub steps-length : length h3 ≡ length hots
   steps-length = ap length s3 ∙ length-set h2 key _ ∙ length_second
 
-  pub steps-core : (j : ℕ) → core (hot_at h3 j) ≡ core (hot_at hots j)
+  pub steps-core : (j : ℕ) → inner (hot_at h3 j) ≡ inner (hot_at hots j)
   steps-core j =
-      ap (λ h. core (hot_at h j)) s3 ∙ core-linked h2 key a b below_second j
-      ∙ ap (λ h. core (hot_at h j)) s2 ∙ core-ahead h1 q z below_first j
-      ∙ ap (λ h. core (hot_at h j)) s1 ∙ core-behind hots p x p_below j
+      ap (λ h. inner (hot_at h j)) s3 ∙ core-linked h2 key a b below_second j
+      ∙ ap (λ h. inner (hot_at h j)) s2 ∙ core-ahead h1 q z below_first j
+      ∙ ap (λ h. inner (hot_at h j)) s1 ∙ core-behind hots p x p_below j
 
   pub steps-links : links_at h3 (set slots key (Some new)) ≡ modify (rejoined (links_at hots slots) p q x z) key (λ _. linked a b n)
   steps-links =

@@ -3,6 +3,7 @@ use Rattle.std.specs.Prelude.{◌≡◌, ℕ, ◌<◌, ◌≤◌, Bool, false, L
 use Rattle.std.specs.Option.{option_map, option_and_then}
 use Rattle.std.specs.List.{range_with_len}
 use Rattle.street_base.specs.declared.car.Car.{Car}
+use Rattle.street_base.specs.Vehicle.{next_link}
 use Rattle.street_yard.specs.declared.hot.Hot.{Hot}
 use Rattle.street_yard.specs.declared.hot.Cold.{Cold}
 use Rattle.street_yard.specs.declared.yard.Place.{Place}
@@ -13,7 +14,7 @@ use Rattle.street_yard.specs.Thread.{LinksAt, linked, StandsFor, walk}
 use Rattle.street_yard.specs.Yard.{Yard, Kept, Has, IsApart}
 
 abbrev pub no_hot : Hot
-no_hot = record { ahead = None; behind = None; cell = 0; number = 0; speed = 0; mark = false }
+no_hot = record { ahead = None; behind = None; cell = 0; number = 0; next = None; speed = 0; mark = false }
 
 abbrev pub hot_at : List Hot → ℕ → Hot
 hot_at hots k = slice_index_or hots k no_hot
@@ -25,18 +26,25 @@ place_in slots k = slice_index_or slots k None
 abbrev pub links_at : List Hot → List (Option Place) → LinksAt
 links_at hots slots k = option_map (λ p. linked (hot_at hots k).ahead (hot_at hots k).behind p.list) (place_in slots k)
 
--- what the hot part keeps of a car, with its mark
-abbrev pub core : Hot → ℕ × ℕ × ℕ × Bool
+-- what the hot part alone keeps of a car, with its mark
+abbrev pub Core : Type 0
+Core = ℕ × ℕ × ℕ × Bool
+
+abbrev pub core : Hot → Core
 core h = (h.cell, h.number, h.speed, h.mark)
 
+-- and all that it keeps but the neighbours
+abbrev pub inner : Hot → Core × Option ℕ
+inner h = (core h, h.next)
+
 -- the car of both parts
-abbrev pub car_with : ℕ × ℕ × ℕ × Bool → Cold → Car
+abbrev pub car_with : Core → Cold → Car
 car_with t c = record { plan = c.plan; number = t.1; cell = t.0; step = c.step; at = c.at; speed = t.2 }
 
-abbrev pub kept_of : ℕ × ℕ × ℕ × Bool → Option ℕ → Cold → Kept
+abbrev pub kept_of : Core → Option ℕ → Cold → Kept
 kept_of t list c = record { car = car_with t c; mark = t.3; list = list }
 
-abbrev pub kept_with : ℕ × ℕ × ℕ × Bool → Option Place → Option Kept
+abbrev pub kept_with : Core → Option Place → Option Kept
 kept_with t = option_and_then (λ p. option_map (kept_of t p.list) p.car)
 
 abbrev pub kept_at : List Hot → List (Option Place) → ℕ → Option Kept
@@ -55,23 +63,27 @@ seen y = record {
   room = length y.spare.items;
 }
 
--- without a car there is no list
-abbrev pub IsBare : Option ℕ → Option Cold → Type 0
-IsBare list None = list ≡ None
-IsBare list (Some c) = Unit {0}
+-- the link after the present one
+abbrev pub link_after : Cold → Option ℕ
+link_after c = next_link (record { number = 0; speed = 0; plan = c.plan.value; position = c.at })
 
-abbrev pub IsPlaced : Option Place → Type 0
-IsPlaced None = Unit {0}
-IsPlaced (Some p) = IsBare p.list p.car
+-- the next link is that of the plan; without a car there is no list
+abbrev pub IsFit : Option ℕ → Option ℕ → Option Cold → Type 0
+IsFit next list None = list ≡ None
+IsFit next list (Some c) = next ≡ link_after c
+
+abbrev pub IsPlaced : Option ℕ → Option Place → Type 0
+IsPlaced next None = Unit {0}
+IsPlaced next (Some p) = IsFit next p.list p.car
 
 abbrev pub vacant : Place
 vacant = record { car = None; list = None }
 
--- the links stand for lists, a place without a car is on none, and the spare places are without a car
+-- the links stand for lists, what is beside a place fits it, and the spare places are without a car
 pub record IsLaidOut (hots : List Hot) (slots : List (Option Place)) (spare : List ℕ) (reached capacity : ℕ) (ends : List Ends) : Type 0 where
   pub stands : StandsFor (links_at hots slots) ends (lists_of hots slots ends)
   pub within : (k : ℕ) → IsSome (place_in slots k) → k < length hots
-  pub placed : (k : ℕ) → IsPlaced (place_in slots k)
+  pub placed : (k : ℕ) → IsPlaced (hot_at hots k).next (place_in slots k)
   pub below : (k : ℕ) → IsSome (kept_at hots slots k) → k < reached
   pub few : length hots ≤ nobody
   pub few_lists : length ends ≤ nobody

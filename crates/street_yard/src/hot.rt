@@ -4,7 +4,7 @@ ghost use Rattle.std.specs.Prelude.{◌≡◌, ◌<◌, None, MatchOption};
 
 use crate::names::Key;
 use std::marker::Model;
-use street_base::{CarNo, CellNo, Plan, Speed, Step};
+use street_base::{CarNo, CellNo, LinkIx, Plan, Speed, Step};
 
 /// The number that names nobody; keys lie below it.
 pub(crate) const NOBODY: u32 = u32::MAX;
@@ -61,13 +61,15 @@ impl Neighbour {
     }
 }
 
-/// The part of a car that walks read, 20 bytes: its neighbours on its list, its cell, number and speed, and its mark.
+/// The part of a car that walks read, 24 bytes: its neighbours on its list, its cell, number and speed, its mark, and the
+/// link after the present one, read from its plan.
 #[derive(Clone, Copy)]
 pub(crate) struct Hot {
     pub(crate) ahead: Neighbour,
     pub(crate) behind: Neighbour,
     pub(crate) cell: CellNo,
     pub(crate) number: CarNo,
+    pub(crate) next: Option<LinkIx>,
     pub(crate) speed: Speed,
     pub(crate) mark: bool,
 }
@@ -78,4 +80,15 @@ pub(crate) struct Cold {
     pub(crate) plan: Box<Plan>,
     pub(crate) step: Step,
     pub(crate) at: u16,
+}
+
+impl Cold {
+    ghost use Rattle.street_yard.specs.Inside.{link_after};
+
+    /// The link after the present one.
+    pub(crate) fn next_link(&self) -> Option<LinkIx>
+        ensures { result ≡ link_after self.now }
+    {
+        self.plan.as_slice().get(usize::from(self.at) + 1).copied()
+    }
 }

@@ -9,7 +9,7 @@ use crate::view::CarView;
 use slab::Slab;
 use std::alloc::Global;
 use std::marker::Model;
-use street_base::{Car, CarNo, CellNo, Speed, Starved, Step};
+use street_base::{Car, CarNo, CellNo, LinkIx, Speed, Starved, Step};
 
 /// A place of the arena: the rest of a car and the list that it is on, or nothing.
 #[derive(Drop)]
@@ -19,7 +19,8 @@ pub(crate) struct Place {
 }
 
 impl Place {
-    ghost use Rattle.street_yard.specs.Inside.{with_cold};
+    ghost use Rattle.std.specs.Option.{option_and_then};
+    ghost use Rattle.street_yard.specs.Inside.{with_cold, link_after};
 
     fn set_step(&mut self, step: Step)
         ensures { self.new ≡ with_cold (λ c. record c { step = step }) self.old }
@@ -29,11 +30,16 @@ impl Place {
         }
     }
 
-    fn set_at(&mut self, at: u16)
-        ensures { self.new ≡ with_cold (λ c. record c { at = at }) self.old }
+    // Writes the position, and tells the link after it.
+    fn set_at(&mut self, at: u16) -> Option<LinkIx>
+        ensures after { self.new ≡ with_cold (λ c. record c { at = at }) self.old }
+        ensures next { result ≡ option_and_then link_after self.new.car }
     {
         if let Some(car) = &mut self.car {
             car.at = at;
+            car.next_link()
+        } else {
+            None
         }
     }
 }
@@ -76,6 +82,7 @@ impl Model for Yard {
 impl Yard {
     ghost use Rattle.street_yard.specs.Yard.{list_at, entry_at, car_of, mark_of, place_of, without, put_behind, place_set, car_set, mark_set, IsLoose, IsOnList, IsAhead, IsBehind, IsWhole, Updates, first_or, last_or, Has};
     ghost use Rattle.street_yard.specs.View.{viewed};
+    ghost use Rattle.street_base.specs.Vehicle.{vehicle_of, next_link};
 
     /// So many lists without keys.
     pub fn new(alloc: Global, lists: usize) -> Result<Yard, Starved>
@@ -144,6 +151,7 @@ impl Yard {
             behind: Neighbour::nobody(),
             cell: 0,
             number: 0,
+            next: None,
             speed: 0,
             mark: false,
         });
@@ -161,20 +169,22 @@ impl Yard {
     {
         let key = self.spare.pop().unwrap();
         let index = key as usize;
+        let cold = Cold {
+            plan: car.plan,
+            step: car.step,
+            at: car.at,
+        };
         self.hots[index] = Hot {
             ahead: Neighbour::nobody(),
             behind: Neighbour::nobody(),
             cell: car.cell,
             number: car.number,
+            next: cold.next_link(),
             speed: car.speed,
             mark: false,
         };
         let place = &mut self.places[index];
-        place.car = Some(Cold {
-            plan: car.plan,
-            step: car.step,
-            at: car.at,
-        });
+        place.car = Some(cold);
         if self.reached <= index {
             self.reached = index + 1;
         }
@@ -334,6 +344,14 @@ impl Yard {
         self.hots[key.0 as usize].cell
     }
 
+    /// The link after the present one of a car's plan, read without its plan.
+    pub fn next_link(&self, key: Key) -> Option<LinkIx>
+        requires { IsSome (entry_at self.now key.0) }
+        ensures { option_map (λ c. next_link (vehicle_of c)) (car_of self.now key.0) ≡ Some result }
+    {
+        self.hots[key.0 as usize].next
+    }
+
     /// The speed of a car, read without the rest of it.
     pub fn speed(&self, key: Key) -> Speed
         requires { IsSome (entry_at self.now key.0) }
@@ -393,7 +411,9 @@ impl Yard {
         ensures { self.new ≡ record self.old { kept = car_set self.old.kept key.0 (λ c. record c { at = at }) } }
     {
         let place = &mut self.places[key.0 as usize];
-        place.set_at(at);
+        let next = place.set_at(at);
+        let hot = &mut self.hots[key.0 as usize];
+        hot.next = next;
     }
 
     /// Sets the mark of a key, or clears it.

@@ -5,7 +5,7 @@ use crate::road::{Road, RoadLane};
 use std::alloc::Global;
 use std::process::Abort;
 use std::test::Fail;
-use street_base::{Car, LinkSpec, Listing, NetSpec, NodeSpec, Plan, TurnSpec};
+use street_base::{LinkSpec, Listing, NetSpec, NodeSpec, TurnSpec};
 use street_net::Network;
 use street_yard::ListId;
 
@@ -110,19 +110,6 @@ fn ring(alloc: Global) -> Result<Network, Fail> {
     }
 }
 
-/// A vehicle on its way twice round the ring, at a position of its plan.
-fn on_the_ring(alloc: Global, at: u16) -> Result<Car, Fail> {
-    let plan = Plan::from_vec(Vec::from_slice(alloc, &[LinkIx::new(0), LinkIx::new(0)])?);
-    Ok(Car {
-        plan: Box::new(alloc, plan)?,
-        number: 0,
-        cell: 0,
-        step: 0,
-        at,
-        speed: 2,
-    })
-}
-
 /// The lane, the gap, the cell and the speed of a driver on the last link of their plan or on another, whether they wish to
 /// change, and why.
 static WISHES: [(LaneNo, CellNo, CellNo, Speed, bool, bool, &str); 6] = [
@@ -135,14 +122,7 @@ static WISHES: [(LaneNo, CellNo, CellNo, Speed, bool, bool, &str); 6] = [
 ];
 
 /// Asks drivers on their first and on their last link.
-fn check_wishes<'a>(
-    rt: &impl Abort,
-    network: &'a Network,
-    open: &'a Closures,
-    yard: &Yard,
-    first: Key,
-    last: Key,
-) {
+fn check_wishes<'a>(rt: &impl Abort, network: &'a Network, open: &'a Closures) {
     assert_eq!(rt; network.spec().links.as_slice().len(), 1);
     let lane = RoadLane {
         list: ListId(0),
@@ -152,31 +132,19 @@ fn check_wishes<'a>(
     assert_eq!(rt; (road.length(), road.limit(), road.lanes()), (20, 5, 1));
     for (lane, gap, cell, speed, is_last, want, why) in &WISHES {
         assert!(rt; *lane <= 1);
-        let key = if *is_last { last } else { first };
-        is_named(rt, yard, key);
+        let next = if *is_last { None } else { Some(LinkIx::new(0)) };
         assert_eq!(rt;
-            wishes(yard, key, &road, *lane, *gap, *cell, *speed),
+            wishes(&road, *lane, *gap, *cell, *speed, next),
             *want,
             "{why}"
         );
     }
 }
 
-// The key has a car: it is loose.
-fn is_named(rt: &impl Abort, yard: &Yard, key: Key)
-    ensures { IsSome (entry_at yard.now key.0) }
-{
-    assert!(rt; yard.is_loose(key));
-}
-
 #[test]
 fn drivers_wish_by_gap_and_zone(rt: HostRuntime) -> Result<(), Fail> {
-    let mut yard = Yard::new(rt.alloc(), 1)?;
-    yard.reserve(2)?;
-    let first = yard.admit_reserved(on_the_ring(rt.alloc(), 0)?);
-    let last = yard.admit_reserved(on_the_ring(rt.alloc(), 1)?);
     let network = ring(rt.alloc())?;
     let open = Closures::new(rt.alloc());
-    check_wishes(&rt, &network, &open, &yard, first, last);
+    check_wishes(&rt, &network, &open);
     Ok(())
 }

@@ -1,4 +1,4 @@
-use Rattle.std.proofs.Common.{false, ◌≡◌, ◌≢◌, ℕ, ◌+◌, ◌<◌, ◌≤◌, ◌∷◌, ◌++◌, [], length, Some, sym, ap, ◌∙◌, arith}
+use Rattle.std.proofs.Common.{false, ◌≡◌, ◌≢◌, ℕ, ◌+◌, ◌<◌, ◌≤◌, ◌∷◌, ◌++◌, [], length, Some, None, sym, ap, ◌∙◌, arith}
 use Rattle.std.specs.Prelude.{vec_capacity}
 use Rattle.slab.specs.Slab.{Slab}
 use Rattle.street_yard.specs.declared.yard.Place.{Place}
@@ -24,8 +24,8 @@ here c = ap (place_in c.insert_reserved.new.self.slots) (sym (same_key c)) ∙ c
 others : (c : goal.After-push_reserved-2) (j : ℕ) → j ≢ c.len-index.result → place_in c.insert_reserved.new.self.slots j ≡ place_in c.self.inside.places.slots j
 others c j ne = c.insert_reserved.ensures.updates.others j (λ e. ne (e ∙ same_key c)) ∙ ap (λ (p : Slab Place). place_in p.slots j) c.reserve.ensures.rest_kept
 
-more : (c : goal.After-push_reserved-2) → c.push_reserved.new.self.items ≡ c.self.inside.hots.items ++ record { ahead = c.nobody.result; behind = c.nobody-2.result; cell = 0; number = 0; speed = 0; mark = false } ∷ []
-more c = c.push_reserved.ensures.items ∙ ap (λ l. l ++ record { ahead = c.nobody.result; behind = c.nobody-2.result; cell = 0; number = 0; speed = 0; mark = false } ∷ []) c.reserve-2.ensures.items
+more : (c : goal.After-push_reserved-2) → c.push_reserved.new.self.items ≡ c.self.inside.hots.items ++ record { ahead = c.nobody.result; behind = c.nobody-2.result; cell = 0; number = 0; next = None; speed = 0; mark = false } ∷ []
+more c = c.push_reserved.ensures.items ∙ ap (λ l. l ++ record { ahead = c.nobody.result; behind = c.nobody-2.result; cell = 0; number = 0; next = None; speed = 0; mark = false } ∷ []) c.reserve-2.ensures.items
 
 spare : (c : goal.After-push_reserved-2) → c.push_reserved-2.new.self.items ≡ c.self.inside.spare.items ++ c.len-index.result ∷ []
 spare c = c.push_reserved-2.ensures.items ∙ ap (λ l. l ++ c.len-index.result ∷ []) c.reserve-3.ensures.items

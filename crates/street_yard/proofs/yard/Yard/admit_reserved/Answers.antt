@@ -23,25 +23,25 @@ pub index_mut-place-requires : goal.index_mut-place-requires
 index_mut-place-requires c = subst IsSome (sym (spare_place c.self.inside c.args.self.now c.unwrap-key.result c.self.invariant c.self.view_is c.pop.new.self.items (popped_is _ _ _ _ c.pop.ensures.items c.unwrap-key.ensures))) refl
 
 pub invariant_of-self : goal.invariant_of-self
-invariant_of-self c = admitted-sound c.self.inside c.args.self.now c.unwrap-key.result c.self.invariant c.self.view_is c.pop.new.self.items (popped_is _ _ _ _ c.pop.ensures.items c.unwrap-key.ensures) c.args.car c.nobody.result c.nobody-2.result _ (new_of c.args.car c.index_mut-place.result.now _ c.index_mut-place.ensures.value (spare_place c.self.inside c.args.self.now c.unwrap-key.result c.self.invariant c.self.view_is c.pop.new.self.items (popped_is _ _ _ _ c.pop.ensures.items c.unwrap-key.ensures))) (c.unwrap-key.result + 1) (omega arith) (omega arith) (vec_capacity c.pop.new.self) (let a = c.self.invariant.holds_all in omega (arith, c.pop.ensures.capacity))
+invariant_of-self c = admitted-sound c.self.inside c.args.self.now c.unwrap-key.result c.self.invariant c.self.view_is c.pop.new.self.items (popped_is _ _ _ _ c.pop.ensures.items c.unwrap-key.ensures) c.args.car c.nobody.result c.nobody-2.result c.next_link.result c.next_link.ensures _ (new_of c.args.car c.index_mut-place.result.now _ c.index_mut-place.ensures.value (spare_place c.self.inside c.args.self.now c.unwrap-key.result c.self.invariant c.self.view_is c.pop.new.self.items (popped_is _ _ _ _ c.pop.ensures.items c.unwrap-key.ensures))) (c.unwrap-key.result + 1) (omega arith) (omega arith) (vec_capacity c.pop.new.self) (let a = c.self.invariant.holds_all in omega (arith, c.pop.ensures.capacity))
 
 pub invariant_of-self-else-self-index : goal.invariant_of-self-else-self-index
-invariant_of-self-else-self-index c = admitted-sound c.self.inside c.args.self.now c.unwrap-key.result c.self.invariant c.self.view_is c.pop.new.self.items (popped_is _ _ _ _ c.pop.ensures.items c.unwrap-key.ensures) c.args.car c.nobody.result c.nobody-2.result _ (new_of c.args.car c.index_mut-place.result.now _ c.index_mut-place.ensures.value (spare_place c.self.inside c.args.self.now c.unwrap-key.result c.self.invariant c.self.view_is c.pop.new.self.items (popped_is _ _ _ _ c.pop.ensures.items c.unwrap-key.ensures))) c.self.inside.reached (omega arith) (omega arith) (vec_capacity c.pop.new.self) (let a = c.self.invariant.holds_all in omega (arith, c.pop.ensures.capacity))
+invariant_of-self-else-self-index c = admitted-sound c.self.inside c.args.self.now c.unwrap-key.result c.self.invariant c.self.view_is c.pop.new.self.items (popped_is _ _ _ _ c.pop.ensures.items c.unwrap-key.ensures) c.args.car c.nobody.result c.nobody-2.result c.next_link.result c.next_link.ensures _ (new_of c.args.car c.index_mut-place.result.now _ c.index_mut-place.ensures.value (spare_place c.self.inside c.args.self.now c.unwrap-key.result c.self.invariant c.self.view_is c.pop.new.self.items (popped_is _ _ _ _ c.pop.ensures.items c.unwrap-key.ensures))) c.self.inside.reached (omega arith) (omega arith) (vec_capacity c.pop.new.self) (let a = c.self.invariant.holds_all in omega (arith, c.pop.ensures.capacity))
 
 pub returns-then-self-index-clause-was_vacant : goal.returns-then-self-index-clause-was_vacant
 returns-then-self-index-clause-was_vacant c = was_nobody c.self.inside c.args.self.now c.unwrap-key.result c.self.invariant c.self.view_is c.pop.new.self.items (popped_is _ _ _ _ c.pop.ensures.items c.unwrap-key.ensures)
 
 pub returns-then-self-index-clause-updates : goal.returns-then-self-index-clause-updates
-returns-then-self-index-clause-updates c = admitted-updates c.self.inside c.args.self.now c.unwrap-key.result c.self.invariant c.self.view_is c.pop.new.self.items (popped_is _ _ _ _ c.pop.ensures.items c.unwrap-key.ensures) c.args.car c.nobody.result c.nobody-2.result _ (new_of c.args.car c.index_mut-place.result.now _ c.index_mut-place.ensures.value (spare_place c.self.inside c.args.self.now c.unwrap-key.result c.self.invariant c.self.view_is c.pop.new.self.items (popped_is _ _ _ _ c.pop.ensures.items c.unwrap-key.ensures))) (c.unwrap-key.result + 1) (omega arith) (omega arith) (vec_capacity c.pop.new.self) (let a = c.self.invariant.holds_all in omega (arith, c.pop.ensures.capacity)) _
+returns-then-self-index-clause-updates c = admitted-updates c.self.inside c.args.self.now c.unwrap-key.result c.self.invariant c.self.view_is c.pop.new.self.items (popped_is _ _ _ _ c.pop.ensures.items c.unwrap-key.ensures) c.args.car c.nobody.result c.nobody-2.result c.next_link.result c.next_link.ensures _ (new_of c.args.car c.index_mut-place.result.now _ c.index_mut-place.ensures.value (spare_place c.self.inside c.args.self.now c.unwrap-key.result c.self.invariant c.self.view_is c.pop.new.self.items (popped_is _ _ _ _ c.pop.ensures.items c.unwrap-key.ensures))) (c.unwrap-key.result + 1) (omega arith) (omega arith) (vec_capacity c.pop.new.self) (let a = c.self.invariant.holds_all in omega (arith, c.pop.ensures.capacity)) _
 
 pub returns-then-self-index-clause-lists : goal.returns-then-self-index-clause-lists
-returns-then-self-index-clause-lists c = admitted-lists c.self.inside c.args.self.now c.unwrap-key.result c.self.invariant c.self.view_is c.pop.new.self.items (popped_is _ _ _ _ c.pop.ensures.items c.unwrap-key.ensures) c.args.car c.nobody.result c.nobody-2.result _ (new_of c.args.car c.index_mut-place.result.now _ c.index_mut-place.ensures.value (spare_place c.self.inside c.args.self.now c.unwrap-key.result c.self.invariant c.self.view_is c.pop.new.self.items (popped_is _ _ _ _ c.pop.ensures.items c.unwrap-key.ensures))) (c.unwrap-key.result + 1) (omega arith) (omega arith) (vec_capacity c.pop.new.self) (let a = c.self.invariant.holds_all in omega (arith, c.pop.ensures.capacity))
+returns-then-self-index-clause-lists c = admitted-lists c.self.inside c.args.self.now c.unwrap-key.result c.self.invariant c.self.view_is c.pop.new.self.items (popped_is _ _ _ _ c.pop.ensures.items c.unwrap-key.ensures) c.args.car c.nobody.result c.nobody-2.result c.next_link.result c.next_link.ensures _ (new_of c.args.car c.index_mut-place.result.now _ c.index_mut-place.ensures.value (spare_place c.self.inside c.args.self.now c.unwrap-key.result c.self.invariant c.self.view_is c.pop.new.self.items (popped_is _ _ _ _ c.pop.ensures.items c.unwrap-key.ensures))) (c.unwrap-key.result + 1) (omega arith) (omega arith) (vec_capacity c.pop.new.self) (let a = c.self.invariant.holds_all in omega (arith, c.pop.ensures.capacity))
 
 pub returns-else-self-index-clause-was_vacant : goal.returns-else-self-index-clause-was_vacant
 returns-else-self-index-clause-was_vacant c = was_nobody c.self.inside c.args.self.now c.unwrap-key.result c.self.invariant c.self.view_is c.pop.new.self.items (popped_is _ _ _ _ c.pop.ensures.items c.unwrap-key.ensures)
 
 pub returns-else-self-index-clause-updates : goal.returns-else-self-index-clause-updates
-returns-else-self-index-clause-updates c = admitted-updates c.self.inside c.args.self.now c.unwrap-key.result c.self.invariant c.self.view_is c.pop.new.self.items (popped_is _ _ _ _ c.pop.ensures.items c.unwrap-key.ensures) c.args.car c.nobody.result c.nobody-2.result _ (new_of c.args.car c.index_mut-place.result.now _ c.index_mut-place.ensures.value (spare_place c.self.inside c.args.self.now c.unwrap-key.result c.self.invariant c.self.view_is c.pop.new.self.items (popped_is _ _ _ _ c.pop.ensures.items c.unwrap-key.ensures))) c.self.inside.reached (omega arith) (omega arith) (vec_capacity c.pop.new.self) (let a = c.self.invariant.holds_all in omega (arith, c.pop.ensures.capacity)) _
+returns-else-self-index-clause-updates c = admitted-updates c.self.inside c.args.self.now c.unwrap-key.result c.self.invariant c.self.view_is c.pop.new.self.items (popped_is _ _ _ _ c.pop.ensures.items c.unwrap-key.ensures) c.args.car c.nobody.result c.nobody-2.result c.next_link.result c.next_link.ensures _ (new_of c.args.car c.index_mut-place.result.now _ c.index_mut-place.ensures.value (spare_place c.self.inside c.args.self.now c.unwrap-key.result c.self.invariant c.self.view_is c.pop.new.self.items (popped_is _ _ _ _ c.pop.ensures.items c.unwrap-key.ensures))) c.self.inside.reached (omega arith) (omega arith) (vec_capacity c.pop.new.self) (let a = c.self.invariant.holds_all in omega (arith, c.pop.ensures.capacity)) _
 
 pub returns-else-self-index-clause-lists : goal.returns-else-self-index-clause-lists
-returns-else-self-index-clause-lists c = admitted-lists c.self.inside c.args.self.now c.unwrap-key.result c.self.invariant c.self.view_is c.pop.new.self.items (popped_is _ _ _ _ c.pop.ensures.items c.unwrap-key.ensures) c.args.car c.nobody.result c.nobody-2.result _ (new_of c.args.car c.index_mut-place.result.now _ c.index_mut-place.ensures.value (spare_place c.self.inside c.args.self.now c.unwrap-key.result c.self.invariant c.self.view_is c.pop.new.self.items (popped_is _ _ _ _ c.pop.ensures.items c.unwrap-key.ensures))) c.self.inside.reached (omega arith) (omega arith) (vec_capacity c.pop.new.self) (let a = c.self.invariant.holds_all in omega (arith, c.pop.ensures.capacity))
+returns-else-self-index-clause-lists c = admitted-lists c.self.inside c.args.self.now c.unwrap-key.result c.self.invariant c.self.view_is c.pop.new.self.items (popped_is _ _ _ _ c.pop.ensures.items c.unwrap-key.ensures) c.args.car c.nobody.result c.nobody-2.result c.next_link.result c.next_link.ensures _ (new_of c.args.car c.index_mut-place.result.now _ c.index_mut-place.ensures.value (spare_place c.self.inside c.args.self.now c.unwrap-key.result c.self.invariant c.self.view_is c.pop.new.self.items (popped_is _ _ _ _ c.pop.ensures.items c.unwrap-key.ensures))) c.self.inside.reached (omega arith) (omega arith) (vec_capacity c.pop.new.self) (let a = c.self.invariant.holds_all in omega (arith, c.pop.ensures.capacity))
