@@ -29,6 +29,7 @@ pub record IsKept (key : List ℕ) (dawdle change : ℕ) (kept : KeptDraws) : Ty
   pub changes : kept.changes ≡ bits_of (lane_in key change kept.number kept.block) 32
 
 -- all that is kept is right, whatever its place
-pub record IsSound (key : List ℕ) (seed dawdle change : ℕ) (kept : List KeptDraws) : Type 0 where
+pub record IsSound (key : List ℕ) (seed dawdle change : ℕ) (kept aside : List KeptDraws) : Type 0 where
   pub of_seed : key ≡ key_of_seed seed
   pub each : All (IsKept key dawdle change) kept
+  pub set_aside : All (IsKept key dawdle change) aside

@@ -1,6 +1,6 @@
 //! The dice of a network, with what was drawn lately kept.
 
-ghost use Rattle.std.specs.Prelude.{◌≡◌, ℕ, ◌+◌, ◌-◌, ◌*◌, ◌/◌, ◌%◌, ◌^◌, ◌<◌, ◌==◌, ◌++◌, nat_lt, replicate, IfOk, if◌then◌else◌};
+ghost use Rattle.std.specs.Prelude.{◌≡◌, ℕ, ◌+◌, ◌-◌, ◌*◌, ◌/◌, ◌%◌, ◌^◌, ◌<◌, ◌==◌, ◌++◌, nat_lt, replicate, IfOk, IsTrue, ◌↔◌, if◌then◌else◌};
 ghost use Rattle.street_base.specs.Draw.{key_of_seed, lane_draw, dawdle_draw};
 ghost use Rattle.street_draw.specs.Odds.{Odds};
 ghost use Rattle.street_draw.specs.Kept.{IsKept};
@@ -32,7 +32,12 @@ pub struct Dice {
     dawdle: u16,
     change: u16,
     kept: Vec<KeptDraws>,
+    // Draws of vehicles that lost their place, by the number modulo the length.
+    aside: Vec<KeptDraws>,
 }
+
+/// How many vehicles' draws are put aside at most.
+const MOST_ASIDE: usize = 8_192;
 
 impl Model for Dice {
     ghost use Rattle.street_draw.specs.Odds.{Odds};
@@ -42,7 +47,7 @@ impl Model for Dice {
 
     ghost view = { λ d. record { seed = d.seed; dawdle = d.dawdle; change = d.change } };
 
-    ghost invariant = { λ d. IsSound d.rng.key d.seed d.dawdle d.change d.kept.items };
+    ghost invariant = { λ d. IsSound d.rng.key d.seed d.dawdle d.change d.kept.items d.aside.items };
 }
 
 /// Whether the draw of a word is below the odds.
@@ -66,6 +71,13 @@ fn with_bit(bits: u32, answer: bool) -> u32
     ensures { result ≡ bits * 2 + (if answer then 1 else 0) }
 {
     if answer { bits * 2 + 1 } else { bits * 2 }
+}
+
+/// Whether these are the draws of a vehicle in a block.
+fn is_for(kept: KeptDraws, number: CarNo, block: u32) -> bool
+    ensures { IsTrue result ↔ (kept.number ≡ number) × (kept.block ≡ block) }
+{
+    kept.number == number && kept.block == block
 }
 
 /// Draws for a vehicle in a block of 32 steps: 64 words, asked from a multiple of 64 on, are one call of the cipher.
@@ -122,12 +134,14 @@ impl Dice {
         let mut rng = generator(seed);
         let first = drawn(&mut rng, 0, 0, dawdle, change);
         let kept = vec![in alloc; first; places]?;
+        let aside = vec![in alloc; first; places.min(MOST_ASIDE)]?;
         Ok(Dice {
             rng,
             seed,
             dawdle,
             change,
             kept,
+            aside,
         })
     }
 
@@ -143,7 +157,37 @@ impl Dice {
             return Ok(());
         }
         let first = drawn(&mut self.rng, 0, 0, self.dawdle, self.change);
+        grow(&mut self.aside, first, places.min(MOST_ASIDE))?;
         grow(&mut self.kept, first, places)
+    }
+
+    /// The draws kept at a place are put aside: where their vehicle is asked for at another place, they are found again,
+    /// unless others were put over them. Takes no memory.
+    pub fn put_aside(&mut self, at: usize)
+        ensures { self.new ≡ self.old }
+    {
+        let count = self.aside.len();
+        if at < self.kept.len() && count > 0 {
+            let kept = self.kept[at];
+            self.aside[kept.number as usize % count] = kept;
+        }
+    }
+
+    /// The draws of a vehicle in a block: those that were put aside, or else drawn now.
+    fn aside_or_drawn(&mut self, number: CarNo, block: u32) -> KeptDraws
+        ensures kept { IsKept (key_of_seed self.old.seed) self.old.dawdle self.old.change result }
+        ensures number { result.number ≡ number }
+        ensures block { result.block ≡ block }
+        ensures same { self.new ≡ self.old }
+    {
+        let count = self.aside.len();
+        if count > 0 {
+            let kept = self.aside[number as usize % count];
+            if is_for(kept, number, block) {
+                return kept;
+            }
+        }
+        drawn(&mut self.rng, number, block, self.dawdle, self.change)
     }
 
     /// The draws of a vehicle in the step's block, kept from now on at a place that the caller names.
@@ -156,11 +200,11 @@ impl Dice {
         let block = step / 32;
         if at < self.kept.len() {
             let kept = self.kept[at];
-            if kept.number == number && kept.block == block {
+            if is_for(kept, number, block) {
                 return kept;
             }
         }
-        let kept = drawn(&mut self.rng, number, block, self.dawdle, self.change);
+        let kept = self.aside_or_drawn(number, block);
         if at < self.kept.len() {
             self.kept[at] = kept;
         }
