@@ -5,17 +5,15 @@ ghost use Rattle.std.specs.Option.{option_copied};
 ghost use Rattle.street_base.specs.declared.car.Car.{Car as CarOf};
 ghost use Rattle.street_base.specs.Limits.{most_residence};
 ghost use Rattle.street_base.specs.Network.{end_node};
-ghost use Rattle.street_base.specs.Vehicle.{vehicle_of, next_link};
 ghost use Rattle.street_change.specs.Sight.{odds_of};
 ghost use Rattle.street_gap.specs.Closed.{IsWithin};
 ghost use Rattle.street_net.specs.Tables.{place_of};
 ghost use Rattle.street_rule.specs.Watching.{IsReady};
 ghost use Rattle.street_yard.specs.Yard.{list_at, entry_at, car_of, IsLoose};
 ghost use Rattle.street_yard.specs.Listed.{IsLane};
-ghost use Rattle.street_yard.specs.View.{viewed};
 ghost use Rattle.street_lanes.specs.Lanes.{lane_of, IsOf};
 ghost use Rattle.street_lanes.specs.Lists.{cells_list, buffer_list};
-ghost use Rattle.street_lanes.specs.Driving.{is_open_to, cells_on, IsToldExit, Settles, MovesLane, DrivesAt};
+ghost use Rattle.street_lanes.specs.Driving.{opens_to, cells_on, IsToldExit, Settles, MovesLane, DrivesAt};
 
 use crate::lanes::Lanes;
 use crate::lists::{buffer_list, cells_list};
@@ -24,7 +22,7 @@ use street_gap::Closures;
 use street_net::{LaneId, Network};
 use street_node::SignalPlan;
 use street_rule::{Dice, Road, RoadLane, Watch, motion_pass};
-use street_yard::{CarView, Key, ListId, Yard};
+use street_yard::{Key, ListId, Yard};
 
 /// A lane of a tile in a step.
 #[derive(Clone, Copy)]
@@ -40,13 +38,6 @@ pub(crate) struct Leg<'a> {
     pub(crate) clock: Step,
 }
 
-/// The link after the present one.
-fn next_link(car: &CarView<'_>) -> Option<LinkIx>
-    ensures { result ≡ next_link (vehicle_of (viewed car.now)) }
-{
-    car.plan.as_slice().get(usize::from(car.at) + 1).copied()
-}
-
 /// The node that a link runs to.
 fn end_node(net: &Network, link: LinkIx) -> NodeSpec
     requires { link < length net.now.links }
@@ -57,13 +48,13 @@ fn end_node(net: &Network, link: LinkIx) -> NodeSpec
     net.spec().nodes.as_slice()[net.end_of(link).position()]
 }
 
-/// Whether a lane's exit is open to its front vehicle: on its last link, or with a turn that is green and room in the
-/// buffer of the lane, in which there are so many.
-fn exit_is_open(leg: &Leg<'_>, end: NodeSpec, buffered: usize, car: &CarView<'_>) -> bool
+/// Whether a lane's exit is open to its front vehicle, which goes on to this link: on its last link, or with a turn that is
+/// green and room in the buffer of the lane, in which there are so many.
+fn exit_is_open(leg: &Leg<'_>, end: NodeSpec, buffered: usize, next: Option<LinkIx>) -> bool
     requires { end_node leg.now.net.now leg.now.at.link ≡ Some end }
-    ensures { result ≡ is_open_to leg.now.net.now (option_copied leg.now.plan) leg.now.clock (place_of leg.now.at) buffered (vehicle_of (viewed car.now)) }
+    ensures { result ≡ opens_to leg.now.net.now (option_copied leg.now.plan) leg.now.clock (place_of leg.now.at) buffered next }
 {
-    let Some(next) = next_link(car) else {
+    let Some(next) = next else {
         return true;
     };
     if buffered as u64 >= end.capacity {
@@ -102,7 +93,7 @@ fn exit_for(
     if reach < road.length() {
         return true;
     }
-    exit_is_open(leg, end, yard.list_len(buffer), &yard.car(front))
+    exit_is_open(leg, end, yard.list_len(buffer), yard.next_link(front))
 }
 
 /// A car that has left its lane arrives, if it is on its last link: it is taken out and its number answered. Else it comes
@@ -113,7 +104,7 @@ fn settle(yard: &mut Yard, buffer: ListId, key: Key, ready: Step) -> Option<CarN
     ensures { (car : CarOf) → car_of yard.old key.0 ≡ Some car → Settles buffer.0 ready car yard.old yard.new result }
 {
     yard.whole();
-    if next_link(&yard.car(key)).is_none() {
+    if yard.next_link(key).is_none() {
         let car = yard.take(key);
         return Some(car.number);
     }

@@ -188,7 +188,7 @@ impl Lanes {
         ensures short { IfSome result HasShortPlan }
         ensures room { self.new.room ≡ self.old.room + length (option_to_list result) }
     {
-        lists::let_go(&mut self.yard, buffer_list(lane))
+        lists::let_go(&mut self.yard, &mut self.dice, buffer_list(lane))
     }
 
     /// A car enters cell 0 of a lane, which is free.

@@ -4,6 +4,7 @@ ghost use Rattle.street_yard.specs.View.{viewed};
 ghost use Rattle.street_lanes.specs.Lists.{cells_list, buffer_list, waiting_list, cars_on, LetsGo};
 
 use street_base::Car;
+use street_draw::Dice;
 use street_yard::{CarView, ListId, Yard};
 
 /// The list of those who stand in a lane's cells, the greatest cell first.
@@ -39,12 +40,14 @@ pub(crate) fn first_car(yard: &Yard, list: ListId) -> Option<CarView<'_>>
     Some(yard.car(key))
 }
 
-/// Takes the first car of a list out.
-pub(crate) fn let_go(yard: &mut Yard, list: ListId) -> Option<Car>
+/// Takes the first car of a list out, and puts its draws aside.
+pub(crate) fn let_go(yard: &mut Yard, dice: &mut Dice, list: ListId) -> Option<Car>
     requires { list.0 < length yard.old.lists }
-    ensures { LetsGo list.0 yard.old yard.new result }
+    ensures goes { LetsGo list.0 yard.old yard.new result }
+    ensures dice { dice.new ≡ dice.old }
 {
     let key = yard.list_front(list)?;
+    dice.put_aside(key.index());
     yard.unlink(key);
     yard.whole();
     Some(yard.take(key))
