@@ -7,8 +7,6 @@
 
 mod buffers;
 mod release;
-#[cfg(test)]
-mod tests;
 
 pub use buffers::Buffers;
 pub use release::Released;

@@ -6,8 +6,6 @@
 
 mod dice;
 mod draws;
-#[cfg(test)]
-mod tests;
 
 pub use dice::Dice;
 pub use draws::draw;

@@ -7,8 +7,6 @@
 mod counted;
 mod part;
 mod tally;
-#[cfg(test)]
-mod tests;
 mod writing;
 
 pub use counted::Counted;

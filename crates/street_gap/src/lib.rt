@@ -3,8 +3,6 @@
 
 mod closures;
 mod gaps;
-#[cfg(test)]
-mod tests;
 
 pub use closures::{Closures, Stretch};
 pub use gaps::{gap_ahead, gap_back, gap_beside};

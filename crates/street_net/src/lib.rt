@@ -11,8 +11,6 @@ mod keys;
 mod lanes;
 mod lists;
 mod plans;
-#[cfg(test)]
-mod tests;
 mod turns;
 
 pub use checked::Network;

@@ -8,8 +8,6 @@ mod checks;
 mod faults;
 mod phase;
 mod plan;
-#[cfg(test)]
-mod tests;
 
 pub use faults::SignalFault;
 pub use plan::SignalPlan;

@@ -117,5 +117,3 @@ fn misfit(found: &Options<'_>) -> Option<(ErrorKind, &'static str)>
     None
 }
 
-#[cfg(test)]
-mod tests;

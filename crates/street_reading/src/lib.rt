@@ -7,8 +7,6 @@
 mod commands;
 mod entries;
 mod fault;
-#[cfg(test)]
-mod tests;
 
 pub use commands::{LONGEST_LINE, command_of, read_command};
 pub use fault::LineFault;

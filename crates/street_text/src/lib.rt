@@ -7,8 +7,6 @@
 mod commands;
 mod faults;
 mod laws;
-#[cfg(test)]
-mod tests;
 
 pub use commands::{command_text, command_value};
 pub use faults::fault_text;

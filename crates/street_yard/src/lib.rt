@@ -8,8 +8,6 @@
 mod hot;
 mod names;
 mod relink;
-#[cfg(test)]
-mod tests;
 mod view;
 mod yard;
 

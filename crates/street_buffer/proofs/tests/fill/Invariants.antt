@@ -1,9 +1,0 @@
-use Rattle.street_buffer.specs.Buffers.{AreIn, HaveShortPlans}
-use Rattle.street_buffer.proofs.tests.fill.Given as goal
-
--- the yard is as the next vehicle wants it
-abbrev pub invariant-loop-next : goal.invariant-loop-next
-invariant-loop-next g l = record {
-  lists : AreIn l.yard l.buffers;
-  plans : HaveShortPlans l.yard;
-}

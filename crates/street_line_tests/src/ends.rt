@@ -1,0 +1,166 @@
+//! Ends that count what they give and take, and bytes that go out in parts.
+
+use std::alloc::Global;
+use std::io;
+use std::io::{Read, Write};
+use std::process::Abort;
+use std::test::Fail;
+use street_ends::{Counted, FaultKind, PartialLine, Tally, flush_out, write_reply, write_text};
+
+/// Takes bytes while there is room, three at most at a time, and then fails or takes none.
+#[derive(Drop)]
+struct SlowWriter {
+    taken: Vec<u8>,
+    room: usize,
+    fails: bool,
+}
+
+impl Write for SlowWriter {
+    fn write(&mut self, bytes: &[u8]) -> io::Result<usize> {
+        for (count, byte) in bytes.iter().enumerate().take(3) {
+            if self.taken.len() >= self.room {
+                return match count {
+                    0 if self.fails => Err(io::Error::from(io::ErrorKind::BrokenPipe)),
+                    _ => Ok(count),
+                };
+            }
+            self.taken.push(*byte)?;
+        }
+        Ok(bytes.len().min(3))
+    }
+
+    fn flush(&mut self) -> io::Result<()> {
+        if self.fails {
+            return Err(io::Error::from(io::ErrorKind::BrokenPipe));
+        }
+        Ok(())
+    }
+}
+
+/// Room for bytes, and whether a full writer fails.
+#[derive(Clone, Copy)]
+struct Room {
+    room: usize,
+    fails: bool,
+}
+
+/// How many bytes were sent where not all were, how often the writer was called, how often it failed and how often it took
+/// none.
+#[derive(Clone, Copy, Debug, PartialEq, Eq)]
+struct Sent {
+    sent: Option<usize>,
+    calls: u64,
+    failures: u64,
+    empty_writes: u64,
+}
+
+/// Seven bytes sent into this room, and what was taken.
+fn sent_into(alloc: Global, room: Room) -> (Sent, Vec<u8>) {
+    let mut writer = Counted::new(SlowWriter {
+        taken: Vec::new(alloc),
+        room: room.room,
+        fails: room.fails,
+    });
+    let sent = write_text(&mut writer, b"{\"a\":1}").err();
+    let told = Sent {
+        sent,
+        calls: writer.calls(),
+        failures: writer.failures(),
+        empty_writes: writer.empty_writes(),
+    };
+    (told, writer.end.taken)
+}
+
+/// Those seven bytes go out so.
+fn check_sent(
+    rt: &(impl Abort + AllocGlobal),
+    room: usize,
+    fails: bool,
+    calls: u64,
+    failures: u64,
+    empty_writes: u64,
+) {
+    let (told, taken) = sent_into(rt.alloc(), Room { room, fails });
+    let want = Sent {
+        sent: (room < 7).then_some(room),
+        calls,
+        failures,
+        empty_writes,
+    };
+    assert_eq!(rt; told, want, "at {room}");
+    assert_eq!(rt;
+        Some(taken.as_slice()),
+        b"{\"a\":1}".get(..room),
+        "at {room}"
+    );
+}
+
+#[test]
+fn replies_go_out_in_parts(rt: HostRuntime) {
+    check_sent(&rt, 7, false, 3, 0, 0);
+    check_sent(&rt, 6, true, 3, 1, 0);
+    check_sent(&rt, 6, false, 3, 0, 1);
+    check_sent(&rt, 4, true, 3, 1, 0);
+    check_sent(&rt, 0, false, 1, 0, 1);
+}
+
+#[test]
+fn replies_are_counted(rt: HostRuntime) -> Result<(), Fail> {
+    let mut tally = Tally {
+        lines: 2,
+        calls: 1,
+        replies: 1,
+        bytes: 5,
+    };
+    let mut writer = Counted::new(SlowWriter {
+        taken: Vec::new(rt.alloc()),
+        room: 8,
+        fails: true,
+    });
+    assert_eq!(rt; write_reply(&mut writer, b"{\"a\":1}", &mut tally), Ok(()));
+    assert_eq!(rt;
+        (tally.lines, tally.calls, tally.replies, tally.bytes),
+        (2, 1, 2, 12)
+    );
+    assert_eq!(rt;
+        write_reply(&mut writer, b"{\"a\":1}", &mut tally),
+        Err(FaultKind::Write)
+    );
+    assert_eq!(rt;
+        (tally.lines, tally.calls, tally.replies, tally.bytes),
+        (2, 1, 2, 13)
+    );
+    assert_eq!(rt; flush_out(&mut writer), Err(FaultKind::Write));
+    assert_eq!(rt; writer.failures(), 2);
+    Ok(())
+}
+
+#[test]
+fn reads_are_counted(rt: HostRuntime) -> Result<(), Fail> {
+    let mut reader = Counted::new(b"abc".as_slice());
+    let mut buffer = [0u8; 2];
+    assert_eq!(rt; reader.read(&mut buffer).or(Err("a fault"))?, 2);
+    assert_eq!(rt; reader.read(&mut buffer).or(Err("a fault"))?, 1);
+    assert_eq!(rt; reader.read(&mut buffer).or(Err("a fault"))?, 0);
+    assert_eq!(rt;
+        (reader.calls(), reader.failures(), reader.empty_writes()),
+        (3, 0, 0)
+    );
+    Ok(())
+}
+
+#[test]
+fn one_byte_more_is_kept(rt: HostRuntime) -> Result<(), Fail> {
+    let mut part = PartialLine::new(rt.alloc(), 3);
+    for byte in b" \t\r\r\r" {
+        part.push(*byte)?;
+    }
+    assert!(rt; part.is_blank());
+    assert_eq!(rt; part.as_slice(), b" \t\r\r".as_slice());
+    part.push(b'x')?;
+    assert!(rt; !part.is_blank());
+    part.clear();
+    assert!(rt; part.is_blank());
+    assert!(rt; part.as_slice().is_empty());
+    Ok(())
+}

@@ -1,0 +1,440 @@
+//! Lines that are commands, and lines that are none.
+
+use std::alloc::{AllocError, Global};
+use std::process::Abort;
+use std::test::Fail;
+use street_base::{Command, GreenSpec, LinkSpec, NodeSpec, TurnSpec};
+use street_reading::{LineFault, read_command};
+
+/// The name of a command.
+fn name(command: &Command) -> &'static str {
+    match command {
+        Command::Load(_) => "load",
+        Command::Enter { .. } => "enter",
+        Command::Signal { .. } => "signal",
+        Command::Advance { .. } => "advance",
+        Command::CloseLane { .. } => "close",
+        Command::ReopenLane { .. } => "reopen",
+        Command::TakeOut { .. } => "takeout",
+        Command::PlaceMeter { .. } => "meter",
+        Command::ReadMeter { .. } => "read",
+        Command::Vehicle { .. } => "vehicle",
+        Command::Lane { .. } => "lane",
+        Command::Count => "count",
+    }
+}
+
+/// The name of the command or of the fault that a line reads as.
+fn kind(alloc: Global, line: &[u8]) -> &'static str {
+    match read_command(alloc, line) {
+        Ok(command) => name(&command),
+        Err(fault) => fault.name(),
+    }
+}
+
+/// Numbers as they may be written, and what a line with them is.
+static NUMBERS: [(&str, &str); 20] = [
+    ("5", "advance"),
+    ("0", "advance"),
+    ("18446744073709551615", "advance"),
+    ("18446744073709551616", "BadCommand"),
+    ("1.0", "BadCommand"),
+    ("1e3", "BadCommand"),
+    ("1E0", "BadCommand"),
+    ("10e-1", "BadCommand"),
+    ("-0", "BadCommand"),
+    ("-1", "BadCommand"),
+    (r#""5""#, "BadCommand"),
+    ("[5]", "BadCommand"),
+    ("null", "BadCommand"),
+    ("true", "BadCommand"),
+    ("01", "NotJson"),
+    ("+1", "NotJson"),
+    ("1.", "NotJson"),
+    ("NaN", "NotJson"),
+    ("1e999", "NotJson"),
+    ("", "NotJson"),
+];
+
+#[test]
+fn numbers_are_digits_alone(rt: HostRuntime) -> Result<(), Fail> {
+    for (number, want) in &NUMBERS {
+        let line = format!(in rt.alloc(); "{{\"cmd\":\"advance\",\"steps\":{number}}}")?;
+        assert_eq!(rt; kind(rt.alloc(), line.as_bytes()), *want, "at {number}");
+    }
+    Ok(())
+}
+
+/// Odd lines, and what they are.
+static ODD_LINES: [(&[u8], &str); 40] = [
+    (br#"{"steps":5,"cmd":"advance"}"#, "advance"),
+    (
+        b" \t{ \"cmd\" : \"advance\" , \"steps\" : 5 } \r",
+        "advance",
+    ),
+    (
+        br#"{"cmd":"advance","steps":5,"x":[1,{"y":null}]}"#,
+        "advance",
+    ),
+    (br#"{"cmd":"advance","steps":"x","steps":5}"#, "advance"),
+    (br#"{"cmd":"advance","steps":5,"steps":"x"}"#, "BadCommand"),
+    (br#"{"\u0063md":"\u0061dvance","steps":5}"#, "advance"),
+    (br#"{"cmd":"vehicle","car":0}"#, "vehicle"),
+    (br#"{"cmd":"enter","plan":[],"lane":7,"depart":0}"#, "enter"),
+    (
+        br#"{"cmd":"enter","plan":[1,2.5],"lane":0,"depart":0}"#,
+        "BadCommand",
+    ),
+    (
+        br#"{"cmd":"enter","plan":[[1]],"lane":0,"depart":0}"#,
+        "BadCommand",
+    ),
+    (
+        br#"{"cmd":"enter","plan":1,"lane":0,"depart":0}"#,
+        "BadCommand",
+    ),
+    (br#"{"cmd":"enter","plan":[1],"lane":0}"#, "BadCommand"),
+    (br#"{"cmd":"advance"}"#, "BadCommand"),
+    (br#"{"cmd":"Advance","steps":5}"#, "BadCommand"),
+    (br#"{"Cmd":"advance","steps":5}"#, "BadCommand"),
+    (br#"{"cmd":"halt"}"#, "BadCommand"),
+    (br#"{"cmd":5}"#, "BadCommand"),
+    (br#"{"steps":5}"#, "BadCommand"),
+    (b"{}", "BadCommand"),
+    (b"[]", "BadCommand"),
+    (br#"["cmd","advance"]"#, "BadCommand"),
+    (br#""advance""#, "BadCommand"),
+    (b"5", "BadCommand"),
+    (b"null", "BadCommand"),
+    (b"", "NotJson"),
+    (b"  ", "NotJson"),
+    (b"x", "NotJson"),
+    (b"[1,]", "NotJson"),
+    (br#"{"cmd":"advance","steps":5,}"#, "NotJson"),
+    (br#"{"cmd":"advance","steps":5} x"#, "NotJson"),
+    (br#"{"cmd":"advance","steps":5}{}"#, "NotJson"),
+    (br#"{"cmd":"advance","steps":5"#, "NotJson"),
+    (b"{'cmd':'advance','steps':5}", "NotJson"),
+    (
+        b"{\"cmd\":\"advance\",\"steps\":5,\"x\":\"a\tb\"}",
+        "NotJson",
+    ),
+    (br#"{"cmd":"advance","steps":5,"x":"\ud800"}"#, "NotJson"),
+    (
+        br#"{"cmd":"advance","steps":5,"x":"\ud83d\ude00"}"#,
+        "advance",
+    ),
+    (br#"{"cmd":"advance","steps":5,"x":1e999}"#, "NotJson"),
+    (
+        b"{\"cmd\":\"advance\",\"steps\":5,\"x\":\"\xff\"}",
+        "NotJson",
+    ),
+    (b"\xff", "NotJson"),
+    (b"\xef\xbb\xbf{\"cmd\":\"advance\",\"steps\":5}", "NotJson"),
+];
+
+#[test]
+fn odd_lines(rt: HostRuntime) {
+    for (line, want) in &ODD_LINES {
+        assert_eq!(rt; kind(rt.alloc(), line), *want, "at {line:?}");
+    }
+}
+
+/// An advance with so many lists in one another beside its fields.
+fn nested(alloc: Global, lists: usize) -> Result<Vec<u8>, AllocError> {
+    let mut line = Vec::from_slice(alloc, b"{\"cmd\":\"advance\",\"steps\":5,\"x\":")?;
+    line.resize(line.len().saturating_add(lists), b'[')?;
+    line.resize(line.len().saturating_add(lists), b']')?;
+    line.push(b'}')?;
+    Ok(line)
+}
+
+#[test]
+fn nesting_is_read_to_127_levels(rt: HostRuntime) -> Result<(), Fail> {
+    for (lists, want) in [(126, "advance"), (127, "NotJson"), (1000, "NotJson")] {
+        let line = nested(rt.alloc(), lists)?;
+        assert_eq!(rt; kind(rt.alloc(), line.as_slice()), want, "at {lists}");
+    }
+    Ok(())
+}
+
+#[test]
+fn a_line_has_at_most_1048576_bytes(rt: HostRuntime) -> Result<(), Fail> {
+    for (spaces, want) in [(1_048_549, "advance"), (1_048_550, "LineTooLong")] {
+        let mut line = vec![in rt.alloc(); b' '; spaces]?;
+        line.extend_from_slice(b"{\"cmd\":\"advance\",\"steps\":5}")?;
+        assert_eq!(rt; kind(rt.alloc(), line.as_slice()), want, "at {spaces}");
+    }
+    let blank = vec![in rt.alloc(); b' '; 3_000_000]?;
+    assert_eq!(rt; kind(rt.alloc(), blank.as_slice()), "LineTooLong");
+    Ok(())
+}
+
+/// What a load has: of each of its lists the length and the last entry, and its values.
+#[derive(Clone, Copy)]
+struct Load {
+    nodes: (usize, NodeSpec),
+    links: (usize, LinkSpec),
+    turns: (usize, TurnSpec),
+    values: [u64; 5],
+}
+
+/// What the load of a line has.
+fn load_of(alloc: Global, line: &[u8]) -> Option<Load> {
+    let Ok(Command::Load(net)) = read_command(alloc, line) else {
+        return None;
+    };
+    let (nodes, links, turns) = (
+        net.nodes.as_slice(),
+        net.links.as_slice(),
+        net.turns.as_slice(),
+    );
+    Some(Load {
+        nodes: (nodes.len(), *nodes.last()?),
+        links: (links.len(), *links.last()?),
+        turns: (turns.len(), *turns.last()?),
+        values: [net.zone, net.dawdle, net.change, net.seed, net.start],
+    })
+}
+
+#[test]
+fn reads_the_fields_of_a_load(rt: HostRuntime) {
+    let line =
+        b"{\"cmd\":\"load\",\"nodes\":[[1,2,3],[4,5,6]],\"links\":[[10,1,4,2,7,5]],\"turns\":[[10,1,10,0]],\"zone\":8,\"dawdle\":9,\"change\":11,\"seed\":18446744073709551615,\"start\":12}";
+    let Some(load) = load_of(rt.alloc(), line) else {
+        panic!(&rt; "no load")
+    };
+    let (nodes, node) = load.nodes;
+    assert_eq!(rt;
+        (nodes, node.id, node.residence, node.capacity),
+        (2, 4, 5, 6)
+    );
+    let (links, link) = load.links;
+    assert_eq!(rt; (links, link.id, link.from, link.to), (1, 10, 1, 4));
+    assert_eq!(rt; (link.lanes, link.length, link.limit), (2, 7, 5));
+    let (turns, turn) = load.turns;
+    assert_eq!(rt; (turns, turn.link, turn.lane), (1, 10, 1));
+    assert_eq!(rt; (turn.next, turn.next_lane), (10, 0));
+    assert_eq!(rt; load.values, [8, 9, 11, u64::MAX, 12]);
+}
+
+/// The links of the plan of an entry, its lane and its departure.
+fn enter_of(alloc: Global, line: &[u8]) -> Option<([u64; 2], u64, u64)> {
+    match read_command(alloc, line) {
+        Ok(Command::Enter { plan, lane, depart }) => match plan.as_slice() {
+            [first, second] => Some(([*first, *second], lane, depart)),
+            _ => None,
+        },
+        _ => None,
+    }
+}
+
+#[test]
+fn reads_the_fields_of_an_enter(rt: HostRuntime) {
+    let line = b"{\"cmd\":\"enter\",\"depart\":3,\"plan\":[20,10],\"lane\":1}";
+    assert_eq!(rt; enter_of(rt.alloc(), line), Some(([20, 10], 1, 3)));
+}
+
+/// The name of the command of a line, and its numbers, up to four of them, in the order of its fields.
+fn numbers_of(alloc: Global, line: &[u8]) -> Option<(&'static str, [u64; 4])> {
+    let Ok(command) = read_command(alloc, line) else {
+        return None;
+    };
+    let numbers = match &command {
+        Command::CloseLane {
+            link,
+            lane,
+            first,
+            last,
+        } => [*link, *lane, *first, *last],
+        Command::ReopenLane {
+            link,
+            lane,
+            first,
+            last,
+        } => [*link, *lane, *first, *last],
+        Command::PlaceMeter {
+            link,
+            lane,
+            cell,
+            period,
+        } => [*link, *lane, *cell, *period],
+        Command::Lane { link, lane } => [*link, *lane, 0, 0],
+        _ => return None,
+    };
+    Some((name(&command), numbers))
+}
+
+/// Lines of these commands, what they are, and their numbers.
+static LINES_WITH_NUMBERS: [(&[u8], &str, [u64; 4]); 4] = [
+    (
+        br#"{"cmd":"close","link":10,"lane":1,"first":3,"last":7}"#,
+        "close",
+        [10, 1, 3, 7],
+    ),
+    (
+        br#"{"cmd":"reopen","link":10,"lane":1,"first":3,"last":7}"#,
+        "reopen",
+        [10, 1, 3, 7],
+    ),
+    (
+        br#"{"cmd":"meter","link":10,"lane":1,"cell":4,"period":60}"#,
+        "meter",
+        [10, 1, 4, 60],
+    ),
+    (
+        br#"{"cmd":"lane","link":10,"lane":1}"#,
+        "lane",
+        [10, 1, 0, 0],
+    ),
+];
+
+#[test]
+fn reads_the_numbers_of_each_other_command(rt: HostRuntime) {
+    for (line, name, numbers) in &LINES_WITH_NUMBERS {
+        let want = Some((*name, *numbers));
+        assert_eq!(rt; numbers_of(rt.alloc(), line), want, "at {name}");
+    }
+}
+
+/// The node and the offset of a signal of two phases, their durations, how many greens they have, and the last green of the
+/// first.
+type TwoPhases = ((u64, u64), (u64, u64), (usize, usize), GreenSpec);
+
+/// The signal of a line.
+fn signal_of(alloc: Global, line: &[u8]) -> Option<TwoPhases> {
+    let Ok(
+        Command::Signal {
+            node,
+            offset,
+            phases,
+        },
+    ) = read_command(alloc, line)
+    else {
+        return None;
+    };
+    let [first, second] = phases.as_slice() else {
+        return None;
+    };
+    let (greens, rest) = (first.greens.as_slice(), second.greens.as_slice());
+    let durations = (first.duration, second.duration);
+    let counts = (greens.len(), rest.len());
+    Some(((node, offset), durations, counts, *greens.last()?))
+}
+
+#[test]
+fn reads_the_phases_of_a_signal(rt: HostRuntime) {
+    let line =
+        b"{\"cmd\":\"signal\",\"node\":2,\"offset\":6,\"phases\":[[8,[[10,0,20],[11,1,21]]],[2,[]]]}";
+    let Some((names, durations, counts, green)) = signal_of(rt.alloc(), line) else {
+        panic!(&rt; "no signal of two phases")
+    };
+    assert_eq!(rt; names, (2, 6));
+    assert_eq!(rt; durations, (8, 2));
+    assert_eq!(rt; counts, (2, 0));
+    assert_eq!(rt; (green.link, green.lane, green.next), (11, 1, 21));
+}
+
+/// Lines with names and fields right or wrong, and what they are.
+static NAMED_LINES: [(&[u8], &str); 16] = [
+    (br#"{"cmd":"takeout","car":1}"#, "takeout"),
+    (br#"{"cmd":"read","meter":0}"#, "read"),
+    (br#"{"cmd":"count"}"#, "count"),
+    (br#"{"cmd":"count","x":[1]}"#, "count"),
+    (br#"{"cmd":"takeout","meter":1}"#, "BadCommand"),
+    (br#"{"cmd":"take_out","car":1}"#, "BadCommand"),
+    (br#"{"cmd":"read","car":0}"#, "BadCommand"),
+    (br#"{"cmd":"lane","lane":0}"#, "BadCommand"),
+    (
+        br#"{"cmd":"close","link":10,"lane":0,"first":1}"#,
+        "BadCommand",
+    ),
+    (
+        br#"{"cmd":"meter","link":10,"lane":0,"cell":1,"period":-1}"#,
+        "BadCommand",
+    ),
+    (
+        br#"{"cmd":"signal","node":2,"offset":0,"phases":[]}"#,
+        "signal",
+    ),
+    (
+        br#"{"cmd":"signal","node":2,"offset":0,"phases":[[10]]}"#,
+        "BadCommand",
+    ),
+    (
+        br#"{"cmd":"signal","node":2,"offset":0,"phases":[[10,[],0]]}"#,
+        "BadCommand",
+    ),
+    (
+        br#"{"cmd":"signal","node":2,"offset":0,"phases":[10,[]]}"#,
+        "BadCommand",
+    ),
+    (
+        br#"{"cmd":"signal","node":2,"offset":0,"phases":[[10,[[1,0]]]]}"#,
+        "BadCommand",
+    ),
+    (
+        br#"{"cmd":"signal","node":2,"offset":0,"phases":[[10,[[1,0,2,0]]]]}"#,
+        "BadCommand",
+    ),
+];
+
+#[test]
+fn each_command_has_its_name_and_all_its_fields(rt: HostRuntime) {
+    for (line, want) in &NAMED_LINES {
+        assert_eq!(rt; kind(rt.alloc(), line), *want, "at {line:?}");
+    }
+}
+
+/// How a load may end, and what it then is.
+static LOAD_ENDS: [(&str, &str); 10] = [
+    (r#""seed":0"#, "load"),
+    (r#""seed":0,"start":7"#, "load"),
+    (r#""seed":0,"start":null"#, "BadCommand"),
+    (r#""seed":0,"start":-1"#, "BadCommand"),
+    (r#""start":7"#, "BadCommand"),
+    (r#""seed":0,"nodes":[[1,1]]"#, "BadCommand"),
+    (r#""seed":0,"nodes":[[1,1,2,2]]"#, "BadCommand"),
+    (r#""seed":0,"links":[[10,1,1,1,10]]"#, "BadCommand"),
+    (r#""seed":0,"turns":[[10,0,10,0,0]]"#, "BadCommand"),
+    (r#""seed":0,"turns":[10]"#, "BadCommand"),
+];
+
+#[test]
+fn start_may_be_absent_but_no_other_field(rt: HostRuntime) -> Result<(), Fail> {
+    for (rest, want) in &LOAD_ENDS {
+        let line = format!(in rt.alloc();
+            "{{\"cmd\":\"load\",\"nodes\":[[1,1,2]],\"links\":[],\"turns\":[],\"zone\":0,\"dawdle\":0,\"change\":0,{rest}}}"
+        )?;
+        assert_eq!(rt; kind(rt.alloc(), line.as_bytes()), *want, "at {rest}");
+    }
+    Ok(())
+}
+
+/// The start of the load of a line.
+fn start_of(alloc: Global, line: &[u8]) -> Option<u64> {
+    match read_command(alloc, line) {
+        Ok(Command::Load(net)) => Some(net.start),
+        _ => None,
+    }
+}
+
+#[test]
+fn a_load_without_a_start_starts_at_0(rt: HostRuntime) {
+    let line =
+        b"{\"cmd\":\"load\",\"nodes\":[],\"links\":[],\"turns\":[],\"zone\":0,\"dawdle\":0,\"change\":0,\"seed\":0}";
+    assert_eq!(rt; start_of(rt.alloc(), line), Some(0));
+}
+
+#[test]
+fn faults_have_numbers_and_names(rt: HostRuntime) {
+    for (fault, number, name) in [
+        (LineFault::LineTooLong, Some(22), "LineTooLong"),
+        (LineFault::NotJson, Some(20), "NotJson"),
+        (LineFault::BadCommand, Some(21), "BadCommand"),
+        (LineFault::Starved, None, "Starved"),
+    ] {
+        assert_eq!(rt; fault.number(), number);
+        assert_eq!(rt; fault.name(), name);
+    }
+}

@@ -1,0 +1,52 @@
+//! The texts of commands as lines, and of what answers a faulty line.
+
+use std::process::Abort;
+use std::test::Fail;
+use street_text::{LineFault, command_text, error_text, fault_text, read_command};
+
+#[test]
+fn a_line_prints_with_its_keys_in_order(rt: HostRuntime) -> Result<(), Fail> {
+    for (line, want) in [
+        (
+            "{\"cmd\":\"load\",\"nodes\":[[1,1,2],[2,1,2],[3,1,2]],\"links\":[[10,1,2,1,10,5],[20,2,3,1,10,5]],\"turns\":[[10,0,20,0]],\"zone\":0,\"dawdle\":0,\"change\":0,\"seed\":0}",
+            "{\"change\":0,\"cmd\":\"load\",\"dawdle\":0,\"links\":[[10,1,2,1,10,5],[20,2,3,1,10,5]],\"nodes\":[[1,1,2],[2,1,2],[3,1,2]],\"seed\":0,\"start\":0,\"turns\":[[10,0,20,0]],\"zone\":0}",
+        ),
+        (
+            " {\"phases\":[[10,[]]],\"x\":null,\"offset\":0,\"node\":2,\"cmd\":\"signal\"}\r",
+            "{\"cmd\":\"signal\",\"node\":2,\"offset\":0,\"phases\":[[10,[]]]}",
+        ),
+        ("{\"x\":[1],\"cmd\":\"count\"}", "{\"cmd\":\"count\"}"),
+    ] {
+        let command = read_command(rt.alloc(), line.as_bytes())?;
+        let text = command_text(rt.alloc(), &command)?;
+        assert_eq!(rt; text.as_slice(), want.as_bytes());
+        let again = read_command(rt.alloc(), text.as_slice())?;
+        let text = command_text(rt.alloc(), &again)?;
+        assert_eq!(rt; text.as_slice(), want.as_bytes());
+    }
+    Ok(())
+}
+
+#[test]
+fn prints_each_fault_of_a_line(rt: HostRuntime) -> Result<(), Fail> {
+    for (fault, want) in [
+        (
+            LineFault::LineTooLong,
+            "{\"error\":22,\"name\":\"LineTooLong\"}\n",
+        ),
+        (LineFault::NotJson, "{\"error\":20,\"name\":\"NotJson\"}\n"),
+        (
+            LineFault::BadCommand,
+            "{\"error\":21,\"name\":\"BadCommand\"}\n",
+        ),
+    ] {
+        let text = fault_text(rt.alloc(), fault)?;
+        assert_eq!(rt; text.as_slice(), want.as_bytes());
+    }
+    let full = error_text(rt.alloc(), 23, "Full")?;
+    assert_eq!(rt;
+        full.as_slice(),
+        b"{\"error\":23,\"name\":\"Full\"}\n".as_slice()
+    );
+    Ok(())
+}

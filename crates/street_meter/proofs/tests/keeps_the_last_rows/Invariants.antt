@@ -1,6 +1,0 @@
-use Rattle.std.proofs.Common.{◌≡◌}
-use Rattle.street_meter.specs.Meter.{next_step}
-use Rattle.street_meter.proofs.tests.keeps_the_last_rows.Given as goal
-
-abbrev pub invariant-loop-step : goal.invariant-loop-step
-invariant-loop-step g l = next_step l.meter ≡ l.step

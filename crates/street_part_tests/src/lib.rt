@@ -1,0 +1,24 @@
+//! Tests of the parts of a step, with values known beforehand: networks, the arena, gaps, draws, motion, buffers, signals,
+//! detectors and the lanes of a tile.
+//!
+//! They stand in a crate of their own since a crate is proved once more for the tests that it has.
+#![tactic(auto)]
+
+#[cfg(test)]
+mod buffers;
+#[cfg(test)]
+mod draws;
+#[cfg(test)]
+mod gaps;
+#[cfg(test)]
+mod lanes;
+#[cfg(test)]
+mod meters;
+#[cfg(test)]
+mod motion;
+#[cfg(test)]
+mod networks;
+#[cfg(test)]
+mod signals;
+#[cfg(test)]
+mod yards;

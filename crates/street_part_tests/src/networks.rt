@@ -1,0 +1,456 @@
+//! Loads with and without a fault, look-ups, and plans.
+
+use std::alloc::{AllocError, Global};
+use std::test::Fail;
+use street_base::{
+    LaneNo, LinkIx, LinkSpec, Listing, NetSpec, NodeSpec, Part, Plan, Speed, TurnSpec,
+};
+use street_net::{NetFault, Network, PlanFault};
+
+/// A load of two nodes, two links and two turns.
+#[derive(Clone, Copy)]
+struct Small {
+    nodes: (NodeSpec, NodeSpec),
+    links: (LinkSpec, LinkSpec),
+    turns: (TurnSpec, TurnSpec),
+    zone: u64,
+    dawdle: u64,
+    change: u64,
+    start: u64,
+}
+
+/// Nodes 7 and 9; links 30 and 40, from and to node 7; from link 30 to link 40, and to itself.
+const GOOD: Small = Small {
+    nodes: (
+        NodeSpec {
+            id: 7,
+            residence: 60,
+            capacity: 1,
+        },
+        NodeSpec {
+            id: 9,
+            residence: 1,
+            capacity: 64,
+        },
+    ),
+    links: (
+        LinkSpec {
+            id: 30,
+            from: 7,
+            to: 7,
+            lanes: 1,
+            length: 1,
+            limit: 1,
+        },
+        LinkSpec {
+            id: 40,
+            from: 7,
+            to: 7,
+            lanes: 2,
+            length: 1_000_000,
+            limit: 5,
+        },
+    ),
+    turns: (
+        TurnSpec {
+            link: 30,
+            lane: 0,
+            next: 40,
+            next_lane: 0,
+        },
+        TurnSpec {
+            link: 30,
+            lane: 0,
+            next: 30,
+            next_lane: 0,
+        },
+    ),
+    zone: 1_000,
+    dawdle: 1_000,
+    change: 1_000,
+    start: 1_000_000_000,
+};
+
+impl Small {
+    fn with_second_node(id: u64, residence: u64, capacity: u64) -> Small {
+        Small {
+            nodes: (
+                GOOD.nodes.0,
+                NodeSpec {
+                    id,
+                    residence,
+                    capacity,
+                },
+            ),
+            ..GOOD
+        }
+    }
+
+    fn with_second_link(second: LinkSpec) -> Small {
+        Small {
+            links: (GOOD.links.0, second),
+            ..GOOD
+        }
+    }
+
+    fn with_second_turn(next: u64, next_lane: u64) -> Small {
+        let second = TurnSpec {
+            next,
+            next_lane,
+            ..GOOD.turns.1
+        };
+        Small {
+            turns: (GOOD.turns.0, second),
+            ..GOOD
+        }
+    }
+
+    fn load(&self, alloc: Global) -> Result<NetSpec, AllocError> {
+        let nodes = Vec::from_slice(alloc, &[self.nodes.0, self.nodes.1])?;
+        let links = Vec::from_slice(alloc, &[self.links.0, self.links.1])?;
+        let turns = Vec::from_slice(alloc, &[self.turns.0, self.turns.1])?;
+        Ok(NetSpec {
+            nodes: Listing::from_vec(nodes),
+            links: Listing::from_vec(links),
+            turns: Listing::from_vec(turns),
+            zone: self.zone,
+            dawdle: self.dawdle,
+            change: self.change,
+            seed: u64::MAX,
+            start: self.start,
+        })
+    }
+}
+
+/// Where the first fault of a load is.
+fn first_fault(alloc: Global, load: Small) -> Result<(Part, u64), Fail> {
+    match Network::build(alloc, &load.load(alloc)?).err() {
+        Some(NetFault::Bad { part, at }) => Ok((part, at)),
+        _ => Err(Fail::from("no fault is told")),
+    }
+}
+
+#[test]
+fn finds_first_bad_nodes(rt: HostRuntime) -> Result<(), Fail> {
+    let bad = [
+        Small::with_second_node(7, 1, 64),
+        Small::with_second_node(1 << 32, 1, 64),
+        Small::with_second_node(9, 61, 64),
+        Small::with_second_node(9, 1, 0),
+    ];
+    for load in bad {
+        assert_eq!(rt; first_fault(rt.alloc(), load)?, (Part::Nodes, 1));
+    }
+    Ok(())
+}
+
+#[test]
+fn finds_first_bad_links(rt: HostRuntime) -> Result<(), Fail> {
+    let good = GOOD.links.1;
+    let bad = [
+        LinkSpec { id: 30, ..good },
+        LinkSpec { from: 8, ..good },
+        LinkSpec { to: 8, ..good },
+        LinkSpec { lanes: 3, ..good },
+        LinkSpec {
+            length: 1_000_001,
+            ..good
+        },
+        LinkSpec { limit: 6, ..good },
+    ];
+    for second in bad {
+        assert_eq!(rt;
+            first_fault(rt.alloc(), Small::with_second_link(second))?,
+            (Part::Links, 1)
+        );
+    }
+    Ok(())
+}
+
+#[test]
+fn finds_first_bad_turns(rt: HostRuntime) -> Result<(), Fail> {
+    let apart = LinkSpec {
+        from: 9,
+        ..GOOD.links.1
+    };
+    assert_eq!(rt;
+        first_fault(rt.alloc(), Small::with_second_link(apart))?,
+        (Part::Turns, 0)
+    );
+    assert_eq!(rt;
+        first_fault(rt.alloc(), Small::with_second_turn(40, 0))?,
+        (Part::Turns, 1)
+    );
+    assert_eq!(rt;
+        first_fault(rt.alloc(), Small::with_second_turn(30, 1))?,
+        (Part::Turns, 1)
+    );
+    Ok(())
+}
+
+#[test]
+fn finds_first_bad_values(rt: HostRuntime) -> Result<(), Fail> {
+    let bad = [
+        Small {
+            zone: 1_001,
+            ..GOOD
+        },
+        Small {
+            dawdle: 1_001,
+            ..GOOD
+        },
+        Small {
+            change: 1_001,
+            ..GOOD
+        },
+        Small {
+            start: 1_000_000_001,
+            ..GOOD
+        },
+    ];
+    for (at, load) in bad.iter().enumerate() {
+        assert_eq!(rt; first_fault(rt.alloc(), *load)?, (Part::Values, at as u64));
+    }
+    Ok(())
+}
+
+#[test]
+fn looks_up(rt: HostRuntime) -> Result<(), Fail> {
+    let net = good(rt.alloc())?;
+    assert_eq!(rt; net.spec().seed, u64::MAX);
+    assert_eq!(rt; net.node_of(9).map(|node| node.position()), Some(1));
+    assert_eq!(rt; net.link_of(40).map(|link| link.position()), Some(1));
+    Ok(())
+}
+
+/// What is answered to a plan.
+#[derive(Clone, Copy, Debug, PartialEq, Eq)]
+enum Answer {
+    /// It is taken, and begins with the link at this position.
+    From(usize),
+    /// It is taken, and is empty.
+    Nowhere,
+    /// It is bad at this position.
+    Bad(u64),
+    /// The first link has no such lane.
+    NoLane,
+    /// Memory was wanting.
+    Starved,
+}
+
+/// What is told of a refused plan.
+fn refusal(fault: PlanFault) -> Answer {
+    match fault {
+        PlanFault::Bad { at } => Answer::Bad(at),
+        PlanFault::Lane => Answer::NoLane,
+        PlanFault::Starved => Answer::Starved,
+    }
+}
+
+fn told(outcome: Result<Plan, PlanFault>) -> Answer {
+    match outcome {
+        Ok(links) => match links.as_slice().first() {
+            Some(link) => Answer::From(link.position()),
+            None => Answer::Nowhere,
+        },
+        Err(fault) => refusal(fault),
+    }
+}
+
+/// That good network.
+fn good(alloc: Global) -> Result<Network, Fail> {
+    Ok(Network::build(alloc, &GOOD.load(alloc)?)?)
+}
+
+/// The answer to a plan that begins in this lane.
+fn answer(alloc: Global, net: &Network, plan: &[u64], lane: u64) -> Answer {
+    told(net.check_plan(alloc, plan, lane))
+}
+
+/// Plans over that network, the lanes that they begin in, and the answers.
+static PLANS: [(&[u64], u64, Answer); 4] = [
+    (&[40], 1, Answer::From(1)),
+    (&[], 1, Answer::Bad(0)),
+    (&[40, 40], 1, Answer::Bad(1)),
+    (&[40], 2, Answer::NoLane),
+];
+
+#[test]
+fn plans(rt: HostRuntime) -> Result<(), Fail> {
+    let net = good(rt.alloc())?;
+    for (plan, lane, wanted) in &PLANS {
+        assert_eq!(rt; answer(rt.alloc(), &net, plan, *lane), *wanted);
+    }
+    Ok(())
+}
+
+fn link(id: u64, from: u64, to: u64, length: u64) -> LinkSpec {
+    LinkSpec {
+        id,
+        from,
+        to,
+        lanes: 1,
+        length,
+        limit: 5,
+    }
+}
+
+/// Nodes 1 to 4; links 10 and 20 run to node 3, and link 30 from there to node 4; both turn into it.
+fn two_into_one(alloc: Global) -> Result<NetSpec, AllocError> {
+    let node = |id: u64| NodeSpec {
+        id,
+        residence: 1,
+        capacity: 2,
+    };
+    let turn = |link: u64| TurnSpec {
+        link,
+        lane: 0,
+        next: 30,
+        next_lane: 0,
+    };
+    let links = [link(10, 1, 3, 10), link(20, 2, 3, 6), link(30, 3, 4, 10)];
+    Ok(NetSpec {
+        nodes: Listing::from_vec(Vec::from_slice(alloc, &[node(1), node(2), node(3), node(4)])?),
+        links: Listing::from_vec(Vec::from_slice(alloc, &links)?),
+        turns: Listing::from_vec(Vec::from_slice(alloc, &[turn(20), turn(10)])?),
+        zone: 0,
+        dawdle: 0,
+        change: 0,
+        seed: 0,
+        start: 0,
+    })
+}
+
+/// The turn from a lane to a next link, each by its position.
+fn turn_from(net: &Network, link: u16, lane: LaneNo, next: u16) -> Option<(usize, LaneNo)> {
+    let turn = net.turn(LinkIx::new(link), lane, LinkIx::new(next))?;
+    Some((turn.next.position(), turn.next_lane))
+}
+
+/// The lanes to try, the links to turn into, and where the turns lead.
+const TURNS: [(u16, LaneNo, u16, Option<(usize, LaneNo)>); 6] = [
+    (1, 0, 2, Some((2, 0))),
+    (0, 0, 2, Some((2, 0))),
+    (0, 0, 1, None),
+    (0, 1, 2, None),
+    (2, 0, 2, None),
+    (3, 0, 2, None),
+];
+
+/// The lane at a place among those that run to a node.
+fn lane_to(net: &Network, node: u64, at: usize) -> Option<(usize, LaneNo)> {
+    let node = net.node_of(node)?;
+    let lane = net.in_lanes(node).get(at)?;
+    Some((lane.link.position(), lane.lane))
+}
+
+/// Nodes and places among their lanes, and the lanes there.
+const LANES: [(u64, usize, Option<(usize, LaneNo)>); 4] = [
+    (3, 0, Some((0, 0))),
+    (3, 1, Some((1, 0))),
+    (3, 2, None),
+    (1, 0, None),
+];
+
+/// The position of the node that a link runs to, and the link's limit.
+fn end_of(net: &Network, link: u64) -> Option<(usize, Speed)> {
+    let link = net.link_of(link)?;
+    Some((net.end_of(link).position(), net.limit_of(link)))
+}
+
+#[test]
+fn lanes_and_turns_are_found(rt: HostRuntime) -> Result<(), Fail> {
+    let net = Network::build(rt.alloc(), &two_into_one(rt.alloc())?)?;
+    for (link, lane, next, wanted) in TURNS {
+        assert_eq!(rt; turn_from(&net, link, lane, next), wanted);
+        assert_eq!(rt;
+            net.serves(LinkIx::new(link), lane, LinkIx::new(next)),
+            wanted.is_some()
+        );
+    }
+    for (node, at, wanted) in LANES {
+        assert_eq!(rt; lane_to(&net, node, at), wanted);
+    }
+    assert_eq!(rt; end_of(&net, 30), Some((3, 5)));
+    Ok(())
+}
+
+/// Nodes 1, 2 and 3; link 10 from 1 to 2, and link 20 from there to 3; lane 0 of the first turns into the second.
+fn one_after_another(alloc: Global) -> Result<Network, NetFault> {
+    let node = |id: u64| NodeSpec {
+        id,
+        residence: 1,
+        capacity: 2,
+    };
+    let turn = TurnSpec {
+        link: 10,
+        lane: 0,
+        next: 20,
+        next_lane: 0,
+    };
+    let links = [link(10, 1, 2, 10), link(20, 2, 3, 10)];
+    let load = NetSpec {
+        nodes: Listing::from_vec(Vec::from_slice(alloc, &[node(1), node(2), node(3)])?),
+        links: Listing::from_vec(Vec::from_slice(alloc, &links)?),
+        turns: Listing::from_vec(Vec::from_slice(alloc, &[turn])?),
+        zone: 0,
+        dawdle: 0,
+        change: 0,
+        seed: 0,
+        start: 0,
+    };
+    Network::build(alloc, &load)
+}
+
+/// The positions of the links of a good plan of two links.
+fn two_of(alloc: Global, net: &Network, plan: &[u64]) -> Option<(usize, usize)> {
+    match net.check_plan(alloc, plan, 0) {
+        Ok(links) => match links.as_slice() {
+            [first, second] => Some((first.position(), second.position())),
+            _ => None,
+        },
+        Err(_) => None,
+    }
+}
+
+/// Plans over two links, the lanes that they begin in, and the answers.
+static PLANS_OVER_TWO: [(&[u64], u64, Answer); 6] = [
+    (&[20], 0, Answer::From(1)),
+    (&[], 1, Answer::Bad(0)),
+    (&[30], 0, Answer::Bad(0)),
+    (&[10, 10], 1, Answer::Bad(1)),
+    (&[20, 10, 30], 0, Answer::Bad(1)),
+    (&[10, 20], 1, Answer::NoLane),
+];
+
+#[test]
+fn plans_of_two_links(rt: HostRuntime) -> Result<(), Fail> {
+    let net = one_after_another(rt.alloc())?;
+    assert!(rt; net.plan_refusal(&[10, 20], 0).is_none());
+    assert_eq!(rt; two_of(rt.alloc(), &net, &[10, 20]), Some((0, 1)));
+    for (plan, lane, wanted) in &PLANS_OVER_TWO {
+        assert_eq!(rt; answer(rt.alloc(), &net, plan, *lane), *wanted);
+    }
+    Ok(())
+}
+
+/// How many links a good plan has.
+fn length_of(alloc: Global, net: &Network, plan: &[u64]) -> Option<usize> {
+    match net.check_plan(alloc, plan, 0) {
+        Ok(links) => Some(links.as_slice().len()),
+        Err(_) => None,
+    }
+}
+
+#[test]
+fn plans_have_at_most_1_024_links(rt: HostRuntime) -> Result<(), Fail> {
+    let plan = vec![in rt.alloc(); 30; 1_025]?;
+    let net = good(rt.alloc())?;
+    let most = &plan.as_slice()[..1_024];
+    assert_eq!(rt; length_of(rt.alloc(), &net, most), Some(1_024));
+    assert_eq!(rt;
+        answer(rt.alloc(), &net, plan.as_slice(), 0),
+        Answer::Bad(1_024)
+    );
+    Ok(())
+}

@@ -1,0 +1,256 @@
+//! Calls of the arena; the expected values are reckoned by hand.
+ghost use Rattle.std.specs.Prelude.{◌≡◌, ◌<◌, IfOk, IsSome, length};
+ghost use Rattle.street_yard.specs.Yard.{entry_at};
+
+use std::alloc::Global;
+use std::process::Abort;
+use std::test::Fail;
+use street_base::{Car, Listing};
+use street_yard::{Key, ListId, Yard};
+
+const FIRST: ListId = ListId(0);
+
+const SECOND: ListId = ListId(1);
+
+// A car with this number and a plan of no links.
+fn car(alloc: Global, number: u32) -> Result<Car, Fail> {
+    Ok(Car {
+        plan: Box::new(alloc, Listing::from_vec(Vec::new(alloc)))?,
+        number,
+        cell: 0,
+        step: 0,
+        at: 0,
+        speed: 0,
+    })
+}
+
+// A yard with so many lists and room for three cars.
+fn yard_of(rt: &(impl Abort + AllocGlobal), lists: usize) -> Result<Yard, Fail>
+    ensures { IfOk result (λ y. length y.lists ≡ lists) }
+{
+    let mut yard = Yard::new(rt.alloc(), lists)?;
+    yard.reserve(3)?;
+    Ok(yard)
+}
+
+// Admits a car.
+fn admit(rt: &(impl Abort + AllocGlobal), yard: &mut Yard, number: u32) -> Key
+    ensures { length yard.new.lists ≡ length yard.old.lists }
+{
+    let Ok(car) = car(rt.alloc(), number) else {
+        panic!(rt; "no memory for a car")
+    };
+    assert!(rt; yard.room() >= 1);
+    yard.admit_reserved(car)
+}
+
+// A loose key comes last on a list.
+fn push(rt: &impl Abort, yard: &mut Yard, list: ListId, key: Key)
+    requires { list.0 < length yard.old.lists }
+    ensures { length yard.new.lists ≡ length yard.old.lists }
+{
+    assert!(rt; yard.is_loose(key));
+    yard.push_back(list, key);
+}
+
+// A loose key comes first on a list.
+fn put_first(rt: &impl Abort, yard: &mut Yard, list: ListId, key: Key)
+    requires { list.0 < length yard.old.lists }
+    ensures { length yard.new.lists ≡ length yard.old.lists }
+{
+    assert!(rt; yard.is_loose(key));
+    yard.insert_behind(list, None, key);
+}
+
+// A loose key comes behind another.
+fn put(rt: &impl Abort, yard: &mut Yard, list: ListId, at: Key, key: Key)
+    requires { list.0 < length yard.old.lists }
+    ensures { length yard.new.lists ≡ length yard.old.lists }
+{
+    assert!(rt; yard.is_loose(key));
+    assert_eq!(rt; yard.list_of(at), Some(list));
+    yard.insert_behind(list, Some(at), key);
+}
+
+// A key of that list leaves it.
+fn cut(rt: &impl Abort, yard: &mut Yard, list: ListId, key: Key)
+    ensures { length yard.new.lists ≡ length yard.old.lists }
+{
+    assert_eq!(rt; yard.list_of(key), Some(list));
+    assert_eq!(rt; yard.unlink(key), list);
+    assert!(rt; yard.is_loose(key));
+}
+
+// A list has these keys first and last, and so many.
+fn is_listed(
+    rt: &impl Abort,
+    yard: &Yard,
+    list: ListId,
+    front: Option<Key>,
+    back: Option<Key>,
+    len: usize,
+)
+    requires { list.0 < length yard.now.lists }
+{
+    assert_eq!(rt; yard.list_front(list), front);
+    assert_eq!(rt; yard.list_back(list), back);
+    assert_eq!(rt; yard.list_len(list), len);
+}
+
+// The key stands on the list between these.
+fn is_between(
+    rt: &impl Abort,
+    yard: &Yard,
+    list: ListId,
+    ahead: Option<Key>,
+    key: Key,
+    behind: Option<Key>,
+) {
+    assert_eq!(rt; yard.list_of(key), Some(list));
+    assert_eq!(rt; yard.ahead(key), ahead);
+    assert_eq!(rt; yard.behind(key), behind);
+}
+
+// Three cars pushed back and the middle one taken off: its neighbours meet.
+#[test]
+fn neighbours_meet(rt: HostRuntime) -> Result<(), Fail> {
+    let mut yard = yard_of(&rt, 1)?;
+    let a = admit(&rt, &mut yard, 0);
+    push(&rt, &mut yard, FIRST, a);
+    let b = admit(&rt, &mut yard, 1);
+    push(&rt, &mut yard, FIRST, b);
+    let c = admit(&rt, &mut yard, 2);
+    push(&rt, &mut yard, FIRST, c);
+    cut(&rt, &mut yard, FIRST, b);
+    is_listed(&rt, &yard, FIRST, Some(a), Some(c), 2);
+    is_between(&rt, &yard, FIRST, None, a, Some(c));
+    is_between(&rt, &yard, FIRST, Some(a), c, None);
+    Ok(())
+}
+
+// An only car goes to another list.
+#[test]
+fn one_car_goes_over(rt: HostRuntime) -> Result<(), Fail> {
+    let mut yard = yard_of(&rt, 2)?;
+    let a = admit(&rt, &mut yard, 0);
+    put_first(&rt, &mut yard, FIRST, a);
+    is_listed(&rt, &yard, FIRST, Some(a), Some(a), 1);
+    cut(&rt, &mut yard, FIRST, a);
+    is_listed(&rt, &yard, FIRST, None, None, 0);
+    push(&rt, &mut yard, SECOND, a);
+    is_listed(&rt, &yard, SECOND, Some(a), Some(a), 1);
+    is_between(&rt, &yard, SECOND, None, a, None);
+    Ok(())
+}
+
+// Of two cars the first, and then the last, goes to the front of another list.
+#[test]
+fn two_cars_go_over(rt: HostRuntime) -> Result<(), Fail> {
+    let mut yard = yard_of(&rt, 2)?;
+    let a = admit(&rt, &mut yard, 0);
+    push(&rt, &mut yard, FIRST, a);
+    let b = admit(&rt, &mut yard, 1);
+    push(&rt, &mut yard, FIRST, b);
+    cut(&rt, &mut yard, FIRST, a);
+    put_first(&rt, &mut yard, SECOND, a);
+    is_listed(&rt, &yard, FIRST, Some(b), Some(b), 1);
+    is_between(&rt, &yard, FIRST, None, b, None);
+    cut(&rt, &mut yard, FIRST, b);
+    put_first(&rt, &mut yard, SECOND, b);
+    is_listed(&rt, &yard, FIRST, None, None, 0);
+    is_listed(&rt, &yard, SECOND, Some(b), Some(a), 2);
+    is_between(&rt, &yard, SECOND, Some(b), a, None);
+    Ok(())
+}
+
+// Of three cars the first, the last and the middle one go to another list, where the third comes between.
+#[test]
+fn three_cars_go_over(rt: HostRuntime) -> Result<(), Fail> {
+    let mut yard = yard_of(&rt, 2)?;
+    let a = admit(&rt, &mut yard, 0);
+    push(&rt, &mut yard, FIRST, a);
+    let b = admit(&rt, &mut yard, 1);
+    push(&rt, &mut yard, FIRST, b);
+    let c = admit(&rt, &mut yard, 2);
+    push(&rt, &mut yard, FIRST, c);
+    cut(&rt, &mut yard, FIRST, a);
+    push(&rt, &mut yard, SECOND, a);
+    is_listed(&rt, &yard, FIRST, Some(b), Some(c), 2);
+    cut(&rt, &mut yard, FIRST, c);
+    push(&rt, &mut yard, SECOND, c);
+    is_listed(&rt, &yard, FIRST, Some(b), Some(b), 1);
+    cut(&rt, &mut yard, FIRST, b);
+    put(&rt, &mut yard, SECOND, a, b);
+    is_listed(&rt, &yard, FIRST, None, None, 0);
+    is_listed(&rt, &yard, SECOND, Some(a), Some(c), 3);
+    is_between(&rt, &yard, SECOND, Some(a), b, Some(c));
+    Ok(())
+}
+
+// The key has a car: it is loose.
+fn is_named(rt: &impl Abort, yard: &Yard, key: Key)
+    ensures { IsSome (entry_at yard.now key.0) }
+{
+    assert!(rt; yard.is_loose(key));
+}
+
+// The cell and the speed of a loose car, read beside it and in it.
+fn is_driven(rt: &impl Abort, yard: &Yard, key: Key, cell: u32, speed: u8) {
+    is_named(rt, yard, key);
+    assert_eq!(rt; yard.cell(key), cell);
+    assert_eq!(rt; yard.speed(key), speed);
+    let car = yard.car(key);
+    assert_eq!(rt; car.cell, cell);
+    assert_eq!(rt; car.speed, speed);
+}
+
+// What is written of a car is read, beside it and in it.
+#[test]
+fn fields_are_kept(rt: HostRuntime) -> Result<(), Fail> {
+    let mut yard = yard_of(&rt, 1)?;
+    let key = admit(&rt, &mut yard, 7);
+    is_driven(&rt, &yard, key, 0, 0);
+    is_named(&rt, &yard, key);
+    yard.drive(key, 9, 4);
+    is_driven(&rt, &yard, key, 9, 4);
+    is_named(&rt, &yard, key);
+    yard.set_cell(key, 11);
+    is_named(&rt, &yard, key);
+    yard.set_speed(key, 2);
+    is_driven(&rt, &yard, key, 11, 2);
+    Ok(())
+}
+
+// So are the step, the position in the plan and the mark.
+#[test]
+fn other_fields_are_kept(rt: HostRuntime) -> Result<(), Fail> {
+    let mut yard = yard_of(&rt, 1)?;
+    let key = admit(&rt, &mut yard, 7);
+    is_named(&rt, &yard, key);
+    assert!(rt; !yard.is_marked(key));
+    yard.set_step(key, 30);
+    is_named(&rt, &yard, key);
+    yard.set_at(key, 1);
+    is_named(&rt, &yard, key);
+    assert_eq!(rt; yard.car(key).step, 30);
+    assert_eq!(rt; yard.car(key).at, 1);
+    yard.mark(key, true);
+    is_named(&rt, &yard, key);
+    assert!(rt; yard.is_marked(key));
+    Ok(())
+}
+
+// A place that a car has left is used again.
+#[test]
+fn place_is_used_again(rt: HostRuntime) -> Result<(), Fail> {
+    let mut yard = yard_of(&rt, 1)?;
+    let a = admit(&rt, &mut yard, 7);
+    assert!(rt; yard.is_loose(a));
+    assert_eq!(rt; yard.take(a).number, 7);
+    assert!(rt; !yard.is_loose(a));
+    assert_eq!(rt; yard.list_of(a), None);
+    assert_eq!(rt; yard.room(), 3);
+    let b = admit(&rt, &mut yard, 8);
+    assert_eq!(rt; b.index(), a.index());
+    Ok(())
+}
