@@ -10,8 +10,6 @@ mod faults;
 mod journal;
 mod laws;
 mod pass;
-#[cfg(test)]
-mod tests;
 mod view;
 
 pub use desk::Desk;

@@ -9,8 +9,6 @@ mod engines;
 mod laws;
 mod running;
 mod service;
-#[cfg(test)]
-mod tests;
 mod writing;
 
 pub use engines::{EngineSession, run_engine};

@@ -10,7 +10,9 @@ ghost use Rattle.street_gap.specs.Closed.{IsWithin};
 use std::alloc::{AllocError, Global};
 use std::process::Abort;
 use std::test::Fail;
-use street_base::{Car, CarNo, CellNo, LinkIx, LinkSpec, Listing, NetSpec, NodeSpec, Plan, Speed};
+use street_base::{
+    Car, CarNo, CellNo, LinkIx, LinkSpec, Listing, NetSpec, NodeSpec, Plan, Speed, Starved,
+};
 use street_gap::Closures;
 use street_net::Network;
 use street_rule::{Dice, Leaver, Road, RoadLane, Watch, motion_pass};
@@ -51,7 +53,7 @@ struct Standing {
 }
 
 /// A vehicle comes last on list 0, in a cell below all others.
-fn put(alloc: Global, yard: &mut Yard, number: CarNo, standing: Standing) -> Result<Key, Fail>
+fn put(alloc: Global, yard: &mut Yard, number: CarNo, standing: Standing) -> Result<Key, Starved>
     requires list { 0 < length yard.old.lists }
     requires lane { IsLane yard.old 0 40 }
     requires below { AllAbove (cell_at yard.old) standing.cell (list_at yard.old 0) }
@@ -94,11 +96,45 @@ fn closed(rt: &(impl Abort + AllocGlobal), first: CellNo, last: CellNo) -> Resul
     Ok(closures)
 }
 
-/// A lane before its motion: three vehicles, the front first, a closed stretch, whether the exit is open, and a detector.
+/// Three vehicles of a lane, the front first.
+type Three = (Standing, Standing, Standing);
+
+/// A vehicle comes last on list 0, for which there is memory.
+fn add(rt: &(impl Abort + AllocGlobal), yard: &mut Yard, number: CarNo, standing: Standing) -> Key
+    requires list { 0 < length yard.old.lists }
+    requires lane { IsLane yard.old 0 40 }
+    requires below { AllAbove (cell_at yard.old) standing.cell (list_at yard.old 0) }
+    requires within { standing.cell < 40 }
+    ensures list { length yard.new.lists ≡ length yard.old.lists }
+    ensures lane { IsLane yard.new 0 40 }
+    ensures below { (cell : ℕ) → cell < standing.cell → AllAbove (cell_at yard.new) cell (list_at yard.new 0) }
+{
+    match put(rt.alloc(), yard, number, standing) {
+        Ok(key) => key,
+        Err(_) => panic!(rt; "no memory for vehicle {number}"),
+    }
+}
+
+/// A yard in which list 0 is a lane of three vehicles, and their keys.
+fn stand(rt: &(impl Abort + AllocGlobal), cars: Three) -> (Yard, (Key, Key, Key))
+    ensures list { 0 < length result.0.lists }
+    ensures lane { IsLane result.0 0 40 }
+{
+    let (first, second, third) = cars;
+    assert!(rt; first.cell < 40 && second.cell < first.cell && third.cell < second.cell);
+    let Ok(mut yard) = Yard::new(rt.alloc(), 1) else {
+        panic!(rt; "no memory for a yard")
+    };
+    let front = add(rt, &mut yard, 0, first);
+    let middle = add(rt, &mut yard, 1, second);
+    let back = add(rt, &mut yard, 2, third);
+    (yard, (front, middle, back))
+}
+
+/// What happens to a lane: whether its exit is open, and where a detector stands.
 #[derive(Clone, Copy)]
 struct Scene {
-    cars: (Standing, Standing, Standing),
-    closed: (CellNo, CellNo),
+    cars: Three,
     exit: bool,
     watch: CellNo,
 }
@@ -141,39 +177,36 @@ fn drive<'a>(
 fn move_once(
     rt: &(impl Abort + AllocGlobal),
     network: &Network,
+    closures: &Closures,
+    dice: &mut Dice,
     scene: Scene,
-) -> Result<Moved, Fail> {
-    let (first, second, third) = scene.cars;
-    assert!(rt; first.cell < 40 && second.cell < first.cell && third.cell < second.cell);
+) -> Moved
+    requires { IsWithin closures.now 40 }
+{
     assert!(rt; scene.watch < 40);
-    let mut yard = Yard::new(rt.alloc(), 1)?;
-    let front = put(rt.alloc(), &mut yard, 0, first)?;
-    let middle = put(rt.alloc(), &mut yard, 1, second)?;
-    let back = put(rt.alloc(), &mut yard, 2, third)?;
-    let closures = closed(rt, scene.closed.0, scene.closed.1)?;
-    let mut dice = Dice::new(rt.alloc(), 0, 0, 0, 3)?;
     let mut watches = [Watch {
         cell: scene.watch,
         passes: 0,
         speeds: 0,
     }];
+    let (mut yard, (front, middle, back)) = stand(rt, scene.cars);
     let left = drive(
         rt,
         network,
-        &closures,
+        closures,
         &mut yard,
         scene.exit,
-        &mut dice,
+        dice,
         &mut watches,
     );
     if let Some(leaver) = &left {
         assert_eq!(rt; leaver.key, front);
     }
-    Ok(Moved {
+    Moved {
         cars: [seen(&yard, front), seen(&yard, middle), seen(&yard, back)],
         left: left.map(|leaver| leaver.speed),
         noted: (watches[0].passes, watches[0].speeds),
-    })
+    }
 }
 
 fn at(cell: CellNo, speed: Speed) -> Standing {
@@ -182,28 +215,26 @@ fn at(cell: CellNo, speed: Speed) -> Standing {
 
 #[test]
 fn vehicles_move_by_the_old_cells(rt: HostRuntime) -> Result<(), Fail> {
+    let mut dice = Dice::new(rt.alloc(), 0, 0, 0, 3)?;
+    let far = closed(&rt, 39, 39)?;
+    let near = closed(&rt, 12, 13)?;
     let network = Network::build(rt.alloc(), &one_link(rt.alloc())?)?;
     let apart = Scene {
         cars: (at(10, 4), at(3, 2), at(0, 3)),
-        closed: (39, 39),
         exit: true,
         watch: 10,
     };
     assert_eq!(rt;
-        move_once(&rt, &network, apart)?,
+        move_once(&rt, &network, &far, &mut dice, apart),
         Moved {
             cars: [Some((15, 5)), Some((6, 3)), Some((2, 2))],
             left: None,
             noted: (1, 5),
         }
     );
-    let before_a_stretch = Scene {
-        closed: (12, 13),
-        watch: 5,
-        ..apart
-    };
+    let before_a_stretch = Scene { watch: 5, ..apart };
     assert_eq!(rt;
-        move_once(&rt, &network, before_a_stretch)?,
+        move_once(&rt, &network, &near, &mut dice, before_a_stretch),
         Moved {
             cars: [Some((11, 1)), Some((6, 3)), Some((2, 2))],
             left: None,
@@ -215,15 +246,16 @@ fn vehicles_move_by_the_old_cells(rt: HostRuntime) -> Result<(), Fail> {
 
 #[test]
 fn an_open_exit_is_left_by(rt: HostRuntime) -> Result<(), Fail> {
+    let mut dice = Dice::new(rt.alloc(), 0, 0, 0, 3)?;
+    let behind = closed(&rt, 5, 6)?;
     let network = Network::build(rt.alloc(), &one_link(rt.alloc())?)?;
-    let closed = Scene {
+    let shut = Scene {
         cars: (at(38, 4), at(30, 5), at(29, 0)),
-        closed: (5, 6),
         exit: false,
         watch: 38,
     };
     assert_eq!(rt;
-        move_once(&rt, &network, closed)?,
+        move_once(&rt, &network, &behind, &mut dice, shut),
         Moved {
             cars: [Some((39, 1)), Some((35, 5)), Some((29, 0))],
             left: None,
@@ -233,10 +265,10 @@ fn an_open_exit_is_left_by(rt: HostRuntime) -> Result<(), Fail> {
     let open = Scene {
         exit: true,
         watch: 39,
-        ..closed
+        ..shut
     };
     assert_eq!(rt;
-        move_once(&rt, &network, open)?,
+        move_once(&rt, &network, &behind, &mut dice, open),
         Moved {
             cars: [None, Some((35, 5)), Some((29, 0))],
             left: Some(5),

@@ -263,7 +263,7 @@ fn good(alloc: Global) -> Result<Network, Fail> {
 }
 
 /// The answer to a plan that begins in this lane.
-fn answer(alloc: Global, net: &Network, plan: &[u64], lane: u64) -> Answer {
+fn answer_to(alloc: Global, net: &Network, plan: &[u64], lane: u64) -> Answer {
     told(net.check_plan(alloc, plan, lane))
 }
 
@@ -279,7 +279,7 @@ static PLANS: [(&[u64], u64, Answer); 4] = [
 fn plans(rt: HostRuntime) -> Result<(), Fail> {
     let net = good(rt.alloc())?;
     for (plan, lane, wanted) in &PLANS {
-        assert_eq!(rt; answer(rt.alloc(), &net, plan, *lane), *wanted);
+        assert_eq!(rt; answer_to(rt.alloc(), &net, plan, *lane), *wanted);
     }
     Ok(())
 }
@@ -429,7 +429,7 @@ fn plans_of_two_links(rt: HostRuntime) -> Result<(), Fail> {
     assert!(rt; net.plan_refusal(&[10, 20], 0).is_none());
     assert_eq!(rt; two_of(rt.alloc(), &net, &[10, 20]), Some((0, 1)));
     for (plan, lane, wanted) in &PLANS_OVER_TWO {
-        assert_eq!(rt; answer(rt.alloc(), &net, plan, *lane), *wanted);
+        assert_eq!(rt; answer_to(rt.alloc(), &net, plan, *lane), *wanted);
     }
     Ok(())
 }
@@ -449,7 +449,7 @@ fn plans_have_at_most_1_024_links(rt: HostRuntime) -> Result<(), Fail> {
     let most = &plan.as_slice()[..1_024];
     assert_eq!(rt; length_of(rt.alloc(), &net, most), Some(1_024));
     assert_eq!(rt;
-        answer(rt.alloc(), &net, plan.as_slice(), 0),
+        answer_to(rt.alloc(), &net, plan.as_slice(), 0),
         Answer::Bad(1_024)
     );
     Ok(())

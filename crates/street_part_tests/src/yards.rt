@@ -2,7 +2,7 @@
 ghost use Rattle.std.specs.Prelude.{◌≡◌, ◌<◌, IfOk, IsSome, length};
 ghost use Rattle.street_yard.specs.Yard.{entry_at};
 
-use std::alloc::Global;
+use std::alloc::{AllocError, Global};
 use std::process::Abort;
 use std::test::Fail;
 use street_base::{Car, Listing};
@@ -13,7 +13,7 @@ const FIRST: ListId = ListId(0);
 const SECOND: ListId = ListId(1);
 
 // A car with this number and a plan of no links.
-fn car(alloc: Global, number: u32) -> Result<Car, Fail> {
+fn car(alloc: Global, number: u32) -> Result<Car, AllocError> {
     Ok(Car {
         plan: Box::new(alloc, Listing::from_vec(Vec::new(alloc)))?,
         number,

@@ -10,8 +10,6 @@ mod laws;
 mod lines;
 mod replaying;
 mod stop;
-#[cfg(test)]
-mod tests;
 
 pub use fault::TapeFault;
 pub use laws::tape_replays;

@@ -7,8 +7,6 @@
 mod running;
 mod script;
 mod session;
-#[cfg(test)]
-mod tests;
 
 pub use running::{run_alone, run_session};
 pub use script::{Script, answer_all, run_scripts};

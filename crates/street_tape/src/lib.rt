@@ -6,11 +6,10 @@
 
 mod laws;
 mod reading;
-#[cfg(test)]
-mod tests;
 mod texts;
 mod writing;
 
 pub use laws::tape_reads_back;
 pub use reading::{LONGEST_TAPE_LINE, read_entry, read_version};
+pub use texts::{entry_text, head_text};
 pub use writing::write_tape;

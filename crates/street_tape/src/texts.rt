@@ -48,7 +48,7 @@ fn line_text(alloc: Global, value: &Value) -> Result<Vec<u8>, Starved>
 
 /// The first line of a tape, with its LF.
 #[tactic(auto, unfolding(crate::specs::Tapes::head_line))]
-pub(crate) fn head_text(alloc: Global) -> Result<Vec<u8>, Starved>
+pub fn head_text(alloc: Global) -> Result<Vec<u8>, Starved>
     ensures { IfOk result (λ text. text.items ≡ head_line) }
 {
     let value = head_value(alloc)?;
@@ -57,7 +57,7 @@ pub(crate) fn head_text(alloc: Global) -> Result<Vec<u8>, Starved>
 
 /// The line of a call, with its LF.
 #[tactic(auto, unfolding(crate::specs::Tapes::entry_line))]
-pub(crate) fn entry_text(alloc: Global, entry: &Entry) -> Result<Vec<u8>, Starved>
+pub fn entry_text(alloc: Global, entry: &Entry) -> Result<Vec<u8>, Starved>
     ensures { IfOk result (λ text. text.items ≡ entry_line entry.now) }
 {
     let value = entry_value(alloc, entry)?;

@@ -17,8 +17,6 @@ mod meters;
 mod release;
 mod show;
 mod step;
-#[cfg(test)]
-mod tests;
 mod tile;
 mod view;
 

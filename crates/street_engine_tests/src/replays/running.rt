@@ -1,0 +1,66 @@
+//! A replay on an engine with nothing loaded, between ends in memory.
+
+use crate::ends::{Given, Taking};
+use std::alloc::Global;
+use std::thread::Threads;
+use street_ends::{Counted, Tally};
+use street_engine::{Engine, Unwatched};
+use street_replay::{TapeFault, replay_within};
+
+/// How a replay ended, and what it left.
+#[derive(Drop)]
+pub(super) struct Ran {
+    pub(super) fault: Option<TapeFault>,
+    pub(super) tally: Option<Tally>,
+    pub(super) taken: Vec<u8>,
+    pub(super) flushed: usize,
+}
+
+/// Replays a text from a reader.
+pub(super) fn replayed_from<R: Threads + Sync>(
+    rt: &R,
+    alloc: Global,
+    reader: Given<'_>,
+    writer: Taking,
+    reads: u32,
+) -> Ran {
+    let mut reader = Counted::new(reader);
+    let mut writer = Counted::new(writer);
+    let mut engine = Engine::new(alloc, 1, Unwatched);
+    let (fault, tally) = match replay_within(
+        rt,
+        alloc,
+        &mut reader,
+        &mut engine,
+        &mut writer,
+        reads,
+    ) {
+        Ok(tally) => (None, Some(tally)),
+        Err(fault) => (Some(fault), None),
+    };
+    Ran {
+        fault,
+        tally,
+        flushed: writer.end.flushed,
+        taken: writer.end.taken,
+    }
+}
+
+/// Replays a text that is read in pieces.
+pub(super) fn replayed<R: Threads + Sync>(
+    rt: &R,
+    alloc: Global,
+    text: &[u8],
+    piece: usize,
+    writer: Taking,
+    reads: u32,
+) -> Ran {
+    let reader = Given {
+        text,
+        at: 0,
+        piece,
+        is_endless: false,
+        reads_left: 1_000_000,
+    };
+    replayed_from(rt, alloc, reader, writer, reads)
+}

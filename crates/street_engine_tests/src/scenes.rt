@@ -1,0 +1,75 @@
+//! Small networks, and commands over them.
+
+use std::alloc::{AllocError, Global};
+use street_base::{Command, LinkSpec, Listing, NetSpec, NodeSpec, TurnSpec};
+
+/// A node with this identifier.
+pub(crate) fn node(id: u64) -> NodeSpec {
+    NodeSpec {
+        id,
+        residence: 1,
+        capacity: 2,
+    }
+}
+
+/// A link of one lane with this identifier, between these nodes.
+pub(crate) fn link(id: u64, from: u64, to: u64, length: u64) -> LinkSpec {
+    LinkSpec {
+        id,
+        from,
+        to,
+        lanes: 1,
+        length,
+        limit: 5,
+    }
+}
+
+/// A load of these, in which nobody dawdles.
+pub(crate) fn load(
+    alloc: Global,
+    nodes: &[NodeSpec],
+    links: &[LinkSpec],
+    turns: &[TurnSpec],
+) -> Result<Command, AllocError> {
+    Ok(Command::Load(NetSpec {
+        nodes: Listing::from_vec(Vec::from_slice(alloc, nodes)?),
+        links: Listing::from_vec(Vec::from_slice(alloc, links)?),
+        turns: Listing::from_vec(Vec::from_slice(alloc, turns)?),
+        zone: 0,
+        dawdle: 0,
+        change: 0,
+        seed: 0,
+        start: 0,
+    }))
+}
+
+/// A load of one link, named 10, of so many cells.
+pub(crate) fn one_link(alloc: Global, length: u64) -> Result<Command, AllocError> {
+    load(alloc, &[node(1)], &[link(10, 1, 1, length)], &[])
+}
+
+/// A load of two nodes, and a link of one cell each way: link 10 runs to the second node, link 20 to the first, and each turns
+/// to the other.
+pub(crate) fn there_and_back(alloc: Global) -> Result<Command, AllocError> {
+    let turn = |link: u64, next: u64| TurnSpec {
+        link,
+        lane: 0,
+        next,
+        next_lane: 0,
+    };
+    load(
+        alloc,
+        &[node(1), node(2)],
+        &[link(10, 1, 2, 1), link(20, 2, 1, 1)],
+        &[turn(10, 20), turn(20, 10)],
+    )
+}
+
+/// A vehicle goes over these links, from this step on.
+pub(crate) fn enter(alloc: Global, plan: &[u64], depart: u64) -> Result<Command, AllocError> {
+    Ok(Command::Enter {
+        plan: Listing::from_vec(Vec::from_slice(alloc, plan)?),
+        lane: 0,
+        depart,
+    })
+}

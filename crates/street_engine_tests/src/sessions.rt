@@ -1,0 +1,143 @@
+//! Sessions at a desk. What is wanted was worked out by hand from the rules.
+ghost use Rattle.std.specs.Prelude.{◌≡◌, ◌≤◌};
+
+mod alone;
+
+use std::alloc::Global;
+use std::process::Abort;
+use std::sync::Wait;
+use std::thread::Threads;
+use street_base::{Command, Refusal, Reply};
+use street_desk::{Desk, Journal, Pass};
+use street_engine::{Engine, Unwatched};
+use street_line::{Counted, Tally};
+use street_session::{DeskSession, run_alone};
+
+/// A desk of so many calls for so many sessions, and the pass for all of them.
+fn desk_of<R: Abort + AllocGlobal>(
+    rt: &R,
+    calls: u64,
+    sessions: u64,
+) -> (Desk<Unwatched>, Pass<Unwatched>)
+    requires { (1 ≤ calls) × (calls ≤ 1000000) × (1 ≤ sessions) × (sessions ≤ 1024) }
+    ensures { result.1.desk ≡ result.0 }
+{
+    let engine = Engine::new(rt.alloc(), 1, Unwatched);
+    match Desk::start(rt.alloc(), engine, calls, sessions) {
+        Ok(made) => made,
+        Err(_) => panic!(rt; "no desk"),
+    }
+}
+
+/// The journal that a desk is finished with.
+fn journal_of(rt: &impl Abort, desk: Desk<Unwatched>, pass: Pass<Unwatched>) -> Journal
+    requires { pass.desk ≡ desk }
+{
+    match desk.finish(pass) {
+        Ok((_, journal)) => journal,
+        Err(torn) => panic!(rt; "torn at {}", torn.word),
+    }
+}
+
+/// The tally of these lines at a desk of one call, what was written, and how many entries the journal has.
+fn one_call_of<R: Threads + Wait + Abort + AllocGlobal + Sync>(
+    rt: &R,
+    lines: &[u8],
+) -> (Option<Tally>, Vec<u8>, usize) {
+    let (desk, pass) = desk_of(rt, 1, 1);
+    let mut session = DeskSession::new(rt, &desk, pass);
+    let mut reader = Counted::new(lines);
+    let mut writer = Counted::new(Vec::new(rt.alloc()));
+    let tally = run_alone(rt.alloc(), &mut session, &mut reader, &mut writer).ok();
+    let pass = session.into_pass();
+    let journal = journal_of(rt, desk, pass);
+    (tally, writer.end, journal.len())
+}
+
+/// A desk of one call: the second command is told that no place is left, a faulty line is told its fault all the same, and
+/// the journal has the first.
+#[test]
+fn one_call(rt: HostRuntime) {
+    let want =
+        b"{\"error\":1,\"name\":\"NotLoaded\"}\n{\"error\":23,\"name\":\"Full\"}\n{\"error\":21,\"name\":\"BadCommand\"}\n";
+    let lines = b"{\"cmd\":\"count\"}\n{\"cmd\":\"count\"}\n[]\n";
+    let (tally, written, entries) = one_call_of(&rt, lines);
+    assert_eq!(rt; written.as_slice(), want.as_slice());
+    assert_eq!(rt;
+        tally,
+        Some(Tally {
+            lines: 3,
+            calls: 2,
+            replies: 3,
+            bytes: want.len() as u128,
+        })
+    );
+    assert_eq!(rt; entries, 1);
+}
+
+/// Counts before any load.
+fn check_count<R: Threads + Wait + Abort + Sync>(
+    rt: &R,
+    desk: &Desk<Unwatched>,
+    pass: &mut Pass<Unwatched>,
+)
+    requires { pass.old.desk ≡ desk.now }
+    ensures { pass.new.desk ≡ desk.now }
+{
+    match desk.call(rt, pass, Command::Count) {
+        Ok(reply) => assert!(rt; matches!(&reply, Reply::Refused(Refusal::NotLoaded))),
+        Err(full) => panic!(rt; "full at {}", full.served),
+    }
+}
+
+/// The second hears of what the first has seen.
+fn tell(
+    rt: &impl Abort,
+    desk: &Desk<Unwatched>,
+    first: &mut Pass<Unwatched>,
+    second: &mut Pass<Unwatched>,
+)
+    requires { (first.old.desk ≡ desk.now) × (second.old.desk ≡ desk.now) }
+    ensures { (first.new.desk ≡ desk.now) × (second.new.desk ≡ desk.now) }
+{
+    match desk.note(first) {
+        Ok(note) => desk.hear(second, note),
+        Err(_) => panic!(rt; "no note"),
+    }
+}
+
+/// Another call finds no place, where two were served.
+fn check_full<R: Threads + Wait + Abort + Sync>(
+    rt: &R,
+    desk: &Desk<Unwatched>,
+    pass: &mut Pass<Unwatched>,
+)
+    requires { pass.old.desk ≡ desk.now }
+    ensures { pass.new.desk ≡ desk.now }
+{
+    match desk.call(rt, pass, Command::Count) {
+        Ok(_) => panic!(rt; "a place was left"),
+        Err(full) => assert_eq!(rt; full.served, 2),
+    }
+}
+
+/// Two passes and a note: who hears of a call and makes one knows of both, and a third finds no place.
+#[test]
+fn a_note_is_heard(rt: HostRuntime) {
+    let (desk, mut first) = desk_of(&rt, 2, 2);
+    let Ok(mut second) = desk.split(&mut first) else {
+        panic!(&rt; "no second pass")
+    };
+    check_count(&rt, &desk, &mut first);
+    tell(&rt, &desk, &mut first, &mut second);
+    check_count(&rt, &desk, &mut second);
+    assert_eq!(rt; desk.served(&mut second), 2);
+    check_full(&rt, &desk, &mut first);
+    let journal = journal_of(&rt, desk, first);
+    assert_eq!(rt; journal.len(), 2);
+    let sessions = [
+        journal.entry(0).map(|entry| entry.session),
+        journal.entry(1).map(|entry| entry.session),
+    ];
+    assert_eq!(rt; sessions, [Some(0), Some(1)]);
+}

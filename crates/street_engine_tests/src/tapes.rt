@@ -1,0 +1,272 @@
+//! Tapes written and read. What is wanted was worked out by hand from the form of a tape.
+ghost use Rattle.std.specs.Prelude.{◌≡◌};
+
+use std::alloc::Global;
+use std::io;
+use std::io::Write;
+use std::process::Abort;
+use std::sync::Wait;
+use std::test::Fail;
+use std::thread::Threads;
+use street_base::{Command, Outcome};
+use street_desk::{Desk, Entry, Journal, Pass};
+use street_ends::{Counted, FaultKind, RunFault, Tally};
+use street_engine::{Engine, Unwatched};
+use street_tape::{entry_text, head_text, read_entry, read_version, write_tape};
+use street_text::{LineFault, read_command};
+
+/// One vehicle that drives along one link and arrives.
+static LINES: [&str; 4] = [
+    r#"{"cmd":"load","nodes":[[1,1,2],[2,1,2],[3,1,2]],"links":[[10,1,2,1,10,5],[20,2,3,1,10,5]],"turns":[[10,0,20,0]],"zone":0,"dawdle":0,"change":0,"seed":0}"#,
+    r#"{"cmd":"enter","plan":[10],"lane":0,"depart":0}"#,
+    r#"{"cmd":"advance","steps":5}"#,
+    r#"{"cmd":"vehicle","car":0}"#,
+];
+
+/// Its tape.
+static TAPE: &str = concat!(
+    r#"{"tape":1}"#,
+    "\n",
+    r#"{"command":{"change":0,"cmd":"load","dawdle":0,"links":[[10,1,2,1,10,5],[20,2,3,1,10,5]],"nodes":[[1,1,2],[2,1,2],[3,1,2]],"seed":0,"start":0,"turns":[[10,0,20,0]],"zone":0},"outcome":"whole","session":0}"#,
+    "\n",
+    r#"{"command":{"cmd":"enter","depart":0,"lane":0,"plan":[10]},"outcome":"whole","session":0}"#,
+    "\n",
+    r#"{"command":{"cmd":"advance","steps":5},"outcome":"whole","session":0}"#,
+    "\n",
+    r#"{"command":{"car":0,"cmd":"vehicle"},"outcome":"whole","session":0}"#,
+    "\n",
+);
+
+/// Calls the command of a line.
+fn call<R: Threads + Wait + Abort + AllocGlobal + Sync>(
+    rt: &R,
+    desk: &Desk<Unwatched>,
+    pass: &mut Pass<Unwatched>,
+    line: &str,
+)
+    requires { pass.old.desk ≡ desk.now }
+    ensures { pass.new.desk ≡ desk.now }
+{
+    let Ok(command) = read_command(rt.alloc(), line.as_bytes()) else {
+        panic!(rt; "no command: {line}")
+    };
+    assert!(rt; desk.call(rt, pass, command).is_ok(), "no place: {line}");
+}
+
+/// The journal of the four lines.
+fn journal_of<R: Threads + Wait + Abort + AllocGlobal + Sync>(rt: &R) -> Journal {
+    let engine = Engine::new(rt.alloc(), 1, Unwatched);
+    let Ok((desk, mut pass)) = Desk::start(rt.alloc(), engine, 4, 1) else {
+        panic!(rt; "no desk")
+    };
+    call(rt, &desk, &mut pass, LINES[0]);
+    call(rt, &desk, &mut pass, LINES[1]);
+    call(rt, &desk, &mut pass, LINES[2]);
+    call(rt, &desk, &mut pass, LINES[3]);
+    match desk.finish(pass) {
+        Ok((_, journal)) => journal,
+        Err(torn) => panic!(rt; "torn at {}", torn.word),
+    }
+}
+
+/// Takes bytes while there is room, seven at most at a time, and then fails.
+#[derive(Drop)]
+struct Short {
+    taken: Vec<u8>,
+    room: usize,
+}
+
+impl Write for Short {
+    fn write(&mut self, bytes: &[u8]) -> io::Result<usize> {
+        let count = bytes.len().min(7).min(self.room);
+        if count == 0 {
+            return Err(io::Error::from(io::ErrorKind::BrokenPipe));
+        }
+        self.taken.extend_from_slice(&bytes[..count])?;
+        self.room -= count;
+        Ok(count)
+    }
+
+    fn flush(&mut self) -> io::Result<()> {
+        if self.room == 0 {
+            return Err(io::Error::from(io::ErrorKind::BrokenPipe));
+        }
+        Ok(())
+    }
+}
+
+/// How many bytes the tape of a journal has, and what was written.
+fn taped(alloc: Global, journal: &Journal) -> (Option<u128>, Vec<u8>) {
+    let mut writer = Counted::new(Vec::new(alloc));
+    let bytes = write_tape(alloc, journal, &mut writer).ok();
+    (bytes, writer.end)
+}
+
+#[test]
+fn a_journal_has_its_tape(rt: HostRuntime) {
+    let journal = journal_of(&rt);
+    let (bytes, written) = taped(rt.alloc(), &journal);
+    assert_eq!(rt; written.as_slice(), TAPE.as_bytes());
+    assert_eq!(rt; bytes, Some(TAPE.len() as u128));
+}
+
+/// What is told where there is so much room for a tape, and what was taken.
+fn taped_in(alloc: Global, journal: &Journal, room: usize) -> (Option<RunFault>, Vec<u8>) {
+    let mut writer = Counted::new(Short {
+        taken: Vec::new(alloc),
+        room,
+    });
+    let fault = write_tape(alloc, journal, &mut writer).err();
+    (fault, writer.end.taken)
+}
+
+#[test]
+fn a_fault_leaves_the_first_bytes(rt: HostRuntime) {
+    let journal = journal_of(&rt);
+    for room in [0, 1, 10, 11, 12, 200, TAPE.len() - 1, TAPE.len()] {
+        let (fault, taken) = taped_in(rt.alloc(), &journal, room);
+        let tally = Tally {
+            lines: 0,
+            calls: 0,
+            replies: 0,
+            bytes: room as u128,
+        };
+        let wanted = RunFault {
+            kind: FaultKind::Write,
+            tally,
+        };
+        assert_eq!(rt; fault, Some(wanted), "at {room}");
+        assert_eq!(rt;
+            Some(taken.as_slice()),
+            TAPE.as_bytes().get(..room),
+            "at {room}"
+        );
+    }
+}
+
+/// The outcomes of a call, and its line with each.
+const OUTCOMES: [(Outcome, &str); 3] = [
+    (
+        Outcome::Whole,
+        "{\"command\":{\"cmd\":\"advance\",\"steps\":9},\"outcome\":\"whole\",\"session\":3}\n",
+    ),
+    (
+        Outcome::Starved,
+        "{\"command\":{\"cmd\":\"advance\",\"steps\":9},\"outcome\":\"starved\",\"session\":3}\n",
+    ),
+    (
+        Outcome::Short(4),
+        "{\"command\":{\"cmd\":\"advance\",\"steps\":9},\"outcome\":4,\"session\":3}\n",
+    ),
+];
+
+/// The session, the steps and the outcome of a line of an advance.
+fn advance_in(alloc: Global, line: &str) -> Option<(u64, u64, Outcome)> {
+    let Ok(entry) = read_entry(alloc, line.as_bytes()) else {
+        return None;
+    };
+    match entry.command {
+        Command::Advance { steps } => Some((entry.session, steps, entry.outcome)),
+        _ => None,
+    }
+}
+
+#[test]
+fn each_outcome_has_its_line(rt: HostRuntime) -> Result<(), Fail> {
+    assert_eq!(rt;
+        head_text(rt.alloc())?.as_slice(),
+        b"{\"tape\":1}\n".as_slice()
+    );
+    for (outcome, line) in OUTCOMES {
+        let entry = Entry {
+            session: 3,
+            command: Command::Advance { steps: 9 },
+            outcome,
+        };
+        assert_eq!(rt; entry_text(rt.alloc(), &entry)?.as_slice(), line.as_bytes());
+        assert_eq!(rt; advance_in(rt.alloc(), line), Some((3, 9, outcome)));
+    }
+    Ok(())
+}
+
+/// Lines that are no calls, and why.
+static BAD_LINES: [(&str, LineFault); 14] = [
+    ("", LineFault::NotJson),
+    (" \t\r", LineFault::NotJson),
+    ("x", LineFault::NotJson),
+    ("[]", LineFault::BadCommand),
+    (r#"{"tape":1}"#, LineFault::BadCommand),
+    (r#"{"cmd":"count"}"#, LineFault::BadCommand),
+    (
+        r#"{"command":{"cmd":"count"},"outcome":"whole"}"#,
+        LineFault::BadCommand,
+    ),
+    (
+        r#"{"command":{"cmd":"count"},"session":0}"#,
+        LineFault::BadCommand,
+    ),
+    (r#"{"outcome":"whole","session":0}"#, LineFault::BadCommand),
+    (
+        r#"{"command":{"cmd":"counts"},"outcome":"whole","session":0}"#,
+        LineFault::BadCommand,
+    ),
+    (
+        r#"{"command":{"cmd":"count"},"outcome":"Whole","session":0}"#,
+        LineFault::BadCommand,
+    ),
+    (
+        r#"{"command":{"cmd":"count"},"outcome":1.5,"session":0}"#,
+        LineFault::BadCommand,
+    ),
+    (
+        r#"{"command":{"cmd":"count"},"outcome":"whole","session":-1}"#,
+        LineFault::BadCommand,
+    ),
+    (
+        r#"{"command":[],"outcome":"whole","session":0}"#,
+        LineFault::BadCommand,
+    ),
+];
+
+#[test]
+fn bad_lines_have_their_faults(rt: HostRuntime) {
+    for (line, want) in &BAD_LINES {
+        match read_entry(rt.alloc(), line.as_bytes()) {
+            Ok(_) => panic!(rt; "a call: {line}"),
+            Err(fault) => assert_eq!(rt; fault, *want, "at {line}"),
+        }
+    }
+}
+
+/// First lines, and what they tell.
+#[test]
+fn first_lines_tell_their_version(rt: HostRuntime) {
+    for (line, want) in [
+        (r#"{"tape":1}"#, Ok(1)),
+        (r#" {"x":[],"tape":2}"#, Ok(2)),
+        (r#"{"tape":1.0}"#, Err(LineFault::BadCommand)),
+        (r#"{"tape":"1"}"#, Err(LineFault::BadCommand)),
+        (r#"{"Tape":1}"#, Err(LineFault::BadCommand)),
+        ("[1]", Err(LineFault::BadCommand)),
+        ("", Err(LineFault::NotJson)),
+    ] {
+        assert_eq!(rt;
+            read_version(rt.alloc(), line.as_bytes()),
+            want,
+            "at {line}"
+        );
+    }
+}
+
+#[test]
+fn a_line_may_have_2_097_152_bytes(rt: HostRuntime) -> Result<(), Fail> {
+    let mut line = Vec::from_slice(rt.alloc(), br#"{"tape":1}"#)?;
+    line.extend_from_slice(vec![in rt.alloc(); b' '; 2_097_152 - 10]?.as_slice())?;
+    assert_eq!(rt; read_version(rt.alloc(), line.as_slice()), Ok(1));
+    line.push(b' ')?;
+    assert_eq!(rt;
+        read_version(rt.alloc(), line.as_slice()),
+        Err(LineFault::LineTooLong)
+    );
+    Ok(())
+}
