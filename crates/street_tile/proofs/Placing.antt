@@ -127,8 +127,8 @@ module _ (net : NetSpec) (x : Part) (tile : IsTileOf net x) (n : ℕ) (p : Place
             (stand-more (gauges_at x.gauges k).meters (detectors_on q m.detectors) placed.meter (one_more m) (stand k q at_q) (new_stands m s))))
         | inr other ↦ (
             let away : is_place q p ≡ false = false_from_ne_true (is_place q p) (λ h.
-              let same : q ≡ p = is_place-same q p h in
-              absurd (other (alone-at x.own.places (once-in net x tile) k n p (at_q ∙ ap (λ (r : Place). Some r) same) at))) in
+            let same : q ≡ p = is_place-same q p h in
+            absurd (other (alone-at x.own.places (once-in net x tile) k n p (at_q ∙ ap (λ (r : Place). Some r) same) at))) in
             let meters : (gauges_at (set x.gauges n after) k).meters ≡ (gauges_at x.gauges k).meters = ap (λ (g : Gauges). g.meters) (get_or-set_other x.gauges n k after no_gauges other) in
             subst (λ xs. MetersStandFor xs (detectors_on q (m.detectors ++ one_more m ∷ []))) (sym meters)
             (subst (MetersStandFor (gauges_at x.gauges k).meters) (sym (more-away q m.detectors (one_more m) away)) (stand k q at_q)))
