@@ -116,4 +116,3 @@ fn misfit(found: &Options<'_>) -> Option<(ErrorKind, &'static str)>
     }
     None
 }
-

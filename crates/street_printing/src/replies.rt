@@ -7,7 +7,6 @@ ghost use Rattle.street_printing.specs.Printing.{number_at, text_at, error_at, r
 ghost use Rattle.street_base.specs.declared.reply.Reply.TheVariants.{Loaded, Short, Rows, Lane, Census, Starved as StarvedReply};
 ghost use Rattle.street_base.specs.declared.reply.Whereabouts.TheVariants.{Cell, Buffer, Waiting};
 
-
 use crate::errors::error_value;
 use crate::lists::{Printed, list_value};
 use serde_json::{Value, json};

@@ -6,7 +6,6 @@ ghost use Rattle.street_base.specs.declared.command.Command.TheVariants.{Load, E
 ghost use Rattle.street_reading.specs.Reading.{longest_line, reading};
 ghost use Rattle.street_text.specs.CommandTexts.{stretch_data_of, car_data_of, command_data, text_of};
 
-
 use serde_json::{Value, json};
 use std::alloc::{AllocError, Global};
 use street_base::{Command, NetSpec, PhaseSpec, Starved};
