@@ -1,7 +1,7 @@
 #!/usr/bin/env python3
-"""Times `vehicle` and `count` lines beside many vehicles, and `enter` lines of as many on one lane with random departs.
+"""Times `vehicle` and `count` lines beside many vehicles, and `enter` lines of many on one lane with random departs.
 
-Usage: bench/vehicles.py PROGRAM [--beside OTHER] [--vehicles N] [--lines N] [--times N]
+Usage: bench/vehicles.py PROGRAM [--beside OTHER] [--vehicles N] [--lines N] [--waiting N] [--times N]
 
 The vehicles drive on 1,000 one-lane links of 2,000 cells, each from a node to itself. OTHER is another program for the same
 lines: the runs of both take turns, and their replies must be the same, byte for byte.
@@ -47,18 +47,19 @@ def driving(vehicles):
     return load(LINKS) + entered + line({"cmd": "advance", "steps": STEPS})
 
 
-def sessions(vehicles, lines):
+def sessions(vehicles, lines, waiting):
     """For each session its name, the lines that it stands on, the lines that are timed, and what each reply to these has."""
     draws = random.Random(1)
-    cars = [draws.randrange(vehicles) for _ in range(lines)]
-    base, departs = driving(vehicles), [draws.randrange(1_000_000) for _ in range(vehicles)]
+    base, cars = driving(vehicles), [draws.randrange(vehicles) for _ in range(lines)]
     asked = "".join(line({"cmd": "vehicle", "car": car}) for car in cars)
     yield "vehicle", base, asked, [{"car": car} for car in cars]
-    waiting = load(1) + "".join(enter(0, depart) for depart in departs)
-    yield "vehicle, all waiting", waiting, asked, [{"car": car, "state": "waiting"} for car in cars]
     counts = line({"cmd": "count"}) * lines
     yield "count", base, counts, [{"admitted": vehicles, "arrived": 0, "waiting": 0}] * lines
-    yield "enter, one lane", load(1), waiting[len(load(1)) :], [{"car": car} for car in range(vehicles)]
+    entered = "".join(enter(0, draws.randrange(1_000_000)) for _ in range(waiting))
+    yield f"enter, {waiting} on one lane", load(1), entered, [{"car": car} for car in range(waiting)]
+    cars = [draws.randrange(waiting) for _ in range(lines // 100)]  # fewer, since who waits is sought
+    asked = "".join(line({"cmd": "vehicle", "car": car}) for car in cars)
+    yield "vehicle, one of these", load(1) + entered, asked, [{"car": car, "state": "waiting"} for car in cars]
 
 
 class Program:
@@ -94,12 +95,13 @@ def main():
     parser.add_argument("--beside")
     parser.add_argument("--vehicles", type=int, default=100_000)
     parser.add_argument("--lines", type=int, default=300_000)
+    parser.add_argument("--waiting", type=int, default=20_000)
     parser.add_argument("--times", type=int, default=5)
     args = parser.parse_args()
 
     programs = [Program(path) for path in (args.program, args.beside) if path]
     print(f"{args.vehicles} vehicles, lines a second (best of {args.times})")
-    for name, base, timed, expected in sessions(args.vehicles, args.lines):
+    for name, base, timed, expected in sessions(args.vehicles, args.lines, args.waiting):
         below, whole = [[] for _ in programs], [[] for _ in programs]
         for _ in range(args.times):
             for at, program in enumerate(programs):
@@ -113,7 +115,7 @@ def main():
                     raise SystemExit(f"{name}: the replies of the two differ")
         rates = [len(expected) / (min(more) - min(less)) for more, less in zip(whole, below, strict=True)]
         beside = f", beside {rates[1]:.0f}: {rates[0] / rates[1]:.2f}" if args.beside else ""
-        print(f"  {name:<22}{rates[0]:.0f}{beside}")
+        print(f"  {name:<28}{rates[0]:.0f}{beside}")
 
 
 main()
