@@ -1,5 +1,6 @@
 //! Sessions at a desk. What is wanted was worked out by hand from the rules.
 ghost use Rattle.std.specs.Prelude.{◌≡◌, ◌≤◌};
+ghost use Rattle.street_desk.specs.Passes.{first_pass};
 
 mod alone;
 
@@ -20,7 +21,8 @@ fn desk_of<R: Abort + AllocGlobal>(
     sessions: u64,
 ) -> (Desk<Unwatched>, Pass<Unwatched>)
     requires { (1 ≤ calls) × (calls ≤ 1000000) × (1 ≤ sessions) × (sessions ≤ 1024) }
-    ensures { result.1.desk ≡ result.0 }
+    ensures counts { (result.0.calls ≡ calls) × (result.0.sessions ≡ sessions) }
+    ensures pass { (result.1.desk ≡ result.0) × (result.1 ≡ first_pass result.0) }
 {
     let engine = Engine::new(rt.alloc(), 1, Unwatched);
     match Desk::start(rt.alloc(), engine, calls, sessions) {

@@ -1,6 +1,7 @@
 //! Loads with and without a fault, look-ups, and plans.
 
 use std::alloc::{AllocError, Global};
+use std::process::Abort;
 use std::test::Fail;
 use street_base::{
     LaneNo, LinkIx, LinkSpec, Listing, NetSpec, NodeSpec, Part, Plan, Speed, TurnSpec,
@@ -262,25 +263,24 @@ fn good(alloc: Global) -> Result<Network, Fail> {
     Ok(Network::build(alloc, &GOOD.load(alloc)?)?)
 }
 
-/// The answer to a plan that begins in this lane.
-fn answer_to(alloc: Global, net: &Network, plan: &[u64], lane: u64) -> Answer {
-    told(net.check_plan(alloc, plan, lane))
+/// A plan that begins in this lane is answered so.
+fn check_answer(
+    rt: &(impl Abort + AllocGlobal),
+    net: &Network,
+    plan: &[u64],
+    lane: u64,
+    wanted: Answer,
+) {
+    assert_eq!(rt; told(net.check_plan(rt.alloc(), plan, lane)), wanted);
 }
-
-/// Plans over that network, the lanes that they begin in, and the answers.
-static PLANS: [(&[u64], u64, Answer); 4] = [
-    (&[40], 1, Answer::From(1)),
-    (&[], 1, Answer::Bad(0)),
-    (&[40, 40], 1, Answer::Bad(1)),
-    (&[40], 2, Answer::NoLane),
-];
 
 #[test]
 fn plans(rt: HostRuntime) -> Result<(), Fail> {
     let net = good(rt.alloc())?;
-    for (plan, lane, wanted) in &PLANS {
-        assert_eq!(rt; answer_to(rt.alloc(), &net, plan, *lane), *wanted);
-    }
+    check_answer(&rt, &net, &[40], 1, Answer::From(1));
+    check_answer(&rt, &net, &[], 1, Answer::Bad(0));
+    check_answer(&rt, &net, &[40, 40], 1, Answer::Bad(1));
+    check_answer(&rt, &net, &[40], 2, Answer::NoLane);
     Ok(())
 }
 
@@ -413,24 +413,23 @@ fn two_of(alloc: Global, net: &Network, plan: &[u64]) -> Option<(usize, usize)> 
     }
 }
 
-/// Plans over two links, the lanes that they begin in, and the answers.
-static PLANS_OVER_TWO: [(&[u64], u64, Answer); 6] = [
-    (&[20], 0, Answer::From(1)),
-    (&[], 1, Answer::Bad(0)),
-    (&[30], 0, Answer::Bad(0)),
-    (&[10, 10], 1, Answer::Bad(1)),
-    (&[20, 10, 30], 0, Answer::Bad(1)),
-    (&[10, 20], 1, Answer::NoLane),
-];
-
 #[test]
 fn plans_of_two_links(rt: HostRuntime) -> Result<(), Fail> {
     let net = one_after_another(rt.alloc())?;
     assert!(rt; net.plan_refusal(&[10, 20], 0).is_none());
     assert_eq!(rt; two_of(rt.alloc(), &net, &[10, 20]), Some((0, 1)));
-    for (plan, lane, wanted) in &PLANS_OVER_TWO {
-        assert_eq!(rt; answer_to(rt.alloc(), &net, plan, *lane), *wanted);
-    }
+    Ok(())
+}
+
+#[test]
+fn refuses_plans(rt: HostRuntime) -> Result<(), Fail> {
+    let net = one_after_another(rt.alloc())?;
+    check_answer(&rt, &net, &[20], 0, Answer::From(1));
+    check_answer(&rt, &net, &[], 1, Answer::Bad(0));
+    check_answer(&rt, &net, &[30], 0, Answer::Bad(0));
+    check_answer(&rt, &net, &[10, 10], 1, Answer::Bad(1));
+    check_answer(&rt, &net, &[20, 10, 30], 0, Answer::Bad(1));
+    check_answer(&rt, &net, &[10, 20], 1, Answer::NoLane);
     Ok(())
 }
 
@@ -448,9 +447,6 @@ fn plans_have_at_most_1_024_links(rt: HostRuntime) -> Result<(), Fail> {
     let net = good(rt.alloc())?;
     let most = &plan.as_slice()[..1_024];
     assert_eq!(rt; length_of(rt.alloc(), &net, most), Some(1_024));
-    assert_eq!(rt;
-        answer_to(rt.alloc(), &net, plan.as_slice(), 0),
-        Answer::Bad(1_024)
-    );
+    check_answer(&rt, &net, plan.as_slice(), 0, Answer::Bad(1_024));
     Ok(())
 }
