@@ -1,11 +1,12 @@
 //! Whole sessions over bytes in memory, each alone at its desk. What is wanted was worked out by hand from the rules of lines and of motion.
 
-use super::desk_of;
 use std::alloc::{AllocError, Global};
 use std::process::Abort;
 use std::sync::Wait;
 use std::test::Fail;
 use std::thread::Threads;
+use street_desk::Desk;
+use street_engine::{Engine, Unwatched};
 use street_line::Counted;
 use street_session::{DeskSession, run_alone};
 
@@ -55,7 +56,10 @@ fn replies<R: Threads + Wait + Abort + AllocGlobal + Sync>(
     rt: &R,
     session: &[u8],
 ) -> Option<Vec<u8>> {
-    let (desk, pass) = desk_of(rt, 100, 1);
+    let engine = Engine::new(rt.alloc(), 1, Unwatched);
+    let Ok((desk, pass)) = Desk::start(rt.alloc(), engine, 100, 1) else {
+        panic!(rt; "no desk")
+    };
     let mut own = DeskSession::new(rt, &desk, pass);
     let mut reader = Counted::new(session);
     let mut writer = Counted::new(Vec::new(rt.alloc()));
