@@ -57,7 +57,7 @@ fn each_write_fails_in_turn(rt: HostRuntime) -> Result<(), Fail> {
 }
 
 /// How many lines of the tape have ended after so many bytes, and how many calls were made.
-fn ended_after(bytes: usize) -> (u128, u128) {
+fn ended_after(bytes: usize) -> (usize, usize) {
     let ended = REFUSED
         .as_bytes()
         .iter()
@@ -83,7 +83,8 @@ fn check_read(rt: &(impl Threads + Abort + AllocGlobal + Sync), reads_left: usiz
     };
     let ran = replayed_from(rt, rt.alloc(), reader, Taking::all(rt.alloc()), 1000);
     let (lines, calls) = ended_after(reads_left);
-    let bytes = (calls as usize).saturating_mul(REFUSAL.len());
+    let bytes = calls.saturating_mul(REFUSAL.len());
+    let (lines, calls) = (lines as u128, calls as u128);
     let want = run_fault(FaultKind::Read, lines, calls, calls, bytes);
     assert_eq!(rt; ran.fault, Some(want), "at {reads_left}");
     assert_eq!(rt; ran.taken.len(), bytes, "at {reads_left}");
