@@ -1,6 +1,7 @@
 mod Seeking
 mod Carrying
 mod Relinking
+mod Unmarked
 mod Weaving
 mod Sights
 mod Deciding

@@ -1,8 +1,8 @@
 -- A walk that writes marks.
 use Rattle.std.proofs.Common.{◌≡◌, ◌≢◌, ◌⊎◌, ℕ, ◌+◌, ◌<◌, ◌≤◌, Bool, true, false, List, [], ◌∷◌, ◌++◌, length, get_or, Option, Some, None, IsSome, refl, sym, ap, subst, ◌∙◌, inl, inr, arith}
-use Rattle.std.specs.Prelude.{MatchOption}
+use Rattle.std.specs.Prelude.{MatchOption, ◌||◌}
 use Rattle.std.specs.Option.{option_map, option_and_then, unwrap_or}
-use Rattle.std.proofs.lemmas.Bool.{cases_eq}
+use Rattle.std.proofs.lemmas.Bool.{cases_eq, or_parts}
 use Rattle.std.proofs.lemmas.List.{append_assoc, append-nil}
 use Rattle.street_base.specs.declared.car.Car.{Car}
 use Rattle.street_base.specs.Vehicle.{Vehicle, vehicle_of}
@@ -14,6 +14,7 @@ use Rattle.street_yard.proofs.Keys.{IsApart-split, last_or-push, snoc_cases, has
 use Rattle.street_yard.proofs.Callers.{entry-kept_set, entry-kept_set_other, field-kept_set, IsWhole-kept_set, place_of-mark_set, left, left-is, head_is, no_head, AllAbove-same, AllAbove-lower, cell_same, on_has_entry}
 use Rattle.street_change.specs.Places.{IsUpTo}
 use Rattle.street_change.specs.Marks.{Marks}
+use Rattle.street_change.specs.Relinked.{HasNoMarks}
 use Rattle.street_change.specs.Sight.{decision}
 use Rattle.street_yard.proofs.Placed.{cells-agree, IsLane-agree, falling-split}
 use Rattle.street_change.proofs.Sights.{track, decides}
@@ -28,7 +29,7 @@ mark_there : (m : Bool) (o : Option Kept) → IsSome o → option_map (λ (e : K
 mark_there m None h = absurd (cc)
 mark_there m (Some e) h = refl
 
-pub record IsMarking (first now : Yard) (own other : ℕ) (test : ℕ → Bool) (above ahead cursor : Option ℕ) : Type 0 where
+pub record IsMarking (first now : Yard) (own other : ℕ) (test : ℕ → Bool) (above ahead cursor : Option ℕ) (goes : Bool) : Type 0 where
   pub done : List ℕ
   pub rest : List ℕ
   pub split : list_at first own ≡ done ++ rest
@@ -45,12 +46,13 @@ pub record IsMarking (first now : Yard) (own other : ℕ) (test : ℕ → Bool) 
   pub room : now.room ≡ first.room
   pub cars : (k : ℕ) → car_of now k ≡ car_of first k
   pub marked : (k : ℕ) → Has done k → mark_of now k ≡ Some (test (cell_at first k))
+  pub none : goes ≡ false → (k : ℕ) → Has done k → test (cell_at first k) ≡ false
   pub places : (k : ℕ) → place_of now k ≡ place_of first k
   pub others : (k : ℕ) → place_of first k ≢ Some own → entry_at now k ≡ entry_at first k
   pub whole_first : IsWhole first
   pub whole : IsWhole now
 
-pub IsMarking-start : (y : Yard) (own other count : ℕ) (test : ℕ → Bool) (cursor : Option ℕ) → IsWhole y → IsLane y own count → cursor ≡ first_or (list_at y own) None → IsMarking y y own other test None None cursor
+pub IsMarking-start : (y : Yard) (own other count : ℕ) (test : ℕ → Bool) (cursor : Option ℕ) → IsWhole y → IsLane y own count → cursor ≡ first_or (list_at y own) None → IsMarking y y own other test None None cursor false
 IsMarking-start y own other count test cursor whole lane at = record {
   done = [];
   rest = list_at y own;
@@ -68,13 +70,14 @@ IsMarking-start y own other count test cursor whole lane at = record {
   room = refl;
   cars = λ k. refl;
   marked = λ k h. absurd (has-away k [] h tt);
+  none = λ e k h. absurd (has-away k [] h tt);
   places = λ k. refl;
   others = λ k h. refl;
   whole_first = whole;
   whole = whole;
 }
 
-pub IsMarking-end : (first now : Yard) (own other : ℕ) (test : ℕ → Bool) (above ahead cursor : Option ℕ) → cursor ≡ None → IsMarking first now own other test above ahead cursor → Marks first now own test
+pub IsMarking-end : (first now : Yard) (own other : ℕ) (test : ℕ → Bool) (above ahead cursor : Option ℕ) {goes : Bool} → cursor ≡ None → IsMarking first now own other test above ahead cursor goes → Marks first now own test
 IsMarking-end first now own other test above ahead cursor cur w =
     let none : w.rest ≡ [] = no_head w.rest cursor cur w.at_cursor in
     let all : list_at first own ≡ w.done = w.split ∙ ap (λ l. w.done ++ l) none ∙ append-nil w.done in
@@ -88,11 +91,19 @@ IsMarking-end first now own other test above ahead cursor cur w =
       whole = w.whole;
     }
 
+-- where nobody goes, nobody of the list has the mark
+pub IsMarking-none : (first now : Yard) (own other : ℕ) (test : ℕ → Bool) (above ahead cursor : Option ℕ) {goes : Bool} → cursor ≡ None → IsMarking first now own other test above ahead cursor goes → goes ≡ false → HasNoMarks now own
+IsMarking-none first now own other test above ahead cursor cur w e = λ k on.
+    let none : w.rest ≡ [] = no_head w.rest cursor cur w.at_cursor in
+    let all : list_at first own ≡ w.done = w.split ∙ ap (λ l. w.done ++ l) none ∙ append-nil w.done in
+    let has : Has w.done k = subst (λ l. Has l k) all (w.whole_first.listed k own (sym (w.places k) ∙ on)) in
+    ap (λ o. unwrap_or o false) (w.marked k has) ∙ w.none e k has
+
 vehicle_there : (o : Option Kept) → IsSome o → (v : Vehicle) × (option_map vehicle_of (option_map (λ (e : Kept). e.car) o) ≡ Some v)
 vehicle_there None h = absurd (cc)
 vehicle_there (Some e) h = (vehicle_of e.car, refl)
 
-pub IsMarking-lane : (first now : Yard) (own other : ℕ) (test : ℕ → Bool) (above ahead cursor : Option ℕ) → IsMarking first now own other test above ahead cursor → (n count : ℕ) → IsLane first n count → IsLane now n count
+pub IsMarking-lane : (first now : Yard) (own other : ℕ) (test : ℕ → Bool) (above ahead cursor : Option ℕ) {goes : Bool} → IsMarking first now own other test above ahead cursor goes → (n count : ℕ) → IsLane first n count → IsLane now n count
 IsMarking-lane first now own other test above ahead cursor w n count lane = IsLane-agree first now n (ap (λ l. get_or l n []) w.lists) (λ k h. w.cars k) count lane
 
 has-push : (k x : ℕ) (xs : List ℕ) → Has (xs ++ x ∷ []) k → (Has xs k) ⊎ (k ≡ x)
@@ -105,7 +116,7 @@ has-push k x (u ∷ us) h = elim (cases_eq k u) as (λ _. Has (u ∷ us) k ⊎ (
   ]
 ]
 
-module _ (first y : Yard) (own other key : ℕ) (test : ℕ → Bool) (above ahead cursor : Option ℕ) (cur : cursor ≡ Some key) (w : IsMarking first y own other test above ahead cursor) where
+module _ (first y : Yard) (own other key : ℕ) (test : ℕ → Bool) (above ahead cursor : Option ℕ) {goes : Bool} (cur : cursor ≡ Some key) (w : IsMarking first y own other test above ahead cursor goes) where
   tail : (t : List ℕ) × (w.rest ≡ key ∷ t)
   tail = head_is key w.rest cursor cur w.at_cursor
 
@@ -140,7 +151,7 @@ module _ (first y : Yard) (own other key : ℕ) (test : ℕ → Bool) (above ahe
   IsMarking-vehicle = vehicle_there (entry_at y key) (on_has_entry y key own IsMarking-on)
 
   pub IsMarking-step : (place next : Option ℕ) (cell : ℕ) (m : Bool) (now : Yard) → cell ≡ cell_at y key → IsUpTo y other (cell_at y key) place → m ≡ test (cell_at first key) → now ≡ marked_with y key m → IsBehind now key next
-      → IsMarking first now own other test place (Some cell) next × (left now own next < left y own cursor)
+      → IsMarking first now own other test place (Some cell) next (goes || m) × (left now own next < left y own cursor)
   IsMarking-step place next cell m now cell_is p m_is now_is behind =
       let lists_now : now.lists ≡ first.lists = ap (λ (v : Yard). v.lists) now_is ∙ w.lists in
       let step : list_at first own ≡ (w.done ++ key ∷ []) ++ tail.0 = split ∙ sym (append_assoc w.done (key ∷ []) tail.0) in
@@ -170,6 +181,10 @@ module _ (first y : Yard) (own other key : ℕ) (test : ℕ → Bool) (above ahe
           marked = λ k h. elim (cases_eq k key) as (λ _. mark_of now k ≡ Some (test (cell_at first k))) [
             | inl same_key ↦ ap (λ j. mark_of now j) same_key ∙ marked_key ∙ ap (λ j. Some (test (cell_at first j))) (sym same_key)
             | inr ne ↦ marks_but k ne ∙ elim (has-push k key w.done h) as (λ _. mark_of y k ≡ Some (test (cell_at first k))) [ inl a ↦ w.marked k a | inr b ↦ absurd (ne b) ]
+          ];
+          none = λ e k h. elim (has-push k key w.done h) as (λ _. test (cell_at first k) ≡ false) [
+            | inl a ↦ w.none (or_parts goes m e).0 k a
+            | inr b ↦ ap (λ j. test (cell_at first j)) b ∙ sym m_is ∙ (or_parts goes m e).1
           ];
           places = λ k. ap (λ v. place_of v k) now_is ∙ place_of-mark_set y key m k ∙ w.places k;
           others = λ k off.

@@ -1,20 +1,22 @@
 -- The passes of a link, put together.
-use Rattle.std.proofs.Common.{◌≡◌, ℕ, zero, suc, ◌+◌, ◌-◌, ◌<◌, Bool, true, false, List, length, get_or, Option, Some, None, refl, sym, ap, subst, ◌∙◌, inl, inr, arith}
+use Rattle.std.proofs.Common.{◌≡◌, ◌≢◌, ℕ, zero, suc, ◌+◌, ◌-◌, ◌<◌, Bool, true, false, List, length, get_or, Option, Some, None, refl, sym, ap, subst, ◌∙◌, inl, inr, arith}
 use Rattle.std.specs.Prelude.{◌&&◌, ◌⊎◌, nat_lt}
 use Rattle.std.proofs.lemmas.Bool.{and_right, cond-false, le-ltb}
 use Rattle.street_base.specs.Vehicle.{Vehicle}
 use Rattle.street_base.specs.Lane.{Track, vehicle_at}
 use Rattle.street_base.specs.LaneChange.{Weave, changes, settled, woven}
-use Rattle.street_yard.specs.Yard.{Yard, list_at, IsWhole}
+use Rattle.std.specs.Option.{option_map, unwrap_or}
+use Rattle.street_yard.specs.Yard.{Kept, Yard, list_at, place_of, IsWhole}
 use Rattle.street_yard.specs.Listed.{cell_at, cells_at, IsLane}
 use Rattle.street_gap.specs.Closed.{closed_marks}
 use Rattle.street_change.specs.Road.{RoadLane, Road, no_lane, lane_of, length_of, track_of, lists_of, IsRoad}
 use Rattle.street_change.specs.Sight.{weave_of}
 use Rattle.street_change.specs.Places.{IsFallen}
 use Rattle.street_change.specs.Marks.{Marks}
-use Rattle.street_change.specs.Relinked.{Relinks}
+use Rattle.street_change.specs.Relinked.{HasNoMarks, Relinks}
 use Rattle.street_change.specs.Changed.{Changes, KeepsRest}
 use Rattle.street_change.proofs.Roads.{IsRoad-by, two-apart, two-changes, two-keeps}
+use Rattle.street_change.proofs.Unmarked.{Relinks-none}
 use Rattle.street_change.proofs.Passing.{marks-lane, second_falls, first_lane, second_lane, first_woven, second_woven, keeps, woven-is, settled-is}
 
 -- ---- with no odds nobody changes
@@ -51,6 +53,9 @@ marked-road old new road own test m ok =
 
 -- ---- all four passes
 
+some-same : {m n : ℕ} → ◌≡◌ {A = Option ℕ} (Some m) (Some n) → m ≡ n
+some-same e = ap (λ o. unwrap_or o 0) e
+
 module _ (road : Road) (step : ℕ) (old m1 m2 : Yard) (first second : ℕ) (whole : IsWhole old) (ok : IsRoad old road) (two : length road.lanes ≡ 2)
     (first_is : first ≡ (lane_of road 0).list) (second_is : second ≡ (lane_of road 1).list)
     (one : Marks old m1 (lane_of road 0).list (changes (weave_of road step) 0 (track_of old (length_of road) (lane_of road 0)) (track_of old (length_of road) (lane_of road 1))))
@@ -72,6 +77,20 @@ module _ (road : Road) (step : ℕ) (old m1 m2 : Yard) (first second : ℕ) (who
 
   pub first-fallen : IsFallen m2 first
   first-fallen = record { bound = count; falls = subst (λ n. IsLane m2 n count) (sym first_is) (marks-lane m1 m2 b.list a.list count _ both (marks-lane old m1 a.list a.list count _ one a_ok)) }
+
+  -- where nobody goes, the relink passes are needless
+
+  still : HasNoMarks m1 a.list → HasNoMarks m2 a.list
+  still none k on =
+      let before : place_of m1 k ≡ Some a.list = sym (both.places k) ∙ on in
+      let off : place_of m1 k ≢ Some b.list = λ e. two-apart road.lanes two ok.apart (some-same (sym before ∙ e)) in
+      ap (λ o. unwrap_or (option_map (λ (e : Kept). e.mark) o) false) (both.others k off) ∙ none k before
+
+  pub first-stays : HasNoMarks m1 a.list → Relinks m2 m2 first second
+  first-stays none = Relinks-none m2 first second both.whole (subst (HasNoMarks m2) (sym first_is) (still none))
+
+  pub second-stays : HasNoMarks m2 b.list → Relinks m2 m2 second first
+  second-stays none = Relinks-none m2 second first both.whole (subst (HasNoMarks m2) (sym second_is) none)
 
   module _ (r1 : Yard) (carried : Relinks m2 r1 first second) where
     three : Relinks m2 r1 a.list b.list

@@ -1,28 +1,49 @@
 //! The lane pass: first who goes is marked, then the marked ones go.
-ghost use Rattle.std.specs.Prelude.{◌≡◌, ℕ, ◌<◌, ◌≤◌, ◌-◌, length};
+ghost use Rattle.std.specs.Prelude.{◌≡◌, ℕ, ◌<◌, ◌≤◌, ◌-◌, length, false, IsSome};
 ghost use Rattle.street_base.specs.LaneChange.{changes};
 ghost use Rattle.street_change.specs.Road.{lane_of, length_of, track_of, lists_of, IsRoad};
 ghost use Rattle.street_change.specs.Sight.{odds_of, weave_of};
 ghost use Rattle.street_change.specs.Marks.{Marks};
 ghost use Rattle.street_change.specs.Changed.{Changes, KeepsRest};
+ghost use Rattle.street_change.specs.Relinked.{HasNoMarks};
+ghost use Rattle.street_yard.specs.Yard.{entry_at, mark_set};
 
 use crate::relink::relink;
 use crate::road::Road;
 use crate::sight::decide;
 use street_base::{LaneNo, Step};
 use street_draw::Dice;
-use street_yard::Yard;
+use street_yard::{Key, Yard};
 
-/// Marks each vehicle of one lane that goes to the other, and takes the mark of each that stays.
-fn mark_pass(yard: &mut Yard, road: &Road<'_>, lane: LaneNo, step: Step, dice: &mut Dice)
+/// Gives a key its mark, or takes it. Few go, so that mostly nothing is to be written.
+fn set_mark(yard: &mut Yard, key: Key, mark: bool)
+    requires { IsSome (entry_at yard.old key.0) }
+    ensures { yard.new ≡ record yard.old { kept = mark_set yard.old.kept key.0 mark } }
+{
+    if yard.is_marked(key) != mark {
+        yard.mark(key, mark);
+    }
+}
+
+/// Marks each vehicle of one lane that goes to the other, and takes the mark of each that stays. Answers whether there is one
+/// that goes.
+fn mark_pass(
+    yard: &mut Yard,
+    road: &Road<'_>,
+    lane: LaneNo,
+    step: Step,
+    dice: &mut Dice,
+) -> bool
     requires lanes { length road.now.lanes ≡ 2 }
     requires lane { lane ≤ 1 }
     requires road { IsRoad yard.old road.now }
     requires dice { dice.old ≡ odds_of road.now.network }
     ensures marks { Marks yard.old yard.new (lane_of road.now lane).list (changes (weave_of road.now step) lane (track_of yard.old (length_of road.now) (lane_of road.now lane)) (track_of yard.old (length_of road.now) (lane_of road.now (1 - lane)))) }
+    ensures none { result ≡ false → HasNoMarks yard.new (lane_of road.now lane).list }
     ensures dice { dice.new ≡ dice.old }
 {
     let own = road.lane(lane).list;
+    let mut goes = false;
     let mut above = None;
     let mut ahead = None;
     let mut cursor = yard.list_front(own);
@@ -30,9 +51,11 @@ fn mark_pass(yard: &mut Yard, road: &Road<'_>, lane: LaneNo, step: Step, dice: &
         let decision = decide(yard, road, lane, key, ahead, above, step, dice);
         above = decision.above;
         ahead = Some(yard.cell(key));
-        yard.mark(key, decision.goes);
+        goes |= decision.goes;
+        set_mark(yard, key, decision.goes);
         cursor = yard.behind(key);
     }
+    goes
 }
 
 /// The lane changes of one link in one step, all decided from where the vehicles stood before. On a link of one lane nobody
@@ -53,8 +76,11 @@ pub fn lane_pass(yard: &mut Yard, road: &Road<'_>, step: Step, dice: &mut Dice)
     }
     let first = road.lane(0).list;
     let second = road.lane(1).list;
-    mark_pass(yard, road, 0, step, dice);
-    mark_pass(yard, road, 1, step, dice);
+    let goes_over = mark_pass(yard, road, 0, step, dice);
+    let comes_over = mark_pass(yard, road, 1, step, dice);
+    if !goes_over && !comes_over {
+        return;
+    }
     relink(yard, first, second);
     relink(yard, second, first);
 }

@@ -1,7 +1,7 @@
 //! What a driver sees on both lanes, and whether they wish to change and have room for it.
 //!
 //! Rule by Rickert, Nagel, Schreckenberg and Latour 1996, with this profile's turn zone and closed cells.
-ghost use Rattle.std.specs.Prelude.{◌≡◌, ℕ, ◌<◌, ◌≤◌, ◌-◌, length, Some, option_map};
+ghost use Rattle.std.specs.Prelude.{◌≡◌, ℕ, ◌<◌, ◌≤◌, ◌-◌, length, Some, option_map, false};
 ghost use Rattle.street_base.specs.Vehicle.{Vehicle};
 ghost use Rattle.street_yard.specs.Yard.{place_of};
 ghost use Rattle.street_yard.specs.Listed.{cell_at, vehicle_with};
@@ -96,6 +96,22 @@ fn wishes(
     }
 }
 
+/// Whether a vehicle with this gap ahead may want the other lane at all: it is slow, or goes on in the turn zone. Which lanes
+/// serve its next link is not asked yet.
+fn may_wish(
+    road: &Road<'_>,
+    gap: CellNo,
+    cell: CellNo,
+    speed: Speed,
+    next: Option<LinkIx>,
+) -> bool
+    ensures { (step lane : ℕ) → result ≡ false → wishes_with (weave_of road.now step) lane (length_of road.now) gap cell speed next ≡ false }
+{
+    let slow = gap < CellNo::from(speed) + 1;
+    let zone = road.network().spec().zone;
+    slow || next.is_some() && u64::from(road.length().saturating_sub(cell)) <= zone
+}
+
 /// Whether a vehicle fits beside, by the cells of the vehicles above the cell beside, and at it or below.
 fn fits(
     closures: &Closures,
@@ -147,7 +163,8 @@ pub(crate) struct Decision {
 }
 
 /// Whether the vehicle of a key goes to the other lane. `ahead` is the cell of the vehicle ahead; `above` is a key of the
-/// other lane whose vehicle is above the cell beside, from which on to look there. The draw is asked last.
+/// other lane whose vehicle is above the cell beside, from which on to look there. Room is looked for before the turns of
+/// the lanes, which lie farther away; the draw is asked last.
 pub(crate) fn decide(
     yard: &Yard,
     road: &Road<'_>,
@@ -171,12 +188,15 @@ pub(crate) fn decide(
     let cell = yard.cell(key);
     let speed = yard.speed(key);
     let gap = gap_ahead(road.lane(lane).closures, ahead, cell);
-    if !wishes(road, lane, gap, cell, speed, yard.next_link(key)) {
+    if !may_wish(road, gap, cell, speed, yard.next_link(key)) {
         return Decision { above, goes: false };
     }
     let other = road.lane(1 - lane);
     let (above, has_room) = look_beside(yard, other, above, cell, speed);
     if !has_room {
+        return Decision { above, goes: false };
+    }
+    if !wishes(road, lane, gap, cell, speed, yard.next_link(key)) {
         return Decision { above, goes: false };
     }
     let goes = dice.may_change(key.index(), step, yard.number(key));

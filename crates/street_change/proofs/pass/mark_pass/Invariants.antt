@@ -11,7 +11,7 @@ abbrev pub invariant-loop-cursor : goal.invariant-loop-cursor
 invariant-loop-cursor l =
     IsMarking l.initial.yard l.yard (lane_of l.road l.lane).list (lane_of l.road (1 - l.lane)).list
     (changes (weave_of l.road l.step) l.lane (track_of l.initial.yard (length_of l.road) (lane_of l.road l.lane)) (track_of l.initial.yard (length_of l.road) (lane_of l.road (1 - l.lane))))
-    (option_map (λ k. k.0) l.above) l.ahead (option_map (λ k. k.0) l.cursor)
+    (option_map (λ k. k.0) l.above) l.ahead (option_map (λ k. k.0) l.cursor) l.goes
     × (l.dice ≡ odds_of l.road.network)
 
 abbrev pub decreases-loop-cursor : goal.decreases-loop-cursor
