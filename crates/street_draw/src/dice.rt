@@ -5,7 +5,7 @@ ghost use Rattle.street_base.specs.Draw.{key_of_seed, lane_draw, dawdle_draw};
 ghost use Rattle.street_draw.specs.Odds.{Odds};
 ghost use Rattle.street_draw.specs.Kept.{IsKept};
 
-use crate::draws::{generator, scaled};
+use crate::draws::generator;
 use rand_chacha::ChaCha20Rng;
 use rand_core::utils::NextWord;
 use std::alloc::Global;
@@ -50,11 +50,18 @@ impl Model for Dice {
     ghost invariant = { λ d. IsSound d.rng.key d.seed d.dawdle d.change d.kept.items d.aside.items };
 }
 
-/// Whether the draw of a word is below the odds.
-fn is_below(word: u32, odds: u16) -> bool
-    ensures { result ≡ nat_lt (word * 1000 / 2 ^ 32) odds }
+/// The least number that is above each word whose draw is below the odds.
+fn bound_of(odds: u16) -> u64
+    ensures { result ≡ (odds * 2 ^ 32 + 999) / 1000 }
 {
-    scaled(word) < odds
+    (u64::from(odds) * 4_294_967_296 + 999) / 1000
+}
+
+/// Whether the draw of a word is below the odds that have this bound.
+fn is_below(word: u32, bound: u64) -> bool
+    ensures { (odds : ℕ) → bound ≡ (odds * 2 ^ 32 + 999) / 1000 → result ≡ nat_lt (word * 1000 / 2 ^ 32) odds }
+{
+    u64::from(word) < bound
 }
 
 /// The bit of a step within its block.
@@ -89,13 +96,15 @@ fn drawn(rng: &mut ChaCha20Rng, number: CarNo, block: u32, dawdle: u16, change: 
 {
     rng.set_stream(u64::from(number));
     rng.set_word_pos(u128::from(block) * 64);
+    let slow_bound = bound_of(dawdle);
+    let lane_bound = bound_of(change);
     let mut dawdles = 0u32;
     let mut changes = 0u32;
     for i in 0..32u32 {
         let lane = rng.next_word();
         let slow = rng.next_word();
-        changes = with_bit(changes, is_below(lane, change));
-        dawdles = with_bit(dawdles, is_below(slow, dawdle));
+        changes = with_bit(changes, is_below(lane, lane_bound));
+        dawdles = with_bit(dawdles, is_below(slow, slow_bound));
     }
     KeptDraws {
         number,

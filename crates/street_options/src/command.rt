@@ -32,7 +32,7 @@ pub(crate) fn streetsim<'a>(alloc: Global) -> Result<Command<'a>, AllocError> {
             alloc,
             "workers",
             "N",
-            "Workers that share the links, 1 to 64; the replies are the same for every number [default: 1]",
+            "Workers that share the links, 1 to 64; the replies are the same for every number. More than one pays from some 50000 vehicles on [default: 1]",
         ))?
         .arg(option(
             alloc,

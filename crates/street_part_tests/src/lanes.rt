@@ -41,7 +41,7 @@ fn one_link(alloc: Global) -> Result<NetSpec, AllocError>
 }
 
 /// The lane of the link, with nobody on it and room for two.
-fn one_lane(alloc: Global) -> Result<Lanes, Fail> {
+pub(crate) fn one_lane(alloc: Global) -> Result<Lanes, Fail> {
     let net = Network::build(alloc, &one_link(alloc)?)?;
     let own = [LaneId {
         link: LinkIx::new(0),
@@ -53,7 +53,7 @@ fn one_lane(alloc: Global) -> Result<Lanes, Fail> {
 }
 
 /// A car on its way over the link, that departs from a step on.
-fn car(alloc: Global, number: CarNo, depart: Step) -> Result<Car, AllocError>
+pub(crate) fn car(alloc: Global, number: CarNo, depart: Step) -> Result<Car, AllocError>
     ensures { IfOk result HasShortPlan }
 {
     let plan = Vec::from_slice(alloc, &[LinkIx::new(0)])?;

@@ -11,6 +11,8 @@ mod draws;
 #[cfg(test)]
 mod gaps;
 #[cfg(test)]
+mod gauges;
+#[cfg(test)]
 mod lanes;
 #[cfg(test)]
 mod meters;

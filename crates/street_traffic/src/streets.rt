@@ -1,5 +1,5 @@
 //! The traffic on a loaded network.
-ghost use Rattle.std.specs.Prelude.{◌≡◌, ℕ, ◌+◌, ◌<◌, ◌≤◌, List, length, Some, None, option_map, slice_get, slice_index_or, true, false, IfOk, IfErr, OnOk, OnErr};
+ghost use Rattle.std.specs.Prelude.{◌≡◌, ℕ, ◌+◌, ◌<◌, ◌≤◌, List, length, Some, None, option_map, slice_get, slice_index_or, min, true, false, IfOk, IfErr, OnOk, OnErr};
 ghost use Rattle.std.specs.List.{All};
 ghost use Rattle.street_base.specs.Limits.{last_clock, most_plan, most_vehicles, most_period, most_detectors};
 ghost use Rattle.street_base.specs.Network.{link_at, node_of};
@@ -63,6 +63,7 @@ impl Streets {
         requires some { 1 ≤ workers }
         requires few { workers ≤ 64 }
         ensures stands { IfOk result (λ streets. StandsFor streets (loaded net.now)) }
+        ensures tiles { IfOk result (λ streets. length streets.tiles ≡ min workers (length net.now.nodes)) }
         ensures faultless { OnOk result (network_fault net.now ≡ None) }
         ensures fault { IfErr result (TellsFault (network_fault net.now)) }
     {
