@@ -9,8 +9,7 @@ ghost use Rattle.street_base.specs.Release.{with_entry};
 ghost use Rattle.street_base.specs.Departure.{departed_lane};
 ghost use Rattle.street_base.specs.Machine.{with_waiting};
 ghost use Rattle.street_net.specs.Tables.{place_of};
-ghost use Rattle.street_yard.specs.View.{viewed};
-ghost use Rattle.street_lanes.specs.Views.{LaneStands, waiting_of, queued_of, without_front};
+ghost use Rattle.street_lanes.specs.Views.{LaneStands, waiting_of, queued_of, ready_next, without_front};
 ghost use Rattle.street_lanes.specs.Lanes.{lane_of, place_at, AllLanes, IsOf, fresh, GoesAt, GoesIf};
 ghost use Rattle.street_lanes.specs.Lists.{HasShortPlan};
 ghost use Rattle.street_lanes.specs.Inside.{AreSites};
@@ -19,11 +18,11 @@ use crate::lists::{self, buffer_list, cells_list, waiting_list};
 use crate::{entering, waiting};
 use std::alloc::{AllocError, Global};
 use std::marker::Model;
-use street_base::{Car, CellNo, Starved, Step};
+use street_base::{Car, CellNo, LinkIx, Starved, Step};
 use street_draw::Dice;
 use street_gap::Closures;
 use street_net::{LaneId, Network};
-use street_yard::{CarView, Yard};
+use street_yard::Yard;
 
 /// A lane's place in the network, and how many cells it has.
 #[derive(Clone, Copy)]
@@ -171,13 +170,12 @@ impl Lanes {
         waiting::join(&mut self.yard, waiting_list(lane), car);
     }
 
-    /// The front of a lane's buffer.
-    pub fn front(&self, lane: usize) -> Option<CarView<'_>>
+    /// The link to which the front of a lane's buffer goes on, if it is ready by the clock. Its plan is not read.
+    pub fn next_of_front(&self, lane: usize, clock: Step) -> Option<LinkIx>
         requires { lane < length self.now.lanes }
-        ensures front { (s : LaneState) → LaneStands (lane_of self.now lane) s → option_map queued_of (option_map viewed result) ≡ slice_get s.queue 0 }
-        ensures short { IfSome result (λ car. HasShortPlan (viewed car)) }
+        ensures { (s : LaneState) → LaneStands (lane_of self.now lane) s → result ≡ ready_next clock (slice_get s.queue 0) }
     {
-        lists::first_car(&self.yard, buffer_list(lane))
+        lists::first_next(&self.yard, buffer_list(lane), clock)
     }
 
     /// Takes the front out of a lane's buffer.

@@ -1,11 +1,11 @@
 //! The three lists of a lane.
 ghost use Rattle.std.specs.Prelude.{◌≡◌, ◌^◌, ◌<◌, length, option_map, slice_get};
-ghost use Rattle.street_yard.specs.View.{viewed};
+ghost use Rattle.street_lanes.specs.Views.{queued_of, ready_next};
 ghost use Rattle.street_lanes.specs.Lists.{cells_list, buffer_list, waiting_list, cars_on, LetsGo};
 
-use street_base::Car;
+use street_base::{Car, LinkIx, Step};
 use street_draw::Dice;
-use street_yard::{CarView, ListId, Yard};
+use street_yard::{ListId, Yard};
 
 /// The list of those who stand in a lane's cells, the greatest cell first.
 pub(crate) fn cells_list(lane: usize) -> ListId
@@ -31,13 +31,16 @@ pub(crate) fn waiting_list(lane: usize) -> ListId
     ListId(3 * lane + 2)
 }
 
-/// The first car of a list.
-pub(crate) fn first_car(yard: &Yard, list: ListId) -> Option<CarView<'_>>
+/// The link to which the first car of a list goes on, if its step has come by the clock. Its plan is not read.
+pub(crate) fn first_next(yard: &Yard, list: ListId, clock: Step) -> Option<LinkIx>
     requires { list.0 < length yard.now.lists }
-    ensures { option_map viewed result ≡ slice_get (cars_on yard.now list.0) 0 }
+    ensures { result ≡ ready_next clock (option_map queued_of (slice_get (cars_on yard.now list.0) 0)) }
 {
     let key = yard.list_front(list)?;
-    Some(yard.car(key))
+    if yard.car(key).step > clock {
+        return None;
+    }
+    yard.next_link(key)
 }
 
 /// Takes the first car of a list out, and puts its draws aside.

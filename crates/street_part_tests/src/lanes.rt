@@ -120,7 +120,7 @@ fn a_car_that_comes_in_shuts_the_lane(rt: HostRuntime) -> Result<(), Fail> {
     let at = lanes.at(0);
     assert!(rt; at.link.position() == 0 && at.lane == 0);
     assert!(rt; lanes.is_open(0));
-    assert!(rt; lanes.front(0).is_none());
+    assert!(rt; lanes.next_of_front(0, 1).is_none());
     let car = car(rt.alloc(), 0, 0)?;
     lanes.reserve(1)?;
     assert!(rt; lanes.len() == 1);

@@ -2,11 +2,10 @@
 ghost use Rattle.std.specs.Prelude.{◌≡◌, ◌≢◌, ℕ, ◌+◌, ◌*◌, ◌<◌, ◌≤◌, length, List, [], ◌∷◌, ◌++◌, true, false, Some, None, option_map, filter_map, slice_get, slice_set, vec_len, vec_capacity, IsSome, IfSome};
 ghost use Rattle.street_base.specs.Network.{link_at};
 ghost use Rattle.street_base.specs.State.{Traffic, LaneState, Queued, lane_at};
-ghost use Rattle.street_base.specs.Vehicle.{vehicle_of, next_link};
+ghost use Rattle.street_base.specs.Vehicle.{next_link};
 ghost use Rattle.street_base.specs.Limits.{most_plan};
 ghost use Rattle.street_base.specs.Release.{on_next_link};
 ghost use Rattle.street_net.specs.Tables.{place_of as named};
-ghost use Rattle.street_yard.specs.View.{viewed};
 ghost use Rattle.street_lanes.specs.Views.{LaneStands, without_front};
 ghost use Rattle.street_lanes.specs.Lanes.{IsLane, AllLanes, Same, GoesAt, lane_of, place_at};
 ghost use Rattle.street_lanes.specs.Whole.{LanesStand};
@@ -16,17 +15,9 @@ ghost use Rattle.street_tile.specs.Walks.{IsReleasing};
 
 use crate::hand_over::HandOver;
 use crate::view::slot;
-use street_base::{LinkIx, Step};
+use street_base::Step;
 use street_lanes::Lanes;
 use street_net::{LaneId, Network};
-use street_yard::CarView;
-
-/// The link after the present one of a car's plan.
-fn next_link(car: &CarView<'_>) -> Option<LinkIx>
-    ensures { result ≡ next_link (vehicle_of (viewed car.now)) }
-{
-    car.plan.as_slice().get(usize::from(car.at) + 1).copied()
-}
 
 /// The lane that the front of a buffer would enter now, if it is ready and has a turn.
 fn candidate(own: &Lanes, net: &Network, n: usize, clock: Step) -> Option<LaneId>
@@ -37,11 +28,7 @@ fn candidate(own: &Lanes, net: &Network, n: usize, clock: Step) -> Option<LaneId
         → option_map named result ≡ candidate m (place_at own.now n) }
     ensures inside { IfSome result (λ to. IsLane net.now (named to)) }
 {
-    let front = own.front(n)?;
-    if front.step > clock {
-        return None;
-    }
-    let next = next_link(&front)?;
+    let next = own.next_of_front(n, clock)?;
     let from = own.at(n);
     let turn = net.turn(from.link, from.lane, next)?;
     Some(LaneId {

@@ -1,0 +1,16 @@
+use Rattle.std.proofs.Common.{sym, ap, ◌∙◌}
+use Rattle.std.specs.Prelude.{slice_get}
+use Rattle.std.specs.Option.{option_map}
+use Rattle.street_lanes.specs.Views.{queued_of, ready_next}
+use Rattle.street_lanes.specs.Lists.{cars_on}
+use Rattle.street_lanes.proofs.Cars.{head-held, cars-none}
+use Rattle.street_lanes.proofs.lists.first_next.Goals as goal
+
+pub car-requires : goal.car-requires
+car-requires c = head-held c.args.yard.now c.args.list.0 c.in_ok-key.key.0 c.in_ok-key.ensures.whole (sym c.in_ok-key.ensures.front)
+
+pub next_link-requires : goal.next_link-requires
+next_link-requires c = head-held c.args.yard.now c.args.list.0 c.in_ok-key.key.0 c.in_ok-key.ensures.whole (sym c.in_ok-key.ensures.front)
+
+pub returns-in_err-key : goal.returns-in_err-key
+returns-in_err-key c = c.from_residual.ensures ∙ sym (ap (λ cs. ready_next c.args.clock (option_map queued_of (slice_get cs 0))) (cars-none c.args.yard.now c.args.list.0 (sym c.in_err-key.ensures.front)))
