@@ -27,13 +27,7 @@ fn set_mark(yard: &mut Yard, key: Key, mark: bool)
 
 /// Marks each vehicle of one lane that goes to the other, and takes the mark of each that stays. Answers whether there is one
 /// that goes.
-fn mark_pass(
-    yard: &mut Yard,
-    road: &Road<'_>,
-    lane: LaneNo,
-    step: Step,
-    dice: &mut Dice,
-) -> bool
+fn mark_pass(yard: &mut Yard, road: &Road<'_>, lane: LaneNo, step: Step, dice: &mut Dice) -> bool
     requires lanes { length road.now.lanes ≡ 2 }
     requires lane { lane ≤ 1 }
     requires road { IsRoad yard.old road.now }

@@ -98,13 +98,7 @@ fn wishes(
 
 /// Whether a vehicle with this gap ahead may want the other lane at all: it is slow, or goes on in the turn zone. Which lanes
 /// serve its next link is not asked yet.
-fn may_wish(
-    road: &Road<'_>,
-    gap: CellNo,
-    cell: CellNo,
-    speed: Speed,
-    next: Option<LinkIx>,
-) -> bool
+fn may_wish(road: &Road<'_>, gap: CellNo, cell: CellNo, speed: Speed, next: Option<LinkIx>) -> bool
     ensures { (step lane : ℕ) → result ≡ false → wishes_with (weave_of road.now step) lane (length_of road.now) gap cell speed next ≡ false }
 {
     let slow = gap < CellNo::from(speed) + 1;
