@@ -45,9 +45,9 @@ fn run_two<'a, R: Threads + Wait + Sync>(
     ensures desk { IfSome result (λ r. (desk : DeskView) → one.entry.session.desk ≡ desk → two.entry.session.desk ≡ desk
         → (r.0.session.desk ≡ desk) × (r.1.session.desk ≡ desk)) }
 {
-    let mut scripts = Vec::new(alloc);
-    scripts.push(one).ok()?;
-    scripts.push(two).ok()?;
+    let mut scripts = Vec::with_capacity(alloc, 2).ok()?;
+    scripts.push_reserved(one);
+    scripts.push_reserved(two);
     run_scripts(rt, alloc, &mut scripts);
     let two = scripts.pop()?;
     let one = scripts.pop()?;
