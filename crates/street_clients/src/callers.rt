@@ -1,15 +1,21 @@
 //! Two callers, each on a thread of its own, who begin when both are there.
-ghost use Rattle.std.specs.Prelude.{◌≡◌, ◌≤◌, IfSome};
+ghost use Rattle.std.specs.Prelude.{◌≡◌, ◌≤◌, ℕ, List, ◌++◌, IfSome};
+ghost use Rattle.street_clients.specs.Told.{AreTold, Replied};
+ghost use Rattle.street_ends.specs.Lines.{lines_of};
+ghost use Rattle.street_line.specs.Running.{Goes};
+ghost use Rattle.street_session.specs.Sessions.{DeskServes};
 
-use crate::tapes::{Told, tape_of, text_of};
+use crate::desks::{Answers, desk_of_two, tell};
+use crate::tapes::{Told, text_of};
 use std::alloc::Global;
 use std::sync::Wait;
 use std::sync::atomic::{AtomicU64, Ordering};
 use std::thread;
 use std::thread::{Threads, join};
 use street_desk::{Desk, Pass};
-use street_engine::{Engine, Unwatched};
-use street_session::{DeskSession, answer_all};
+use street_ends::Counted;
+use street_engine::Unwatched;
+use street_session::{DeskSession, run_session};
 
 /// How often a caller looks for the other before it goes on alone.
 const TURNS: u64 = 10_000_000;
@@ -26,12 +32,21 @@ fn meet(callers: &AtomicU64) -> bool {
     false
 }
 
-/// What one caller was answered, and whether it met the other and was answered to the end.
-#[derive(Drop)]
-struct Answers {
-    pass: Pass<Unwatched>,
-    replies: Vec<u8>,
-    whole: bool,
+/// The replies to these lines, where they were served to their end.
+fn serve_lines<R: Threads + Wait + Sync>(
+    alloc: Global,
+    session: &mut DeskSession<'_, R>,
+    lines: &str,
+) -> Option<Vec<u8>>
+    ensures desk { session.new.desk ≡ session.old.desk }
+    ensures served { IfSome result (λ replies. Goes DeskServes session.old (lines_of lines.now) replies.items session.new) }
+{
+    let mut reader = Counted::new(lines.as_bytes());
+    let mut writer = Counted::new(Vec::new(alloc));
+    match run_session(alloc, session, &mut reader, &mut writer) {
+        Ok(_tally) => Some(writer.end),
+        Err(_fault) => None,
+    }
 }
 
 /// The line that asks for the vehicle which the second of some replies names.
@@ -41,7 +56,24 @@ fn question(alloc: Global, replies: &[u8]) -> Option<String> {
     format!(in alloc; r#"{{"cmd":"vehicle","car":{car}}}"#).ok()
 }
 
-/// The calls of one caller: those of the lines, and then a question for the vehicle that the second reply names.
+/// The replies to these lines, and then to a question for the vehicle that the second reply names.
+fn serve_and_ask<R: Threads + Wait + Sync>(
+    alloc: Global,
+    session: &mut DeskSession<'_, R>,
+    lines: &str,
+) -> Option<Vec<u8>>
+    ensures desk { session.new.desk ≡ session.old.desk }
+    ensures served { IfSome result (λ replies. (more : List (List ℕ))
+        × Goes DeskServes session.old (lines_of lines.now ++ more) replies.items session.new) }
+{
+    let mut replies = serve_lines(alloc, session, lines)?;
+    let asked = question(alloc, &replies)?;
+    let last = serve_lines(alloc, session, asked.as_str())?;
+    replies.extend_from_slice(&last).ok()?;
+    Some(replies)
+}
+
+/// The calls of one caller, if it meets the other.
 fn answer<R: Threads + Wait + Sync>(
     rt: &R,
     alloc: Global,
@@ -51,18 +83,15 @@ fn answer<R: Threads + Wait + Sync>(
     callers: &AtomicU64,
 ) -> Answers
     requires { pass.desk ≡ desk.now }
-    ensures { result.pass.desk ≡ desk.now }
+    ensures desk { result.pass.desk ≡ desk.now }
+    ensures replied { Replied pass (lines_of lines.now) result }
 {
     let met = meet(callers);
     let mut session = DeskSession::new(rt, desk, pass);
-    let (mut replies, fault) = answer_all(alloc, &mut session, lines.as_bytes());
-    let asked = question(alloc, &replies).unwrap_or(String::new(alloc));
-    let (last, last_fault) = answer_all(alloc, &mut session, asked.as_bytes());
-    let kept = replies.extend_from_slice(&last);
+    let replies = serve_and_ask(alloc, &mut session, lines);
     Answers {
         pass: session.into_pass(),
-        replies,
-        whole: met && fault.is_none() && last_fault.is_none() && kept.is_ok(),
+        replies: if met { replies } else { None },
     }
 }
 
@@ -76,7 +105,8 @@ fn answer_both<R: Threads + Wait + Sync>(
     lines: &str,
 ) -> (Answers, Answers)
     requires { (one.desk ≡ desk.now) × (two.desk ≡ desk.now) }
-    ensures { (result.0.pass.desk ≡ desk.now) × (result.1.pass.desk ≡ desk.now) }
+    ensures desk { (result.0.pass.desk ≡ desk.now) × (result.1.pass.desk ≡ desk.now) }
+    ensures replied { Replied one (lines_of lines.now) result.0 × Replied two (lines_of lines.now) result.1 }
 {
     let callers = AtomicU64::new(0);
     let here = &callers;
@@ -84,53 +114,15 @@ fn answer_both<R: Threads + Wait + Sync>(
         rt,
         move || -> Answers
             requires { one.desk ≡ desk.now }
-            ensures { result.pass.desk ≡ desk.entry.now }
+            ensures desk { result.pass.desk ≡ desk.entry.now }
+            ensures replied { Replied one (lines_of lines.entry.now) result }
         { answer(rt, alloc, desk, one, lines, here) },
         move || -> Answers
             requires { two.desk ≡ desk.now }
-            ensures { result.pass.desk ≡ desk.entry.now }
+            ensures desk { result.pass.desk ≡ desk.entry.now }
+            ensures replied { Replied two (lines_of lines.entry.now) result }
         { answer(rt, alloc, desk, two, lines, here) },
     )
-}
-
-/// Whether both passes are told of so many calls; one then hears a note of the other.
-fn know_all(
-    desk: &Desk<Unwatched>,
-    one: &mut Pass<Unwatched>,
-    two: &mut Pass<Unwatched>,
-    calls: u64,
-) -> bool
-    requires { (one.old.desk ≡ desk.now) × (two.old.desk ≡ desk.now) }
-    ensures { one.new.desk ≡ desk.now }
-{
-    let one_knows = desk.served(one) == calls;
-    let two_knows = desk.served(two) == calls;
-    let Ok(note) = desk.note(two) else {
-        return false;
-    };
-    desk.hear(one, note);
-    one_knows && two_knows
-}
-
-/// A desk with so many places, and its two passes. Nothing where memory was refused.
-fn desk_of_two(
-    alloc: Global,
-    calls: u64,
-) -> Option<(Desk<Unwatched>, Pass<Unwatched>, Pass<Unwatched>)>
-    requires { (1 ≤ calls) × (calls ≤ 1000000) }
-    ensures { IfSome result (λ r. (r.1.desk ≡ r.0) × (r.2.desk ≡ r.0)) }
-{
-    let engine = Engine::new(alloc, 1, Unwatched);
-    let Ok((desk, mut one)) = Desk::start(alloc, engine, calls, 2) else {
-        return None;
-    };
-    let Ok(two) = desk.split(&mut one) else {
-        return None;
-    };
-    match desk.split(&mut one) {
-        Ok(_third) => None,
-        Err(_single) => Some((desk, one, two)),
-    }
 }
 
 /// Two callers with the same lines, who have a call for each place of their desk. Nothing where they did not meet, were not
@@ -142,15 +134,9 @@ pub fn serve_both<R: Threads + Wait + Sync>(
     lines: &str,
 ) -> Option<Told>
     requires { (1 ≤ calls) × (calls ≤ 1000000) }
+    ensures { IfSome result (λ told. AreTold calls (lines_of lines.now) (lines_of lines.now) told) }
 {
     let (desk, one, two) = desk_of_two(alloc, calls)?;
-    let (mut one, mut two) = answer_both(rt, alloc, &desk, one, two, lines);
-    let knows = know_all(&desk, &mut one.pass, &mut two.pass, calls);
-    let whole = one.whole && two.whole && knows;
-    let tape = tape_of(alloc, desk, one.pass)?;
-    whole.then_some(Told {
-        first: one.replies,
-        second: two.replies,
-        tape,
-    })
+    let (one, two) = answer_both(rt, alloc, &desk, one, two, lines);
+    tell(alloc, desk, calls, one, two)
 }

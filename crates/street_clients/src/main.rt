@@ -1,19 +1,193 @@
 //! Two clients at one desk, each on a thread of its own, as a program of the gate: what each was answered is compared with
-//! what a replay of the desk's tape answers to its calls.
+//! what a replay of the desk's tape answers to its calls. What they are to be answered was worked out by hand from the rules.
 //!
 //! The status is 1 where anything is answered otherwise than it should be.
 #![tactic(auto)]
 
 mod callers;
-mod scenes;
+mod desks;
 mod scripts;
 mod tapes;
 
+ghost use Rattle.std.specs.Prelude.{◌++◌, ℕ, List, IfOk, Decides};
+ghost use Rattle.street_clients.specs.Replies.{Agrees, IsRetold};
+
+use crate::callers::serve_both;
+use crate::scripts::serve_scripts;
+use crate::tapes::{Told, retell, text_of};
+use std::alloc::{AllocError, Global};
+use std::fs::File;
+use std::io;
 use std::process::ExitCode;
+use std::rt::Files;
+use std::sync::Wait;
+use std::thread::Threads;
+
+/// Two links, 10 and 20, one behind the other, and a vehicle.
+const LOAD_AND_ENTER: &str =
+    r#"{"cmd":"load","nodes":[[1,1,2],[2,1,2],[3,1,2]],"links":[[10,1,2,1,10,5],[20,2,3,1,10,5]],"turns":[[10,0,20,0]],"zone":0,"dawdle":0,"change":0,"seed":0}
+{"cmd":"enter","plan":[10],"lane":0,"depart":0}
+"#;
+
+/// A step, and a vehicle more.
+const STEP_AND_ENTER: &str = r#"{"cmd":"advance","steps":1}
+{"cmd":"enter","plan":[10],"lane":0,"depart":0}
+"#;
+
+const STEP: &str = r#"{"cmd":"advance","steps":1}
+"#;
+
+/// Who loads, of two with the same network.
+const LOADED: &str = r#"{"links":2,"nodes":3,"turns":1}
+"#;
+
+/// Who comes later.
+const NOT_LOADED_AGAIN: &str = r#"{"error":2,"name":"AlreadyLoaded"}
+"#;
+
+/// Whose vehicle enters first, and is asked for.
+const FIRST_WAITS: &str = r#"{"car":0}
+{"car":0,"depart":0,"lane":0,"link":10,"plan":[10],"state":"waiting"}
+"#;
+
+/// Whose vehicle enters second, and is asked for.
+const SECOND_WAITS: &str = r#"{"car":1}
+{"car":1,"depart":0,"lane":0,"link":10,"plan":[10],"state":"waiting"}
+"#;
+
+/// What a planner is answered whose script nobody disturbs.
+const PLANNED: &[u8] = br#"{"links":2,"nodes":3,"turns":1}
+{"car":0}
+{"clock":5}
+{"car":0,"state":"arrived","step":4}
+"#;
+
+/// Two counts with nothing loaded.
+const TWO_COUNTS: &[u8] = br#"{"error":1,"name":"NotLoaded"}
+{"error":1,"name":"NotLoaded"}
+"#;
+
+/// Two counts with nothing loaded, where there is a place for one.
+const COUNT_AND_FULL: &[u8] = br#"{"error":1,"name":"NotLoaded"}
+{"error":23,"name":"Full"}
+"#;
+
+/// Four counts with nothing loaded.
+const FOUR_COUNTS: &[u8] = br#"{"error":1,"name":"NotLoaded"}
+{"error":1,"name":"NotLoaded"}
+{"error":1,"name":"NotLoaded"}
+{"error":1,"name":"NotLoaded"}
+"#;
+
+/// A count, as a tape has it.
+const COUNT: &[u8] = br#"{"command":{"cmd":"count"},"outcome":"whole","session":2}"#;
+
+/// Clients were not served to the end.
+fn not_served() -> io::Error {
+    io::Error::from(io::ErrorKind::InvalidData)
+}
+
+/// Whether each reply is that of the tape; if so, this is said, with what a count answers after the tape.
+fn compare<R: Threads + Sync + Print + AllocGlobal>(
+    rt: &R,
+    name: &str,
+    told: &Told,
+) -> io::Result<bool>
+    ensures { IfOk result (λ agrees. (last replies : List ℕ)
+        × IsRetold (told.now.tape.items ++ last) replies
+        × Decides agrees (Agrees told.now replies)) }
+{
+    let alloc = rt.alloc();
+    let replies = retell(rt, alloc, &told.tape, COUNT)
+        .ok()
+        .ok_or(not_served())?;
+    let agrees = told.agrees(alloc, &replies).ok().ok_or(not_served())?;
+    if agrees {
+        let calls = text_of(&told.tape).lines().skip(1).count();
+        let count = text_of(&replies).lines().last().unwrap_or("");
+        println!(rt; "{name}: the replies to {calls} calls are those of the tape, then {count}")?;
+    }
+    Ok(agrees)
+}
+
+/// A planner, whose replies are the same whatever the order between the two, and one who only counts.
+fn two_scripts<R: Threads + Wait + Sync + Print + AllocGlobal + Files<File = File>>(
+    rt: &R,
+) -> io::Result<bool> {
+    let told = serve_scripts(rt, rt.alloc(), 8, "planner.jsonl", "counter.jsonl");
+    let told = told.ok_or(not_served())?;
+    Ok(told.first.as_slice() == PLANNED && compare(rt, "two scripts", &told)?)
+}
+
+/// Two scripts of two counts at a desk with three places: three are answered, and one finds no place.
+fn three_places<R: Threads + Wait + Sync + Print + AllocGlobal + Files<File = File>>(
+    rt: &R,
+) -> io::Result<bool> {
+    let alloc = rt.alloc();
+    let told = serve_scripts(rt, alloc, 3, "counts.jsonl", "counts.jsonl");
+    let told = told.ok_or(not_served())?;
+    let replies = retell(rt, alloc, &told.tape, COUNT)
+        .ok()
+        .ok_or(not_served())?;
+    let (first, second) = (told.first.as_slice(), told.second.as_slice());
+    let full = (first == TWO_COUNTS && second == COUNT_AND_FULL)
+        || (first == COUNT_AND_FULL && second == TWO_COUNTS);
+    if full && replies.as_slice() == FOUR_COUNTS {
+        println!(rt; "three places: three counts are answered, and one finds no place")?;
+        return Ok(true);
+    }
+    Ok(false)
+}
+
+/// The lines of a caller who loads, has 499 vehicles enter, and makes a step after each.
+fn many_lines(alloc: Global) -> Result<String, AllocError> {
+    let mut lines = String::from_str(alloc, LOAD_AND_ENTER)?;
+    for _ in 0..498 {
+        lines.push_str(STEP_AND_ENTER)?;
+    }
+    lines.push_str(STEP)?;
+    Ok(lines)
+}
+
+/// Two callers of a thousand calls each. Whoever has the turn, somebody waits to depart in each step, and every second step
+/// one departs.
+fn many_calls<R: Threads + Wait + Sync + Print + AllocGlobal>(rt: &R) -> io::Result<bool> {
+    let alloc = rt.alloc();
+    let lines = many_lines(alloc)?;
+    let told = serve_both(rt, alloc, 2_000, lines.as_str()).ok_or(not_served())?;
+    compare(rt, "two threads", &told)
+}
+
+/// Whether a caller was told that it loads or not, and then this of its vehicle.
+fn is_told(replies: &str, loads: bool, vehicle: &str) -> bool {
+    let load = if loads { LOADED } else { NOT_LOADED_AGAIN };
+    replies.strip_prefix(load) == Some(vehicle)
+}
+
+/// Whether one load is answered and the other refused, the vehicles are 0 and 1, and both wait.
+fn are_told(first: &str, second: &str) -> bool {
+    [true, false].iter().any(|loads| {
+        (is_told(first, *loads, FIRST_WAITS) && is_told(second, !*loads, SECOND_WAITS))
+            || (is_told(first, *loads, SECOND_WAITS) && is_told(second, !*loads, FIRST_WAITS))
+    })
+}
+
+/// Two callers of three calls each: each loads the same network, has a vehicle enter, and asks for it.
+fn six_calls<R: Threads + Wait + Sync + Print + AllocGlobal>(rt: &R) -> io::Result<bool> {
+    let told = serve_both(rt, rt.alloc(), 6, LOAD_AND_ENTER).ok_or(not_served())?;
+    Ok(are_told(text_of(&told.first), text_of(&told.second)) && compare(rt, "six calls", &told)?)
+}
+
+/// All of them. Whether each was answered as it should be.
+fn play_all<R: Threads + Wait + Sync + Print + AllocGlobal + Files<File = File>>(
+    rt: &R,
+) -> io::Result<bool> {
+    Ok(two_scripts(rt)? && three_places(rt)? && many_calls(rt)? && six_calls(rt)?)
+}
 
 fn main(rt: HostRuntime) -> ExitCode {
     // Where standard error fails too, the status alone tells the fault.
-    match scenes::play_all(&rt) {
+    match play_all(&rt) {
         Ok(true) => ExitCode::SUCCESS,
         Ok(false) => {
             let _ = eprintln!(rt; "street_clients: not answered as it should be");

@@ -1,13 +1,19 @@
-//! The tape of a desk, and what a replay of it answers.
-ghost use Rattle.std.specs.Prelude.{◌≡◌};
+//! What two clients were told, beside what a replay of their desk's tape answers.
+ghost use Rattle.std.specs.Prelude.{◌≡◌, ◌<◌, [], ◌∷◌, ◌++◌, length, IfOk, IfErr, MatchOption, Decides, HoldsAt, IsUtf8, drop};
+ghost use Rattle.std.specs.List.{AllWithin};
+ghost use Rattle.street_clients.specs.Replies.{Agrees, IsRetold, IsStopped, is_of, own_lines, replies_to};
+ghost use Rattle.street_ends.specs.Lines.{cut};
+ghost use Rattle.street_tape.specs.Entries.{entry_reading};
 
-use std::alloc::{AllocError, Global};
+use std::alloc::Global;
+use std::io::Read;
 use std::thread::Threads;
-use street_desk::{Desk, Pass};
+use street_base::Starved;
 use street_ends::Counted;
 use street_engine::{Engine, Unwatched};
-use street_replay::replay;
-use street_tape::write_tape;
+use street_reading::LineFault;
+use street_replay::{TapeFault, replay};
+use street_tape::read_entry;
 
 /// What two clients of a desk were answered, and the tape of their calls. Replies and tapes are ASCII.
 #[derive(Drop)]
@@ -20,59 +26,112 @@ pub struct Told {
     pub tape: Vec<u8>,
 }
 
-/// The tape of a desk that is ended. Nothing where the desk is torn, or memory was refused.
-pub fn tape_of(alloc: Global, desk: Desk<Unwatched>, pass: Pass<Unwatched>) -> Option<Vec<u8>>
-    requires { pass.desk ≡ desk }
+/// The lines of reply to the calls of a tape that these lines end.
+///
+/// # Errors
+///
+/// That of the replay.
+pub fn retell<R: Threads + Sync>(
+    rt: &R,
+    alloc: Global,
+    tape: &[u8],
+    last: &[u8],
+) -> Result<Vec<u8>, TapeFault>
+    ensures retold { IfOk result (λ replies. IsRetold (tape.now ++ last.now) replies.items) }
+    ensures stopped { IfErr result (λ fault. IsStopped (tape.now ++ last.now) fault) }
 {
-    let Ok((_engine, journal)) = desk.finish(pass) else {
-        return None;
-    };
-    let mut writer = Counted::new(Vec::new(alloc));
-    match write_tape(alloc, &journal, &mut writer) {
-        Ok(_bytes) => Some(writer.end),
-        Err(_fault) => None,
-    }
-}
-
-/// A count, as a tape has it.
-const COUNT: &[u8] = br#"{"command":{"cmd":"count"},"outcome":"whole","session":2}"#;
-
-/// The lines of reply to the calls of a tape and, last, to a count after them. Nothing where the tape is not replayed to its
-/// end.
-pub fn retell<R: Threads + Sync>(rt: &R, alloc: Global, tape: &[u8]) -> Option<Vec<u8>> {
-    let mut text = Vec::from_slice(alloc, tape).ok()?;
-    text.extend_from_slice(COUNT).ok()?;
     let mut engine = Engine::new(alloc, 1, Unwatched);
-    let mut reader = Counted::new(text.as_slice());
+    let mut reader = Counted::new(tape.chain(last));
     let mut writer = Counted::new(Vec::new(alloc));
     match replay(rt, alloc, &mut reader, &mut engine, &mut writer) {
-        Ok(_tally) => Some(writer.end),
-        Err(_fault) => None,
+        Ok(_tally) => Ok(writer.end),
+        Err(fault) => Err(fault),
     }
 }
 
-/// The text of lines, which are ASCII.
-pub fn text_of(lines: &[u8]) -> &str {
+/// The text of lines, which are ASCII; of other bytes none.
+pub fn text_of(lines: &[u8]) -> &str
+    ensures text { IsUtf8 lines.now → result.now ≡ lines.now }
+    ensures none { (IsUtf8 lines.now → ⊥) → result.now ≡ [] }
+{
     str::from_utf8(lines).unwrap_or("")
+}
+
+/// Where the first LF stands.
+fn line_end(text: &[u8]) -> Option<usize>
+    ensures { MatchOption result
+        (AllWithin (λ b. b ≡ 10 → ⊥) text.now 0 (length text.now))
+        (λ n. (n < length text.now) × HoldsAt (λ b. b ≡ 10) text.now n × AllWithin (λ b. b ≡ 10 → ⊥) text.now 0 n) }
+{
+    text.iter().position(|byte| *byte == b'\n')
+}
+
+/// The first line that ends with LF, and what follows it.
+fn first_line(text: &[u8]) -> Option<(&[u8], &[u8])>
+    ensures { MatchOption result
+        ((cut text.now).0 ≡ [])
+        (λ r. ((cut text.now).0 ≡ r.0.now ∷ (cut r.1.now).0) × (length r.1.now < length text.now)) }
+{
+    let end = line_end(text)?;
+    Some((&text[..end], &text[end + 1..]))
+}
+
+/// Whether the line of a tape is a call of the session.
+fn is_of(alloc: Global, line: &[u8], session: u64) -> Result<bool, Starved>
+    ensures { IfOk result (λ own. own ≡ is_of session (entry_reading line.now)) }
+{
+    match read_entry(alloc, line) {
+        Ok(call) => Ok(call.session == session),
+        Err(LineFault::Starved) => Err(Starved),
+        Err(_) => Ok(false),
+    }
+}
+
+/// Of the lines of reply to these calls, one to each, those to the calls of the session.
+fn own_lines(
+    alloc: Global,
+    mut calls: &[u8],
+    mut replies: &[u8],
+    session: u64,
+) -> Result<Vec<u8>, Starved>
+    ensures { IfOk result (λ own. own.items ≡ own_lines session (cut calls.entry.now).0 (cut replies.entry.now).0) }
+{
+    let mut own = Vec::new(alloc);
+    while let Some((call, more_calls)) = first_line(calls) {
+        let Some((reply, more_replies)) = first_line(replies) else {
+            return Ok(own);
+        };
+        if is_of(alloc, call, session)? {
+            own.extend_from_slice(reply)?;
+            own.push(b'\n')?;
+        }
+        calls = more_calls;
+        replies = more_replies;
+    }
+    Ok(own)
 }
 
 impl Told {
     /// Whether each of the two was answered to each of its calls as a replay answers, which has these lines of reply.
-    pub fn agrees(&self, alloc: Global, replies: &[u8]) -> Result<bool, AllocError> {
-        let first = self.replies_to(alloc, replies, "\"session\":0}\n")?;
-        let second = self.replies_to(alloc, replies, "\"session\":1}\n")?;
-        Ok(first.as_str() == text_of(&self.first) && second.as_str() == text_of(&self.second))
+    ///
+    /// # Errors
+    ///
+    /// Memory was refused.
+    pub fn agrees(&self, alloc: Global, replies: &[u8]) -> Result<bool, Starved>
+        ensures { IfOk result (λ yes. Decides yes (Agrees self.now replies.now)) }
+    {
+        let first = self.replies_to(alloc, replies, 0)?;
+        let second = self.replies_to(alloc, replies, 1)?;
+        Ok(first.as_slice() == self.first.as_slice() && second.as_slice() == self.second.as_slice())
     }
 
-    /// The replies to those calls of the tape whose lines have this end.
-    fn replies_to(&self, alloc: Global, replies: &[u8], end: &str) -> Result<String, AllocError> {
-        let mut own = String::new(alloc);
-        let calls = text_of(&self.tape).split_inclusive('\n').skip(1);
-        for (call, reply) in calls.zip(text_of(replies).split_inclusive('\n')) {
-            if call.ends_with(end) {
-                own.push_str(reply)?;
-            }
+    /// The lines of reply to the session's calls of the tape, whose first line is no call.
+    fn replies_to(&self, alloc: Global, replies: &[u8], session: u64) -> Result<Vec<u8>, Starved>
+        ensures { IfOk result (λ own. own.items ≡ replies_to session self.now.tape.items replies.now) }
+    {
+        match first_line(&self.tape) {
+            Some((_head, calls)) => own_lines(alloc, calls, replies, session),
+            None => Ok(Vec::new(alloc)),
         }
-        Ok(own)
     }
 }
