@@ -1,0 +1,178 @@
+#!/usr/bin/env python3
+"""Times steps: million vehicle updates a second, where an update is one vehicle in a cell moved for one step.
+
+Usage: bench/steps.py PROGRAM [--workers N,N..] [--beside OTHER] [--only WORD] [--times N]
+
+Sessions: a ring of 100 one-lane links of 1,000 cells, filled to a density; a grid of 32 by 32 nodes with signals and two-lane
+links of 100 cells, on which vehicles drive through 20 links; 4,096 two-lane links of 1,000,000 cells with 10,000 vehicles.
+OTHER is another program for the same lines. All take turns, advance by advance, and their replies must be the same, byte for
+byte. Times are those of the clock on the wall, so that workers on threads count; the best of the runs of each advance is taken.
+"""
+
+import argparse
+import json
+import random
+import subprocess
+import time
+
+DIRECTIONS = [(0, 1), (1, 0), (0, -1), (-1, 0)]
+BATCH = 50  # lines that are sent before their replies are read, so that no pipe fills
+
+
+def line(**fields):
+    return json.dumps(fields, separators=(",", ":"))
+
+
+def load(nodes, links, turns, **values):
+    return line(cmd="load", nodes=nodes, links=links, turns=turns, dawdle=200, seed=1, **values)
+
+
+def ring(density):
+    """The lines that a session begins with, and the steps of each timed advance."""
+    links = 100
+    here = range(links)
+    lines = [
+        load(
+            [[at, 1, 2] for at in here],
+            [[at, at, (at + 1) % links, 1, 1_000, 5] for at in here],
+            [[at, 0, (at + 1) % links, 0] for at in here],
+            zone=0,
+            change=0,
+        )
+    ]
+    red = [line(cmd="signal", node=at, offset=0, phases=[[600, []]]) for at in here]
+    green = [line(cmd="signal", node=at, offset=0, phases=[[600, [[(at - 1) % links, 0, at]]]]) for at in here]
+    plans = [[(at + lap) % links for lap in range(links)] for at in here]
+    entered = [line(cmd="enter", plan=plan, lane=0, depart=0) for _ in range(round(density * 1_000)) for plan in plans]
+    filled = line(cmd="advance", steps=3_000)
+    return lines + red + entered + [filled] + green + [line(cmd="advance", steps=500)], [100] * 10
+
+
+def grid(vehicles, advances=20):
+    side, draws = 32, random.Random(1)
+    nodes = [(x, y) for x in range(side) for y in range(side)]
+    number = {node: at for at, node in enumerate(nodes)}
+    links = [
+        (at, node, (node[0] + dx, node[1] + dy))
+        for node in nodes
+        for at, (dx, dy) in enumerate(DIRECTIONS)
+        if (node[0] + dx, node[1] + dy) in number
+    ]
+    place = {(direction, begin): at for at, (direction, begin, _) in enumerate(links)}
+    onward = [
+        [place[to, end] for to in ((way + 1) % 4, way, (way + 3) % 4) if (to, end) in place] for way, _, end in links
+    ]
+    turns = [[at, lane, then, lane] for at, after in enumerate(onward) for then in after for lane in (0, 1)]
+    lines = [
+        load(
+            [[at, 1, 4] for at in range(len(nodes))],
+            [[at, number[begin], number[end], 2, 100, 5] for at, (_, begin, end) in enumerate(links)],
+            turns,
+            zone=20,
+            change=800,
+        )
+    ]
+    for node in nodes:
+        into = [at for at, (_, _, end) in enumerate(links) if end == node]
+        phases = [
+            [30, [[at, lane, then] for at in into if links[at][0] % 2 == axis for then in onward[at] for lane in (0, 1)]]
+            for axis in (0, 1)
+        ]
+        lines.append(line(cmd="signal", node=number[node], offset=draws.randrange(60), phases=phases))
+    for _ in range(vehicles):
+        plan = [draws.randrange(len(links))]
+        while len(plan) < 20:
+            plan.append(draws.choice(onward[plan[-1]]))
+        lines.append(line(cmd="enter", plan=plan, lane=draws.randrange(2), depart=draws.randrange(500)))
+    return lines, [50] * advances
+
+
+def sparse(vehicles):
+    draws, links = random.Random(1), 4_096
+    lines = [load([[1, 1, 2], [2, 1, 2]], [[at, 1, 2, 2, 1_000_000, 5] for at in range(links)], [], zone=0, change=800)]
+    for _ in range(vehicles):
+        lines.append(line(cmd="enter", plan=[draws.randrange(links)], lane=draws.randrange(2), depart=draws.randrange(150)))
+    return lines + [line(cmd="advance", steps=200)], [200] * 10
+
+
+SESSIONS = {
+    "ring 0.1": lambda: ring(0.1),
+    "ring 0.3": lambda: ring(0.3),
+    "grid 20000": lambda: grid(20_000),
+    "grid 100000": lambda: grid(100_000),
+    "grid 400000": lambda: grid(400_000, advances=8),
+    "sparse 10000": lambda: sparse(10_000),
+}
+
+
+class Program:
+    """A program that answers lines on its standard input."""
+
+    def __init__(self, name, words):
+        self.name = name
+        self.process = subprocess.Popen(words, stdin=subprocess.PIPE, stdout=subprocess.PIPE)
+
+    def ask(self, lines):
+        replies = []
+        for at in range(0, len(lines), BATCH):
+            part = lines[at : at + BATCH]
+            self.process.stdin.write("".join(text + "\n" for text in part).encode())
+            self.process.stdin.flush()
+            replies += [self.process.stdout.readline() for _ in part]
+        return replies
+
+    def end(self):
+        self.process.stdin.close()
+        self.process.wait()
+
+
+def run(words_of, lines, chunks):
+    """Updates of each advance, and for each program the seconds of each."""
+    programs = [Program(name, words) for name, words in words_of.items()]
+    first = [program.ask(lines) for program in programs]
+    updates, spent = [], {program.name: [] for program in programs}
+    for steps in chunks:
+        said = []
+        for program in programs:
+            before = program.ask([line(cmd="count")])
+            start = time.perf_counter()
+            moved = program.ask([line(cmd="advance", steps=steps)])
+            spent[program.name].append(time.perf_counter() - start)
+            said.append(before + moved + program.ask([line(cmd="count")]))
+        first = [replies + more for replies, more in zip(first, said, strict=True)]
+        cells = [json.loads(said[0][at])["cells"] for at in (0, 2)]
+        updates.append(sum(cells) / 2 * steps)
+    for program in programs:
+        program.end()
+    if any(replies != first[0] for replies in first):
+        raise SystemExit("the replies are not the same")
+    return updates, spent
+
+
+def main():
+    parser = argparse.ArgumentParser(description=__doc__, formatter_class=argparse.RawTextHelpFormatter)
+    parser.add_argument("program")
+    parser.add_argument("--workers", default="1")
+    parser.add_argument("--beside")
+    parser.add_argument("--only", default="")
+    parser.add_argument("--times", type=int, default=3)
+    args = parser.parse_args()
+
+    words = {f"{workers} workers": [args.program, "--workers", workers] for workers in args.workers.split(",")}
+    if args.beside:
+        words = {"beside": [args.beside], **words}
+    print(f"million vehicle updates a second (best of {args.times} runs)")
+    for name, make in SESSIONS.items():
+        if args.only not in name:
+            continue
+        lines, chunks = make()
+        best = {}
+        for _ in range(args.times):
+            updates, spent = run(words, lines, chunks)
+            best = {it: [min(pair) for pair in zip(spent[it], best.get(it, spent[it]), strict=True)] for it in spent}
+        rates = {it: sum(updates) / sum(best[it]) / 1e6 for it in best}
+        of = rates[next(iter(rates))]
+        print(f"  {name:<14}" + ", ".join(f"{it} {rate:.1f} ({rate / of:.2f})" for it, rate in rates.items()), flush=True)
+
+
+main()
