@@ -1,4 +1,6 @@
 //! Commands of the clock and of all vehicles together.
+//!
+//! Source: this profile.
 ghost use Rattle.std.specs.Prelude.{◌≡◌};
 ghost use Rattle.street_base.specs.declared.command.Command.TheVariants.{Advance, Count};
 ghost use Rattle.street_engine.specs.Refines.{Serves};

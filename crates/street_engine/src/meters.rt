@@ -1,4 +1,6 @@
 //! Commands of detectors.
+//!
+//! Source: this profile.
 ghost use Rattle.std.specs.Prelude.{◌≡◌};
 ghost use Rattle.street_base.specs.declared.command.Command.TheVariants.{PlaceMeter, ReadMeter};
 ghost use Rattle.street_engine.specs.Refines.{Serves};

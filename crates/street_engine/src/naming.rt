@@ -1,4 +1,6 @@
 //! Lanes and cells that a command names by numbers of its own.
+//!
+//! Source: this profile.
 ghost use Rattle.std.specs.Prelude.{◌≡◌, ℕ, ◌≤◌, ◌<◌, ◌++◌, None, Some, length, List, Bool, IfOk, IfErr, OnOk};
 ghost use Rattle.street_base.specs.declared.refusal.Refusal.{Refusal};
 ghost use Rattle.street_base.specs.Network.{link_at};

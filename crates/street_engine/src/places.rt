@@ -1,4 +1,6 @@
 //! Commands that name a node or a lane.
+//!
+//! Source: this profile.
 ghost use Rattle.std.specs.Prelude.{◌≡◌};
 ghost use Rattle.street_base.specs.declared.command.Command.TheVariants.{Signal, CloseLane, ReopenLane, Lane};
 ghost use Rattle.street_engine.specs.Refines.{Serves};

@@ -1,4 +1,6 @@
 //! Commands that name a vehicle.
+//!
+//! Source: this profile.
 ghost use Rattle.std.specs.Prelude.{◌≡◌, ◌<◌, ◌≤◌, None, length};
 ghost use Rattle.street_base.specs.declared.command.Command.TheVariants.{Enter, TakeOut, Vehicle};
 ghost use Rattle.street_base.specs.Limits.{last_clock, most_vehicles};

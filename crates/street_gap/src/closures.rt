@@ -1,4 +1,6 @@
 //! The closed cells of a lane.
+//!
+//! Source: this profile.
 ghost use Rattle.std.specs.Prelude.{◌≡◌, ◌↔◌, ℕ, ◌+◌, ◌-◌, ◌<◌, ◌≤◌, not, ◌&&◌, ◌||◌, true, false, IsTrue, List, [], ◌∷◌, ◌++◌, length, take, drop, count_by, OnOk, OnErr};
 ghost use Rattle.street_gap.specs.declared.closures.Stretch.{Stretch as Closed};
 ghost use Rattle.street_gap.specs.Closed.{is_between, is_in, IsRising, IsWithin, closed_marks, entrance_after, closed_count};

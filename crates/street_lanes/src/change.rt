@@ -1,4 +1,6 @@
 //! Lane changes on a link of two lanes of a tile.
+//!
+//! Rule by Rickert, Nagel, Schreckenberg and Latour 1996, with this profile's turn zone and closed cells.
 ghost use Rattle.std.specs.Prelude.{◌≡◌, ◌+◌, ◌^◌, ◌<◌, length};
 ghost use Rattle.street_base.specs.Network.{link_at};
 ghost use Rattle.street_change.specs.Sight.{odds_of};

@@ -1,4 +1,6 @@
 //! Motion on one lane of a tile.
+//!
+//! Rule by Nagel and Schreckenberg 1992; exits, buffers and detectors are this profile.
 ghost use Rattle.std.specs.Prelude.{◌≡◌, ◌^◌, ◌<◌, ◌≤◌, length, Some, IsSome};
 ghost use Rattle.std.specs.List.{All};
 ghost use Rattle.std.specs.Option.{option_copied};

@@ -1,4 +1,6 @@
 //! Who comes to cell 0 of a lane.
+//!
+//! Source: this profile.
 ghost use Rattle.std.specs.Prelude.{◌≡◌, ℕ, ◌<◌, ◌≤◌, length, Some, option_map};
 ghost use Rattle.street_base.specs.Lane.{Track, is_free};
 ghost use Rattle.street_gap.specs.Closed.{IsWithin, closed_marks};

@@ -1,4 +1,6 @@
 //! Who waits on a lane, in the order of departing.
+//!
+//! Source: this profile.
 ghost use Rattle.std.specs.Prelude.{◌≡◌, ◌<◌, ◌≤◌, length, option_map};
 ghost use Rattle.street_base.specs.Departure.{is_before};
 ghost use Rattle.street_lanes.specs.Views.{waiting_of};

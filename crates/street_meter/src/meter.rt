@@ -1,4 +1,6 @@
 //! A detector as sums.
+//!
+//! Source: this profile.
 ghost use Rattle.std.specs.Prelude.{◌≡◌, ℕ, ◌+◌, ◌*◌, ◌^◌, ◌<◌, ◌≤◌, List, [], ◌∷◌, ◌++◌, IfOk};
 ghost use Rattle.street_base.specs.State.{Triple};
 ghost use Rattle.street_meter.specs.Meter.{Stands, IsRead, IsPlacedAs, detector_of, next_step};

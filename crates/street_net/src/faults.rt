@@ -1,4 +1,6 @@
 //! Why a load or a plan is refused.
+//!
+//! Source: this profile.
 
 use std::alloc::{AllocError, AllocFailed};
 use street_base::Part;

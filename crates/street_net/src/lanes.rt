@@ -1,4 +1,6 @@
 //! Where links end, and which lanes run to a node.
+//!
+//! Source: this profile, in whose order of releases the lanes to a node stand.
 ghost use Rattle.std.specs.Prelude.{◌≡◌, ◌++◌, [], length, map, slice_index_or, Vec, EachIndex, None, IfOk, OnOk};
 ghost use Rattle.std.specs.List.{range_with_len};
 ghost use Rattle.std.specs.declared.alloc.Global.{Global};

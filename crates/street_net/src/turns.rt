@@ -1,4 +1,6 @@
 //! The turns from each lane, by the positions of their next links.
+//!
+//! Source: turns of TRANSIMS; that a lane serves a link by a turn is this profile.
 ghost use Rattle.std.specs.Prelude.{◌≡◌, ◌≢◌, ℕ, ◌+◌, ◌*◌, ◌<◌, [], length, true, None, Some, IfOk, OnOk, EachIndex, MatchOption, Vec, slice_index_or};
 ghost use Rattle.std.specs.List.{Contains};
 ghost use Rattle.std.specs.declared.alloc.Global.{Global};

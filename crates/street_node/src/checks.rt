@@ -1,4 +1,6 @@
 //! Whether a signal plan is bad.
+//!
+//! Source: this profile.
 ghost use Rattle.std.specs.Prelude.{◌≡◌, ◌*◌, ◌≤◌, None, length};
 ghost use Rattle.std.specs.List.{list_all};
 ghost use Rattle.street_base.specs.Faults.{first_bad, is_turn_to, is_bad_phase, cycle_of, signal_fault};

@@ -1,4 +1,6 @@
 //! A phase of a signal plan, its green turns in order.
+//!
+//! Source: this profile.
 ghost use Rattle.std.specs.Prelude.{◌≡◌, map};
 ghost use Rattle.std.specs.List.Sorted.{IsPermutation};
 ghost use Rattle.street_base.specs.Network.{Place};

@@ -1,4 +1,6 @@
 //! Signal plans with fixed times.
+//!
+//! Source: this profile.
 ghost use Rattle.std.specs.Prelude.{◌≡◌, ℕ, ◌<◌, true, length, map, None, Some, IfOk, IfErr, OnOk, slice_index_or};
 ghost use Rattle.std.specs.List.{list_all};
 ghost use Rattle.street_base.specs.declared.command.PhaseSpec.{PhaseSpec as PhaseTold};

@@ -1,4 +1,6 @@
 //! How one vehicle drives on: what stops it, its gap and its new speed.
+//!
+//! Rule by Nagel and Schreckenberg 1992; exits and closed cells are this profile.
 
 ghost use Rattle.std.specs.Prelude.{◌≡◌, ◌+◌, ◌<◌, IsSome, false};
 ghost use Rattle.street_base.specs.Motion.{Drive, speed_after};

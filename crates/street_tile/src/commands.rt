@@ -1,4 +1,6 @@
 //! Commands that name one lane or one node.
+//!
+//! Source: this profile.
 ghost use Rattle.std.specs.Prelude.{◌≡◌, ◌<◌, ◌≤◌, length, Some, true, false, slice_get, IfOk, OnOk, OnErr};
 ghost use Rattle.street_base.specs.declared.net.NetSpec.{NetSpec};
 ghost use Rattle.street_base.specs.Network.{link_at};

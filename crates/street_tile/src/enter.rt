@@ -1,4 +1,6 @@
 //! Entries and departures on a tile's own lanes.
+//!
+//! Source: this profile.
 ghost use Rattle.std.specs.Prelude.{◌≡◌, ◌+◌, ◌<◌, ◌≤◌, length, List, None, Option, option_map, map, true, IsSome};
 ghost use Rattle.street_base.specs.Network.{Place};
 ghost use Rattle.street_base.specs.Vehicle.{Vehicle};

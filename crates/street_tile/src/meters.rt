@@ -1,4 +1,6 @@
 //! The detectors of a tile.
+//!
+//! Source: this profile.
 ghost use Rattle.std.specs.Prelude.{◌≡◌, ℕ, ◌<◌, ◌≤◌, length, true, option_map, slice_get, IfOk, OnOk, OnErr};
 ghost use Rattle.street_base.specs.Limits.{last_clock};
 ghost use Rattle.street_base.specs.Network.{link_at};

@@ -1,4 +1,6 @@
 //! Releases from a tile's own buffers.
+//!
+//! Source: this profile.
 ghost use Rattle.std.specs.Prelude.{◌≡◌, ◌≢◌, ℕ, ◌+◌, ◌*◌, ◌<◌, ◌≤◌, length, List, [], ◌∷◌, ◌++◌, true, false, Some, None, option_map, filter_map, slice_get, slice_set, vec_len, vec_capacity, IsSome, IfSome};
 ghost use Rattle.street_base.specs.Network.{link_at};
 ghost use Rattle.street_base.specs.State.{Traffic, LaneState, Queued, lane_at};

@@ -1,4 +1,6 @@
 //! Which of a tile's own lanes are open.
+//!
+//! Source: this profile.
 ghost use Rattle.std.specs.Prelude.{◌≡◌, ℕ, ◌*◌, ◌<◌, length, false, slice_get, Some};
 ghost use Rattle.std.specs.List.{list_any};
 ghost use Rattle.street_base.specs.Network.{Place, is_place};

@@ -1,4 +1,6 @@
 //! One step of all tiles, phase by phase, each phase by workers.
+//!
+//! Source: this profile, whose five phases a step has in this order.
 ghost use Rattle.std.specs.Prelude.{◌≡◌, ℕ, ◌+◌, ◌*◌, ◌<◌, ◌≤◌, length, List, [], ◌∷◌, ◌++◌, filter_map, slice_index_or, true};
 ghost use Rattle.std.specs.List.{All};
 ghost use Rattle.street_base.specs.Limits.{last_clock};
