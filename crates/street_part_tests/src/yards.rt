@@ -187,6 +187,44 @@ fn three_cars_go_over(rt: HostRuntime) -> Result<(), Fail> {
     Ok(())
 }
 
+// Of three cars that stand on a list the middle one goes to another.
+#[test]
+fn the_middle_of_three_goes_over(rt: HostRuntime) -> Result<(), Fail> {
+    let mut yard = yard_of(&rt, 2)?;
+    let a = admit(&rt, &mut yard, 0);
+    push(&rt, &mut yard, FIRST, a);
+    let b = admit(&rt, &mut yard, 1);
+    push(&rt, &mut yard, FIRST, b);
+    let c = admit(&rt, &mut yard, 2);
+    push(&rt, &mut yard, FIRST, c);
+    cut(&rt, &mut yard, FIRST, b);
+    push(&rt, &mut yard, SECOND, b);
+    is_listed(&rt, &yard, FIRST, Some(a), Some(c), 2);
+    is_between(&rt, &yard, FIRST, None, a, Some(c));
+    is_between(&rt, &yard, FIRST, Some(a), c, None);
+    is_listed(&rt, &yard, SECOND, Some(b), Some(b), 1);
+    Ok(())
+}
+
+// Of three cars that stand on a list the last one goes to the front of another.
+#[test]
+fn the_last_of_three_goes_over(rt: HostRuntime) -> Result<(), Fail> {
+    let mut yard = yard_of(&rt, 2)?;
+    let a = admit(&rt, &mut yard, 0);
+    push(&rt, &mut yard, FIRST, a);
+    let b = admit(&rt, &mut yard, 1);
+    push(&rt, &mut yard, FIRST, b);
+    let c = admit(&rt, &mut yard, 2);
+    push(&rt, &mut yard, FIRST, c);
+    cut(&rt, &mut yard, FIRST, c);
+    put_first(&rt, &mut yard, SECOND, c);
+    is_listed(&rt, &yard, FIRST, Some(a), Some(b), 2);
+    is_between(&rt, &yard, FIRST, None, a, Some(b));
+    is_between(&rt, &yard, FIRST, Some(a), b, None);
+    is_listed(&rt, &yard, SECOND, Some(c), Some(c), 1);
+    Ok(())
+}
+
 // The key has a car: it is loose.
 fn is_named(rt: &impl Abort, yard: &Yard, key: Key)
     ensures { IsSome (entry_at yard.now key.0) }
