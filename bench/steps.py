@@ -5,8 +5,9 @@ Usage: bench/steps.py PROGRAM [--workers N,N..] [--beside OTHER] [--only WORD] [
 
 Sessions: a ring of 100 one-lane links of 1,000 cells, filled to a density; a grid of 32 by 32 nodes with signals and two-lane
 links of 100 cells, on which vehicles drive through 20 links; 4,096 two-lane links of 1,000,000 cells with 10,000 vehicles.
-OTHER is another program for the same lines. All take turns, advance by advance, and their replies must be the same, byte for
-byte. Times are those of the clock on the wall, so that workers on threads count; the best of the runs of each advance is taken.
+OTHER is another program for the same lines and the option --calls. All take turns, advance by advance, and their replies must
+be the same, byte for byte. Times are those of the clock on the wall, so that workers on threads count; the best of the runs of
+each advance is taken.
 """
 
 import argparse
@@ -17,6 +18,7 @@ import time
 
 DIRECTIONS = [(0, 1), (1, 0), (0, -1), (-1, 0)]
 BATCH = 50  # lines that are sent before their replies are read, so that no pipe fills
+CALLS = ["--calls", "1000000"]  # more than a program serves by itself
 
 
 def line(**fields):
@@ -158,9 +160,9 @@ def main():
     parser.add_argument("--times", type=int, default=3)
     args = parser.parse_args()
 
-    words = {f"{workers} workers": [args.program, "--workers", workers] for workers in args.workers.split(",")}
+    words = {f"{workers} workers": [args.program, "--workers", workers, *CALLS] for workers in args.workers.split(",")}
     if args.beside:
-        words = {"beside": [args.beside], **words}
+        words = {"beside": [args.beside, *CALLS], **words}
     print(f"million vehicle updates a second (best of {args.times} runs)")
     for name, make in SESSIONS.items():
         if args.only not in name:
