@@ -31,18 +31,18 @@ apart_push xs key away apart = IsApart-join xs key [] away tt (subst IsApart (sy
 vacant_not : (p : Place) (c : Cold) → p.car ≡ Some c → ◌≡◌ {A = Option Place} (Some p) (Some vacant) → ⊥
 vacant_not p c has e = (let same : p ≡ vacant = cc in let bad : ◌≡◌ {A = Option Cold} (Some c) None = sym has ∙ ap (λ (x : Place). x.car) same in cc)
 
-spare_below : (y : Inside) → IsSound y → (k : ℕ) → Has y.spare.items k → k < length y.hots.items
+spare_below : (y : Inside) → IsSound y → (k : ℕ) → Has y.spare.items k → k < length y.hots
 spare_below y s k h = s.within k (subst IsSome (sym (s.spared k h)) refl)
 
-pub spare-few : (y : Inside) → IsSound y → length y.spare.items ≤ length y.hots.items
-spare-few y s = keys-few y.hots.items y.places.slots s.within y.spare.items s.apart (spare_below y s)
+pub spare-few : (y : Inside) → IsSound y → length y.spare.items ≤ length y.hots
+spare-few y s = keys-few y.hots y.places.slots s.within y.spare.items s.apart (spare_below y s)
 
 -- a loose car is taken out
 module _ (y : Inside) (v : Yard) (key : ℕ) (s : IsSound y) (is_v : seen y ≡ v) (loose : IsLoose v key) where
   pub taken_key : (p : Place) × (c : Cold) × (place_in y.places.slots key ≡ Some p) × (p.car ≡ Some c) × (p.list ≡ None)
   taken_key = seen_loose y v key s is_v loose
 
-  taken_below : key < length y.hots.items
+  taken_below : key < length y.hots
   taken_below = s.within key (subst IsSome (sym taken_key.2) refl)
 
   away : Away key y.spare.items
@@ -51,8 +51,8 @@ module _ (y : Inside) (v : Yard) (key : ℕ) (s : IsSound y) (is_v : seen y ≡ 
     | inr a ↦ a
   ]
 
-  pub spare_room : length y.spare.items + 1 ≤ length y.hots.items
-  spare_room = (let few : length (key ∷ y.spare.items) ≤ length y.hots.items = keys-few y.hots.items y.places.slots s.within (key ∷ y.spare.items) (away, s.apart) (λ k h. elim (cases_eq k key) as (λ _. k < length y.hots.items) [
+  pub spare_room : length y.spare.items + 1 ≤ length y.hots
+  spare_room = (let few : length (key ∷ y.spare.items) ≤ length y.hots = keys-few y.hots y.places.slots s.within (key ∷ y.spare.items) (away, s.apart) (λ k h. elim (cases_eq k key) as (λ _. k < length y.hots) [
     | inl e ↦ (let b = taken_below in omega arith)
     | inr ne ↦ spare_below y s k (Has-behind key k y.spare.items ne h)
   ]) in omega arith)
@@ -61,7 +61,7 @@ module _ (y : Inside) (v : Yard) (key : ℕ) (s : IsSound y) (is_v : seen y ≡ 
       Has-behind key k xs ne ([], vs, e) = absurd (let f : k ≡ key = cc in ne f)
       Has-behind key k xs ne (u ∷ us, vs, e) = let f : xs ≡ us ++ k ∷ vs = cc in (us, vs, f)
 
-  module _ (new : Place) (new_is : new ≡ vacant) (spare' : List ℕ) (spare_is : spare' ≡ y.spare.items ++ key ∷ []) (capacity' : ℕ) (holds : length y.hots.items ≤ capacity') where
+  module _ (new : Place) (new_is : new ≡ vacant) (spare' : List ℕ) (spare_is : spare' ≡ y.spare.items ++ key ∷ []) (capacity' : ℕ) (holds : length y.hots ≤ capacity') where
     abbrev pub taken_slots : List (Option Place)
     taken_slots = set y.places.slots key (Some new)
 
@@ -71,38 +71,38 @@ module _ (y : Inside) (v : Yard) (key : ℕ) (s : IsSound y) (is_v : seen y ≡ 
     taken_other : (j : ℕ) → j ≢ key → place_in taken_slots j ≡ place_in y.places.slots j
     taken_other j ne = place-other y.places.slots key (Some new) j ne
 
-    taken_within : (k : ℕ) → IsSome (place_in taken_slots k) → k < length y.hots.items
-    taken_within k h = elim (cases_eq k key) as (λ _. k < length y.hots.items) [
+    taken_within : (k : ℕ) → IsSome (place_in taken_slots k) → k < length y.hots
+    taken_within k h = elim (cases_eq k key) as (λ _. k < length y.hots) [
       | inl e ↦ (let b = taken_below in omega arith)
       | inr ne ↦ s.within k (subst IsSome (taken_other k ne) h)
     ]
 
-    kept_gone : kept_at y.hots.items taken_slots key ≡ None
-    kept_gone = ap (kept_with (core (hot_at y.hots.items key))) taken_here
+    kept_gone : kept_at y.hots taken_slots key ≡ None
+    kept_gone = ap (kept_with (core (hot_at y.hots key))) taken_here
 
-    kept_stays : (j : ℕ) → j ≢ key → kept_at y.hots.items taken_slots j ≡ kept_at y.hots.items y.places.slots j
-    kept_stays j ne = ap (kept_with (core (hot_at y.hots.items j))) (taken_other j ne)
+    kept_stays : (j : ℕ) → j ≢ key → kept_at y.hots taken_slots j ≡ kept_at y.hots y.places.slots j
+    kept_stays j ne = ap (kept_with (core (hot_at y.hots j))) (taken_other j ne)
 
-    taken_stands : StandsFor (links_at y.hots.items taken_slots) y.ends.items (lists_of y.hots.items y.places.slots y.ends.items)
+    taken_stands : StandsFor (links_at y.hots taken_slots) y.ends.items (lists_of y.hots y.places.slots y.ends.items)
     taken_stands =
-        StandsFor-loose (links_at y.hots.items y.places.slots) (links_at y.hots.items taken_slots) y.ends.items _ key s.stands
+        StandsFor-loose (links_at y.hots y.places.slots) (links_at y.hots taken_slots) y.ends.items _ key s.stands
         (ap list_of (links_of-seen y key taken_key.0 taken_key.2) ∙ taken_key.4)
-        (ap (λ o. list_of (option_map (λ (p : Place). linked (hot_at y.hots.items key).ahead (hot_at y.hots.items key).behind p.list) o)) taken_here)
-        (λ k ne. ap (option_map (λ (p : Place). linked (hot_at y.hots.items k).ahead (hot_at y.hots.items k).behind p.list)) (taken_other k ne))
+        (ap (λ o. list_of (option_map (λ (p : Place). linked (hot_at y.hots key).ahead (hot_at y.hots key).behind p.list) o)) taken_here)
+        (λ k ne. ap (option_map (λ (p : Place). linked (hot_at y.hots k).ahead (hot_at y.hots k).behind p.list)) (taken_other k ne))
 
-    taken_lists : lists_of y.hots.items taken_slots y.ends.items ≡ lists_of y.hots.items y.places.slots y.ends.items
-    taken_lists = lists_of-stands y.hots.items taken_slots taken_within y.ends.items _ taken_stands
+    taken_lists : lists_of y.hots taken_slots y.ends.items ≡ lists_of y.hots y.places.slots y.ends.items
+    taken_lists = lists_of-stands y.hots taken_slots taken_within y.ends.items _ taken_stands
 
-    pub taken-sound : IsLaidOut y.hots.items taken_slots spare' y.reached capacity' y.ends.items
+    pub taken-sound : IsLaidOut y.hots taken_slots spare' y.reached capacity' y.ends.items
     taken-sound = record {
       stands = rw taken_lists taken_stands;
       within = taken_within;
-      placed = λ k. elim (cases_eq k key) as (λ _. IsPlaced (hot_at y.hots.items k).next (place_in taken_slots k)) [
-        | inl e ↦ subst (λ j. IsPlaced (hot_at y.hots.items j).next (place_in taken_slots j)) (sym e) (subst (IsPlaced (hot_at y.hots.items key).next) (sym taken_here) refl)
-        | inr ne ↦ subst (IsPlaced (hot_at y.hots.items k).next) (sym (taken_other k ne)) (s.placed k)
+      placed = λ k. elim (cases_eq k key) as (λ _. IsPlaced (hot_at y.hots k).next (place_in taken_slots k)) [
+        | inl e ↦ subst (λ j. IsPlaced (hot_at y.hots j).next (place_in taken_slots j)) (sym e) (subst (IsPlaced (hot_at y.hots key).next) (sym taken_here) refl)
+        | inr ne ↦ subst (IsPlaced (hot_at y.hots k).next) (sym (taken_other k ne)) (s.placed k)
       ];
       below = λ k h. elim (cases_eq k key) as (λ _. k < y.reached) [
-        | inl e ↦ absurd (let h' : IsSome {T = Kept} None = subst IsSome kept_gone (subst (λ j. IsSome (kept_at y.hots.items taken_slots j)) e h) in cc)
+        | inl e ↦ absurd (let h' : IsSome {T = Kept} None = subst IsSome kept_gone (subst (λ j. IsSome (kept_at y.hots taken_slots j)) e h) in cc)
         | inr ne ↦ s.below k (subst IsSome (kept_stays k ne) h)
       ];
       few = s.few;
@@ -115,10 +115,10 @@ module _ (y : Inside) (v : Yard) (key : ℕ) (s : IsSound y) (is_v : seen y ≡ 
       holds_all = holds;
     }
 
-    pub taken-seen : ◌≡◌ {A = Yard} (record { lists = lists_of y.hots.items taken_slots y.ends.items; kept = kept_in y.hots.items taken_slots y.reached; room = length spare' }) (record v { kept = set v.kept key None; room = v.room + 1 })
+    pub taken-seen : ◌≡◌ {A = Yard} (record { lists = lists_of y.hots taken_slots y.ends.items; kept = kept_in y.hots taken_slots y.reached; room = length spare' }) (record v { kept = set v.kept key None; room = v.room + 1 })
     taken-seen =
-        subst (λ w. ◌≡◌ {A = Yard} (record { lists = lists_of y.hots.items taken_slots y.ends.items; kept = kept_in y.hots.items taken_slots y.reached; room = length spare' }) (record w { kept = set w.kept key None; room = w.room + 1 })) is_v
-        (yard-same _ _ _ _ _ _ taken_lists (kept_in-set y.hots.items y.hots.items y.places.slots taken_slots y.reached key None kept_stays (λ _. kept_gone)) (ap length spare_is ∙ length-append y.spare.items (key ∷ [])))
+        subst (λ w. ◌≡◌ {A = Yard} (record { lists = lists_of y.hots taken_slots y.ends.items; kept = kept_in y.hots taken_slots y.reached; room = length spare' }) (record w { kept = set w.kept key None; room = w.room + 1 })) is_v
+        (yard-same _ _ _ _ _ _ taken_lists (kept_in-set y.hots y.hots y.places.slots taken_slots y.reached key None kept_stays (λ _. kept_gone)) (ap length spare_is ∙ length-append y.spare.items (key ∷ [])))
 
 -- the rest of a car
 abbrev pub cold_of : Car → Cold
@@ -132,30 +132,30 @@ module _ (y : Inside) (v : Yard) (key : ℕ) (s : IsSound y) (is_v : seen y ≡ 
   pub spare_place : place_in y.places.slots key ≡ Some vacant
   spare_place = s.spared key was_spare
 
-  pub spare_key : key < length y.hots.items
+  pub spare_key : key < length y.hots
   spare_key = spare_below y s key was_spare
 
   pub was_nobody : entry_at v key ≡ None
-  was_nobody = ap (λ w. entry_at w key) (sym is_v) ∙ entry_at-seen y s key ∙ ap (kept_with (core (hot_at y.hots.items key))) spare_place
+  was_nobody = ap (λ w. entry_at w key) (sym is_v) ∙ entry_at-seen y s key ∙ ap (kept_with (core (hot_at y.hots key))) spare_place
 
   parts : Away key rest × Away key [] × IsApart (rest ++ [])
   parts = IsApart-split rest key [] (subst IsApart popped s.apart)
 
-  module _ (car : Car) (ahead behind next : Option ℕ) (next_is : next ≡ link_after (cold_of car)) (new : Place) (new_is : new ≡ record { car = Some (cold_of car); list = None }) (reached' : ℕ) (reaches : key < reached') (grows : y.reached ≤ reached') (capacity' : ℕ) (holds : length y.hots.items ≤ capacity') where
+  module _ (car : Car) (ahead behind next : Option ℕ) (next_is : next ≡ link_after (cold_of car)) (new : Place) (new_is : new ≡ record { car = Some (cold_of car); list = None }) (reached' : ℕ) (reaches : key < reached') (grows : y.reached ≤ reached') (capacity' : ℕ) (holds : length y.hots ≤ capacity') where
     abbrev pub new_hot : Hot
     new_hot = record { ahead = ahead; behind = behind; cell = car.cell; number = car.number; next = next; speed = car.speed; mark = false }
 
     abbrev pub new_hots : List Hot
-    new_hots = set y.hots.items key new_hot
+    new_hots = set y.hots key new_hot
 
     abbrev pub new_slots : List (Option Place)
     new_slots = set y.places.slots key (Some new)
 
     hot_here : hot_at new_hots key ≡ new_hot
-    hot_here = hot-same y.hots.items key new_hot spare_key
+    hot_here = hot-same y.hots key new_hot spare_key
 
-    new_length : length new_hots ≡ length y.hots.items
-    new_length = length-set y.hots.items key new_hot
+    new_length : length new_hots ≡ length y.hots
+    new_length = length-set y.hots key new_hot
 
     new_here : place_in new_slots key ≡ Some (record { car = Some (cold_of car); list = None })
     new_here = place-same y.places.slots key vacant new spare_place ∙ ap Some new_is
@@ -172,8 +172,8 @@ module _ (y : Inside) (v : Yard) (key : ℕ) (s : IsSound y) (is_v : seen y ≡ 
     kept_new : kept_at new_hots new_slots key ≡ Some (record { car = car; mark = false; list = None })
     kept_new = ap (kept_with (core (hot_at new_hots key))) new_here ∙ ap (λ (h : Hot). Some (kept_of (core h) None (cold_of car))) hot_here
 
-    kept_rest : (j : ℕ) → j ≢ key → kept_at new_hots new_slots j ≡ kept_at y.hots.items y.places.slots j
-    kept_rest j ne = ap (λ (h : Hot). kept_with (core h) (place_in new_slots j)) (hot-other y.hots.items key new_hot j ne) ∙ ap (kept_with (core (hot_at y.hots.items j))) (new_other j ne)
+    kept_rest : (j : ℕ) → j ≢ key → kept_at new_hots new_slots j ≡ kept_at y.hots y.places.slots j
+    kept_rest j ne = ap (λ (h : Hot). kept_with (core h) (place_in new_slots j)) (hot-other y.hots key new_hot j ne) ∙ ap (kept_with (core (hot_at y.hots j))) (new_other j ne)
 
     new_below : (k : ℕ) → IsSome (kept_at new_hots new_slots k) → k < reached'
     new_below k h = elim (cases_eq k key) as (λ _. k < reached') [
@@ -181,26 +181,26 @@ module _ (y : Inside) (v : Yard) (key : ℕ) (s : IsSound y) (is_v : seen y ≡ 
       | inr ne ↦ (let b = s.below k (subst IsSome (kept_rest k ne) h) in omega arith)
     ]
 
-    new_stands : StandsFor (links_at new_hots new_slots) y.ends.items (lists_of y.hots.items y.places.slots y.ends.items)
+    new_stands : StandsFor (links_at new_hots new_slots) y.ends.items (lists_of y.hots y.places.slots y.ends.items)
     new_stands =
-        StandsFor-loose (links_at y.hots.items y.places.slots) (links_at new_hots new_slots) y.ends.items _ key s.stands
+        StandsFor-loose (links_at y.hots y.places.slots) (links_at new_hots new_slots) y.ends.items _ key s.stands
         (ap list_of (links_of-seen y key vacant spare_place))
         (ap (λ o. list_of (option_map (λ (p : Place). linked (hot_at new_hots key).ahead (hot_at new_hots key).behind p.list) o)) new_here)
-        (λ k ne. ap (λ (h : Hot). option_map (λ (p : Place). linked h.ahead h.behind p.list) (place_in new_slots k)) (hot-other y.hots.items key new_hot k ne) ∙ ap (option_map (λ (p : Place). linked (hot_at y.hots.items k).ahead (hot_at y.hots.items k).behind p.list)) (new_other k ne))
+        (λ k ne. ap (λ (h : Hot). option_map (λ (p : Place). linked h.ahead h.behind p.list) (place_in new_slots k)) (hot-other y.hots key new_hot k ne) ∙ ap (option_map (λ (p : Place). linked (hot_at y.hots k).ahead (hot_at y.hots k).behind p.list)) (new_other k ne))
 
-    lists_stay : lists_of new_hots new_slots y.ends.items ≡ lists_of y.hots.items y.places.slots y.ends.items
+    lists_stay : lists_of new_hots new_slots y.ends.items ≡ lists_of y.hots y.places.slots y.ends.items
     lists_stay = lists_of-stands new_hots new_slots new_within y.ends.items _ new_stands
 
-    pub admitted-lists : lists_of new_hots new_slots y.ends.items ≡ v.lists
-    admitted-lists = lists_stay ∙ ap (λ (w : Yard). w.lists) is_v
+    set_lists : lists_of new_hots new_slots y.ends.items ≡ v.lists
+    set_lists = lists_stay ∙ ap (λ (w : Yard). w.lists) is_v
 
-    pub admitted-sound : IsLaidOut new_hots new_slots rest reached' capacity' y.ends.items
-    admitted-sound = record {
+    set_sound : IsLaidOut new_hots new_slots rest reached' capacity' y.ends.items
+    set_sound = record {
       stands = rw lists_stay new_stands;
       within = new_within;
       placed = λ k. elim (cases_eq k key) as (λ _. IsPlaced (hot_at new_hots k).next (place_in new_slots k)) [
         | inl e ↦ subst (λ j. IsPlaced (hot_at new_hots j).next (place_in new_slots j)) (sym e) (subst (IsPlaced (hot_at new_hots key).next) (sym new_here) (ap (λ (h : Hot). h.next) hot_here ∙ next_is))
-        | inr ne ↦ subst (IsPlaced (hot_at new_hots k).next) (sym (new_other k ne)) (subst (λ (h : Hot). IsPlaced h.next (place_in y.places.slots k)) (sym (hot-other y.hots.items key new_hot k ne)) (s.placed k))
+        | inr ne ↦ subst (IsPlaced (hot_at new_hots k).next) (sym (new_other k ne)) (subst (λ (h : Hot). IsPlaced h.next (place_in y.places.slots k)) (sym (hot-other y.hots key new_hot k ne)) (s.placed k))
       ];
       below = new_below;
       few = (let a = s.few in omega (arith, new_length));
@@ -210,28 +210,39 @@ module _ (y : Inside) (v : Yard) (key : ℕ) (s : IsSound y) (is_v : seen y ≡ 
       holds_all = omega (arith, new_length);
     }
 
-    pub admitted-updates : (room : ℕ) → Updates v (record { lists = lists_of new_hots new_slots y.ends.items; kept = kept_in new_hots new_slots reached'; room = room }) key (Some (record { car = car; mark = false; list = None }))
-    admitted-updates room = record {
+    set_updates : (room : ℕ) → Updates v (record { lists = lists_of new_hots new_slots y.ends.items; kept = kept_in new_hots new_slots reached'; room = room }) key (Some (record { car = car; mark = false; list = None }))
+    set_updates room = record {
       changed = kept-read new_hots new_slots reached' key (new_below key) ∙ kept_new;
       others = λ k ne. kept-read new_hots new_slots reached' k (new_below k) ∙ kept_rest k ne ∙ sym (entry_at-seen y s k) ∙ ap (λ w. entry_at w k) is_v;
     }
+
+    -- the same of a list that is that one
+    module _ (now : List Hot) (is_now : now ≡ new_hots) where
+      pub admitted-lists : lists_of now new_slots y.ends.items ≡ v.lists
+      admitted-lists = subst (λ hots. lists_of hots new_slots y.ends.items ≡ v.lists) (sym is_now) set_lists
+
+      pub admitted-sound : IsLaidOut now new_slots rest reached' capacity' y.ends.items
+      admitted-sound = subst (λ hots. IsLaidOut hots new_slots rest reached' capacity' y.ends.items) (sym is_now) set_sound
+
+      pub admitted-updates : (room : ℕ) → Updates v (record { lists = lists_of now new_slots y.ends.items; kept = kept_in now new_slots reached'; room = room }) key (Some (record { car = car; mark = false; list = None }))
+      admitted-updates room = subst (λ hots. Updates v (record { lists = lists_of hots new_slots y.ends.items; kept = kept_in hots new_slots reached'; room = room }) key (Some (record { car = car; mark = false; list = None }))) (sym is_now) (set_updates room)
 
 not_place : (o : Option Place) → (IsSome o → ⊥) → o ≡ None
 not_place None h = refl
 not_place (Some p) h = absurd (h refl)
 
 -- one more place, which is spare
-module _ (y : Inside) (v : Yard) (s : IsSound y) (is_v : seen y ≡ v) (index : ℕ) (index_is : index ≡ length y.hots.items) (few : index < 4294967295) (hot : Hot) (more : List Hot) (more_is : more ≡ y.hots.items ++ hot ∷ []) (later : List (Option Place)) (here : place_in later index ≡ Some vacant) (others : (j : ℕ) → j ≢ index → place_in later j ≡ place_in y.places.slots j) (spare' : List ℕ) (spare_is : spare' ≡ y.spare.items ++ index ∷ []) (capacity' : ℕ) (holds : index + 1 ≤ capacity') where
+module _ (y : Inside) (v : Yard) (s : IsSound y) (is_v : seen y ≡ v) (index : ℕ) (index_is : index ≡ length y.hots) (few : index < 4294967295) (hot : Hot) (more : List Hot) (more_is : more ≡ y.hots ++ hot ∷ []) (later : List (Option Place)) (here : place_in later index ≡ Some vacant) (others : (j : ℕ) → j ≢ index → place_in later j ≡ place_in y.places.slots j) (spare' : List ℕ) (spare_is : spare' ≡ y.spare.items ++ index ∷ []) (capacity' : ℕ) (holds : index + 1 ≤ capacity') where
   more_length : length more ≡ index + 1
-  more_length = (let a = length-append y.hots.items (hot ∷ []) in ap length more_is ∙ omega arith)
+  more_length = (let a = length-append y.hots (hot ∷ []) in ap length more_is ∙ omega arith)
 
   was_none : place_in y.places.slots index ≡ None
   was_none = not_place (place_in y.places.slots index) (λ h. let b = s.within index h in absurd (omega arith))
 
-  hot_stays : (j : ℕ) → j ≢ index → hot_at more j ≡ hot_at y.hots.items j
-  hot_stays j ne = elim (cases_lt j (length y.hots.items)) as (λ _. hot_at more j ≡ hot_at y.hots.items j) [
-    | inl lt ↦ ap (λ l. hot_at l j) more_is ∙ get_or_append_left y.hots.items (hot ∷ []) no_hot j lt
-    | inr ge ↦ get_or_past more j no_hot (omega (arith, more_length)) ∙ sym (get_or_past y.hots.items j no_hot ge)
+  hot_stays : (j : ℕ) → j ≢ index → hot_at more j ≡ hot_at y.hots j
+  hot_stays j ne = elim (cases_lt j (length y.hots)) as (λ _. hot_at more j ≡ hot_at y.hots j) [
+    | inl lt ↦ ap (λ l. hot_at l j) more_is ∙ get_or_append_left y.hots (hot ∷ []) no_hot j lt
+    | inr ge ↦ get_or_past more j no_hot (omega (arith, more_length)) ∙ sym (get_or_past y.hots j no_hot ge)
   ]
 
   more_within : (k : ℕ) → IsSome (place_in later k) → k < length more
@@ -240,20 +251,20 @@ module _ (y : Inside) (v : Yard) (s : IsSound y) (is_v : seen y ≡ v) (index : 
     | inr ne ↦ (let b = s.within k (subst IsSome (others k ne) h) in omega (arith, more_length))
   ]
 
-  kept_all : (j : ℕ) → kept_at more later j ≡ kept_at y.hots.items y.places.slots j
-  kept_all j = elim (cases_eq j index) as (λ _. kept_at more later j ≡ kept_at y.hots.items y.places.slots j) [
-    | inl e ↦ ap (kept_at more later) e ∙ ap (kept_with (core (hot_at more index))) here ∙ sym (ap (kept_with (core (hot_at y.hots.items index))) was_none) ∙ ap (kept_at y.hots.items y.places.slots) (sym e)
-    | inr ne ↦ ap (λ (h : Hot). kept_with (core h) (place_in later j)) (hot_stays j ne) ∙ ap (kept_with (core (hot_at y.hots.items j))) (others j ne)
+  kept_all : (j : ℕ) → kept_at more later j ≡ kept_at y.hots y.places.slots j
+  kept_all j = elim (cases_eq j index) as (λ _. kept_at more later j ≡ kept_at y.hots y.places.slots j) [
+    | inl e ↦ ap (kept_at more later) e ∙ ap (kept_with (core (hot_at more index))) here ∙ sym (ap (kept_with (core (hot_at y.hots index))) was_none) ∙ ap (kept_at y.hots y.places.slots) (sym e)
+    | inr ne ↦ ap (λ (h : Hot). kept_with (core h) (place_in later j)) (hot_stays j ne) ∙ ap (kept_with (core (hot_at y.hots j))) (others j ne)
   ]
 
-  more_stands : StandsFor (links_at more later) y.ends.items (lists_of y.hots.items y.places.slots y.ends.items)
+  more_stands : StandsFor (links_at more later) y.ends.items (lists_of y.hots y.places.slots y.ends.items)
   more_stands =
-      StandsFor-loose (links_at y.hots.items y.places.slots) (links_at more later) y.ends.items _ index s.stands
-      (ap (λ o. list_of (option_map (λ (p : Place). linked (hot_at y.hots.items index).ahead (hot_at y.hots.items index).behind p.list) o)) was_none)
+      StandsFor-loose (links_at y.hots y.places.slots) (links_at more later) y.ends.items _ index s.stands
+      (ap (λ o. list_of (option_map (λ (p : Place). linked (hot_at y.hots index).ahead (hot_at y.hots index).behind p.list) o)) was_none)
       (ap (λ o. list_of (option_map (λ (p : Place). linked (hot_at more index).ahead (hot_at more index).behind p.list) o)) here)
-      (λ k ne. ap (λ (h : Hot). option_map (λ (p : Place). linked h.ahead h.behind p.list) (place_in later k)) (hot_stays k ne) ∙ ap (option_map (λ (p : Place). linked (hot_at y.hots.items k).ahead (hot_at y.hots.items k).behind p.list)) (others k ne))
+      (λ k ne. ap (λ (h : Hot). option_map (λ (p : Place). linked h.ahead h.behind p.list) (place_in later k)) (hot_stays k ne) ∙ ap (option_map (λ (p : Place). linked (hot_at y.hots k).ahead (hot_at y.hots k).behind p.list)) (others k ne))
 
-  more_lists : lists_of more later y.ends.items ≡ lists_of y.hots.items y.places.slots y.ends.items
+  more_lists : lists_of more later y.ends.items ≡ lists_of y.hots y.places.slots y.ends.items
   more_lists = lists_of-stands more later more_within y.ends.items _ more_stands
 
   index_away : Away index y.spare.items
@@ -284,7 +295,7 @@ module _ (y : Inside) (v : Yard) (s : IsSound y) (is_v : seen y ≡ v) (index : 
   pub grown-seen : ◌≡◌ {A = Yard} (record { lists = lists_of more later y.ends.items; kept = kept_in more later y.reached; room = length spare' }) (record v { room = length spare' })
   grown-seen =
       subst (λ w. ◌≡◌ {A = Yard} (record { lists = lists_of more later y.ends.items; kept = kept_in more later y.reached; room = length spare' }) (record w { room = length spare' })) is_v
-      (yard-same _ _ _ _ _ _ more_lists (kept_in-same y.hots.items more y.places.slots later y.reached kept_all) refl)
+      (yard-same _ _ _ _ _ _ more_lists (kept_in-same y.hots more y.places.slots later y.reached kept_all) refl)
 
 -- a yard without cars
 
@@ -314,9 +325,9 @@ laid_out_empty hots slots spare capacity ends n a b c e few =
 
 pub place-list : (y : Inside) (v : Yard) (k : ℕ) → IsSound y → seen y ≡ v → (o : Option Place) → place_in y.places.slots k ≡ o → place_of v k ≡ option_and_then (λ (p : Place). p.list) o
 place-list y v k s is o there =
-    ap (λ w. place_of w k) (sym is) ∙ place_of-seen y s k ∙ ap (λ e. list_of (option_map (λ (p : Place). linked (hot_at y.hots.items k).ahead (hot_at y.hots.items k).behind p.list) e)) there ∙ through o
+    ap (λ w. place_of w k) (sym is) ∙ place_of-seen y s k ∙ ap (λ e. list_of (option_map (λ (p : Place). linked (hot_at y.hots k).ahead (hot_at y.hots k).behind p.list) e)) there ∙ through o
   where
-    through : (e : Option Place) → list_of (option_map (λ (p : Place). linked (hot_at y.hots.items k).ahead (hot_at y.hots.items k).behind p.list) e) ≡ option_and_then (λ (p : Place). p.list) e
+    through : (e : Option Place) → list_of (option_map (λ (p : Place). linked (hot_at y.hots k).ahead (hot_at y.hots k).behind p.list) e) ≡ option_and_then (λ (p : Place). p.list) e
     through None = refl
     through (Some p) = refl
 
@@ -330,8 +341,8 @@ no_car t None list h x = x
 no_car t (Some c) list h x = cc
 
 module _ (y : Inside) (v : Yard) (k : ℕ) (s : IsSound y) (is : seen y ≡ v) where
-  entry_by_place : (o : Option Place) → place_in y.places.slots k ≡ o → entry_at v k ≡ kept_with (core (hot_at y.hots.items k)) o
-  entry_by_place o there = ap (λ w. entry_at w k) (sym is) ∙ entry_at-seen y s k ∙ ap (kept_with (core (hot_at y.hots.items k))) there
+  entry_by_place : (o : Option Place) → place_in y.places.slots k ≡ o → entry_at v k ≡ kept_with (core (hot_at y.hots k)) o
+  entry_by_place o there = ap (λ w. entry_at w k) (sym is) ∙ entry_at-seen y s k ∙ ap (kept_with (core (hot_at y.hots k))) there
 
   abbrev pub NoList : Option Kept → Type 0
   NoList o = IsSomeAnd o (λ (e : Kept). e.list ≡ None)
@@ -339,12 +350,12 @@ module _ (y : Inside) (v : Yard) (k : ℕ) (s : IsSound y) (is : seen y ≡ v) w
   -- a key with a car is loose just where its place names no list
   pub loose-tells : (p : Place) → place_in y.places.slots k ≡ Some p → is_some p.car ≡ true → (IsLoose v k → is_some p.list ≡ false) × (is_some p.list ≡ false → IsLoose v k)
   loose-tells p there has =
-      let both = loose_by_car (core (hot_at y.hots.items k)) p.car p.list has in
+      let both = loose_by_car (core (hot_at y.hots k)) p.car p.list has in
       ((λ h. both.0 (subst NoList (entry_by_place (Some p) there) h)), (λ e. subst NoList (sym (entry_by_place (Some p) there)) (both.1 e)))
 
   -- and without a car it is not
   pub loose-not : (p : Place) → place_in y.places.slots k ≡ Some p → is_some p.car ≡ false → IsLoose v k → ⊥
-  loose-not p there has h = no_car (core (hot_at y.hots.items k)) p.car p.list has (subst NoList (entry_by_place (Some p) there) h)
+  loose-not p there has h = no_car (core (hot_at y.hots k)) p.car p.list has (subst NoList (entry_by_place (Some p) there) h)
 
   pub loose-nowhere : place_in y.places.slots k ≡ None → IsLoose v k → ⊥
   loose-nowhere there h = subst NoList (entry_by_place None there) h

@@ -21,8 +21,8 @@ use Rattle.street_yard.proofs.Hots.{kept-read}
 
 -- what a contract sees, by the fields
 
-pub entry_at-seen : (y : Inside) → IsSound y → (k : ℕ) → entry_at (seen y) k ≡ kept_at y.hots.items y.places.slots k
-entry_at-seen y s k = kept-read y.hots.items y.places.slots y.reached k (s.below k)
+pub entry_at-seen : (y : Inside) → IsSound y → (k : ℕ) → entry_at (seen y) k ≡ kept_at y.hots y.places.slots k
+entry_at-seen y s k = kept-read y.hots y.places.slots y.reached k (s.below k)
 
 list_by_car : (t : Core) (next : Option ℕ) (car : Option Cold) (list : Option ℕ) → IsFit next list car → option_and_then (λ (e : Kept). e.list) (option_map (kept_of t list) car) ≡ list
 list_by_car t next None list h = sym h
@@ -32,16 +32,16 @@ list_by_place : (hot : Hot) (o : Option Place) → IsPlaced hot.next o → optio
 list_by_place hot None h = refl
 list_by_place hot (Some p) h = list_by_car (core hot) hot.next p.car p.list h
 
-pub place_of-seen : (y : Inside) → IsSound y → (k : ℕ) → place_of (seen y) k ≡ list_of (links_at y.hots.items y.places.slots k)
-place_of-seen y s k = ap (option_and_then (λ (e : Kept). e.list)) (entry_at-seen y s k) ∙ list_by_place (hot_at y.hots.items k) (place_in y.places.slots k) (s.placed k)
+pub place_of-seen : (y : Inside) → IsSound y → (k : ℕ) → place_of (seen y) k ≡ list_of (links_at y.hots y.places.slots k)
+place_of-seen y s k = ap (option_and_then (λ (e : Kept). e.list)) (entry_at-seen y s k) ∙ list_by_place (hot_at y.hots k) (place_in y.places.slots k) (s.placed k)
 
 pub names_within : (at : LinksAt) (ends : List Ends) (lists : List (List ℕ)) (k n : ℕ) → StandsFor at ends lists → list_of (at k) ≡ Some n → n < length ends
 names_within at ends lists k n y on = let lt = listed_within lists n k (y.placed k n on) in omega (arith, y.count)
 
 pub IsWhole-seen : (y : Inside) → IsSound y → IsWhole (seen y)
 IsWhole-seen y s =
-    let at = links_at y.hots.items y.places.slots in
-    let lists = lists_of y.hots.items y.places.slots y.ends.items in
+    let at = links_at y.hots y.places.slots in
+    let lists = lists_of y.hots y.places.slots y.ends.items in
     record {
       listed = λ k n h. s.stands.placed k n (sym (place_of-seen y s k) ∙ h);
       names = λ k n h.
@@ -69,9 +69,9 @@ filled_copy t (Some p) h = car_of_place p.car refl
     car_of_place (Some c) e = (p, c, refl, e)
 
 pub filled : (y : Inside) → IsSound y → (k : ℕ) → IsSome (entry_at (seen y) k) → (p : Place) × (c : Cold) × (place_in y.places.slots k ≡ Some p) × (p.car ≡ Some c)
-filled y s k h = filled_copy (core (hot_at y.hots.items k)) (place_in y.places.slots k) (subst IsSome (entry_at-seen y s k) h)
+filled y s k h = filled_copy (core (hot_at y.hots k)) (place_in y.places.slots k) (subst IsSome (entry_at-seen y s k) h)
 
-pub filled_below : (y : Inside) → IsSound y → (k : ℕ) → IsSome (entry_at (seen y) k) → k < length y.hots.items
+pub filled_below : (y : Inside) → IsSound y → (k : ℕ) → IsSome (entry_at (seen y) k) → k < length y.hots
 filled_below y s k h = let f = filled y s k h in s.within k (subst IsSome (sym f.2) refl)
 
 unlink_between : (at : LinksAt) (ends : List Ends) (lists : List (List ℕ)) (n key : ℕ) (us vs : List ℕ) (count : ℕ) (p q : Option ℕ) → count ≡ length (us ++ vs) → n < length ends → StandsFor at ends lists → get_or lists n [] ≡ us ++ key ∷ vs → p ≡ last_or us None → q ≡ first_or vs None → StandsFor (modify (rejoined at p q q p) key (λ _. linked None None None)) (set ends n (ends_joined (get_or ends n no_ends) count p q q p)) (set lists n (us ++ vs))
@@ -183,14 +183,14 @@ seen_within y v n is lt =
     let e : length v.lists ≡ length y.ends.items = ap (λ (w : Yard). length w.lists) (sym is) ∙ length-map y.ends.items _ in
     omega (arith, lt, e)
 
-pub seen_on : (y : Inside) (v : Yard) (n : ℕ) (a : Option ℕ) → IsSound y → seen y ≡ v → IsOnList v n a → IsOn (links_at y.hots.items y.places.slots) n a
+pub seen_on : (y : Inside) (v : Yard) (n : ℕ) (a : Option ℕ) → IsSound y → seen y ≡ v → IsOnList v n a → IsOn (links_at y.hots y.places.slots) n a
 seen_on y v n None s is on = tt
 seen_on y v n (Some a) s is on = sym (place_of-seen y s a) ∙ ap (λ w. place_of w a) is ∙ on
 
 -- a key on a list lies below the bound
-pub below-on : (y : Inside) → IsSound y → (n : ℕ) (o : Option ℕ) → IsOn (links_at y.hots.items y.places.slots) n o → IsBelow (length y.hots.items) o
+pub below-on : (y : Inside) → IsSound y → (n : ℕ) (o : Option ℕ) → IsOn (links_at y.hots y.places.slots) n o → IsBelow (length y.hots) o
 below-on y s n None on = tt
-below-on y s n (Some a) on = on_below y.hots.items y.places.slots s.within a n on
+below-on y s n (Some a) on = on_below y.hots y.places.slots s.within a n on
 
 loose_some : (o : Option Kept) → IsSomeAnd o (λ (e : Kept). e.list ≡ None) → IsSome o × (option_and_then (λ (e : Kept). e.list) o ≡ None)
 loose_some None h = absurd h
@@ -201,8 +201,8 @@ pub seen_loose : (y : Inside) (v : Yard) (k : ℕ) → IsSound y → seen y ≡ 
 seen_loose y v k s is loose =
     let l = loose_some (entry_at (seen y) k) (subst (λ w. IsLoose w k) (sym is) loose) in
     let f = filled y s k l.0 in
-    let none : list_of (links_at y.hots.items y.places.slots k) ≡ None = sym (place_of-seen y s k) ∙ l.1 in
-    let same : list_of (links_at y.hots.items y.places.slots k) ≡ f.0.list = ap (λ (o : Option Place). list_of (option_map (λ (p : Place). linked (hot_at y.hots.items k).ahead (hot_at y.hots.items k).behind p.list) o)) f.2 in
+    let none : list_of (links_at y.hots y.places.slots k) ≡ None = sym (place_of-seen y s k) ∙ l.1 in
+    let same : list_of (links_at y.hots y.places.slots k) ≡ f.0.list = ap (λ (o : Option Place). list_of (option_map (λ (p : Place). linked (hot_at y.hots k).ahead (hot_at y.hots k).behind p.list) o)) f.2 in
     (f.0, f.1, f.2, f.3, sym same ∙ none)
 
 pub seen_named : (y : Inside) (v : Yard) (k : ℕ) → IsSound y → seen y ≡ v → IsSome (entry_at v k) → (p : Place) × (c : Cold) × (place_in y.places.slots k ≡ Some p) × (p.car ≡ Some c)
@@ -218,21 +218,21 @@ seen_listed y v k s is h = seen_named y v k s is (listed_some (entry_at v k) h)
 links_of-place : (hots : List Hot) (slots : List (Option Place)) (k : ℕ) (p : Place) → place_in slots k ≡ Some p → links_at hots slots k ≡ Some (linked (hot_at hots k).ahead (hot_at hots k).behind p.list)
 links_of-place hots slots k p is = ap (option_map (λ (x : Place). linked (hot_at hots k).ahead (hot_at hots k).behind x.list)) is
 
-pub links_of-seen : (y : Inside) (k : ℕ) (p : Place) → place_in y.places.slots k ≡ Some p → links_at y.hots.items y.places.slots k ≡ Some (linked (hot_at y.hots.items k).ahead (hot_at y.hots.items k).behind p.list)
-links_of-seen y k p is = links_of-place y.hots.items y.places.slots k p is
+pub links_of-seen : (y : Inside) (k : ℕ) (p : Place) → place_in y.places.slots k ≡ Some p → links_at y.hots y.places.slots k ≡ Some (linked (hot_at y.hots k).ahead (hot_at y.hots k).behind p.list)
+links_of-seen y k p is = links_of-place y.hots y.places.slots k p is
 
-links_between : (y : Inside) (key : ℕ) (l : Links) (n : ℕ) (us vs : List ℕ) → IsSound y → links_at y.hots.items y.places.slots key ≡ Some l → list_at (seen y) n ≡ us ++ key ∷ vs → l ≡ linked (last_or us None) (first_or vs None) (Some n)
+links_between : (y : Inside) (key : ℕ) (l : Links) (n : ℕ) (us vs : List ℕ) → IsSound y → links_at y.hots y.places.slots key ≡ Some l → list_at (seen y) n ≡ us ++ key ∷ vs → l ≡ linked (last_or us None) (first_or vs None) (Some n)
 links_between y key l n us vs s is at =
-    let lt = listed_within (lists_of y.hots.items y.places.slots y.ends.items) n key (us, vs, at) in
+    let lt = listed_within (lists_of y.hots y.places.slots y.ends.items) n key (us, vs, at) in
     let lt' : n < length y.ends.items = omega (arith, s.stands.count) in
-    let w : IsList (links_at y.hots.items y.places.slots) n (us ++ key ∷ vs) (get_or y.ends.items n no_ends) = rw at at (s.stands.each n lt') in
-    let e = IsThread-at (links_at y.hots.items y.places.slots) n None us key vs None w.thread in
+    let w : IsList (links_at y.hots y.places.slots) n (us ++ key ∷ vs) (get_or y.ends.items n no_ends) = rw at at (s.stands.each n lt') in
+    let e = IsThread-at (links_at y.hots y.places.slots) n None us key vs None w.thread in
     cc
 
-pub IsAhead-seen : (y : Inside) (key : ℕ) (p : Place) → IsSound y → place_in y.places.slots key ≡ Some p → IsAhead (seen y) key (hot_at y.hots.items key).ahead
+pub IsAhead-seen : (y : Inside) (key : ℕ) (p : Place) → IsSound y → place_in y.places.slots key ≡ Some p → IsAhead (seen y) key (hot_at y.hots key).ahead
 IsAhead-seen y key p s is = λ n us vs at. ap (λ (m : Links). m.ahead) (links_between y key _ n us vs s (links_of-seen y key p is) at)
 
-pub IsBehind-seen : (y : Inside) (key : ℕ) (p : Place) → IsSound y → place_in y.places.slots key ≡ Some p → IsBehind (seen y) key (hot_at y.hots.items key).behind
+pub IsBehind-seen : (y : Inside) (key : ℕ) (p : Place) → IsSound y → place_in y.places.slots key ≡ Some p → IsBehind (seen y) key (hot_at y.hots key).behind
 IsBehind-seen y key p s is = λ n us vs at. ap (λ (m : Links). m.behind) (links_between y key _ n us vs s (links_of-seen y key p is) at)
 
 -- a change of one loose key, as an admission or a removal
@@ -265,39 +265,39 @@ StandsFor-empty n =
 
 -- a key that is named lies below the bound
 module _ (y : Inside) (v : Yard) (k : ℕ) (s : IsSound y) (is : seen y ≡ v) where
-  pub named_below : IsSome (entry_at v k) → k < length y.hots.items
+  pub named_below : IsSome (entry_at v k) → k < length y.hots
   named_below h = filled_below y s k (subst (λ w. IsSome (entry_at w k)) (sym is) h)
 
-  pub listed_below : IsSome (place_of v k) → k < length y.hots.items
+  pub listed_below : IsSome (place_of v k) → k < length y.hots
   listed_below h = named_below (listed_some (entry_at v k) h)
 
-  pub loose_below : IsLoose v k → k < length y.hots.items
+  pub loose_below : IsLoose v k → k < length y.hots
   loose_below h = named_below (loose_some (entry_at v k) h).0
 
 -- what is read of a car
 module _ (y : Inside) (v : Yard) (k : ℕ) (s : IsSound y) (is : seen y ≡ v) (p : Place) (there : place_in y.places.slots k ≡ Some p) (c : Cold) (has : p.car ≡ Some c) where
-  pub entry-read : entry_at v k ≡ Some (kept_of (core (hot_at y.hots.items k)) p.list c)
+  pub entry-read : entry_at v k ≡ Some (kept_of (core (hot_at y.hots k)) p.list c)
   entry-read =
-      ap (λ w. entry_at w k) (sym is) ∙ entry_at-seen y s k ∙ ap (kept_with (core (hot_at y.hots.items k))) there
-      ∙ ap (option_map (kept_of (core (hot_at y.hots.items k)) p.list)) has
+      ap (λ w. entry_at w k) (sym is) ∙ entry_at-seen y s k ∙ ap (kept_with (core (hot_at y.hots k))) there
+      ∙ ap (option_map (kept_of (core (hot_at y.hots k)) p.list)) has
 
-  pub car-read : car_of v k ≡ Some (car_with (core (hot_at y.hots.items k)) c)
+  pub car-read : car_of v k ≡ Some (car_with (core (hot_at y.hots k)) c)
   car-read = ap (option_map (λ (e : Kept). e.car)) entry-read
 
-  pub mark-read : mark_of v k ≡ Some (hot_at y.hots.items k).mark
+  pub mark-read : mark_of v k ≡ Some (hot_at y.hots k).mark
   mark-read = ap (option_map (λ (e : Kept). e.mark)) entry-read
 
-  pub cell-read : option_map (λ (d : Car). d.cell) (car_of v k) ≡ Some (hot_at y.hots.items k).cell
+  pub cell-read : option_map (λ (d : Car). d.cell) (car_of v k) ≡ Some (hot_at y.hots k).cell
   cell-read = ap (option_map (λ (d : Car). d.cell)) car-read
 
-  pub number-read : option_map (λ (d : Car). d.number) (car_of v k) ≡ Some (hot_at y.hots.items k).number
+  pub number-read : option_map (λ (d : Car). d.number) (car_of v k) ≡ Some (hot_at y.hots k).number
   number-read = ap (option_map (λ (d : Car). d.number)) car-read
 
-  pub speed-read : option_map (λ (d : Car). d.speed) (car_of v k) ≡ Some (hot_at y.hots.items k).speed
+  pub speed-read : option_map (λ (d : Car). d.speed) (car_of v k) ≡ Some (hot_at y.hots k).speed
   speed-read = ap (option_map (λ (d : Car). d.speed)) car-read
 
-  pub next-is : (hot_at y.hots.items k).next ≡ link_after c
-  next-is = subst (IsFit (hot_at y.hots.items k).next p.list) has (subst (IsPlaced (hot_at y.hots.items k).next) there (s.placed k))
+  pub next-is : (hot_at y.hots k).next ≡ link_after c
+  next-is = subst (IsFit (hot_at y.hots k).next p.list) has (subst (IsPlaced (hot_at y.hots k).next) there (s.placed k))
 
-  pub next-read : option_map (λ (d : Car). next_link (vehicle_of d)) (car_of v k) ≡ Some (hot_at y.hots.items k).next
+  pub next-read : option_map (λ (d : Car). next_link (vehicle_of d)) (car_of v k) ≡ Some (hot_at y.hots k).next
   next-read = ap (option_map (λ (d : Car). next_link (vehicle_of d))) car-read ∙ ap Some (sym next-is)

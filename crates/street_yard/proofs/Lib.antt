@@ -4,6 +4,7 @@ pub mod Placed
 mod Threads
 mod Stands
 mod Moves
+mod Zipped
 mod Hots
 mod Fields
 mod Written

@@ -12,7 +12,7 @@ use Rattle.street_yard.specs.declared.yard.Place.{Place}
 use Rattle.street_yard.specs.declared.yard.Yard.TheInside.{Inside}
 use Rattle.street_yard.specs.Yard.{Yard, list_at, place_of, without, put_behind, Has, IsLoose}
 use Rattle.street_yard.specs.Thread.{Links, LinksAt, linked, list_of, no_ends, StandsFor, modify, rejoined, ends_behind, ends_ahead, next_of, behind_of}
-use Rattle.street_yard.specs.Inside.{no_hot, hot_at, place_in, links_at, inner, lists_of, seen, IsSound, IsBelow, hots_behind, hots_ahead, hots_linked, next_behind_of}
+use Rattle.street_yard.specs.Inside.{hot_at, place_in, links_at, inner, lists_of, seen, IsSound, IsBelow, hots_behind, hots_ahead, hots_linked, next_behind_of}
 use Rattle.street_yard.proofs.Threads.{IsThread-Away}
 use Rattle.street_yard.proofs.Stands.{IsThread-has, IsOn}
 use Rattle.street_yard.proofs.Moves.{on_place, on_below, keys-few}
@@ -50,42 +50,40 @@ module _ (hots h1 h2 h3 : List Hot) (slots : List (Option Place)) (key : ℕ) (o
       (ap (λ h. links_at h (set slots key (Some new))) s3 ∙ links-linked h2 slots key old new a b below_second is ∙ ap (λ m. modify (links_at h2 slots) key (λ _. linked a b m)) list)
 
 -- the key of a list and its neighbours
-module _ (y : Inside) (v : Yard) (key : ℕ) (old : Place) (hot : Hot) (s : IsSound y) (is_v : seen y ≡ v) (listed : IsSome (place_of v key)) (is : place_in y.places.slots key ≡ Some old) (hot_is : hot ≡ get_or y.hots.items key hot) where
+module _ (y : Inside) (v : Yard) (key : ℕ) (old : Place) (p q : Option ℕ) (s : IsSound y) (is_v : seen y ≡ v) (listed : IsSome (place_of v key)) (is : place_in y.places.slots key ≡ Some old) (p_is : p ≡ (hot_at y.hots key).ahead) (q_is : q ≡ (hot_at y.hots key).behind) where
   abbrev pub at_links : LinksAt
-  at_links = links_at y.hots.items y.places.slots
+  at_links = links_at y.hots y.places.slots
 
   abbrev pub its_links : Links
-  its_links = linked hot.ahead hot.behind old.list
+  its_links = linked p q old.list
 
   pub its_car : (c : Cold) × (old.car ≡ Some c)
   its_car =
-      let p = seen_listed y v key s is_v listed in
-      let same : old ≡ p.0 = let both : ◌≡◌ {A = Option Place} (Some old) (Some p.0) = sym is ∙ p.2 in cc in
-      (p.1, ap (λ (x : Place). x.car) same ∙ p.3)
+      let w = seen_listed y v key s is_v listed in
+      let same : old ≡ w.0 = let both : ◌≡◌ {A = Option Place} (Some old) (Some w.0) = sym is ∙ w.2 in cc in
+      (w.1, ap (λ (x : Place). x.car) same ∙ w.3)
 
-  pub its_below : key < length y.hots.items
+  pub its_below : key < length y.hots
   its_below = listed_below y v key s is_v listed
 
   pub its_links_are : at_links key ≡ Some its_links
-  its_links_are =
-      let was : hot ≡ hot_at y.hots.items key = hot_is ∙ get_or_default y.hots.items key hot no_hot its_below in
-      links_of-seen y key old is ∙ ap (λ (h : Hot). Some (linked h.ahead h.behind old.list)) (sym was)
+  its_links_are = links_of-seen y key old is ∙ (λ i. Some (linked (sym p_is i) (sym q_is i) old.list))
 
   pub its_place : place_of v key ≡ old.list
   its_place = ap (λ w. place_of w key) (sym is_v) ∙ place_of-seen y s key ∙ ap list_of its_links_are
 
   module _ (n : ℕ) (on : old.list ≡ Some n) where
     abbrev pub its_lists : List (List ℕ)
-    its_lists = lists_of y.hots.items y.places.slots y.ends.items
+    its_lists = lists_of y.hots y.places.slots y.ends.items
 
     pub its_within : n < length y.ends.items
     its_within = names_within at_links y.ends.items its_lists key n s.stands (ap list_of its_links_are ∙ on)
 
-    pub ahead_below : IsBelow (length y.hots.items) hot.ahead
-    ahead_below = below-on y s n hot.ahead (place at_links y.ends.items its_lists key n its_links s.stands its_links_are on).5
+    pub ahead_below : IsBelow (length y.hots) p
+    ahead_below = below-on y s n p (place at_links y.ends.items its_lists key n its_links s.stands its_links_are on).5
 
-    pub behind_below : IsBelow (length y.hots.items) hot.behind
-    behind_below = below-on y s n hot.behind (place at_links y.ends.items its_lists key n its_links s.stands its_links_are on).6
+    pub behind_below : IsBelow (length y.hots) q
+    behind_below = below-on y s n q (place at_links y.ends.items its_lists key n its_links s.stands its_links_are on).6
 
     pub counted_once : (e : Ends) → e ≡ get_or y.ends.items n e → (1 ≤ e.count) × (e.count ≡ (get_or y.ends.items n no_ends).count)
     counted_once e e_is =
@@ -93,12 +91,12 @@ module _ (y : Inside) (v : Yard) (key : ℕ) (old : Place) (hot : Hot) (s : IsSo
         let c = count_on at_links y.ends.items its_lists key n its_links s.stands its_links_are on in
         (omega (arith, same, c), same)
 
-    pub stands_without : (h1 h2 h3 : List Hot) (new : Place) (e e1 e2 : Ends) (a b : Option ℕ) → a ≡ None → b ≡ None → h1 ≡ hots_behind y.hots.items hot.ahead hot.behind → h2 ≡ hots_ahead h1 hot.behind hot.ahead → h3 ≡ hots_linked h2 key a b → new.list ≡ None → e ≡ get_or y.ends.items n e → e1 ≡ ends_behind (record e { count = e.count - 1 }) hot.ahead hot.behind → e2 ≡ ends_ahead e1 hot.behind hot.ahead → StandsFor (links_at h3 (set y.places.slots key (Some new))) (set y.ends.items n e2) (set (seen y).lists n (without key (list_at (seen y) n)))
+    pub stands_without : (h1 h2 h3 : List Hot) (new : Place) (e e1 e2 : Ends) (a b : Option ℕ) → a ≡ None → b ≡ None → h1 ≡ hots_behind y.hots p q → h2 ≡ hots_ahead h1 q p → h3 ≡ hots_linked h2 key a b → new.list ≡ None → e ≡ get_or y.ends.items n e → e1 ≡ ends_behind (record e { count = e.count - 1 }) p q → e2 ≡ ends_ahead e1 q p → StandsFor (links_at h3 (set y.places.slots key (Some new))) (set y.ends.items n e2) (set (seen y).lists n (without key (list_at (seen y) n)))
     stands_without h1 h2 h3 new e e1 e2 a b a_is b_is s1 s2 s3 list e_is t1 t2 =
-        let links = steps-links y.hots.items h1 h2 h3 y.places.slots key old new hot.ahead hot.behind hot.behind hot.ahead a b None ahead_below behind_below its_below is s1 s2 s3 list in
-        let links' = links ∙ ap (λ o. modify (rejoined at_links hot.ahead hot.behind hot.behind hot.ahead) key (λ _. linked o b None)) a_is ∙ ap (λ o. modify (rejoined at_links hot.ahead hot.behind hot.behind hot.ahead) key (λ _. linked None o None)) b_is in
+        let links = steps-links y.hots h1 h2 h3 y.places.slots key old new p q q p a b None ahead_below behind_below its_below is s1 s2 s3 list in
+        let links' = links ∙ ap (λ o. modify (rejoined at_links p q q p) key (λ _. linked o b None)) a_is ∙ ap (λ o. modify (rejoined at_links p q q p) key (λ _. linked None o None)) b_is in
         let c = counted_once e e_is in
-        StandsFor-without at_links y.ends.items its_lists key n its_links s.stands its_links_are on _ e2 (e.count - 1) (omega (arith, c)) links' (ends_steps y.ends.items n e e1 e2 (e.count - 1) hot.ahead hot.behind hot.behind hot.ahead its_within e_is t1 t2)
+        StandsFor-without at_links y.ends.items its_lists key n its_links s.stands its_links_are on _ e2 (e.count - 1) (omega (arith, c)) links' (ends_steps y.ends.items n e e1 e2 (e.count - 1) p q q p its_within e_is t1 t2)
 
 Has-tail : (key k : ℕ) (xs : List ℕ) → k ≢ key → Has (key ∷ xs) k → Has xs k
 Has-tail key k xs ne ([], vs, e) = absurd (let f : k ≡ key = cc in ne f)
@@ -112,22 +110,22 @@ below_nobody (Some k) count few b = omega arith
 -- a loose key comes onto list n
 module _ (y : Inside) (v : Yard) (key n : ℕ) (s : IsSound y) (is_v : seen y ≡ v) (loose : IsLoose v key) (in_range : n < length v.lists) where
   abbrev pub now_links : LinksAt
-  now_links = links_at y.hots.items y.places.slots
+  now_links = links_at y.hots y.places.slots
 
   abbrev pub now_lists : List (List ℕ)
-  now_lists = lists_of y.hots.items y.places.slots y.ends.items
+  now_lists = lists_of y.hots y.places.slots y.ends.items
 
   pub loose_key : (p : Place) × (c : Cold) × (place_in y.places.slots key ≡ Some p) × (p.car ≡ Some c) × (p.list ≡ None)
   loose_key = seen_loose y v key s is_v loose
 
-  pub key_within : key < length y.hots.items
+  pub key_within : key < length y.hots
   key_within = s.within key (subst IsSome (sym loose_key.2) refl)
 
   pub list_within : n < length y.ends.items
   list_within = seen_within y v n is_v in_range
 
   abbrev pub loose_links : Links
-  loose_links = linked (hot_at y.hots.items key).ahead (hot_at y.hots.items key).behind loose_key.0.list
+  loose_links = linked (hot_at y.hots key).ahead (hot_at y.hots key).behind loose_key.0.list
 
   pub loose_links_are : now_links key ≡ Some loose_links
   loose_links_are = links_of-seen y key loose_key.0 loose_key.2
@@ -147,48 +145,48 @@ module _ (y : Inside) (v : Yard) (key n : ℕ) (s : IsSound y) (is_v : seen y �
       let w = s.stands.each n list_within in
       let xs = get_or now_lists n [] in
       let counted = w.counted in
-      let few = keys-few y.hots.items y.places.slots s.within (key ∷ xs) (IsThread-Away now_links n None xs None key key_off w.thread, w.distinct) (λ k h. elim (cases_eq k key) as (λ _. k < length y.hots.items) [
+      let few = keys-few y.hots y.places.slots s.within (key ∷ xs) (IsThread-Away now_links n None xs None key key_off w.thread, w.distinct) (λ k h. elim (cases_eq k key) as (λ _. k < length y.hots) [
         | inl same ↦ (let b = key_within in omega arith)
-        | inr ne ↦ on_below y.hots.items y.places.slots s.within k n (IsThread-has now_links n None xs None k (Has-tail key k xs ne h) w.thread)
+        | inr ne ↦ on_below y.hots y.places.slots s.within k n (IsThread-has now_links n None xs None k (Has-tail key k xs ne h) w.thread)
       ]) in
       let all = s.few in
       (omega (arith, same, counted, few, all), same)
 
-  pub back_below : (e : Ends) → e ≡ get_or y.ends.items n e → IsBelow (length y.hots.items) e.back
+  pub back_below : (e : Ends) → e ≡ get_or y.ends.items n e → IsBelow (length y.hots) e.back
   back_below e e_is = below-on y s n e.back (subst (λ (x : Ends). IsOn now_links n x.back) (sym (e_is ∙ get_or_default y.ends.items n e no_ends list_within)) (on_back now_links y.ends.items now_lists n s.stands list_within))
 
-  pub stands_pushed : (h1 h2 h3 : List Hot) (new : Place) (e e1 e2 : Ends) (x end : Option ℕ) (last : Option ℕ) → x ≡ Some key → end ≡ None → last ≡ None → h1 ≡ hots_behind y.hots.items e.back x → h2 ≡ hots_ahead h1 end x → h3 ≡ hots_linked h2 key e.back last → new.list ≡ Some n → e ≡ get_or y.ends.items n e → e1 ≡ ends_behind (record e { count = e.count + 1 }) e.back x → e2 ≡ ends_ahead e1 end x → StandsFor (links_at h3 (set y.places.slots key (Some new))) (set y.ends.items n e2) (set (seen y).lists n (list_at (seen y) n ++ key ∷ []))
+  pub stands_pushed : (h1 h2 h3 : List Hot) (new : Place) (e e1 e2 : Ends) (x end : Option ℕ) (last : Option ℕ) → x ≡ Some key → end ≡ None → last ≡ None → h1 ≡ hots_behind y.hots e.back x → h2 ≡ hots_ahead h1 end x → h3 ≡ hots_linked h2 key e.back last → new.list ≡ Some n → e ≡ get_or y.ends.items n e → e1 ≡ ends_behind (record e { count = e.count + 1 }) e.back x → e2 ≡ ends_ahead e1 end x → StandsFor (links_at h3 (set y.places.slots key (Some new))) (set y.ends.items n e2) (set (seen y).lists n (list_at (seen y) n ++ key ∷ []))
   stands_pushed h1 h2 h3 new e e1 e2 x end last x_is end_is last_is s1 s2 s3 list e_is t1 t2 =
-      let s1' = s1 ∙ ap (hots_behind y.hots.items e.back) x_is in
+      let s1' = s1 ∙ ap (hots_behind y.hots e.back) x_is in
       let s2' = s2 ∙ ap (λ o. hots_ahead h1 o x) end_is ∙ ap (hots_ahead h1 None) x_is in
       let s3' = s3 ∙ ap (hots_linked h2 key e.back) last_is in
       let t1' = t1 ∙ ap (ends_behind (record e { count = e.count + 1 }) e.back) x_is in
       let t2' = t2 ∙ ap (λ o. ends_ahead e1 o x) end_is ∙ ap (ends_ahead e1 None) x_is in
-      let links = steps-links y.hots.items h1 h2 h3 y.places.slots key loose_key.0 new e.back None (Some key) (Some key) e.back None (Some n) (back_below e e_is) tt key_within loose_key.2 s1' s2' s3' list in
+      let links = steps-links y.hots h1 h2 h3 y.places.slots key loose_key.0 new e.back None (Some key) (Some key) e.back None (Some n) (back_below e e_is) tt key_within loose_key.2 s1' s2' s3' list in
       let c = count_small e e_is in
       StandsFor-pushed now_links y.ends.items now_lists key n loose_links s.stands list_within loose_links_are loose_key.4 (e.count + 1) (omega (arith, c)) e.back _ e2 (ap (λ (f : Ends). f.back) (e_is ∙ get_or_default y.ends.items n e no_ends list_within)) links (ends_steps y.ends.items n e e1 e2 (e.count + 1) e.back None (Some key) (Some key) list_within e_is t1' t2')
 
   -- what is behind a key of the list, or first on it
-  next_some : (a : ℕ) (o : Option Place) → IsSome o → (hot_at y.hots.items a).behind ≡ behind_of (option_map (λ (p : Place). linked (hot_at y.hots.items a).ahead (hot_at y.hots.items a).behind p.list) o)
+  next_some : (a : ℕ) (o : Option Place) → IsSome o → (hot_at y.hots a).behind ≡ behind_of (option_map (λ (p : Place). linked (hot_at y.hots a).ahead (hot_at y.hots a).behind p.list) o)
   next_some a None h = absurd (cc)
   next_some a (Some p) h = refl
 
-  next_same : (e : Ends) (a : Option ℕ) → IsOn now_links n a → next_behind_of y.hots.items e a ≡ next_of now_links e a
+  next_same : (e : Ends) (a : Option ℕ) → IsOn now_links n a → next_behind_of y.hots e a ≡ next_of now_links e a
   next_same e None on = refl
-  next_same e (Some a) on = next_some a (place_in y.places.slots a) (on_place y.hots.items y.places.slots s.within a n on)
+  next_same e (Some a) on = next_some a (place_in y.places.slots a) (on_place y.hots y.places.slots s.within a n on)
 
-  pub next_is : (e : Ends) (a q : Option ℕ) → IsOn now_links n a → e ≡ get_or y.ends.items n e → q ≡ next_behind_of y.hots.items e a → q ≡ next_of now_links (get_or y.ends.items n no_ends) a
+  pub next_is : (e : Ends) (a q : Option ℕ) → IsOn now_links n a → e ≡ get_or y.ends.items n e → q ≡ next_behind_of y.hots e a → q ≡ next_of now_links (get_or y.ends.items n no_ends) a
   next_is e a q on e_is q_is = q_is ∙ next_same e a on ∙ ap (λ (x : Ends). next_of now_links x a) (e_is ∙ get_or_default y.ends.items n e no_ends list_within)
 
-  pub next_below : (e : Ends) (a q : Option ℕ) → IsOn now_links n a → e ≡ get_or y.ends.items n e → q ≡ next_behind_of y.hots.items e a → IsBelow (length y.hots.items) q
+  pub next_below : (e : Ends) (a q : Option ℕ) → IsOn now_links n a → e ≡ get_or y.ends.items n e → q ≡ next_behind_of y.hots e a → IsBelow (length y.hots) q
   next_below e a q on e_is q_is = below-on y s n q (subst (IsOn now_links n) (sym (next_is e a q on e_is q_is)) (there_next now_links y.ends.items now_lists n s.stands list_within a on))
 
-  pub stands_put : (h1 h2 h3 : List Hot) (new : Place) (e e1 e2 : Ends) (x a q : Option ℕ) → x ≡ Some key → IsOn now_links n a → q ≡ next_behind_of y.hots.items e a → h1 ≡ hots_behind y.hots.items a x → h2 ≡ hots_ahead h1 q x → h3 ≡ hots_linked h2 key a q → new.list ≡ Some n → e ≡ get_or y.ends.items n e → e1 ≡ ends_behind (record e { count = e.count + 1 }) a x → e2 ≡ ends_ahead e1 q x → StandsFor (links_at h3 (set y.places.slots key (Some new))) (set y.ends.items n e2) (set (seen y).lists n (put_behind a key (list_at (seen y) n)))
+  pub stands_put : (h1 h2 h3 : List Hot) (new : Place) (e e1 e2 : Ends) (x a q : Option ℕ) → x ≡ Some key → IsOn now_links n a → q ≡ next_behind_of y.hots e a → h1 ≡ hots_behind y.hots a x → h2 ≡ hots_ahead h1 q x → h3 ≡ hots_linked h2 key a q → new.list ≡ Some n → e ≡ get_or y.ends.items n e → e1 ≡ ends_behind (record e { count = e.count + 1 }) a x → e2 ≡ ends_ahead e1 q x → StandsFor (links_at h3 (set y.places.slots key (Some new))) (set y.ends.items n e2) (set (seen y).lists n (put_behind a key (list_at (seen y) n)))
   stands_put h1 h2 h3 new e e1 e2 x a q x_is on q_is s1 s2 s3 list e_is t1 t2 =
-      let s1' = s1 ∙ ap (hots_behind y.hots.items a) x_is in
+      let s1' = s1 ∙ ap (hots_behind y.hots a) x_is in
       let s2' = s2 ∙ ap (hots_ahead h1 q) x_is in
       let t1' = t1 ∙ ap (ends_behind (record e { count = e.count + 1 }) a) x_is in
       let t2' = t2 ∙ ap (ends_ahead e1 q) x_is in
-      let links = steps-links y.hots.items h1 h2 h3 y.places.slots key loose_key.0 new a q (Some key) (Some key) a q (Some n) (below-on y s n a on) (next_below e a q on e_is q_is) key_within loose_key.2 s1' s2' s3 list in
+      let links = steps-links y.hots h1 h2 h3 y.places.slots key loose_key.0 new a q (Some key) (Some key) a q (Some n) (below-on y s n a on) (next_below e a q on e_is q_is) key_within loose_key.2 s1' s2' s3 list in
       let c = count_small e e_is in
       StandsFor-put now_links y.ends.items now_lists key n loose_links s.stands list_within loose_links_are loose_key.4 (e.count + 1) (omega (arith, c)) a q _ e2 on (next_is e a q on e_is q_is) links (ends_steps y.ends.items n e e1 e2 (e.count + 1) a q (Some key) (Some key) list_within e_is t1' t2')

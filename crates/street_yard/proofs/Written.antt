@@ -1,9 +1,9 @@
 -- What the fields are after a write at one key.
-use Rattle.std.proofs.Common.{◌≡◌, ◌≢◌, ℕ, ◌<◌, ◌≤◌, List, length, get_or, set, IsSome, Option, Some, None, refl, sym, ap, subst, ◌∙◌, inl, inr, arith}
+use Rattle.std.proofs.Common.{◌≡◌, ◌≢◌, ℕ, ◌<◌, ◌≤◌, List, length, set, IsSome, Option, Some, None, refl, sym, ap, subst, ◌∙◌, inl, inr, arith}
 use Rattle.std.specs.Option.{option_map, option_and_then}
 use Rattle.std.specs.Prelude.{vec_capacity}
 use Rattle.std.proofs.lemmas.Bool.{cases_eq}
-use Rattle.std.proofs.lemmas.List.{get_or_default, length-set}
+use Rattle.std.proofs.lemmas.List.{length-set}
 use Rattle.street_base.specs.declared.car.Car.{Car}
 use Rattle.street_yard.specs.declared.hot.Hot.{Hot}
 use Rattle.street_yard.specs.declared.hot.Cold.{Cold}
@@ -12,7 +12,7 @@ use Rattle.street_yard.specs.declared.yard.Place.{Place}
 use Rattle.street_yard.specs.declared.yard.Yard.TheInside.{Inside}
 use Rattle.street_yard.specs.Yard.{Kept, Yard, entry_at, kept_set, car_set, place_set, Has}
 use Rattle.street_yard.specs.Thread.{Links, linked, StandsFor}
-use Rattle.street_yard.specs.Inside.{no_hot, hot_at, place_in, links_at, Core, core, car_with, kept_of, kept_with, kept_at, kept_in, lists_of, inner, link_after, IsFit, IsPlaced, vacant, seen, with_cold, IsLaidOut, IsSound}
+use Rattle.street_yard.specs.Inside.{hot_at, place_in, links_at, Core, core, car_with, kept_of, kept_with, kept_at, kept_in, lists_of, inner, link_after, IsFit, IsPlaced, vacant, seen, with_cold, IsLaidOut, IsSound}
 use Rattle.street_yard.proofs.Moves.{lists_of-stands}
 use Rattle.street_yard.proofs.Hots.{kept_in-change, hot-same, hot-other, place-same, place-other}
 use Rattle.street_yard.proofs.Fields.{yard-same, seen_named, named_below, next-is}
@@ -95,9 +95,9 @@ fit-filled next p c has is = subst (IsFit next p.list) (sym has) is
 
 -- a write to the rest of a car, with the next link beside it
 module _ (y : Inside) (v : Yard) (key : ℕ) (place new : Place) (g : Cold → Cold) (f : Car → Car) (s : IsSound y) (is_v : seen y ≡ v) (named : IsSome (entry_at v key)) (is : place_in y.places.slots key ≡ Some place) (new_is : new ≡ with_cold g place) (now : List Hot)
-    (len : length now ≡ length y.hots.items) (others : (j : ℕ) → j ≢ key → hot_at now j ≡ hot_at y.hots.items j)
-    (ahead : (hot_at now key).ahead ≡ (hot_at y.hots.items key).ahead) (behind : (hot_at now key).behind ≡ (hot_at y.hots.items key).behind) (same : core (hot_at now key) ≡ core (hot_at y.hots.items key))
-    (next : (c : Cold) → (hot_at y.hots.items key).next ≡ link_after c → place.car ≡ Some c → (hot_at now key).next ≡ link_after (g c))
+    (len : length now ≡ length y.hots) (others : (j : ℕ) → j ≢ key → hot_at now j ≡ hot_at y.hots j)
+    (ahead : (hot_at now key).ahead ≡ (hot_at y.hots key).ahead) (behind : (hot_at now key).behind ≡ (hot_at y.hots key).behind) (same : core (hot_at now key) ≡ core (hot_at y.hots key))
+    (next : (c : Cold) → (hot_at y.hots key).next ≡ link_after c → place.car ≡ Some c → (hot_at now key).next ≡ link_after (g c))
     (agree : (t : Core) (c : Cold) → car_with t (g c) ≡ f (car_with t c)) where
   abbrev pub slots' : List (Option Place)
   slots' = set y.places.slots key (Some new)
@@ -123,69 +123,72 @@ module _ (y : Inside) (v : Yard) (key : ℕ) (place new : Place) (g : Cold → C
   others_place : (j : ℕ) → j ≢ key → place_in slots' j ≡ place_in y.places.slots j
   others_place j ne = place-other y.places.slots key (Some new) j ne
 
-  links_each : (j : ℕ) → links_at now slots' j ≡ links_at y.hots.items y.places.slots j
-  links_each j = elim (cases_eq j key) as (λ _. links_at now slots' j ≡ links_at y.hots.items y.places.slots j) [
+  links_each : (j : ℕ) → links_at now slots' j ≡ links_at y.hots y.places.slots j
+  links_each j = elim (cases_eq j key) as (λ _. links_at now slots' j ≡ links_at y.hots y.places.slots j) [
     | inl e ↦ ap (links_at now slots') e ∙ ap (option_map (λ (p : Place). linked (hot_at now key).ahead (hot_at now key).behind p.list)) here
         ∙ linked-same _ _ _ _ _ _ ahead behind new_list
-        ∙ sym (ap (option_map (λ (p : Place). linked (hot_at y.hots.items key).ahead (hot_at y.hots.items key).behind p.list)) is)
-        ∙ ap (links_at y.hots.items y.places.slots) (sym e)
-    | inr ne ↦ ap (λ (h : Hot). option_map (λ (p : Place). linked h.ahead h.behind p.list) (place_in slots' j)) (others j ne) ∙ ap (option_map (λ (p : Place). linked (hot_at y.hots.items j).ahead (hot_at y.hots.items j).behind p.list)) (others_place j ne)
+        ∙ sym (ap (option_map (λ (p : Place). linked (hot_at y.hots key).ahead (hot_at y.hots key).behind p.list)) is)
+        ∙ ap (links_at y.hots y.places.slots) (sym e)
+    | inr ne ↦ ap (λ (h : Hot). option_map (λ (p : Place). linked h.ahead h.behind p.list) (place_in slots' j)) (others j ne) ∙ ap (option_map (λ (p : Place). linked (hot_at y.hots j).ahead (hot_at y.hots j).behind p.list)) (others_place j ne)
   ]
 
-  links_same : links_at now slots' ≡ links_at y.hots.items y.places.slots
+  links_same : links_at now slots' ≡ links_at y.hots y.places.slots
   links_same = λ i j. links_each j i
 
-  stands : StandsFor (links_at now slots') y.ends.items (lists_of y.hots.items y.places.slots y.ends.items)
-  stands = subst (λ at. StandsFor at y.ends.items (lists_of y.hots.items y.places.slots y.ends.items)) (sym links_same) s.stands
+  stands : StandsFor (links_at now slots') y.ends.items (lists_of y.hots y.places.slots y.ends.items)
+  stands = subst (λ at. StandsFor at y.ends.items (lists_of y.hots y.places.slots y.ends.items)) (sym links_same) s.stands
 
   new_fit : IsFit (hot_at now key).next new.list new.car
   new_fit = fit-filled (hot_at now key).next new (g car_is.0) new_car (next car_is.0 (next-is y v key s is_v place is car_is.0 car_is.1) car_is.1)
 
-  keeps : kept_with (core (hot_at now key)) (Some new) ≡ option_map change (kept_with (core (hot_at y.hots.items key)) (Some place))
+  keeps : kept_with (core (hot_at now key)) (Some new) ≡ option_map change (kept_with (core (hot_at y.hots key)) (Some place))
   keeps =
       ap (λ t. kept_with t (Some new)) same
-      ∙ kept-filled (core (hot_at y.hots.items key)) new (g car_is.0) new_car
-      ∙ ap (λ l. Some (kept_of (core (hot_at y.hots.items key)) l (g car_is.0))) new_list
-      ∙ ap (λ (d : Car). Some (record { car = d; mark = (hot_at y.hots.items key).mark; list = place.list })) (agree (core (hot_at y.hots.items key)) car_is.0)
-      ∙ sym (ap (option_map change) (kept-filled (core (hot_at y.hots.items key)) place car_is.0 car_is.1))
+      ∙ kept-filled (core (hot_at y.hots key)) new (g car_is.0) new_car
+      ∙ ap (λ l. Some (kept_of (core (hot_at y.hots key)) l (g car_is.0))) new_list
+      ∙ ap (λ (d : Car). Some (record { car = d; mark = (hot_at y.hots key).mark; list = place.list })) (agree (core (hot_at y.hots key)) car_is.0)
+      ∙ sym (ap (option_map change) (kept-filled (core (hot_at y.hots key)) place car_is.0 car_is.1))
 
   pub driven : IsLaidOut now slots' y.spare.items y.reached (vec_capacity y.spare) y.ends.items
-  driven = written y.hots.items now y.places.slots slots' y.spare.items y.reached (vec_capacity y.spare) y.ends.items y.ends.items _ key place new car_is.0 change s is car_is.1 here others_place len (λ j ne. ap inner (others j ne)) new_fit keeps refl stands
+  driven = written y.hots now y.places.slots slots' y.spare.items y.reached (vec_capacity y.spare) y.ends.items y.ends.items _ key place new car_is.0 change s is car_is.1 here others_place len (λ j ne. ap inner (others j ne)) new_fit keeps refl stands
 
   pub driven-seen : ◌≡◌ {A = Yard} (record { lists = lists_of now slots' y.ends.items; kept = kept_in now slots' y.reached; room = length y.spare.items }) (record v { kept = car_set v.kept key f })
   driven-seen =
       subst (λ w. ◌≡◌ {A = Yard} (record { lists = lists_of now slots' y.ends.items; kept = kept_in now slots' y.reached; room = length y.spare.items }) (record w { kept = car_set w.kept key f })) is_v
       (yard-same _ _ _ _ _ _
-      (written-lists y.hots.items now y.places.slots slots' y.spare.items y.reached (vec_capacity y.spare) y.ends.items y.ends.items _ key place new car_is.0 change s is car_is.1 here others_place len (λ j ne. ap inner (others j ne)) new_fit keeps refl stands)
-      (written-kept y.hots.items now y.places.slots slots' y.spare.items y.reached (vec_capacity y.spare) y.ends.items y.ends.items _ key place new car_is.0 change s is car_is.1 here others_place len (λ j ne. ap inner (others j ne)) new_fit keeps refl stands)
+      (written-lists y.hots now y.places.slots slots' y.spare.items y.reached (vec_capacity y.spare) y.ends.items y.ends.items _ key place new car_is.0 change s is car_is.1 here others_place len (λ j ne. ap inner (others j ne)) new_fit keeps refl stands)
+      (written-kept y.hots now y.places.slots slots' y.spare.items y.reached (vec_capacity y.spare) y.ends.items y.ends.items _ key place new car_is.0 change s is car_is.1 here others_place len (λ j ne. ap inner (others j ne)) new_fit keeps refl stands)
       refl)
 
--- the same, where the next link is written into what was read
-module _ (y : Inside) (v : Yard) (key : ℕ) (place new : Place) (g : Cold → Cold) (f : Car → Car) (s : IsSound y) (is_v : seen y ≡ v) (named : IsSome (entry_at v key)) (is : place_in y.places.slots key ≡ Some place) (new_is : new ≡ with_cold g place) (r : Hot) (r_is : r ≡ get_or y.hots.items key r)
+-- the same, where the next link is written
+module _ (y : Inside) (v : Yard) (key : ℕ) (place new : Place) (g : Cold → Cold) (f : Car → Car) (s : IsSound y) (is_v : seen y ≡ v) (named : IsSome (entry_at v key)) (is : place_in y.places.slots key ≡ Some place) (new_is : new ≡ with_cold g place)
     (next : Option ℕ) (next_is : next ≡ option_and_then link_after new.car) (agree : (t : Core) (c : Cold) → car_with t (g c) ≡ f (car_with t c)) where
   abbrev pub with_next : Hot
-  with_next = record { ahead = r.ahead; behind = r.behind; cell = r.cell; number = r.number; next = next; speed = r.speed; mark = r.mark }
+  with_next = record (hot_at y.hots key) { next = next }
 
-  at_below : key < length y.hots.items
+  at_below : key < length y.hots
   at_below = named_below y v key s is_v named
 
-  at_was : r ≡ hot_at y.hots.items key
-  at_was = r_is ∙ get_or_default y.hots.items key r no_hot at_below
+  at_now : hot_at (set y.hots key with_next) key ≡ with_next
+  at_now = hot-same y.hots key with_next at_below
 
-  at_now : hot_at (set y.hots.items key with_next) key ≡ with_next
-  at_now = hot-same y.hots.items key with_next at_below
-
-  at_next : (c : Cold) → (hot_at y.hots.items key).next ≡ link_after c → place.car ≡ Some c → (hot_at (set y.hots.items key with_next) key).next ≡ link_after (g c)
+  at_next : (c : Cold) → (hot_at y.hots key).next ≡ link_after c → place.car ≡ Some c → (hot_at (set y.hots key with_next) key).next ≡ link_after (g c)
   at_next c was has = ap (λ (h : Hot). h.next) at_now ∙ next_is ∙ ap (λ (p : Place). option_and_then link_after p.car) new_is ∙ ap (λ o. option_and_then link_after (option_map g o)) has
 
-  pub moved_on : IsLaidOut (set y.hots.items key with_next) (set y.places.slots key (Some new)) y.spare.items y.reached (vec_capacity y.spare) y.ends.items
-  moved_on = driven y v key place new g f s is_v named is new_is (set y.hots.items key with_next) (length-set y.hots.items key with_next) (λ j ne. hot-other y.hots.items key with_next j ne) (ap (λ (h : Hot). h.ahead) at_now ∙ ap (λ (h : Hot). h.ahead) at_was) (ap (λ (h : Hot). h.behind) at_now ∙ ap (λ (h : Hot). h.behind) at_was) (ap core at_now ∙ ap core at_was) at_next agree
+  next_sound : IsLaidOut (set y.hots key with_next) (set y.places.slots key (Some new)) y.spare.items y.reached (vec_capacity y.spare) y.ends.items
+  next_sound = driven y v key place new g f s is_v named is new_is (set y.hots key with_next) (length-set y.hots key with_next) (λ j ne. hot-other y.hots key with_next j ne) (ap (λ (h : Hot). h.ahead) at_now) (ap (λ (h : Hot). h.behind) at_now) (ap core at_now) at_next agree
 
-  pub moved_on-seen : ◌≡◌ {A = Yard} (record { lists = lists_of (set y.hots.items key with_next) (set y.places.slots key (Some new)) y.ends.items; kept = kept_in (set y.hots.items key with_next) (set y.places.slots key (Some new)) y.reached; room = length y.spare.items }) (record v { kept = car_set v.kept key f })
-  moved_on-seen = driven-seen y v key place new g f s is_v named is new_is (set y.hots.items key with_next) (length-set y.hots.items key with_next) (λ j ne. hot-other y.hots.items key with_next j ne) (ap (λ (h : Hot). h.ahead) at_now ∙ ap (λ (h : Hot). h.ahead) at_was) (ap (λ (h : Hot). h.behind) at_now ∙ ap (λ (h : Hot). h.behind) at_was) (ap core at_now ∙ ap core at_was) at_next agree
+  next_seen : ◌≡◌ {A = Yard} (record { lists = lists_of (set y.hots key with_next) (set y.places.slots key (Some new)) y.ends.items; kept = kept_in (set y.hots key with_next) (set y.places.slots key (Some new)) y.reached; room = length y.spare.items }) (record v { kept = car_set v.kept key f })
+  next_seen = driven-seen y v key place new g f s is_v named is new_is (set y.hots key with_next) (length-set y.hots key with_next) (λ j ne. hot-other y.hots key with_next j ne) (ap (λ (h : Hot). h.ahead) at_now) (ap (λ (h : Hot). h.behind) at_now) (ap core at_now) at_next agree
+
+  pub moved_on : (now : List Hot) → now ≡ set y.hots key with_next → IsLaidOut now (set y.places.slots key (Some new)) y.spare.items y.reached (vec_capacity y.spare) y.ends.items
+  moved_on now is_now = subst (λ hots. IsLaidOut hots (set y.places.slots key (Some new)) y.spare.items y.reached (vec_capacity y.spare) y.ends.items) (sym is_now) next_sound
+
+  pub moved_on-seen : (now : List Hot) → now ≡ set y.hots key with_next → ◌≡◌ {A = Yard} (record { lists = lists_of now (set y.places.slots key (Some new)) y.ends.items; kept = kept_in now (set y.places.slots key (Some new)) y.reached; room = length y.spare.items }) (record v { kept = car_set v.kept key f })
+  moved_on-seen now is_now = subst (λ hots. ◌≡◌ {A = Yard} (record { lists = lists_of hots (set y.places.slots key (Some new)) y.ends.items; kept = kept_in hots (set y.places.slots key (Some new)) y.reached; room = length y.spare.items }) (record v { kept = car_set v.kept key f })) (sym is_now) next_seen
 
 -- a change of one key's list and of the neighbours
-module _ (y : Inside) (v : Yard) (key : ℕ) (place new : Place) (car : Cold) (n : Option ℕ) (s : IsSound y) (is_v : seen y ≡ v) (is : place_in y.places.slots key ≡ Some place) (filled : place.car ≡ Some car) (new_is : new ≡ record place { list = n }) (now : List Hot) (len : length now ≡ length y.hots.items) (inners : (j : ℕ) → inner (hot_at now j) ≡ inner (hot_at y.hots.items j)) (ends' : List Ends) (len_ends : length ends' ≡ length y.ends.items)
+module _ (y : Inside) (v : Yard) (key : ℕ) (place new : Place) (car : Cold) (n : Option ℕ) (s : IsSound y) (is_v : seen y ≡ v) (is : place_in y.places.slots key ≡ Some place) (filled : place.car ≡ Some car) (new_is : new ≡ record place { list = n }) (now : List Hot) (len : length now ≡ length y.hots) (inners : (j : ℕ) → inner (hot_at now j) ≡ inner (hot_at y.hots j)) (ends' : List Ends) (len_ends : length ends' ≡ length y.ends.items)
     (lists_v : Yard → List (List ℕ)) (stands : StandsFor (links_at now (set y.places.slots key (Some new))) ends' (lists_v (seen y))) where
   abbrev pub moved : Kept → Kept
   moved e = record e { list = n }
@@ -196,78 +199,79 @@ module _ (y : Inside) (v : Yard) (key : ℕ) (place new : Place) (car : Cold) (n
   move_fit : IsFit (hot_at now key).next new.list new.car
   move_fit = fit-filled (hot_at now key).next new car move_car (ap (λ (t : Core × Option ℕ). t.1) (inners key) ∙ next-is y v key s is_v place is car filled)
 
-  move_keeps : kept_with (core (hot_at now key)) (Some new) ≡ option_map moved (kept_with (core (hot_at y.hots.items key)) (Some place))
+  move_keeps : kept_with (core (hot_at now key)) (Some new) ≡ option_map moved (kept_with (core (hot_at y.hots key)) (Some place))
   move_keeps =
       kept-filled (core (hot_at now key)) new car move_car
       ∙ ap (λ l. Some (kept_of (core (hot_at now key)) l car)) (ap (λ (x : Place). x.list) new_is)
       ∙ ap (λ (t : Core × Option ℕ). Some (kept_of t.0 n car)) (inners key)
-      ∙ sym (ap (option_map moved) (kept-filled (core (hot_at y.hots.items key)) place car filled))
+      ∙ sym (ap (option_map moved) (kept-filled (core (hot_at y.hots key)) place car filled))
 
   pub relinked : IsLaidOut now (set y.places.slots key (Some new)) y.spare.items y.reached (vec_capacity y.spare) ends'
-  relinked = written y.hots.items now y.places.slots _ y.spare.items y.reached (vec_capacity y.spare) y.ends.items ends' _ key place new car moved s is filled (place-same y.places.slots key place new is) (λ j ne. place-other y.places.slots key (Some new) j ne) len (λ j ne. inners j) move_fit move_keeps len_ends stands
+  relinked = written y.hots now y.places.slots _ y.spare.items y.reached (vec_capacity y.spare) y.ends.items ends' _ key place new car moved s is filled (place-same y.places.slots key place new is) (λ j ne. place-other y.places.slots key (Some new) j ne) len (λ j ne. inners j) move_fit move_keeps len_ends stands
 
   pub relinked-seen : ◌≡◌ {A = Yard} (record { lists = lists_of now (set y.places.slots key (Some new)) ends'; kept = kept_in now (set y.places.slots key (Some new)) y.reached; room = length y.spare.items }) (record v { lists = lists_v v; kept = place_set v.kept key n })
   relinked-seen =
       subst (λ w. ◌≡◌ {A = Yard} (record { lists = lists_of now (set y.places.slots key (Some new)) ends'; kept = kept_in now (set y.places.slots key (Some new)) y.reached; room = length y.spare.items }) (record w { lists = lists_v w; kept = place_set w.kept key n })) is_v
       (yard-same _ _ _ _ _ _
-      (written-lists y.hots.items now y.places.slots _ y.spare.items y.reached (vec_capacity y.spare) y.ends.items ends' _ key place new car moved s is filled (place-same y.places.slots key place new is) (λ j ne. place-other y.places.slots key (Some new) j ne) len (λ j ne. inners j) move_fit move_keeps len_ends stands)
-      (written-kept y.hots.items now y.places.slots _ y.spare.items y.reached (vec_capacity y.spare) y.ends.items ends' _ key place new car moved s is filled (place-same y.places.slots key place new is) (λ j ne. place-other y.places.slots key (Some new) j ne) len (λ j ne. inners j) move_fit move_keeps len_ends stands)
+      (written-lists y.hots now y.places.slots _ y.spare.items y.reached (vec_capacity y.spare) y.ends.items ends' _ key place new car moved s is filled (place-same y.places.slots key place new is) (λ j ne. place-other y.places.slots key (Some new) j ne) len (λ j ne. inners j) move_fit move_keeps len_ends stands)
+      (written-kept y.hots now y.places.slots _ y.spare.items y.reached (vec_capacity y.spare) y.ends.items ends' _ key place new car moved s is filled (place-same y.places.slots key place new is) (λ j ne. place-other y.places.slots key (Some new) j ne) len (λ j ne. inners j) move_fit move_keeps len_ends stands)
       refl)
 
 -- a write to the hot part that keeps the neighbours
-module _ (y : Inside) (v : Yard) (key : ℕ) (s : IsSound y) (is_v : seen y ≡ v) (named : IsSome (entry_at v key)) (r : Hot) (r_is : r ≡ get_or y.hots.items key r) (t : Core) (f : Kept → Kept)
-    (agree : (list : Option ℕ) (c : Cold) → kept_of t list c ≡ f (kept_of (core r) list c)) where
+module _ (y : Inside) (v : Yard) (key : ℕ) (s : IsSound y) (is_v : seen y ≡ v) (named : IsSome (entry_at v key)) (t : Core) (f : Kept → Kept)
+    (agree : (list : Option ℕ) (c : Cold) → kept_of t list c ≡ f (kept_of (core (hot_at y.hots key)) list c)) where
   abbrev pub rewritten : Hot
-  rewritten = record { ahead = r.ahead; behind = r.behind; cell = t.0; number = t.1; next = r.next; speed = t.2; mark = t.3 }
+  rewritten = record (hot_at y.hots key) { cell = t.0; number = t.1; speed = t.2; mark = t.3 }
 
   abbrev pub hots' : List Hot
-  hots' = set y.hots.items key rewritten
+  hots' = set y.hots key rewritten
 
   there : (p : Place) × (c : Cold) × (place_in y.places.slots key ≡ Some p) × (p.car ≡ Some c)
   there = seen_named y v key s is_v named
 
-  below : key < length y.hots.items
+  below : key < length y.hots
   below = named_below y v key s is_v named
 
-  was : r ≡ hot_at y.hots.items key
-  was = r_is ∙ get_or_default y.hots.items key r no_hot below
-
   now_is : hot_at hots' key ≡ rewritten
-  now_is = hot-same y.hots.items key rewritten below
+  now_is = hot-same y.hots key rewritten below
 
-  hot_links : (j : ℕ) → links_at hots' y.places.slots j ≡ links_at y.hots.items y.places.slots j
-  hot_links j = elim (cases_eq j key) as (λ _. links_at hots' y.places.slots j ≡ links_at y.hots.items y.places.slots j) [
+  hot_links : (j : ℕ) → links_at hots' y.places.slots j ≡ links_at y.hots y.places.slots j
+  hot_links j = elim (cases_eq j key) as (λ _. links_at hots' y.places.slots j ≡ links_at y.hots y.places.slots j) [
     | inl e ↦ ap (links_at hots' y.places.slots) e
         ∙ ap (λ (h : Hot). option_map (λ (p : Place). linked h.ahead h.behind p.list) (place_in y.places.slots key)) now_is
-        ∙ ap (λ (h : Hot). option_map (λ (p : Place). linked h.ahead h.behind p.list) (place_in y.places.slots key)) was
-        ∙ ap (links_at y.hots.items y.places.slots) (sym e)
-    | inr ne ↦ ap (λ (h : Hot). option_map (λ (p : Place). linked h.ahead h.behind p.list) (place_in y.places.slots j)) (hot-other y.hots.items key rewritten j ne)
+        ∙ ap (links_at y.hots y.places.slots) (sym e)
+    | inr ne ↦ ap (λ (h : Hot). option_map (λ (p : Place). linked h.ahead h.behind p.list) (place_in y.places.slots j)) (hot-other y.hots key rewritten j ne)
   ]
 
-  links_all : links_at hots' y.places.slots ≡ links_at y.hots.items y.places.slots
+  links_all : links_at hots' y.places.slots ≡ links_at y.hots y.places.slots
   links_all = λ i j. hot_links j i
 
-  hot_stands : StandsFor (links_at hots' y.places.slots) y.ends.items (lists_of y.hots.items y.places.slots y.ends.items)
-  hot_stands = subst (λ at. StandsFor at y.ends.items (lists_of y.hots.items y.places.slots y.ends.items)) (sym links_all) s.stands
+  hot_stands : StandsFor (links_at hots' y.places.slots) y.ends.items (lists_of y.hots y.places.slots y.ends.items)
+  hot_stands = subst (λ at. StandsFor at y.ends.items (lists_of y.hots y.places.slots y.ends.items)) (sym links_all) s.stands
 
-  hot_keeps : kept_with (core (hot_at hots' key)) (Some there.0) ≡ option_map f (kept_with (core (hot_at y.hots.items key)) (Some there.0))
+  hot_keeps : kept_with (core (hot_at hots' key)) (Some there.0) ≡ option_map f (kept_with (core (hot_at y.hots key)) (Some there.0))
   hot_keeps =
       ap (λ (h : Hot). kept_with (core h) (Some there.0)) now_is
       ∙ kept-filled t there.0 there.1 there.3
       ∙ ap Some (agree there.0.list there.1)
-      ∙ sym (ap (option_map f) (kept-filled (core r) there.0 there.1 there.3))
-      ∙ ap (λ (h : Hot). option_map f (kept_with (core h) (Some there.0))) was
+      ∙ sym (ap (option_map f) (kept-filled (core (hot_at y.hots key)) there.0 there.1 there.3))
 
   hot_fit : IsFit (hot_at hots' key).next there.0.list there.0.car
-  hot_fit = fit-filled (hot_at hots' key).next there.0 there.1 there.3 (ap (λ (h : Hot). h.next) now_is ∙ ap (λ (h : Hot). h.next) was ∙ next-is y v key s is_v there.0 there.2 there.1 there.3)
+  hot_fit = fit-filled (hot_at hots' key).next there.0 there.1 there.3 (ap (λ (h : Hot). h.next) now_is ∙ next-is y v key s is_v there.0 there.2 there.1 there.3)
 
-  pub rewritten-sound : IsLaidOut hots' y.places.slots y.spare.items y.reached (vec_capacity y.spare) y.ends.items
-  rewritten-sound = written y.hots.items hots' y.places.slots y.places.slots y.spare.items y.reached (vec_capacity y.spare) y.ends.items y.ends.items _ key there.0 there.0 there.1 f s there.2 there.3 there.2 (λ j ne. refl) (length-set y.hots.items key rewritten) (λ j ne. ap inner (hot-other y.hots.items key rewritten j ne)) hot_fit hot_keeps refl hot_stands
+  set_sound : IsLaidOut hots' y.places.slots y.spare.items y.reached (vec_capacity y.spare) y.ends.items
+  set_sound = written y.hots hots' y.places.slots y.places.slots y.spare.items y.reached (vec_capacity y.spare) y.ends.items y.ends.items _ key there.0 there.0 there.1 f s there.2 there.3 there.2 (λ j ne. refl) (length-set y.hots key rewritten) (λ j ne. ap inner (hot-other y.hots key rewritten j ne)) hot_fit hot_keeps refl hot_stands
 
-  pub rewritten-seen : ◌≡◌ {A = Yard} (record { lists = lists_of hots' y.places.slots y.ends.items; kept = kept_in hots' y.places.slots y.reached; room = length y.spare.items }) (record v { kept = kept_set v.kept key f })
-  rewritten-seen =
+  set_seen : ◌≡◌ {A = Yard} (record { lists = lists_of hots' y.places.slots y.ends.items; kept = kept_in hots' y.places.slots y.reached; room = length y.spare.items }) (record v { kept = kept_set v.kept key f })
+  set_seen =
       subst (λ w. ◌≡◌ {A = Yard} (record { lists = lists_of hots' y.places.slots y.ends.items; kept = kept_in hots' y.places.slots y.reached; room = length y.spare.items }) (record w { kept = kept_set w.kept key f })) is_v
       (yard-same _ _ _ _ _ _
-      (written-lists y.hots.items hots' y.places.slots y.places.slots y.spare.items y.reached (vec_capacity y.spare) y.ends.items y.ends.items _ key there.0 there.0 there.1 f s there.2 there.3 there.2 (λ j ne. refl) (length-set y.hots.items key rewritten) (λ j ne. ap inner (hot-other y.hots.items key rewritten j ne)) hot_fit hot_keeps refl hot_stands)
-      (written-kept y.hots.items hots' y.places.slots y.places.slots y.spare.items y.reached (vec_capacity y.spare) y.ends.items y.ends.items _ key there.0 there.0 there.1 f s there.2 there.3 there.2 (λ j ne. refl) (length-set y.hots.items key rewritten) (λ j ne. ap inner (hot-other y.hots.items key rewritten j ne)) hot_fit hot_keeps refl hot_stands)
+      (written-lists y.hots hots' y.places.slots y.places.slots y.spare.items y.reached (vec_capacity y.spare) y.ends.items y.ends.items _ key there.0 there.0 there.1 f s there.2 there.3 there.2 (λ j ne. refl) (length-set y.hots key rewritten) (λ j ne. ap inner (hot-other y.hots key rewritten j ne)) hot_fit hot_keeps refl hot_stands)
+      (written-kept y.hots hots' y.places.slots y.places.slots y.spare.items y.reached (vec_capacity y.spare) y.ends.items y.ends.items _ key there.0 there.0 there.1 f s there.2 there.3 there.2 (λ j ne. refl) (length-set y.hots key rewritten) (λ j ne. ap inner (hot-other y.hots key rewritten j ne)) hot_fit hot_keeps refl hot_stands)
       refl)
+
+  pub rewritten-sound : (now : List Hot) → now ≡ hots' → IsLaidOut now y.places.slots y.spare.items y.reached (vec_capacity y.spare) y.ends.items
+  rewritten-sound now is_now = subst (λ hots. IsLaidOut hots y.places.slots y.spare.items y.reached (vec_capacity y.spare) y.ends.items) (sym is_now) set_sound
+
+  pub rewritten-seen : (now : List Hot) → now ≡ hots' → ◌≡◌ {A = Yard} (record { lists = lists_of now y.places.slots y.ends.items; kept = kept_in now y.places.slots y.reached; room = length y.spare.items }) (record v { kept = kept_set v.kept key f })
+  rewritten-seen now is_now = subst (λ hots. ◌≡◌ {A = Yard} (record { lists = lists_of hots y.places.slots y.ends.items; kept = kept_in hots y.places.slots y.reached; room = length y.spare.items }) (record v { kept = kept_set v.kept key f })) (sym is_now) set_seen

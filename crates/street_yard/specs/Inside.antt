@@ -58,8 +58,8 @@ lists_of hots slots ends = map (λ e. walk (links_at hots slots) (length hots) e
 
 abbrev pub seen : Inside → Yard
 seen y = record {
-  lists = lists_of y.hots.items y.places.slots y.ends.items;
-  kept = kept_in y.hots.items y.places.slots y.reached;
+  lists = lists_of y.hots y.places.slots y.ends.items;
+  kept = kept_in y.hots y.places.slots y.reached;
   room = length y.spare.items;
 }
 
@@ -92,7 +92,7 @@ pub record IsLaidOut (hots : List Hot) (slots : List (Option Place)) (spare : Li
   pub holds_all : length hots ≤ capacity
 
 abbrev pub IsSound : Inside → Type 0
-IsSound y = IsLaidOut y.hots.items y.places.slots y.spare.items y.reached (vec_capacity y.spare) y.ends.items
+IsSound y = IsLaidOut y.hots y.places.slots y.spare.items y.reached (vec_capacity y.spare) y.ends.items
 
 -- the key, if there is one, lies below the bound
 abbrev pub IsBelow : ℕ → Option ℕ → Type 0

@@ -8,6 +8,7 @@
 mod hot;
 mod names;
 mod relink;
+mod tables;
 mod view;
 mod yard;
 

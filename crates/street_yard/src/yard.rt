@@ -4,7 +4,8 @@ ghost use Rattle.std.specs.Prelude.{◌≡◌, ◌+◌, ◌<◌, ◌≤◌, ◌�
 
 use crate::hot::{Cold, Hot, NOBODY, Neighbour};
 use crate::names::{Key, ListId, list_named};
-use crate::relink::{next_behind, set_ahead, set_behind, set_links};
+use crate::relink::{next_behind, set_ahead, set_behind};
+use crate::tables::Hots;
 use crate::view::CarView;
 use slab::Slab;
 use std::alloc::Global;
@@ -59,7 +60,7 @@ pub(crate) struct Ends {
 #[derive(Drop)]
 pub struct Yard {
     places: Slab<Place>,
-    hots: Vec<Hot>,
+    hots: Hots,
     // The places without a car, the next to be used last.
     spare: Vec<u32>,
     // Every car that there ever was had a key below this.
@@ -100,7 +101,7 @@ impl Yard {
         let ends = vec![in alloc; empty; lists]?;
         Ok(Yard {
             places: Slab::new(alloc),
-            hots: Vec::new(alloc),
+            hots: Hots::new(alloc),
             spare: Vec::new(alloc),
             reached: 0,
             ends,
@@ -139,14 +140,9 @@ impl Yard {
             return Err(Starved);
         }
         self.places.reserve(1)?;
-        self.hots.reserve(1)?;
         let used = index - self.spare.len();
         self.spare.reserve(used + 1)?;
-        self.places.insert_reserved(Place {
-            car: None,
-            list: None,
-        });
-        self.hots.push_reserved(Hot {
+        self.hots.push(Hot {
             ahead: Neighbour::nobody(),
             behind: Neighbour::nobody(),
             cell: 0,
@@ -154,6 +150,10 @@ impl Yard {
             next: None,
             speed: 0,
             mark: false,
+        })?;
+        self.places.insert_reserved(Place {
+            car: None,
+            list: None,
         });
         self.spare.push_reserved(index as u32);
         Ok(())
@@ -174,7 +174,7 @@ impl Yard {
             step: car.step,
             at: car.at,
         };
-        self.hots[index] = Hot {
+        let hot = Hot {
             ahead: Neighbour::nobody(),
             behind: Neighbour::nobody(),
             cell: car.cell,
@@ -183,6 +183,7 @@ impl Yard {
             speed: car.speed,
             mark: false,
         };
+        self.hots.set(Key(key), hot);
         let place = &mut self.places[index];
         place.car = Some(cold);
         if self.reached <= index {
@@ -221,7 +222,7 @@ impl Yard {
         requires { IsSome (place_of self.now key.0) }
         ensures { IsAhead self.now key.0 (option_map (λ k. k.0) result) }
     {
-        self.hots[key.0 as usize].ahead.key()
+        self.hots.ahead(key).key()
     }
 
     /// The key behind this one on its list.
@@ -229,7 +230,7 @@ impl Yard {
         requires { IsSome (place_of self.now key.0) }
         ensures { IsBehind self.now key.0 (option_map (λ k. k.0) result) }
     {
-        self.hots[key.0 as usize].behind.key()
+        self.hots.behind(key).key()
     }
 
     /// Takes the key off its list, which is answered; the key is then loose.
@@ -241,17 +242,14 @@ impl Yard {
         let place = &mut self.places[key.0 as usize];
         let list = place.list.unwrap() as usize;
         place.list = None;
-        let hot = self.hots[key.0 as usize];
+        let ahead = self.hots.ahead(key);
+        let behind = self.hots.behind(key);
         let ends = &mut self.ends[list];
         ends.count -= 1;
-        set_behind(&mut self.hots, ends, hot.ahead, hot.behind);
-        set_ahead(&mut self.hots, ends, hot.behind, hot.ahead);
-        set_links(
-            &mut self.hots,
-            key,
-            Neighbour::nobody(),
-            Neighbour::nobody(),
-        );
+        set_behind(&mut self.hots, ends, ahead, behind);
+        set_ahead(&mut self.hots, ends, behind, ahead);
+        self.hots
+            .set_links(key, Neighbour::nobody(), Neighbour::nobody());
         ListId(list)
     }
 
@@ -269,7 +267,7 @@ impl Yard {
         ends.count += 1;
         set_behind(&mut self.hots, ends, ahead, last);
         set_ahead(&mut self.hots, ends, Neighbour::nobody(), last);
-        set_links(&mut self.hots, key, ahead, Neighbour::nobody());
+        self.hots.set_links(key, ahead, Neighbour::nobody());
     }
 
     /// The loose key comes right behind `at`, or first.
@@ -288,7 +286,7 @@ impl Yard {
         ends.count += 1;
         set_behind(&mut self.hots, ends, ahead, new);
         set_ahead(&mut self.hots, ends, behind, new);
-        set_links(&mut self.hots, key, ahead, behind);
+        self.hots.set_links(key, ahead, behind);
     }
 
     /// Takes a loose car out.
@@ -297,17 +295,16 @@ impl Yard {
         ensures car { car_of self.old key.0 ≡ Some result }
         ensures after { self.new ≡ record self.old { kept = slice_set self.old.kept key.0 None; room = self.old.room + 1 } }
     {
-        let hot = self.hots[key.0 as usize];
         let place = &mut self.places[key.0 as usize];
         let cold = place.car.take().unwrap();
         self.spare.push_reserved(key.0);
         Car {
             plan: cold.plan,
-            number: hot.number,
-            cell: hot.cell,
+            number: self.hots.number(key),
+            cell: self.hots.cell(key),
             step: cold.step,
             at: cold.at,
-            speed: hot.speed,
+            speed: self.hots.speed(key),
         }
     }
 
@@ -316,15 +313,14 @@ impl Yard {
         requires { IsSome (entry_at self.now key.0) }
         ensures { car_of self.now key.0 ≡ Some (viewed result) }
     {
-        let hot = self.hots[key.0 as usize];
         let cold = self.places[key.0 as usize].car.as_ref().unwrap();
         CarView {
             plan: &cold.plan,
-            number: hot.number,
-            cell: hot.cell,
+            number: self.hots.number(key),
+            cell: self.hots.cell(key),
             step: cold.step,
             at: cold.at,
-            speed: hot.speed,
+            speed: self.hots.speed(key),
         }
     }
 
@@ -333,7 +329,7 @@ impl Yard {
         requires { IsSome (entry_at self.now key.0) }
         ensures { option_map (λ c. c.number) (car_of self.now key.0) ≡ Some result }
     {
-        self.hots[key.0 as usize].number
+        self.hots.number(key)
     }
 
     /// The cell of a car, read without the rest of it.
@@ -341,7 +337,7 @@ impl Yard {
         requires { IsSome (entry_at self.now key.0) }
         ensures { option_map (λ c. c.cell) (car_of self.now key.0) ≡ Some result }
     {
-        self.hots[key.0 as usize].cell
+        self.hots.cell(key)
     }
 
     /// The link after the present one of a car's plan, read without its plan.
@@ -349,7 +345,7 @@ impl Yard {
         requires { IsSome (entry_at self.now key.0) }
         ensures { option_map (λ c. next_link (vehicle_of c)) (car_of self.now key.0) ≡ Some result }
     {
-        self.hots[key.0 as usize].next
+        self.hots.next(key)
     }
 
     /// The speed of a car, read without the rest of it.
@@ -357,7 +353,7 @@ impl Yard {
         requires { IsSome (entry_at self.now key.0) }
         ensures { option_map (λ c. c.speed) (car_of self.now key.0) ≡ Some result }
     {
-        self.hots[key.0 as usize].speed
+        self.hots.speed(key)
     }
 
     /// Whether the key has the mark.
@@ -365,7 +361,7 @@ impl Yard {
         requires { IsSome (entry_at self.now key.0) }
         ensures { mark_of self.now key.0 ≡ Some result }
     {
-        self.hots[key.0 as usize].mark
+        self.hots.mark(key)
     }
 
     /// Writes the cell of a car.
@@ -373,8 +369,7 @@ impl Yard {
         requires { IsSome (entry_at self.old key.0) }
         ensures { self.new ≡ record self.old { kept = car_set self.old.kept key.0 (λ c. record c { cell = cell }) } }
     {
-        let hot = &mut self.hots[key.0 as usize];
-        hot.cell = cell;
+        self.hots.set_cell(key, cell);
     }
 
     /// Writes the speed of a car.
@@ -382,8 +377,7 @@ impl Yard {
         requires { IsSome (entry_at self.old key.0) }
         ensures { self.new ≡ record self.old { kept = car_set self.old.kept key.0 (λ c. record c { speed = speed }) } }
     {
-        let hot = &mut self.hots[key.0 as usize];
-        hot.speed = speed;
+        self.hots.set_speed(key, speed);
     }
 
     /// Writes the cell and the speed of a car.
@@ -391,9 +385,7 @@ impl Yard {
         requires { IsSome (entry_at self.old key.0) }
         ensures { self.new ≡ record self.old { kept = car_set self.old.kept key.0 (λ c. record c { cell = cell; speed = speed }) } }
     {
-        let hot = &mut self.hots[key.0 as usize];
-        hot.cell = cell;
-        hot.speed = speed;
+        self.hots.drive(key, cell, speed);
     }
 
     /// Writes the step of a car.
@@ -412,8 +404,7 @@ impl Yard {
     {
         let place = &mut self.places[key.0 as usize];
         let next = place.set_at(at);
-        let hot = &mut self.hots[key.0 as usize];
-        hot.next = next;
+        self.hots.set_next(key, next);
     }
 
     /// Sets the mark of a key, or clears it.
@@ -421,8 +412,7 @@ impl Yard {
         requires { IsSome (entry_at self.old key.0) }
         ensures { self.new ≡ record self.old { kept = mark_set self.old.kept key.0 mark } }
     {
-        let hot = &mut self.hots[key.0 as usize];
-        hot.mark = mark;
+        self.hots.set_mark(key, mark);
     }
 
     /// The list that the key is on, if there is one.

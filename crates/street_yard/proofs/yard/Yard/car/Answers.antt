@@ -1,14 +1,18 @@
-use Rattle.std.proofs.Common.{◌≡◌, Option, Some, refl, sym, ap, subst, ◌∙◌, arith}
+use Rattle.std.proofs.Common.{◌≡◌, Option, Some, refl, sym, ap, subst, ◌∙◌}
 use Rattle.std.specs.Prelude.{option_copied, is_some, IsSome}
-use Rattle.std.proofs.lemmas.List.{get_or_default}
-use Rattle.street_yard.specs.declared.hot.Hot.{Hot}
 use Rattle.street_yard.specs.declared.yard.Place.{Place}
-use Rattle.street_yard.specs.Inside.{no_hot, core, car_with}
+use Rattle.street_yard.specs.Inside.{hot_at, car_with}
 use Rattle.street_yard.proofs.Fields.{car-read, seen_named, named_below}
 use Rattle.street_yard.proofs.yard.Yard.car.Goals as goal
 
-pub index-hot-requires : goal.index-hot-requires
-index-hot-requires c = let lt = named_below c.self.inside c.args.self.now c.args.key.0 c.self.invariant c.self.view_is c.requires in omega arith
+pub number-requires : goal.number-requires
+number-requires c = named_below c.self.inside c.args.self.now c.args.key.0 c.self.invariant c.self.view_is c.requires
+
+pub cell-requires : goal.cell-requires
+cell-requires c = named_below c.self.inside c.args.self.now c.args.key.0 c.self.invariant c.self.view_is c.requires
+
+pub speed-requires : goal.speed-requires
+speed-requires c = named_below c.self.inside c.args.self.now c.args.key.0 c.self.invariant c.self.view_is c.requires
 
 pub index-requires : goal.index-requires
 index-requires c =
@@ -23,7 +27,6 @@ unwrap-cold-requires c =
 
 pub returns : goal.returns
 returns c =
-    let lt = named_below c.self.inside c.args.self.now c.args.key.0 c.self.invariant c.self.view_is c.requires in
     let same : c.index.result.now.car ≡ Some c.unwrap-cold.result.now = sym c.as_ref.ensures.value ∙ ap option_copied c.unwrap-cold.ensures in
     car-read c.self.inside c.args.self.now c.args.key.0 c.self.invariant c.self.view_is c.index.result.now c.index.ensures c.unwrap-cold.result.now same
-    ∙ ap (λ (h : Hot). Some (car_with (core h) c.unwrap-cold.result.now)) (sym (c.index-hot.ensures ∙ get_or_default c.self.inside.hots.items c.args.key.0 c.index-hot.result.now no_hot lt))
+    ∙ (λ i. Some (car_with (sym c.cell.ensures i, sym c.number.ensures i, sym c.speed.ensures i, (hot_at c.self.inside.hots c.args.key.0).mark) c.unwrap-cold.result.now))

@@ -24,11 +24,11 @@ its_car c =
     let same : c.index_mut-place.result.now ≡ (loose_key c.self.inside c.args.self.now c.args.key.0 c.args.list.0 c.self.invariant c.self.view_is c.requires.loose c.requires.list).0 = cc in
     ap (λ (x : Place). x.car) same ∙ (loose_key c.self.inside c.args.self.now c.args.key.0 c.args.list.0 c.self.invariant c.self.view_is c.requires.loose c.requires.list).3
 
-stands : (c : goal.After-set_links) → StandsFor (links_at c.set_links.new.hots.items (set c.self.inside.places.slots c.args.key.0 (Some (record c.index_mut-place.result.now { list = Some c.args.list.0 })))) (set c.self.inside.ends.items c.args.list.0 c.set_ahead.new.ends) (set (seen c.self.inside).lists c.args.list.0 (list_at (seen c.self.inside) c.args.list.0 ++ c.args.key.0 ∷ []))
-stands c = stands_pushed c.self.inside c.args.self.now c.args.key.0 c.args.list.0 c.self.invariant c.self.view_is c.requires.loose c.requires.list c.set_behind.new.hots.items c.set_ahead.new.hots.items c.set_links.new.hots.items _ c.index_mut-ends.result.now c.set_behind.new.ends c.set_ahead.new.ends c.of-last.result c.nobody.result c.nobody-2.result c.of-last.ensures c.nobody.ensures c.nobody-2.ensures c.set_behind.ensures.hots c.set_ahead.ensures.hots c.set_links.ensures refl c.index_mut-ends.ensures.value c.set_behind.ensures.ends c.set_ahead.ensures.ends
+stands : (c : goal.After-set_links) → StandsFor (links_at c.set_links.new.self (set c.self.inside.places.slots c.args.key.0 (Some (record c.index_mut-place.result.now { list = Some c.args.list.0 })))) (set c.self.inside.ends.items c.args.list.0 c.set_ahead.new.ends) (set (seen c.self.inside).lists c.args.list.0 (list_at (seen c.self.inside) c.args.list.0 ++ c.args.key.0 ∷ []))
+stands c = stands_pushed c.self.inside c.args.self.now c.args.key.0 c.args.list.0 c.self.invariant c.self.view_is c.requires.loose c.requires.list c.set_behind.new.hots c.set_ahead.new.hots c.set_links.new.self _ c.index_mut-ends.result.now c.set_behind.new.ends c.set_ahead.new.ends c.of-last.result c.nobody.result c.nobody-2.result c.of-last.ensures c.nobody.ensures c.nobody-2.ensures c.set_behind.ensures.hots c.set_ahead.ensures.hots c.set_links.ensures refl c.index_mut-ends.ensures.value c.set_behind.ensures.ends c.set_ahead.ensures.ends
 
 pub invariant_of-self : goal.invariant_of-self
-invariant_of-self c = relinked c.self.inside c.args.self.now c.args.key.0 c.index_mut-place.result.now (record c.index_mut-place.result.now { list = Some c.args.list.0 }) (loose_key c.self.inside c.args.self.now c.args.key.0 c.args.list.0 c.self.invariant c.self.view_is c.requires.loose c.requires.list).1 (Some c.args.list.0) c.self.invariant c.self.view_is c.index_mut-place.ensures.value (its_car c) refl c.set_links.new.hots.items (steps-length c.self.inside.hots.items c.set_behind.new.hots.items c.set_ahead.new.hots.items c.set_links.new.hots.items c.self.inside.places.slots c.args.key.0 (loose_key c.self.inside c.args.self.now c.args.key.0 c.args.list.0 c.self.invariant c.self.view_is c.requires.loose c.requires.list).0 (record c.index_mut-place.result.now { list = Some c.args.list.0 }) c.index_mut-ends.result.now.back c.nobody.result c.of-last.result c.of-last.result c.index_mut-ends.result.now.back c.nobody-2.result (Some c.args.list.0) (back_below c.self.inside c.args.self.now c.args.key.0 c.args.list.0 c.self.invariant c.self.view_is c.requires.loose c.requires.list c.index_mut-ends.result.now c.index_mut-ends.ensures.value) (subst (IsBelow (length c.self.inside.hots.items)) (sym c.nobody.ensures) tt) (key_within c.self.inside c.args.self.now c.args.key.0 c.args.list.0 c.self.invariant c.self.view_is c.requires.loose c.requires.list) (loose_key c.self.inside c.args.self.now c.args.key.0 c.args.list.0 c.self.invariant c.self.view_is c.requires.loose c.requires.list).2 c.set_behind.ensures.hots c.set_ahead.ensures.hots c.set_links.ensures refl) (steps-core c.self.inside.hots.items c.set_behind.new.hots.items c.set_ahead.new.hots.items c.set_links.new.hots.items c.self.inside.places.slots c.args.key.0 (loose_key c.self.inside c.args.self.now c.args.key.0 c.args.list.0 c.self.invariant c.self.view_is c.requires.loose c.requires.list).0 (record c.index_mut-place.result.now { list = Some c.args.list.0 }) c.index_mut-ends.result.now.back c.nobody.result c.of-last.result c.of-last.result c.index_mut-ends.result.now.back c.nobody-2.result (Some c.args.list.0) (back_below c.self.inside c.args.self.now c.args.key.0 c.args.list.0 c.self.invariant c.self.view_is c.requires.loose c.requires.list c.index_mut-ends.result.now c.index_mut-ends.ensures.value) (subst (IsBelow (length c.self.inside.hots.items)) (sym c.nobody.ensures) tt) (key_within c.self.inside c.args.self.now c.args.key.0 c.args.list.0 c.self.invariant c.self.view_is c.requires.loose c.requires.list) (loose_key c.self.inside c.args.self.now c.args.key.0 c.args.list.0 c.self.invariant c.self.view_is c.requires.loose c.requires.list).2 c.set_behind.ensures.hots c.set_ahead.ensures.hots c.set_links.ensures refl) (set c.self.inside.ends.items c.args.list.0 c.set_ahead.new.ends) (length-set c.self.inside.ends.items c.args.list.0 c.set_ahead.new.ends) (λ (w : Yard). set w.lists c.args.list.0 (list_at w c.args.list.0 ++ c.args.key.0 ∷ [])) (stands c)
+invariant_of-self c = relinked c.self.inside c.args.self.now c.args.key.0 c.index_mut-place.result.now (record c.index_mut-place.result.now { list = Some c.args.list.0 }) (loose_key c.self.inside c.args.self.now c.args.key.0 c.args.list.0 c.self.invariant c.self.view_is c.requires.loose c.requires.list).1 (Some c.args.list.0) c.self.invariant c.self.view_is c.index_mut-place.ensures.value (its_car c) refl c.set_links.new.self (steps-length c.self.inside.hots c.set_behind.new.hots c.set_ahead.new.hots c.set_links.new.self c.self.inside.places.slots c.args.key.0 (loose_key c.self.inside c.args.self.now c.args.key.0 c.args.list.0 c.self.invariant c.self.view_is c.requires.loose c.requires.list).0 (record c.index_mut-place.result.now { list = Some c.args.list.0 }) c.index_mut-ends.result.now.back c.nobody.result c.of-last.result c.of-last.result c.index_mut-ends.result.now.back c.nobody-2.result (Some c.args.list.0) (back_below c.self.inside c.args.self.now c.args.key.0 c.args.list.0 c.self.invariant c.self.view_is c.requires.loose c.requires.list c.index_mut-ends.result.now c.index_mut-ends.ensures.value) (subst (IsBelow (length c.self.inside.hots)) (sym c.nobody.ensures) tt) (key_within c.self.inside c.args.self.now c.args.key.0 c.args.list.0 c.self.invariant c.self.view_is c.requires.loose c.requires.list) (loose_key c.self.inside c.args.self.now c.args.key.0 c.args.list.0 c.self.invariant c.self.view_is c.requires.loose c.requires.list).2 c.set_behind.ensures.hots c.set_ahead.ensures.hots c.set_links.ensures refl) (steps-core c.self.inside.hots c.set_behind.new.hots c.set_ahead.new.hots c.set_links.new.self c.self.inside.places.slots c.args.key.0 (loose_key c.self.inside c.args.self.now c.args.key.0 c.args.list.0 c.self.invariant c.self.view_is c.requires.loose c.requires.list).0 (record c.index_mut-place.result.now { list = Some c.args.list.0 }) c.index_mut-ends.result.now.back c.nobody.result c.of-last.result c.of-last.result c.index_mut-ends.result.now.back c.nobody-2.result (Some c.args.list.0) (back_below c.self.inside c.args.self.now c.args.key.0 c.args.list.0 c.self.invariant c.self.view_is c.requires.loose c.requires.list c.index_mut-ends.result.now c.index_mut-ends.ensures.value) (subst (IsBelow (length c.self.inside.hots)) (sym c.nobody.ensures) tt) (key_within c.self.inside c.args.self.now c.args.key.0 c.args.list.0 c.self.invariant c.self.view_is c.requires.loose c.requires.list) (loose_key c.self.inside c.args.self.now c.args.key.0 c.args.list.0 c.self.invariant c.self.view_is c.requires.loose c.requires.list).2 c.set_behind.ensures.hots c.set_ahead.ensures.hots c.set_links.ensures refl) (set c.self.inside.ends.items c.args.list.0 c.set_ahead.new.ends) (length-set c.self.inside.ends.items c.args.list.0 c.set_ahead.new.ends) (λ (w : Yard). set w.lists c.args.list.0 (list_at w c.args.list.0 ++ c.args.key.0 ∷ [])) (stands c)
 
 pub returns : goal.returns
-returns c = relinked-seen c.self.inside c.args.self.now c.args.key.0 c.index_mut-place.result.now (record c.index_mut-place.result.now { list = Some c.args.list.0 }) (loose_key c.self.inside c.args.self.now c.args.key.0 c.args.list.0 c.self.invariant c.self.view_is c.requires.loose c.requires.list).1 (Some c.args.list.0) c.self.invariant c.self.view_is c.index_mut-place.ensures.value (its_car c) refl c.set_links.new.hots.items (steps-length c.self.inside.hots.items c.set_behind.new.hots.items c.set_ahead.new.hots.items c.set_links.new.hots.items c.self.inside.places.slots c.args.key.0 (loose_key c.self.inside c.args.self.now c.args.key.0 c.args.list.0 c.self.invariant c.self.view_is c.requires.loose c.requires.list).0 (record c.index_mut-place.result.now { list = Some c.args.list.0 }) c.index_mut-ends.result.now.back c.nobody.result c.of-last.result c.of-last.result c.index_mut-ends.result.now.back c.nobody-2.result (Some c.args.list.0) (back_below c.self.inside c.args.self.now c.args.key.0 c.args.list.0 c.self.invariant c.self.view_is c.requires.loose c.requires.list c.index_mut-ends.result.now c.index_mut-ends.ensures.value) (subst (IsBelow (length c.self.inside.hots.items)) (sym c.nobody.ensures) tt) (key_within c.self.inside c.args.self.now c.args.key.0 c.args.list.0 c.self.invariant c.self.view_is c.requires.loose c.requires.list) (loose_key c.self.inside c.args.self.now c.args.key.0 c.args.list.0 c.self.invariant c.self.view_is c.requires.loose c.requires.list).2 c.set_behind.ensures.hots c.set_ahead.ensures.hots c.set_links.ensures refl) (steps-core c.self.inside.hots.items c.set_behind.new.hots.items c.set_ahead.new.hots.items c.set_links.new.hots.items c.self.inside.places.slots c.args.key.0 (loose_key c.self.inside c.args.self.now c.args.key.0 c.args.list.0 c.self.invariant c.self.view_is c.requires.loose c.requires.list).0 (record c.index_mut-place.result.now { list = Some c.args.list.0 }) c.index_mut-ends.result.now.back c.nobody.result c.of-last.result c.of-last.result c.index_mut-ends.result.now.back c.nobody-2.result (Some c.args.list.0) (back_below c.self.inside c.args.self.now c.args.key.0 c.args.list.0 c.self.invariant c.self.view_is c.requires.loose c.requires.list c.index_mut-ends.result.now c.index_mut-ends.ensures.value) (subst (IsBelow (length c.self.inside.hots.items)) (sym c.nobody.ensures) tt) (key_within c.self.inside c.args.self.now c.args.key.0 c.args.list.0 c.self.invariant c.self.view_is c.requires.loose c.requires.list) (loose_key c.self.inside c.args.self.now c.args.key.0 c.args.list.0 c.self.invariant c.self.view_is c.requires.loose c.requires.list).2 c.set_behind.ensures.hots c.set_ahead.ensures.hots c.set_links.ensures refl) (set c.self.inside.ends.items c.args.list.0 c.set_ahead.new.ends) (length-set c.self.inside.ends.items c.args.list.0 c.set_ahead.new.ends) (λ (w : Yard). set w.lists c.args.list.0 (list_at w c.args.list.0 ++ c.args.key.0 ∷ [])) (stands c)
+returns c = relinked-seen c.self.inside c.args.self.now c.args.key.0 c.index_mut-place.result.now (record c.index_mut-place.result.now { list = Some c.args.list.0 }) (loose_key c.self.inside c.args.self.now c.args.key.0 c.args.list.0 c.self.invariant c.self.view_is c.requires.loose c.requires.list).1 (Some c.args.list.0) c.self.invariant c.self.view_is c.index_mut-place.ensures.value (its_car c) refl c.set_links.new.self (steps-length c.self.inside.hots c.set_behind.new.hots c.set_ahead.new.hots c.set_links.new.self c.self.inside.places.slots c.args.key.0 (loose_key c.self.inside c.args.self.now c.args.key.0 c.args.list.0 c.self.invariant c.self.view_is c.requires.loose c.requires.list).0 (record c.index_mut-place.result.now { list = Some c.args.list.0 }) c.index_mut-ends.result.now.back c.nobody.result c.of-last.result c.of-last.result c.index_mut-ends.result.now.back c.nobody-2.result (Some c.args.list.0) (back_below c.self.inside c.args.self.now c.args.key.0 c.args.list.0 c.self.invariant c.self.view_is c.requires.loose c.requires.list c.index_mut-ends.result.now c.index_mut-ends.ensures.value) (subst (IsBelow (length c.self.inside.hots)) (sym c.nobody.ensures) tt) (key_within c.self.inside c.args.self.now c.args.key.0 c.args.list.0 c.self.invariant c.self.view_is c.requires.loose c.requires.list) (loose_key c.self.inside c.args.self.now c.args.key.0 c.args.list.0 c.self.invariant c.self.view_is c.requires.loose c.requires.list).2 c.set_behind.ensures.hots c.set_ahead.ensures.hots c.set_links.ensures refl) (steps-core c.self.inside.hots c.set_behind.new.hots c.set_ahead.new.hots c.set_links.new.self c.self.inside.places.slots c.args.key.0 (loose_key c.self.inside c.args.self.now c.args.key.0 c.args.list.0 c.self.invariant c.self.view_is c.requires.loose c.requires.list).0 (record c.index_mut-place.result.now { list = Some c.args.list.0 }) c.index_mut-ends.result.now.back c.nobody.result c.of-last.result c.of-last.result c.index_mut-ends.result.now.back c.nobody-2.result (Some c.args.list.0) (back_below c.self.inside c.args.self.now c.args.key.0 c.args.list.0 c.self.invariant c.self.view_is c.requires.loose c.requires.list c.index_mut-ends.result.now c.index_mut-ends.ensures.value) (subst (IsBelow (length c.self.inside.hots)) (sym c.nobody.ensures) tt) (key_within c.self.inside c.args.self.now c.args.key.0 c.args.list.0 c.self.invariant c.self.view_is c.requires.loose c.requires.list) (loose_key c.self.inside c.args.self.now c.args.key.0 c.args.list.0 c.self.invariant c.self.view_is c.requires.loose c.requires.list).2 c.set_behind.ensures.hots c.set_ahead.ensures.hots c.set_links.ensures refl) (set c.self.inside.ends.items c.args.list.0 c.set_ahead.new.ends) (length-set c.self.inside.ends.items c.args.list.0 c.set_ahead.new.ends) (λ (w : Yard). set w.lists c.args.list.0 (list_at w c.args.list.0 ++ c.args.key.0 ∷ [])) (stands c)

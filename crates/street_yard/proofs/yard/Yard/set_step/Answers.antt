@@ -12,7 +12,7 @@ index_mut-place-requires c =
     subst IsSome (sym p.2) refl
 
 pub invariant_of-self : goal.invariant_of-self
-invariant_of-self c = driven c.self.inside c.args.self.now c.args.key.0 c.index_mut-place.result.now _ (λ (d : Cold). record d { step = c.args.step }) (λ (d : Car). record d { step = c.args.step }) c.self.invariant c.self.view_is c.requires c.index_mut-place.ensures.value c.set_step.ensures c.self.inside.hots.items refl (λ j ne. refl) refl refl refl (λ d was has. was) (λ t d. refl)
+invariant_of-self c = driven c.self.inside c.args.self.now c.args.key.0 c.index_mut-place.result.now _ (λ (d : Cold). record d { step = c.args.step }) (λ (d : Car). record d { step = c.args.step }) c.self.invariant c.self.view_is c.requires c.index_mut-place.ensures.value c.set_step.ensures c.self.inside.hots refl (λ j ne. refl) refl refl refl (λ d was has. was) (λ t d. refl)
 
 pub returns : goal.returns
-returns c = driven-seen c.self.inside c.args.self.now c.args.key.0 c.index_mut-place.result.now _ (λ (d : Cold). record d { step = c.args.step }) (λ (d : Car). record d { step = c.args.step }) c.self.invariant c.self.view_is c.requires c.index_mut-place.ensures.value c.set_step.ensures c.self.inside.hots.items refl (λ j ne. refl) refl refl refl (λ d was has. was) (λ t d. refl)
+returns c = driven-seen c.self.inside c.args.self.now c.args.key.0 c.index_mut-place.result.now _ (λ (d : Cold). record d { step = c.args.step }) (λ (d : Car). record d { step = c.args.step }) c.self.invariant c.self.view_is c.requires c.index_mut-place.ensures.value c.set_step.ensures c.self.inside.hots refl (λ j ne. refl) refl refl refl (λ d was has. was) (λ t d. refl)

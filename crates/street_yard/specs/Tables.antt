@@ -1,0 +1,32 @@
+-- What the two tables of a `Hots` stand for.
+use Rattle.std.specs.Prelude.{ℕ, Bool, true, false, List, [], ◌∷◌, Option, Some, None, cond}
+use Rattle.street_yard.specs.declared.hot.Hot.{Hot}
+use Rattle.street_yard.specs.declared.hot.Near.{Near}
+use Rattle.street_yard.specs.declared.hot.Signs.{Signs}
+use Rattle.street_yard.specs.declared.hot.Signs.TheVariants.{LastPlain, LastMarked, OnPlain, OnMarked}
+
+abbrev pub goes_on : Signs → Bool
+goes_on LastPlain = false
+goes_on LastMarked = false
+goes_on OnPlain = true
+goes_on OnMarked = true
+
+abbrev pub is_marked : Signs → Bool
+is_marked LastPlain = false
+is_marked LastMarked = true
+is_marked OnPlain = false
+is_marked OnMarked = true
+
+-- the link, where the signs tell of one
+abbrev pub told : Signs → ℕ → Option ℕ
+told signs link = cond (goes_on signs) (Some link) None
+
+-- a key's entries in both tables
+abbrev pub hot_of : Near → Option ℕ → Hot
+hot_of n ahead = record { ahead = ahead; behind = n.behind; cell = n.cell; number = n.number; next = told n.signs n.next; speed = n.speed; mark = is_marked n.signs }
+
+-- the tables, key by key
+abbrev pub zipped : List Near → List (Option ℕ) → List Hot
+zipped [] aheads = []
+zipped (n ∷ near) [] = []
+zipped (n ∷ near) (a ∷ aheads) = hot_of n a ∷ zipped near aheads
