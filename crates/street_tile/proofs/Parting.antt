@@ -4,6 +4,7 @@ use Rattle.std.specs.Prelude.{Option, None, Some, filter_map, slice_get}
 use Rattle.street_base.specs.declared.net.NetSpec.{NetSpec}
 use Rattle.street_base.specs.Network.{Place}
 use Rattle.street_base.specs.Vehicle.{Vehicle}
+use Rattle.street_base.specs.Lane.{is_free}
 use Rattle.street_base.specs.State.{Traffic, lane_at}
 use Rattle.street_base.specs.Departure.{departed, departed_lane}
 use Rattle.street_base.specs.Step.{changed, driven, arrival, leaver_of}
@@ -12,7 +13,7 @@ use Rattle.street_lanes.specs.Lanes.{Lanes, AllLanes, Same, place_at}
 use Rattle.street_lanes.specs.Whole.{IsOn, LanesStand, LanesGo, AllFree}
 use Rattle.street_gauge.specs.Gauges.{Gauges}
 use Rattle.street_tile.specs.Halves.{Entry, vehicle_in, crossing, let_go, placed, placed_lane}
-use Rattle.street_tile.specs.Tiles.{Part, IsTileOf, StandsFor, Shows, ShowSignals, ArePairs, nobody, is_own}
+use Rattle.street_tile.specs.Tiles.{Part, IsTileOf, StandsFor, Shows, ShowSignals, ArePairs, mouth, nobody, is_own}
 use Rattle.street_tile.specs.Metering.{KeepMeters, HaveWatched}
 use Rattle.street_tile.specs.Phases.{Changes, Moves, Releases, Enters}
 use Rattle.street_tile.specs.Walks.{IsWalk, IsReleasing}
@@ -53,16 +54,19 @@ module _ (net : NetSpec) (x : Part) (tile : IsTileOf net x) where
     };
   }
 
-  pub moves-of : (own : Lanes) (arrived : List ℕ) (gauges : List Gauges) → Same x.own own → x.own.room ≤ own.room
+  pub moves-of : (own : Lanes) (mouths : List Bool) (arrived : List ℕ) (gauges : List Gauges) → Same x.own own → x.own.room ≤ own.room
       → ((m : Traffic) → IsOn net m → m.clock ≡ x.clock → ShowSignals x.low x.high x.signals m → LanesStand x.own.places x.own.lanes m → LanesStand own.places own.lanes (driven m))
       → ((m : Traffic) → IsOn net m → m.clock ≡ x.clock → ShowSignals x.low x.high x.signals m → LanesStand x.own.places x.own.lanes m → arrived ≡ filter_map (λ p. arrival (leaver_of m p)) x.own.places)
       → KeepMeters x.gauges gauges
-      → ((m : Traffic) → IsOn net m → m.clock ≡ x.clock → ShowSignals x.low x.high x.signals m → LanesStand x.own.places x.own.lanes m → HaveWatched m x.own.places gauges) → Moves net x (record x { own = own; arrived = arrived; gauges = gauges })
+      → ((m : Traffic) → IsOn net m → m.clock ≡ x.clock → ShowSignals x.low x.high x.signals m → LanesStand x.own.places x.own.lanes m → HaveWatched m x.own.places gauges)
+      → ((m : Traffic) → LanesStand own.places own.lanes m → (j : ℕ) (p : Place) → slice_get own.places j ≡ Some p → mouth mouths p ≡ is_free (lane_at m p).track 0)
+      → Moves net x (record x { own = own; mouths = mouths; arrived = arrived; gauges = gauges })
   unfolding driven
-  moves-of own arrived gauges same room stand gone keep watched = record {
+  moves-of own mouths arrived gauges same room stand gone keep watched shown = record {
     arrived = λ m on s. gone m on (sym s.clock) s.signals s.lanes;
     gauges = keep;
     watched = λ m on s. watched m on (sym s.clock) s.signals s.lanes;
+    shown = λ m s. shown m s.lanes;
     goes = record {
       same = record { low = refl; high = refl; links = refl; own = same; gauged = keep-sizes x.gauges gauges keep };
       handed = refl;
@@ -81,11 +85,11 @@ module _ (net : NetSpec) (x : Part) (tile : IsTileOf net x) where
     shows = shows;
   }
 
-  pub releases-of : (view : List Bool) (own : Lanes) (handed : List Entry) → Same x.own own → x.own.room ≤ own.room
+  pub releases-of : (view : List Bool) (own : Lanes) (mouths : List Bool) (handed : List Entry) → Same x.own own → x.own.room ≤ own.room
       → ((m : Traffic) → IsReleasing net x.clock x.own view m → LanesStand own.places own.lanes (let_go m))
-      → ((m : Traffic) → IsReleasing net x.clock x.own view m → handed ≡ filter_map (crossing m) x.own.places) → Releases net view x (record x { own = own; handed = handed })
+      → ((m : Traffic) → IsReleasing net x.clock x.own view m → handed ≡ filter_map (crossing m) x.own.places) → Releases net view x (record x { own = own; mouths = mouths; handed = handed })
   unfolding let_go
-  releases-of view own handed same room stand gone = record {
+  releases-of view own mouths handed same room stand gone = record {
     same = record { low = refl; high = refl; links = refl; own = same; gauged = refl };
     arrived = refl;
     coming = refl;

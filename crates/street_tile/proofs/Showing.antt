@@ -1,4 +1,4 @@
--- The view, lane after lane.
+-- A list of mouths, lane after lane.
 use Rattle.std.proofs.Common.{◌≡◌, ℕ, ◌+◌, ◌*◌, ◌<◌, Bool, false, List, length, set, refl, sym, ◌∙◌, ap, subst, arith, inl, inr}
 use Rattle.std.specs.Prelude.{Some, slice_get}
 use Rattle.std.specs.List.{list_any}
@@ -9,18 +9,36 @@ use Rattle.street_base.specs.Network.{Place, is_place}
 use Rattle.street_base.specs.Lane.{is_free}
 use Rattle.street_base.specs.State.{Traffic, lane_at}
 use Rattle.street_base.proofs.ReleaseLemmas.{is_place-same, is_place-refl}
-use Rattle.street_lanes.specs.Views.{LaneView, LaneStands}
-use Rattle.street_lanes.specs.Lanes.{IsLane, AllLanes}
+use Rattle.street_lanes.specs.Lanes.{Lanes, IsLane, AllLanes, place_at}
 use Rattle.street_lanes.specs.Whole.{LanesStand}
 use Rattle.street_tile.specs.Tiles.{IsRoads, mouth, slot_of}
+use Rattle.street_tile.proofs.Going.{there-at}
 use Rattle.street_tile.proofs.Releases.{slot-apart}
 use Rattle.street_tile.proofs.Owning.{at-any}
 
-module _ (net : NetSpec) (roads : IsRoads net) (ps : List Place) (there : AllLanes net ps) (lanes : List LaneView) (old : List Bool) where
-  -- the lanes before k are shown, and of other lanes nothing is changed
+-- what the mouth of a lane is to be: what these lanes show
+abbrev pub IsFreeOf : Lanes → Place → Bool → Type 0
+IsFreeOf own p b = (m : Traffic) → LanesStand own.places own.lanes m → b ≡ is_free (lane_at m p).track 0
+
+-- the mouth that is held
+abbrev pub IsHeld : List Bool → Place → Bool → Type 0
+IsHeld held p b = b ≡ mouth held p
+
+-- a lane of the network has a small slot, inside a list of mouths
+pub slot-inside : (net : NetSpec) → IsRoads net → (own : Lanes) → AllLanes net own.places → (n : ℕ) → n < length own.places → (slot_of (place_at own n) < 65536) × (slot_of (place_at own n) < 2 * length net.links)
+slot-inside net roads own there n h =
+    let is = there-at net own there n h in
+    let a = is.0 in
+    let b = is.1 in
+    let two = roads.two (place_at own n).link in
+    let few = roads.few in
+    (omega arith, omega arith)
+
+module _ (net : NetSpec) (roads : IsRoads net) (ps : List Place) (there : AllLanes net ps) (Right : Place → Bool → Type 0) (old : List Bool) where
+  -- the mouths of the lanes before k are right, and of other lanes nothing is changed
   pub record IsShown (k : ℕ) (now : List Bool) : Type 0 where
     pub wide : length now ≡ 2 * length net.links
-    pub shown : (m : Traffic) → LanesStand ps lanes m → (j : ℕ) (p : Place) → j < k → slice_get ps j ≡ Some p → mouth now p ≡ is_free (lane_at m p).track 0
+    pub shown : (j : ℕ) (p : Place) → j < k → slice_get ps j ≡ Some p → Right p (mouth now p)
     pub rest : (p : Place) → IsLane net p → list_any (is_place p) ps ≡ false → mouth now p ≡ mouth old p
 
   two-of : (p : Place) → IsLane net p → p.lane < 2
@@ -33,15 +51,15 @@ module _ (net : NetSpec) (roads : IsRoads net) (ps : List Place) (there : AllLan
   same-mouth now p b wide h = get_or-set_same now (slot_of p) b false (let a = h.0 in let c = two-of p h in omega arith)
 
   pub shown-start : length old ≡ 2 * length net.links → IsShown 0 old
-  shown-start wide = record { wide = wide; shown = λ m s j p h. absurd (omega arith); rest = λ p h e. refl }
+  shown-start wide = record { wide = wide; shown = λ j p h. absurd (omega arith); rest = λ p h e. refl }
 
-  pub shown-next : (k : ℕ) (now : List Bool) (p : Place) (l : LaneView) (b : Bool) → IsShown k now → slice_get ps k ≡ Some p → slice_get lanes k ≡ Some l → ((m : Traffic) → LaneStands l (lane_at m p) → b ≡ is_free (lane_at m p).track 0) → length (set now (slot_of p) b) ≡ 2 * length net.links → IsShown (k + 1) (set now (slot_of p) b)
-  shown-next k now p l b d at is tells wide = record {
+  pub shown-next : (k : ℕ) (now : List Bool) (p : Place) (b : Bool) → IsShown k now → slice_get ps k ≡ Some p → Right p b → length (set now (slot_of p) b) ≡ 2 * length net.links → IsShown (k + 1) (set now (slot_of p) b)
+  shown-next k now p b d at right wide = record {
     wide = wide;
-    shown = λ m s j q h there_q. elim (cases_Bool (is_place p q)) as (λ _. mouth (set now (slot_of p) b) q ≡ is_free (lane_at m q).track 0) [
+    shown = λ j q h there_q. elim (cases_Bool (is_place p q)) as (λ _. Right q (mouth (set now (slot_of p) b) q)) [
       | inl here ↦ (
           let same : p ≡ q = is_place-same p q here in
-          subst (λ (x : Place). mouth (set now (slot_of p) b) x ≡ is_free (lane_at m x).track 0) same (same-mouth now p b d.wide (there k p at) ∙ tells m (s k p l at is)))
+          subst (λ (x : Place). Right x (mouth (set now (slot_of p) b) x)) same (subst (Right p) (sym (same-mouth now p b d.wide (there k p at))) right))
       | inr other ↦ (
           let before : j < k = elim (cases_eq j k) as (λ _. j < k) [
             | inl e ↦ absurd (
@@ -50,7 +68,7 @@ module _ (net : NetSpec) (roads : IsRoads net) (ps : List Place) (there : AllLan
                 both_ways (is_place p q) other (ap (is_place p) (sym same) ∙ is_place-refl p))
             | inr ne ↦ omega arith
           ] in
-          other-mouth now p q b (there k p at) (there j q there_q) other ∙ d.shown m s j q before there_q)
+          subst (Right q) (sym (other-mouth now p q b (there k p at) (there j q there_q) other)) (d.shown j q before there_q))
     ];
     rest = λ q h away.
         let other : is_place p q ≡ false = false_from_ne_true (is_place p q) (λ e.

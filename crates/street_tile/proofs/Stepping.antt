@@ -12,7 +12,7 @@ use Rattle.street_base.specs.Departure.{departed}
 use Rattle.street_lanes.specs.Lanes.{IsLane}
 use Rattle.street_lanes.specs.Whole.{IsOn}
 use Rattle.street_tile.specs.Halves.{Entry, takes, entry_on, crossing}
-use Rattle.street_tile.specs.Tiles.{Part, IsRoads, IsTileOf, IsShare, AreTiles, SameTile, Each, AllStand, IsIdle, IsPrepared, nobody, Shows}
+use Rattle.street_tile.specs.Tiles.{Part, IsRoads, IsTileOf, IsShare, AreTiles, SameTile, Each, AllStand, IsIdle, IsPrepared, nobody, Shows, ShowsOwn}
 use Rattle.street_gauge.specs.Gauges.{Gauges}
 use Rattle.street_tile.specs.Metering.{gauges_at, HaveWatched, MetersStand, AllMetersStand, noted_by}
 use Rattle.street_tile.specs.Phases.{Changes, Moves, Releases, Enters, ticked, Ticks}
@@ -76,6 +76,10 @@ tiles-lanes net xs ys e lanes tiles = tiles-same net xs ys e (λ i d h. (lanes i
 
 pub tiles-motion : (net : NetSpec) (xs ys : List Part) → length ys ≡ length xs → Each (Moves net) xs ys → AreTiles net xs → AreTiles net ys
 tiles-motion net xs ys e motion tiles = tiles-same net xs ys e (λ i d h. (motion i d h).goes.same) tiles
+
+-- after motion each tile holds its mouths
+pub shown-motion : (net : NetSpec) (xs ys : List Part) → length ys ≡ length xs → Each (Moves net) xs ys → All ShowsOwn ys
+shown-motion net xs ys e motion i d h = (motion i d (omega arith)).shown
 
 pub tiles-release : (net : NetSpec) (view : List Bool) (xs ys : List Part) → length ys ≡ length xs → Each (Releases net view) xs ys → AreTiles net xs → AreTiles net ys
 tiles-release net view xs ys e releases tiles = tiles-same net xs ys e (λ i d h. (releases i d h).same) tiles

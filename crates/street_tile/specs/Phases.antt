@@ -8,7 +8,7 @@ use Rattle.street_base.specs.Departure.{departed}
 use Rattle.street_base.specs.Step.{arrival, leaver_of, changed, driven}
 use Rattle.street_lanes.specs.Whole.{AllFree, IsOn}
 use Rattle.street_tile.specs.Halves.{crossing, let_go, placed}
-use Rattle.street_tile.specs.Tiles.{Part, StandsFor, SameTile, Shows, nobody}
+use Rattle.street_tile.specs.Tiles.{Part, StandsFor, SameTile, Shows, ShowsOwn, nobody}
 use Rattle.street_tile.specs.Metering.{KeepMeters, HaveWatched, MetersStand, noted_by}
 
 -- whatever the tile stood for, it then stands for f of that
@@ -25,12 +25,13 @@ pub record Changes (net : NetSpec) (x y : Part) : Type 0 where
   pub arrived : y.arrived ≡ x.arrived
   pub gauges : y.gauges ≡ x.gauges
 
--- motion: also the numbers that arrived, lane by lane; and the watches have seen it
+-- motion: also the numbers that arrived, lane by lane; the watches have seen it; and the tile holds the mouths after it
 pub record Moves (net : NetSpec) (x y : Part) : Type 0 where
   pub goes : GoesBy net driven x y
   pub arrived : (m : Traffic) → IsOn net m → StandsFor x m → y.arrived ≡ filter_map (λ p. arrival (leaver_of m p)) x.own.places
   pub gauges : KeepMeters x.gauges y.gauges
   pub watched : (m : Traffic) → IsOn net m → StandsFor x m → HaveWatched m x.own.places y.gauges
+  pub shown : ShowsOwn y
 
 -- releases, by the view: the fronts that go are out of the buffers and handed over, buffer by buffer
 pub record Releases (net : NetSpec) (view : List Bool) (x y : Part) : Type 0 where

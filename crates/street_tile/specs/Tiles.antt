@@ -51,8 +51,8 @@ ShowSignals low high signals m = (node : ℕ) → low ≤ node → node < high �
 -- ---- a tile
 
 -- what contracts see of a tile: its nodes from low up to high, how many links the network has, its own lanes, the clock and
--- the signal plans of its nodes; who was let go and not yet moved, who comes to each of its lanes, and who arrived; and the
--- detectors of each own lane
+-- the signal plans of its nodes; what it holds of mouths, as a view has them; who was let go and not yet moved, who comes to
+-- each of its lanes, and who arrived; and the detectors of each own lane
 pub record Part : Type 0 where
   pub low : ℕ
   pub high : ℕ
@@ -60,6 +60,7 @@ pub record Part : Type 0 where
   pub own : Lanes
   pub clock : ℕ
   pub signals : List (Option SignalPlan)
+  pub mouths : List Bool
   pub handed : List Entry
   pub coming : List (Option Vehicle)
   pub arrived : List ℕ
@@ -96,6 +97,10 @@ pub record StandsFor (x : Part) (m : Traffic) : Type 0 where
   pub clock : x.clock ≡ m.clock
   pub lanes : LanesStand x.own.places x.own.lanes m
   pub signals : ShowSignals x.low x.high x.signals m
+
+-- whatever the tile stands for, it holds of each own lane whether its cell 0 is free
+abbrev pub ShowsOwn : Part → Type 0
+ShowsOwn x = (m : Traffic) → StandsFor x m → (j : ℕ) (p : Place) → slice_get x.own.places j ≡ Some p → mouth x.mouths p ≡ is_free (lane_at m p).track 0
 
 -- for each own lane its number among them, by the lane's slot
 pub record AreNumbers (links : ℕ) (ps : List Place) (numbers : List ℕ) : Type 0 where

@@ -10,23 +10,39 @@ ghost use Rattle.street_lanes.specs.Lanes.{IsLane, AllLanes};
 ghost use Rattle.street_lanes.specs.Whole.{LanesStand};
 ghost use Rattle.street_tile.specs.Tiles.{IsRoads, mouth};
 
-use crate::view::View;
+use crate::view::{View, slot};
 use street_lanes::Lanes;
 use street_net::Network;
 
-/// Writes into the view of each of these lanes whether its cell 0 is free.
-pub(crate) fn show_lanes(own: &Lanes, net: &Network, view: &mut View)
+/// Writes into a list of mouths of each of these lanes whether its cell 0 is free.
+pub(crate) fn show_lanes(own: &Lanes, net: &Network, mouths: &mut [bool])
     requires roads { IsRoads net.now }
     requires there { AllLanes net.now own.now.places }
-    requires wide { length view.old ≡ 2 * length net.now.links }
-    ensures shown { (m : Traffic) → LanesStand own.now.places own.now.lanes m → (j : ℕ)
+    requires wide { length mouths.old ≡ 2 * length net.now.links }
+    ensures { (m : Traffic) → LanesStand own.now.places own.now.lanes m → (j : ℕ)
         → (p : Place) → slice_get own.now.places j ≡ Some p
-        → mouth view.new p ≡ is_free (lane_at m p).track 0 }
+        → mouth mouths.new p ≡ is_free (lane_at m p).track 0 }
+{
+    for n in 0..own.len() {
+        let at = own.at(n);
+        mouths[slot(at.link, at.lane)] = own.is_open(n);
+    }
+}
+
+/// Copies the mouth of each of these lanes from a list of mouths into the view.
+pub(crate) fn copy_lanes(own: &Lanes, net: &Network, mouths: &[bool], view: &mut View)
+    requires roads { IsRoads net.now }
+    requires there { AllLanes net.now own.now.places }
+    requires held { length mouths.now ≡ 2 * length net.now.links }
+    requires wide { length view.old ≡ 2 * length net.now.links }
+    ensures own { (j : ℕ) → (p : Place) → slice_get own.now.places j ≡ Some p
+        → mouth view.new p ≡ mouth mouths.now p }
     ensures rest { (p : Place) → IsLane net.now p
         → list_any (is_place p) own.now.places ≡ false → mouth view.new p ≡ mouth view.old p }
     ensures wide { length view.new ≡ length view.old }
 {
     for n in 0..own.len() {
-        view.show(own.at(n), own.is_open(n));
+        let at = own.at(n);
+        view.show(at, mouths[slot(at.link, at.lane)]);
     }
 }

@@ -9,7 +9,7 @@ ghost use Rattle.street_base.specs.Step.{changed, step, arrival, leaver_of};
 ghost use Rattle.street_net.specs.Tables.{place_of};
 ghost use Rattle.street_lanes.specs.Lanes.{IsLane};
 ghost use Rattle.street_tile.specs.Halves.{Entry};
-ghost use Rattle.street_tile.specs.Tiles.{Part, IsTileOf, IsIdle, IsPrepared, Each, AreTiles, AllStand, Shows, is_own, nobody};
+ghost use Rattle.street_tile.specs.Tiles.{Part, IsTileOf, IsIdle, IsPrepared, Each, AreTiles, AllStand, Shows, ShowsOwn, is_own, nobody};
 ghost use Rattle.street_tile.specs.Metering.{AllMetersStand};
 ghost use Rattle.street_tile.specs.Phases.{Changes, Moves, Releases, Enters, Ticks};
 ghost use Rattle.street_tile.specs.Moves.{Awaits, IsMoved, all_handed, received};
@@ -150,9 +150,10 @@ fn all_meter<R: Threads + Sync, G: Gate + Sync>(rt: &R, net: &Network, tiles: &m
     );
 }
 
-/// Each tile shows its mouths.
+/// Each tile shows its mouths, which it found itself: the calling thread only copies.
 fn publish(net: &Network, tiles: &[Tile], view: &mut View)
     requires tiles { AreTiles net.now tiles.now }
+    requires shown { All ShowsOwn tiles.now }
     requires view { length view.old ≡ 2 * length net.now.links }
     ensures shows { (m : Traffic) → AllStand net.now tiles.now m → Shows net.now view.new m }
     ensures wide { length view.new ≡ length view.old }

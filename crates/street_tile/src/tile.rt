@@ -2,12 +2,10 @@
 ghost use Rattle.std.specs.Prelude.{◌≡◌, ℕ, ◌+◌, ◌*◌, ◌<◌, ◌≤◌, length, List, [], ◌∷◌, ◌++◌, Some, None, option_to_list, map, slice_get, true, false, OnOk, OnErr};
 ghost use Rattle.std.specs.List.{list_any};
 ghost use Rattle.street_base.specs.Limits.{last_clock};
-ghost use Rattle.street_base.specs.Lane.{is_free};
 ghost use Rattle.street_base.specs.Network.{Place, is_place};
-ghost use Rattle.street_base.specs.State.{Traffic, lane_at};
 ghost use Rattle.street_lanes.specs.Lanes.{IsLane};
 ghost use Rattle.street_tile.specs.Halves.{Entry, entry_in};
-ghost use Rattle.street_tile.specs.Tiles.{IsTileOf, IsPrepared, StandsFor, is_own, mouth};
+ghost use Rattle.street_tile.specs.Tiles.{IsTileOf, IsPrepared, is_own, mouth};
 ghost use Rattle.street_tile.specs.Phases.{Changes, Moves, Releases, Enters, Ticks};
 ghost use Rattle.street_tile.specs.Moves.{Awaits};
 
@@ -16,7 +14,7 @@ use crate::hand_over::HandOver;
 use crate::lanes::{change_lanes, drive_lanes};
 use crate::meters::note_lanes;
 use crate::release::release_lanes;
-use crate::show::show_lanes;
+use crate::show::{copy_lanes, show_lanes};
 use crate::view::{View, slot};
 use std::marker::Model;
 use street_base::{CarNo, Starved, Step};
@@ -56,6 +54,7 @@ impl Model for Tile {
       own = t.own;
       clock = t.clock;
       signals = t.signals.items;
+      mouths = t.mouths.items;
       handed = t.handed.items;
       coming = map vehicle_in t.coming.items;
       arrived = t.arrived.items;
@@ -74,7 +73,8 @@ impl Tile {
         change_lanes(&mut self.own, net, self.clock);
     }
 
-    /// Motion on each own lane, seen by its detectors; the tile then holds the numbers of those who arrived. Takes no memory.
+    /// Motion on each own lane, seen by its detectors; the tile then holds the numbers of those who arrived, and of each own
+    /// lane whether its cell 0 is empty and not closed. Takes no memory.
     pub fn phase_motion(&mut self, net: &Network)
         requires tile { IsTileOf net.now self.old }
         requires none { self.old.arrived ≡ [] }
@@ -90,19 +90,21 @@ impl Tile {
             &self.signals,
             &mut self.arrived,
         );
+        show_lanes(&self.own, net, &mut self.mouths);
     }
 
-    /// Writes into the view of each own lane whether its cell 0 is empty and not closed. Takes no memory.
+    /// Copies into the view what the tile holds of the mouth of each own lane, as motion left it; the lanes are not looked at.
+    /// Takes no memory.
     pub fn mouths(&self, net: &Network, view: &mut View)
         requires tile { IsTileOf net.now self.now }
         requires view { length view.old ≡ 2 * length net.now.links }
-        ensures own { (m : Traffic) → StandsFor self.now m → (j : ℕ) → (p : Place)
-            → slice_get self.now.own.places j ≡ Some p → mouth view.new p ≡ is_free (lane_at m p).track 0 }
+        ensures own { (j : ℕ) → (p : Place) → slice_get self.now.own.places j ≡ Some p
+            → mouth view.new p ≡ mouth self.now.mouths p }
         ensures rest { (p : Place) → IsLane net.now p → list_any (is_place p) self.now.own.places ≡ false
             → mouth view.new p ≡ mouth view.old p }
         ensures wide { length view.new ≡ length view.old }
     {
-        show_lanes(&self.own, net, view);
+        copy_lanes(&self.own, net, &self.mouths, view);
     }
 
     /// The fronts that go leave the buffers and are handed over. Of the lanes that they enter, which may be other tiles', the

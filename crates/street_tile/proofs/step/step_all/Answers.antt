@@ -1,6 +1,6 @@
 use Rattle.std.proofs.Common.{arith}
 use Rattle.street_tile.proofs.Rows.{in-row, roads-of}
-use Rattle.street_tile.proofs.Stepping.{tiles-each, tiles-lanes, tiles-motion, tiles-release, tiles-move, tiles-enter, tiles-meter, in-time-lanes, stand-motion, release-lanes, in-time, stand-step, meters-step, arrived-step}
+use Rattle.street_tile.proofs.Stepping.{tiles-each, tiles-lanes, tiles-motion, tiles-release, tiles-move, tiles-enter, tiles-meter, in-time-lanes, shown-motion, stand-motion, release-lanes, in-time, stand-step, meters-step, arrived-step}
 use Rattle.street_tile.proofs.step.step_all.Goals as goal
 
 pub all_motion-requires-clause-tiles : goal.all_motion-requires-clause-tiles
@@ -13,6 +13,9 @@ pub publish-requires-clause-tiles : goal.publish-requires-clause-tiles
 publish-requires-clause-tiles g c =
     tiles-motion c.args.net.now c.all_lanes.new.tiles c.all_motion.new.tiles (omega arith) c.all_motion.ensures
     (tiles-lanes c.args.net.now c.args.tiles.now c.all_lanes.new.tiles (omega arith) c.all_lanes.ensures c.requires.tiles)
+
+pub publish-requires-clause-shown : goal.publish-requires-clause-shown
+publish-requires-clause-shown g c = shown-motion c.args.net.now c.all_lanes.new.tiles c.all_motion.new.tiles (omega arith) c.all_motion.ensures
 
 pub all_release-requires-clause-tiles : goal.all_release-requires-clause-tiles
 all_release-requires-clause-tiles g c κs within =

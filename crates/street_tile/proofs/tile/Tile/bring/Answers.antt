@@ -15,7 +15,7 @@ use Rattle.street_tile.proofs.tile.Tile.bring.Goals as goal
 pub index_mut-requires : goal.index_mut-requires
 index_mut-requires c =
     let s = c.self.inside in
-    let x : Part = record { low = s.low; high = s.high; links = s.links; own = s.own; clock = s.clock; signals = s.signals.items; handed = s.handed.items; coming = map vehicle_in s.coming.items; arrived = s.arrived.items; gauges = s.gauges.items } in
+    let x : Part = record { low = s.low; high = s.high; links = s.links; own = s.own; clock = s.clock; signals = s.signals.items; mouths = s.mouths.items; handed = s.handed.items; coming = map vehicle_in s.coming.items; arrived = s.arrived.items; gauges = s.gauges.items } in
     let is : x ≡ c.args.self.now = c.self.view_is in
     let own : is_own c.args.net.now s.low s.high c.args.hand_over.to ≡ true = subst (λ (t : Part). is_own c.args.net.now t.low t.high c.args.hand_over.to ≡ true) (sym is) c.requires.own in
     let here = number-found c.args.net.now x c.args.hand_over.to s.numbers.items c.slot.result c.index-n.result.now c.index-n.result.now (subst (IsTileOf c.args.net.now) (sym is) c.requires.tile) c.self.invariant.numbered c.requires.lane own (c.slot.ensures ∙ ap slot_of c.to-to.ensures) (c.index-n.ensures) in
@@ -27,7 +27,7 @@ index_mut-requires c =
 pub returns : goal.returns
 returns c = λ es awaits.
     let s = c.self.inside in
-    let x : Part = record { low = s.low; high = s.high; links = s.links; own = s.own; clock = s.clock; signals = s.signals.items; handed = s.handed.items; coming = map vehicle_in s.coming.items; arrived = s.arrived.items; gauges = s.gauges.items } in
+    let x : Part = record { low = s.low; high = s.high; links = s.links; own = s.own; clock = s.clock; signals = s.signals.items; mouths = s.mouths.items; handed = s.handed.items; coming = map vehicle_in s.coming.items; arrived = s.arrived.items; gauges = s.gauges.items } in
     let h : Entry = c.args.hand_over in
     let is : x ≡ c.args.self.now = c.self.view_is in
     let waits : map vehicle_in s.coming.items ≡ map (entry_in es) s.own.places = subst (Awaits es) (sym is) awaits in

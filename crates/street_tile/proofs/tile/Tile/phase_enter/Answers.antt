@@ -13,7 +13,7 @@ use Rattle.street_tile.proofs.tile.Tile.phase_enter.Goals as goal
 pub returns : goal.returns
 returns c =
     let s = c.self.inside in
-    let x : Part = record { low = s.low; high = s.high; links = s.links; own = s.own; clock = s.clock; signals = s.signals.items; handed = s.handed.items; coming = map vehicle_in s.coming.items; arrived = s.arrived.items; gauges = s.gauges.items } in
+    let x : Part = record { low = s.low; high = s.high; links = s.links; own = s.own; clock = s.clock; signals = s.signals.items; mouths = s.mouths.items; handed = s.handed.items; coming = map vehicle_in s.coming.items; arrived = s.arrived.items; gauges = s.gauges.items } in
     let tile : IsTileOf c.args.net.now x = subst (IsTileOf c.args.net.now) (sym c.self.view_is) c.requires.tile in
     let items : (with_items s.coming c.enter_lanes.new.coming).items ≡ c.enter_lanes.new.coming = with_items_is s.coming c.enter_lanes.new.coming (let e = c.enter_lanes.auto in let f = c.deref_mut.ensures.len in let ok = s.coming.ok in omega arith) in
     let coming : map vehicle_in (with_items s.coming c.enter_lanes.new.coming).items ≡ nobody x = ap (map vehicle_in) (items ∙ c.enter_lanes.ensures.none) ∙ nobody-in c.deref_mut.result.now s.own.places (let e = c.self.invariant.coming_long in rw c.deref_mut.ensures.value e) in
