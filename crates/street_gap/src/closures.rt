@@ -160,6 +160,10 @@ impl Closures {
     pub fn entrance_after(&self, cell: CellNo) -> Option<CellNo>
         ensures { (count : ℕ) → IsWithin self.now count → result ≡ entrance_after (closed_marks self.now count) cell }
     {
+        // Most lanes have no closed cell, and each vehicle asks.
+        if self.stretches.is_empty() {
+            return None;
+        }
         let at = beginning_by(&self.stretches, cell);
         if at < self.stretches.len() {
             Some(self.stretches[at].first)

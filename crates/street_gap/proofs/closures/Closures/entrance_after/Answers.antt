@@ -1,8 +1,15 @@
 use Rattle.std.proofs.Common.{Some, sym, ap, subst, ◌∙◌, arith}
+use Rattle.std.proofs.lemmas.Bool.{eqb-true}
 use Rattle.street_gap.specs.declared.closures.Stretch.{Stretch}
 use Rattle.street_gap.specs.Closed.{IsWithin}
-use Rattle.street_gap.proofs.Entrances.{entrance-some, entrance-none}
+use Rattle.street_gap.proofs.Entrances.{entrance-some, entrance-none, entrance-empty}
 use Rattle.street_gap.proofs.closures.Closures.entrance_after.Goals as goal
+
+pub returns-then-is_empty : goal.returns-then-is_empty
+returns-then-is_empty c count within =
+    let h = subst (λ l. IsWithin l count) (sym c.self.view_is) within in
+    let zero = eqb-true _ 0 (sym c.is_empty.ensures ∙ c.if-is_empty.true) in
+    rw (← c.self.view_is) (sym (entrance-empty c.self.inside.stretches.items c.args.cell count (omega (arith, zero, c.self.inside.stretches.ok.0)) h))
 
 pub returns-then-at-len : goal.returns-then-at-len
 returns-then-at-len c count within =
