@@ -182,7 +182,10 @@ impl Dice {
         }
     }
 
-    /// The draws of a vehicle in a block: those that were put aside, or else drawn now.
+    /// The draws of a vehicle in a block: those that were put aside, or else drawn now. It stands apart from the walk of a lane,
+    /// which asks for it once in 32 steps and has better use for the registers.
+    #[cold]
+    #[inline(never)]
     fn aside_or_drawn(&mut self, number: CarNo, block: u32) -> KeptDraws
         ensures kept { IsKept (key_of_seed self.old.seed) self.old.dawdle self.old.change result }
         ensures number { result.number ≡ number }

@@ -45,7 +45,9 @@ fn ending_below(stretches: &[Stretch], cell: CellNo) -> usize
     stretches.partition_point(|stretch| stretch.last < cell)
 }
 
-/// How many of the stretches begin at the cell or below it.
+/// How many of the stretches begin at the cell or below it. It stands apart from the walks, as few lanes have closed cells.
+#[cold]
+#[inline(never)]
 fn beginning_by(stretches: &[Stretch], cell: CellNo) -> usize
     requires { IsRising stretches.now }
     ensures { IsCut (λ s. s.first ≤ cell) (λ s. cell < s.first) stretches.now result }

@@ -63,15 +63,10 @@ fn gap_to(obstacle: Option<CellNo>, cell: CellNo, count: CellNo, is_open: bool) 
 }
 
 /// Faster by one, within the limit and the gap.
-fn wished_speed(speed: Speed, limit: Speed, gap: CellNo) -> Speed
+fn wished_speed(speed: Speed, limit: Speed, gap: CellNo) -> CellNo
     ensures { result ≡ speed_after limit gap false speed }
 {
-    let wish = if speed < limit { speed + 1 } else { limit };
-    if CellNo::from(wish) <= gap {
-        wish
-    } else {
-        gap as Speed
-    }
+    (CellNo::from(speed) + 1).min(CellNo::from(limit)).min(gap)
 }
 
 /// How the vehicle of a key drives on: by one faster, within the limit and the gap to the old cell of the one ahead or to
@@ -96,7 +91,7 @@ pub(crate) fn reckon(
     let gap = gap_to(obstacle, cell, course.count, course.is_open);
     let wish = wished_speed(speed, course.limit, gap);
     let slow = dice.dawdles(key.index(), course.step, yard.number(key));
-    let new_speed = wish.saturating_sub(Speed::from(slow));
+    let new_speed = wish.saturating_sub(CellNo::from(slow)) as Speed;
     Advance {
         cell,
         speed,

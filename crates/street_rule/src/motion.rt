@@ -42,7 +42,8 @@ fn drive_car(yard: &mut Yard, key: Key, advance: Advance, place: CellNo)
     yard.whole();
 }
 
-/// Takes a car off its list.
+/// Takes a car off its list. It stands apart from the walk: at most one goes.
+#[inline(never)]
 fn leave(yard: &mut Yard, list: ListId, key: Key)
     requires { place_of yard.old key.0 ≡ Some list.0 }
     ensures { Leaves yard.old yard.new list.0 key.0 }
@@ -52,7 +53,8 @@ fn leave(yard: &mut Yard, list: ListId, key: Key)
 }
 
 /// Moves all cars of a lane, from its end to its begin, each by the old cell of the one ahead, and gives the one that
-/// leaves.
+/// leaves. The walk stands apart from its callers, so that it has all registers.
+#[inline(never)]
 pub(crate) fn drive_all(
     yard: &mut Yard,
     course: Course,
