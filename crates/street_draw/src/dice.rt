@@ -102,8 +102,8 @@ fn drawn(rng: &mut ChaCha20Rng, number: CarNo, block: u32, dawdle: u16, change: 
     let mut changes = 0u32;
     for i in 0..32u32 {
         let lane = rng.next_word();
-        let slow = rng.next_word();
         changes = with_bit(changes, is_below(lane, lane_bound));
+        let slow = rng.next_word();
         dawdles = with_bit(dawdles, is_below(slow, slow_bound));
     }
     KeptDraws {
