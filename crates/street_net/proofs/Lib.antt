@@ -5,3 +5,4 @@ pub mod Planning
 pub mod Good
 pub mod Turning
 pub mod Landing
+pub mod Told

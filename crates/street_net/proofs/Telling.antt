@@ -1,5 +1,5 @@
 -- A load's first fault, part by part.
-use Rattle.std.proofs.Common.{◌≡◌, refl}
+use Rattle.std.proofs.Common.{◌≡◌, ◌∙◌, refl, sym, ap, subst}
 use Rattle.std.specs.Prelude.{Option, Some, None}
 use Rattle.street_base.specs.declared.net.NetSpec.{NetSpec}
 use Rattle.street_base.specs.declared.refusal.Part.TheVariants.{Nodes, Links, Turns, Values}
@@ -29,6 +29,12 @@ module _ (net : NetSpec) where
       tells-turns e t = first-of (in_part Turns (turns_fault net)) _ e (λ fault h. rw (nodes, links, h) refl) t
 
       -- with no fault in the three lists, the first fault is that of the values
-      pub values-tell : turns_fault net ≡ None → network_fault net ≡ in_part Values (values_fault net)
+      values-tell : turns_fault net ≡ None → network_fault net ≡ in_part Values (values_fault net)
       unfolding network_fault
       values-tell turns = rw (nodes, links, turns) refl
+
+      pub tells-values : turns_fault net ≡ None → (e : NetFault) → TellsFault (in_part Values (values_fault net)) e → TellsFault (network_fault net) e
+      tells-values turns e t = subst (λ first. TellsFault first e) (sym (values-tell turns)) t
+
+      pub nothing-told : turns_fault net ≡ None → values_fault net ≡ None → network_fault net ≡ None
+      nothing-told turns values = values-tell turns ∙ ap (in_part Values) values

@@ -10,11 +10,26 @@ use Rattle.street_base.specs.declared.net.Turn.{Turn}
 use Rattle.street_base.specs.Network.{Place, names_link, link_of, link_at, node_of, places}
 use Rattle.street_base.specs.Faults.{network_fault}
 use Rattle.street_net.specs.Keys.{ids_of_nodes, ids_of_links}
+use Rattle.street_net.specs.declared.briefs.Brief.{Brief}
 use Rattle.street_net.specs.declared.lanes.LaneId.{LaneId}
 
 -- the lane that an identifier of the code names
 abbrev pub place_of : LaneId → Place
 place_of id = record { link = id.link; lane = id.lane }
+
+-- ---- what a step asks of a link
+
+-- the brief of a link tells the node that it runs to, and what the list tells
+pub record IsBrief (net : NetSpec) (link : ℕ) (brief : Brief) : Type 0 where
+  pub runs_to : node_of net (link_at net link).to ≡ Some brief.end
+  pub same_length : brief.length ≡ (link_at net link).length
+  pub same_lanes : brief.lanes ≡ (link_at net link).lanes
+  pub same_limit : brief.limit ≡ (link_at net link).limit
+
+-- for each link its brief
+pub record AreBriefs (net : NetSpec) (briefs : List Brief) : Type 0 where
+  pub one_each : length briefs ≡ length net.links
+  pub told : (link : ℕ) (d : Brief) → link < length net.links → IsBrief net link (slice_index_or briefs link d)
 
 -- ---- the lanes that run to a node
 
@@ -25,11 +40,6 @@ ends_at net node place = option_map_or (λ end. end == node) (node_of net (link_
 -- the lanes that run to a node, in the order of release: by the position of the link, then by the lane
 abbrev pub in_places : NetSpec → ℕ → List Place
 in_places net node = filter (ends_at net node) (places net)
-
--- for each link the node that it runs to
-pub record AreEnds (net : NetSpec) (nodes : List ℕ) : Type 0 where
-  pub one_each : length nodes ≡ length net.links
-  pub ends : (link : ℕ) → link < length net.links → node_of net (link_at net link).to ≡ Some (slice_index_or nodes link 0)
 
 -- for each node the lanes that run to it
 pub record AreInLanes (net : NetSpec) (listed : List (Vec LaneId Global)) : Type 0 where
@@ -67,10 +77,10 @@ pub record IsTurnTable (net : NetSpec) (table : List (Vec Turn Global)) : Type 0
 -- ---- a network
 
 -- a load without faults, with its identifiers in order and its tables
-pub record IsChecked (net : NetSpec) (nodes links ends : List ℕ) (in_lanes : List (Vec LaneId Global)) (turns : List (Vec Turn Global)) : Type 0 where
+pub record IsChecked (net : NetSpec) (nodes links : List ℕ) (briefs : List Brief) (in_lanes : List (Vec LaneId Global)) (turns : List (Vec Turn Global)) : Type 0 where
   pub faultless : network_fault net ≡ None
   pub nodes_listed : nodes ≡ ids_of_nodes net.nodes
   pub links_listed : links ≡ ids_of_links net.links
-  pub ends_kept : AreEnds net ends
+  pub briefs_kept : AreBriefs net briefs
   pub in_lanes_kept : AreInLanes net in_lanes
   pub turns_kept : IsTurnTable net turns

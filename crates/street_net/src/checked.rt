@@ -5,15 +5,16 @@ ghost use Rattle.street_base.specs.Faults.{network_fault};
 ghost use Rattle.street_net.specs.Tables.{place_of, in_places, turn_by_position};
 ghost use Rattle.street_net.specs.Refused.{TellsFault};
 
+use crate::briefs::{Brief, briefs_of_links};
 use crate::faults::NetFault;
 use crate::keys::{find_link, find_node};
-use crate::lanes::{LaneId, ends_of_links, lanes_by_end};
-use crate::lists::{read_links, read_nodes, read_turns, values_fault};
+use crate::lanes::{LaneId, lanes_by_end};
+use crate::lists::{read_links, read_nodes, read_turns, read_values};
 use crate::turns::{LISTS, list_of, turn_to, turns_by_lane};
 use indexmap::IndexSet;
 use std::alloc::{AllocError, Global};
 use std::marker::Model;
-use street_base::{LaneNo, LinkIx, Listing, NetSpec, NodeIx, Part, Speed, Turn};
+use street_base::{CellNo, LaneNo, LinkIx, Listing, NetSpec, NodeIx, Speed, Turn};
 
 /// A network without faults, with constant-time look-ups of identifiers. Contracts see what it was loaded from.
 #[derive(Drop)]
@@ -21,7 +22,7 @@ pub struct Network {
     spec: NetSpec,
     node_ids: IndexSet<u64>,
     link_ids: IndexSet<u64>,
-    ends: Vec<NodeIx>,
+    briefs: Vec<Brief>,
     in_lanes: Vec<Vec<LaneId>>,
     turns: Vec<Vec<Turn>>,
 }
@@ -35,7 +36,7 @@ impl Model for Network {
 
     ghost view = { λ n. n.spec };
 
-    ghost invariant = { λ n. IsChecked n.spec n.node_ids.keys n.link_ids.keys n.ends.items n.in_lanes.items n.turns.items };
+    ghost invariant = { λ n. IsChecked n.spec n.node_ids.keys n.link_ids.keys n.briefs.items n.in_lanes.items n.turns.items };
 }
 
 /// A load that equals `spec`.
@@ -69,20 +70,15 @@ impl Network {
         let node_ids = read_nodes(alloc, spec)?;
         let link_ids = read_links(alloc, spec, &node_ids)?;
         read_turns(alloc, spec, &link_ids)?;
-        if let Some(at) = values_fault(spec) {
-            return Err(NetFault::Bad {
-                part: Part::Values,
-                at,
-            });
-        }
-        let ends = ends_of_links(alloc, spec, &node_ids)?;
-        let in_lanes = lanes_by_end(alloc, spec, &ends)?;
+        read_values(spec)?;
+        let briefs = briefs_of_links(alloc, spec, &node_ids)?;
+        let in_lanes = lanes_by_end(alloc, spec, &briefs)?;
         let turns = turns_by_lane(alloc, spec, &link_ids)?;
         Ok(Network {
             spec: copy_spec(alloc, spec)?,
             node_ids,
             link_ids,
-            ends,
+            briefs,
             in_lanes,
             turns,
         })
@@ -121,7 +117,7 @@ impl Network {
         ensures within { result < length self.now.nodes }
         ensures node { end_node self.now link ≡ slice_get self.now.nodes result }
     {
-        self.ends[link.position()]
+        self.briefs[link.position()].end
     }
 
     /// The lanes that run to a node, in the order in which their buffers are released: by the position of the link, then by
@@ -138,7 +134,7 @@ impl Network {
         ensures { let place : Place = record { link = link; lane = lane } in
             result ≡ option_map (turn_by_position place next) (turn self.now place next) }
     {
-        if link.position() >= self.ends.len() || usize::from(lane) >= LISTS {
+        if link.position() >= self.briefs.len() || usize::from(lane) >= LISTS {
             return None;
         }
         turn_to(&self.turns[list_of(link, lane)], next)
@@ -152,19 +148,27 @@ impl Network {
         self.turn(link, lane, next).is_some()
     }
 
+    /// How many cells each lane of a link has.
+    pub fn length_of(&self, link: LinkIx) -> CellNo
+        requires { link < length self.now.links }
+        ensures { result ≡ (link_at self.now link).length }
+    {
+        self.briefs[link.position()].length
+    }
+
     /// The speed limit of a link.
     pub fn limit_of(&self, link: LinkIx) -> Speed
         requires { link < length self.now.links }
         ensures { result ≡ (link_at self.now link).limit }
     {
-        self.spec.links.as_slice()[link.position()].limit as Speed
+        self.briefs[link.position()].limit
     }
 
-    /// How many lanes the link at a position has.
-    pub(crate) fn lanes_of(&self, link: LinkIx) -> LaneNo
+    /// How many lanes a link has.
+    pub fn lanes_of(&self, link: LinkIx) -> LaneNo
         requires { link < length self.now.links }
         ensures { result ≡ (link_at self.now link).lanes }
     {
-        self.spec.links.as_slice()[link.position()].lanes as LaneNo
+        self.briefs[link.position()].lanes
     }
 }

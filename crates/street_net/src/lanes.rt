@@ -1,4 +1,4 @@
-//! Where links end, and which lanes run to a node.
+//! Which lanes run to a node.
 //!
 //! Source: this profile, in whose order of releases the lanes to a node stand.
 ghost use Rattle.std.specs.Prelude.{◌≡◌, ◌++◌, [], length, map, slice_index_or, Vec, EachIndex, None, IfOk, OnOk};
@@ -6,13 +6,11 @@ ghost use Rattle.std.specs.List.{range_with_len};
 ghost use Rattle.std.specs.declared.alloc.Global.{Global};
 ghost use Rattle.street_base.specs.Network.{Place};
 ghost use Rattle.street_base.specs.Faults.{network_fault};
-ghost use Rattle.street_net.specs.Keys.{ids_of_nodes};
-ghost use Rattle.street_net.specs.Tables.{place_of, AreEnds, AreInLanes};
+ghost use Rattle.street_net.specs.Tables.{place_of, AreBriefs, AreInLanes};
 
-use crate::keys::find_node;
-use indexmap::IndexSet;
+use crate::briefs::Brief;
 use std::alloc::{AllocError, Global};
-use street_base::{LaneNo, LinkIx, NetSpec, NodeIx};
+use street_base::{LaneNo, LinkIx, NetSpec};
 
 /// A lane of a network.
 #[derive(Clone, Copy)]
@@ -23,30 +21,7 @@ pub struct LaneId {
     pub lane: LaneNo,
 }
 
-/// For each link the node that it runs to. `nodes` are the identifiers of the nodes.
-///
-/// # Errors
-///
-/// Memory was refused.
-pub(crate) fn ends_of_links(
-    alloc: Global,
-    spec: &NetSpec,
-    nodes: &IndexSet<u64>,
-) -> Result<Vec<NodeIx>, AllocError>
-    requires faultless { network_fault spec.now ≡ None }
-    requires listed { nodes.now.keys ≡ ids_of_nodes spec.now.nodes }
-    ensures { IfOk result (λ ends. AreEnds spec.now ends.items) }
-{
-    let links = spec.links.as_slice();
-    let mut ends = Vec::with_capacity(alloc, links.len())?;
-    for link in links {
-        let end = find_node(spec, nodes, link.to).unwrap();
-        ends.push(NodeIx::new(end as u16))?;
-    }
-    Ok(ends)
-}
-
-/// For each node the lanes that run to it, in the order of release. `ends` are the ends of the links.
+/// For each node the lanes that run to it, in the order of release. `briefs` are those of the links.
 ///
 /// # Errors
 ///
@@ -54,16 +29,16 @@ pub(crate) fn ends_of_links(
 pub(crate) fn lanes_by_end(
     alloc: Global,
     spec: &NetSpec,
-    ends: &[NodeIx],
+    briefs: &[Brief],
 ) -> Result<Vec<Vec<LaneId>>, AllocError>
     requires faultless { network_fault spec.now ≡ None }
-    requires ends { AreEnds spec.now ends.now }
+    requires briefs { AreBriefs spec.now briefs.now }
     ensures { IfOk result (λ lists. AreInLanes spec.now lists.items) }
 {
     let mut lists = no_lanes(alloc, spec.nodes.as_slice().len())?;
-    for (at, link) in spec.links.as_slice().iter().enumerate() {
-        let end = ends[at].position();
-        add_lanes(&mut lists[end], LinkIx::new(at as u16), link.lanes as u8)?;
+    for (at, brief) in briefs.iter().enumerate() {
+        let end = brief.end.position();
+        add_lanes(&mut lists[end], LinkIx::new(at as u16), brief.lanes)?;
     }
     Ok(lists)
 }

@@ -4,6 +4,7 @@
 //! it is known from then on that it has no fault, and that each look-up of an identifier takes constant time.
 #![tactic(auto)]
 
+mod briefs;
 mod checked;
 mod entries;
 mod faults;

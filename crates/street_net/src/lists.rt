@@ -108,8 +108,26 @@ pub(crate) fn read_turns(
     Ok(())
 }
 
+/// Checks the values.
+///
+/// # Errors
+///
+/// `Bad` with the first fault among the values.
+pub(crate) fn read_values(spec: &NetSpec) -> Result<(), NetFault>
+    ensures faultless { OnOk result (values_fault spec.now ≡ None) }
+    ensures fault { IfErr result (TellsFault (in_part Values (values_fault spec.now))) }
+{
+    match values_fault(spec) {
+        Some(at) => Err(NetFault::Bad {
+            part: Part::Values,
+            at,
+        }),
+        None => Ok(()),
+    }
+}
+
 /// The first fault among the values.
-pub(crate) fn values_fault(spec: &NetSpec) -> Option<u64>
+fn values_fault(spec: &NetSpec) -> Option<u64>
     ensures { result ≡ values_fault spec.now }
 {
     if spec.zone > MOST_ZONE {

@@ -1,9 +1,8 @@
-use Rattle.std.proofs.Common.{◌≡◌, ◌∙◌, ap, sym, subst, None}
+use Rattle.std.proofs.Common.{◌≡◌, sym, subst, None}
 use Rattle.std.proofs.lemmas.Result.{err_from_is_err_and}
-use Rattle.street_base.specs.declared.refusal.Part.TheVariants.{Values}
-use Rattle.street_base.specs.Faults.{in_part, network_fault}
+use Rattle.street_base.specs.Faults.{network_fault}
 use Rattle.street_net.specs.Tables.{IsChecked}
-use Rattle.street_net.proofs.Telling.{tells-nodes, tells-links, tells-turns, values-tell}
+use Rattle.street_net.proofs.Telling.{tells-nodes, tells-links, tells-turns, tells-values, nothing-told}
 use Rattle.street_net.proofs.checked.Network.build.Goals as goal
 
 pub returns-in_err-node_ids-clause-fault : goal.returns-in_err-node_ids-clause-fault
@@ -21,42 +20,37 @@ returns-in_err-read_turns-clause-fault c =
     let p = err_from_is_err_and c.from_residual-in_err-read_turns.result c.from_residual-in_err-read_turns.ensures.1 in
     rw (p.1, p.2) (tells-turns c.args.spec.now c.in_ok-node_ids.ensures.faultless c.in_ok-link_ids.ensures.faultless c.in_err-read_turns.field-0.0 c.in_err-read_turns.ensures.fault)
 
-pub returns-in-Some-clause-fault : goal.returns-in-Some-clause-fault
-returns-in-Some-clause-fault c =
-    values-tell c.args.spec.now c.in_ok-node_ids.ensures.faultless c.in_ok-link_ids.ensures.faultless c.in_ok-read_turns.ensures.faultless
-    ∙ ap (in_part Values) (sym c.in-Some.ensures)
+pub returns-in_err-read_values-clause-fault : goal.returns-in_err-read_values-clause-fault
+returns-in_err-read_values-clause-fault c =
+    let p = err_from_is_err_and c.from_residual-in_err-read_values.result c.from_residual-in_err-read_values.ensures.1 in
+    rw (p.1, p.2) (tells-values c.args.spec.now c.in_ok-node_ids.ensures.faultless c.in_ok-link_ids.ensures.faultless c.in_ok-read_turns.ensures.faultless c.in_err-read_values.field-0.0 c.in_err-read_values.ensures.fault)
 
-pub ends_of_links-requires-clause-faultless : goal.ends_of_links-requires-clause-faultless
-ends_of_links-requires-clause-faultless c =
-    values-tell c.args.spec.now c.in_ok-node_ids.ensures.faultless c.in_ok-link_ids.ensures.faultless c.in_ok-read_turns.ensures.faultless
-    ∙ ap (in_part Values) (sym c.in_default.ensures)
+pub briefs_of_links-requires-clause-faultless : goal.briefs_of_links-requires-clause-faultless
+briefs_of_links-requires-clause-faultless c =
+    nothing-told c.args.spec.now c.in_ok-node_ids.ensures.faultless c.in_ok-link_ids.ensures.faultless c.in_ok-read_turns.ensures.faultless c.in_ok-read_values.ensures.faultless
 
 pub lanes_by_end-requires-clause-faultless : goal.lanes_by_end-requires-clause-faultless
 lanes_by_end-requires-clause-faultless c =
-    values-tell c.args.spec.now c.in_ok-node_ids.ensures.faultless c.in_ok-link_ids.ensures.faultless c.in_ok-read_turns.ensures.faultless
-    ∙ ap (in_part Values) (sym c.in_default.ensures)
+    nothing-told c.args.spec.now c.in_ok-node_ids.ensures.faultless c.in_ok-link_ids.ensures.faultless c.in_ok-read_turns.ensures.faultless c.in_ok-read_values.ensures.faultless
 
 pub turns_by_lane-requires-clause-faultless : goal.turns_by_lane-requires-clause-faultless
 turns_by_lane-requires-clause-faultless c =
-    values-tell c.args.spec.now c.in_ok-node_ids.ensures.faultless c.in_ok-link_ids.ensures.faultless c.in_ok-read_turns.ensures.faultless
-    ∙ ap (in_part Values) (sym c.in_default.ensures)
+    nothing-told c.args.spec.now c.in_ok-node_ids.ensures.faultless c.in_ok-link_ids.ensures.faultless c.in_ok-read_turns.ensures.faultless c.in_ok-read_values.ensures.faultless
 
 pub returns-clause-faultless : goal.returns-clause-faultless
 returns-clause-faultless c =
-    values-tell c.args.spec.now c.in_ok-node_ids.ensures.faultless c.in_ok-link_ids.ensures.faultless c.in_ok-read_turns.ensures.faultless
-    ∙ ap (in_part Values) (sym c.in_default.ensures)
+    nothing-told c.args.spec.now c.in_ok-node_ids.ensures.faultless c.in_ok-link_ids.ensures.faultless c.in_ok-read_turns.ensures.faultless c.in_ok-read_values.ensures.faultless
 
 pub invariant_of-result : goal.invariant_of-result
 invariant_of-result c =
     let same = c.in_ok-copy_spec.ensures in
     let faultless : network_fault c.args.spec.now ≡ None =
-    values-tell c.args.spec.now c.in_ok-node_ids.ensures.faultless c.in_ok-link_ids.ensures.faultless c.in_ok-read_turns.ensures.faultless
-    ∙ ap (in_part Values) (sym c.in_default.ensures) in
-    subst (λ net. IsChecked net c.in_ok-node_ids.node_ids.keys c.in_ok-link_ids.link_ids.keys c.in_ok-ends.ends.items c.in_ok-in_lanes.in_lanes.items c.in_ok-turns.turns.items) (sym same) (record {
+    nothing-told c.args.spec.now c.in_ok-node_ids.ensures.faultless c.in_ok-link_ids.ensures.faultless c.in_ok-read_turns.ensures.faultless c.in_ok-read_values.ensures.faultless in
+    subst (λ net. IsChecked net c.in_ok-node_ids.node_ids.keys c.in_ok-link_ids.link_ids.keys c.in_ok-briefs.briefs.items c.in_ok-in_lanes.in_lanes.items c.in_ok-turns.turns.items) (sym same) (record {
       faultless = faultless;
       nodes_listed = c.in_ok-node_ids.ensures.keys;
       links_listed = c.in_ok-link_ids.ensures.keys;
-      ends_kept = c.in_ok-ends.ensures;
+      briefs_kept = c.in_ok-briefs.ensures;
       in_lanes_kept = c.in_ok-in_lanes.ensures;
       turns_kept = c.in_ok-turns.ensures;
     })
