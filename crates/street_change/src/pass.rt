@@ -10,7 +10,7 @@ ghost use Rattle.street_yard.specs.Yard.{entry_at, mark_set};
 
 use crate::relink::relink;
 use crate::road::Road;
-use crate::sight::decide;
+use crate::sight::{Sides, decide};
 use street_base::{LaneNo, Step};
 use street_draw::Dice;
 use street_yard::{Key, Yard};
@@ -36,13 +36,17 @@ fn mark_pass(yard: &mut Yard, road: &Road<'_>, lane: LaneNo, step: Step, dice: &
     ensures none { result ≡ false → HasNoMarks yard.new (lane_of road.now lane).list }
     ensures dice { dice.new ≡ dice.old }
 {
-    let own = road.lane(lane).list;
+    let sides = Sides {
+        lane,
+        own: road.lane(lane),
+        other: road.lane(1 - lane),
+    };
     let mut goes = false;
     let mut above = None;
     let mut ahead = None;
-    let mut cursor = yard.list_front(own);
+    let mut cursor = yard.list_front(sides.own.list);
     while let Some(key) = cursor {
-        let decision = decide(yard, road, lane, key, ahead, above, step, dice);
+        let decision = decide(yard, road, sides, key, ahead, above, step, dice);
         above = decision.above;
         ahead = Some(yard.cell(key));
         goes |= decision.goes;

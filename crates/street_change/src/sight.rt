@@ -156,13 +156,22 @@ pub(crate) struct Decision {
     pub(crate) goes: bool,
 }
 
+/// The lane from which drivers look, and the one beside it.
+#[derive(Clone, Copy)]
+pub(crate) struct Sides<'a> {
+    /// The number of their lane.
+    pub(crate) lane: LaneNo,
+    pub(crate) own: RoadLane<'a>,
+    pub(crate) other: RoadLane<'a>,
+}
+
 /// Whether the vehicle of a key goes to the other lane. `ahead` is the cell of the vehicle ahead; `above` is a key of the
 /// other lane whose vehicle is above the cell beside, from which on to look there. Room is looked for before the turns of
 /// the lanes, which lie farther away; the draw is asked last.
 pub(crate) fn decide(
     yard: &Yard,
     road: &Road<'_>,
-    lane: LaneNo,
+    sides: Sides<'_>,
     key: Key,
     ahead: Option<CellNo>,
     above: Option<Key>,
@@ -170,27 +179,28 @@ pub(crate) fn decide(
     dice: &mut Dice,
 ) -> Decision
     requires lanes { length road.now.lanes ≡ 2 }
-    requires lane { lane ≤ 1 }
+    requires lane { sides.lane ≤ 1 }
+    requires own { lane_seen sides.own ≡ lane_of road.now sides.lane }
+    requires other { lane_seen sides.other ≡ lane_of road.now (1 - sides.lane) }
     requires road { IsRoad yard.now road.now }
     requires dice { dice.old ≡ odds_of road.now.network }
-    requires key { place_of yard.now key.0 ≡ Some (lane_of road.now lane).list }
-    requires above { IsUpTo yard.now (lane_of road.now (1 - lane)).list (cell_at yard.now key.0) (option_map (λ k. k.0) above) }
-    ensures above { IsUpTo yard.now (lane_of road.now (1 - lane)).list (cell_at yard.now key.0) (option_map (λ k. k.0) result.above) }
-    ensures goes { (v : Vehicle) → vehicle_with yard.now key.0 ≡ Some v → result.goes ≡ decision (weave_of road.now step) lane (length_of road.now) (closed_marks (lane_of road.now lane).closed (length_of road.now)) ahead (track_of yard.now (length_of road.now) (lane_of road.now (1 - lane))) (cell_at yard.now key.0) v }
+    requires key { place_of yard.now key.0 ≡ Some (lane_of road.now sides.lane).list }
+    requires above { IsUpTo yard.now (lane_of road.now (1 - sides.lane)).list (cell_at yard.now key.0) (option_map (λ k. k.0) above) }
+    ensures above { IsUpTo yard.now (lane_of road.now (1 - sides.entry.lane)).list (cell_at yard.now key.0) (option_map (λ k. k.0) result.above) }
+    ensures goes { (v : Vehicle) → vehicle_with yard.now key.0 ≡ Some v → result.goes ≡ decision (weave_of road.now step) sides.entry.lane (length_of road.now) (closed_marks (lane_of road.now sides.entry.lane).closed (length_of road.now)) ahead (track_of yard.now (length_of road.now) (lane_of road.now (1 - sides.entry.lane))) (cell_at yard.now key.0) v }
     ensures dice { dice.new ≡ dice.old }
 {
     let cell = yard.cell(key);
     let speed = yard.speed(key);
-    let gap = gap_ahead(road.lane(lane).closures, ahead, cell);
+    let gap = gap_ahead(sides.own.closures, ahead, cell);
     if !may_wish(road, gap, cell, speed, yard.next_link(key)) {
         return Decision { above, goes: false };
     }
-    let other = road.lane(1 - lane);
-    let (above, has_room) = look_beside(yard, other, above, cell, speed);
+    let (above, has_room) = look_beside(yard, sides.other, above, cell, speed);
     if !has_room {
         return Decision { above, goes: false };
     }
-    if !wishes(road, lane, gap, cell, speed, yard.next_link(key)) {
+    if !wishes(road, sides.lane, gap, cell, speed, yard.next_link(key)) {
         return Decision { above, goes: false };
     }
     let goes = dice.may_change(key.index(), step, yard.number(key));

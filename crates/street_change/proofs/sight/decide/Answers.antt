@@ -14,23 +14,23 @@ use Rattle.street_change.proofs.sight.decide.Goals as goal
 pub returns-then-not-has_room-clause-goes : goal.returns-then-not-has_room-clause-goes
 returns-then-not-has_room-clause-goes c = λ v seen.
     let car = its_car c.args.yard.now c.args.key.0 (on_has_entry c.args.yard.now c.args.key.0 _ c.requires.key) in
-    let here : c.args.lane < length c.args.road.now.lanes = (let l = c.requires.lane in let t = c.requires.lanes in omega arith) in
-    let there : 1 - c.args.lane < length c.args.road.now.lanes = (let t = c.requires.lanes in omega arith) in
-    let room = room-by c.args.yard.now (length_of c.args.road.now) (lane_of c.args.road.now (1 - c.args.lane)) (lane_seen c.lane-other.result) c.cell-cell.result c.speed-speed.result c.look_beside-above.result.1 c.lane-other.ensures (c.requires.road.lanes (1 - c.args.lane) no_lane there) c.look_beside-above.ensures.room in
-    decided-by (weave_of c.args.road.now c.args.step) c.args.lane (length_of c.args.road.now) (closed_marks (lane_of c.args.road.now c.args.lane).closed (length_of c.args.road.now)) c.args.ahead
-    (track_of c.args.yard.now (length_of c.args.road.now) (lane_of c.args.road.now (1 - c.args.lane))) c.args.yard.now c.args.key.0 car.0 v c.cell-cell.result c.speed-speed.result c.gap_ahead-gap.result (wishes_with (weave_of c.args.road.now c.args.step) c.args.lane (length_of c.args.road.now) c.gap_ahead-gap.result c.cell-cell.result c.speed-speed.result (next_link (vehicle_of car.0))) false car.1 seen (field-is (λ r. r.cell) car.0 _ c.cell-cell.result car.1 c.cell-cell.ensures) (field-is (λ r. r.speed) car.0 _ c.speed-speed.result car.1 c.speed-speed.ensures)
-    (gap-by (length_of c.args.road.now) (lane_of c.args.road.now c.args.lane) (lane_seen c.lane.result) c.args.ahead c.cell-cell.result c.gap_ahead-gap.result c.lane.ensures (c.requires.road.lanes c.args.lane no_lane here).within c.gap_ahead-gap.ensures) refl
-    (sym (and_right (wishes_with (weave_of c.args.road.now c.args.step) c.args.lane (length_of c.args.road.now) c.gap_ahead-gap.result c.cell-cell.result c.speed-speed.result (next_link (vehicle_of car.0))) _ (and_left _ _ (sym room ∙ c.if-not-has_room.true))))
+    let here : c.args.sides.lane < length c.args.road.now.lanes = (let l = c.requires.lane in let t = c.requires.lanes in omega arith) in
+    let there : 1 - c.args.sides.lane < length c.args.road.now.lanes = (let t = c.requires.lanes in omega arith) in
+    let room = room-by c.args.yard.now (length_of c.args.road.now) (lane_of c.args.road.now (1 - c.args.sides.lane)) (lane_seen c.args.sides.other) c.cell-cell.result c.speed-speed.result c.look_beside-above.result.1 c.requires.other (c.requires.road.lanes (1 - c.args.sides.lane) no_lane there) c.look_beside-above.ensures.room in
+    decided-by (weave_of c.args.road.now c.args.step) c.args.sides.lane (length_of c.args.road.now) (closed_marks (lane_of c.args.road.now c.args.sides.lane).closed (length_of c.args.road.now)) c.args.ahead
+    (track_of c.args.yard.now (length_of c.args.road.now) (lane_of c.args.road.now (1 - c.args.sides.lane))) c.args.yard.now c.args.key.0 car.0 v c.cell-cell.result c.speed-speed.result c.gap_ahead-gap.result (wishes_with (weave_of c.args.road.now c.args.step) c.args.sides.lane (length_of c.args.road.now) c.gap_ahead-gap.result c.cell-cell.result c.speed-speed.result (next_link (vehicle_of car.0))) false car.1 seen (field-is (λ r. r.cell) car.0 _ c.cell-cell.result car.1 c.cell-cell.ensures) (field-is (λ r. r.speed) car.0 _ c.speed-speed.result car.1 c.speed-speed.ensures)
+    (gap-by (length_of c.args.road.now) (lane_of c.args.road.now c.args.sides.lane) (lane_seen c.args.sides.own) c.args.ahead c.cell-cell.result c.gap_ahead-gap.result c.requires.own (c.requires.road.lanes c.args.sides.lane no_lane here).within c.gap_ahead-gap.ensures) refl
+    (sym (and_right (wishes_with (weave_of c.args.road.now c.args.step) c.args.sides.lane (length_of c.args.road.now) c.gap_ahead-gap.result c.cell-cell.result c.speed-speed.result (next_link (vehicle_of car.0))) _ (and_left _ _ (sym room ∙ c.if-not-has_room.true))))
 
 pub returns-clause-goes : goal.returns-clause-goes
 returns-clause-goes c = λ v seen.
     let car = its_car c.args.yard.now c.args.key.0 (on_has_entry c.args.yard.now c.args.key.0 _ c.requires.key) in
-    let here : c.args.lane < length c.args.road.now.lanes = (let l = c.requires.lane in let t = c.requires.lanes in omega arith) in
-    let there : 1 - c.args.lane < length c.args.road.now.lanes = (let t = c.requires.lanes in omega arith) in
-    let room = room-by c.args.yard.now (length_of c.args.road.now) (lane_of c.args.road.now (1 - c.args.lane)) (lane_seen c.lane-other.result) c.cell-cell.result c.speed-speed.result c.look_beside-above.result.1 c.lane-other.ensures (c.requires.road.lanes (1 - c.args.lane) no_lane there) c.look_beside-above.ensures.room in
-    decided-by (weave_of c.args.road.now c.args.step) c.args.lane (length_of c.args.road.now) (closed_marks (lane_of c.args.road.now c.args.lane).closed (length_of c.args.road.now)) c.args.ahead
-    (track_of c.args.yard.now (length_of c.args.road.now) (lane_of c.args.road.now (1 - c.args.lane))) c.args.yard.now c.args.key.0 car.0 v c.cell-cell.result c.speed-speed.result c.gap_ahead-gap.result true c.may_change-goes.result car.1 seen (field-is (λ r. r.cell) car.0 _ c.cell-cell.result car.1 c.cell-cell.ensures) (field-is (λ r. r.speed) car.0 _ c.speed-speed.result car.1 c.speed-speed.ensures)
-    (gap-by (length_of c.args.road.now) (lane_of c.args.road.now c.args.lane) (lane_seen c.lane.result) c.args.ahead c.cell-cell.result c.gap_ahead-gap.result c.lane.ensures (c.requires.road.lanes c.args.lane no_lane here).within c.gap_ahead-gap.ensures) (c.if-not-wishes.ensures c.args.step ∙ ap (wishes_with (weave_of c.args.road.now c.args.step) c.args.lane (length_of c.args.road.now) c.gap_ahead-gap.result c.cell-cell.result c.speed-speed.result) (field-is (λ r. next_link (vehicle_of r)) car.0 _ c.next_link-2.result car.1 c.next_link-2.ensures))
+    let here : c.args.sides.lane < length c.args.road.now.lanes = (let l = c.requires.lane in let t = c.requires.lanes in omega arith) in
+    let there : 1 - c.args.sides.lane < length c.args.road.now.lanes = (let t = c.requires.lanes in omega arith) in
+    let room = room-by c.args.yard.now (length_of c.args.road.now) (lane_of c.args.road.now (1 - c.args.sides.lane)) (lane_seen c.args.sides.other) c.cell-cell.result c.speed-speed.result c.look_beside-above.result.1 c.requires.other (c.requires.road.lanes (1 - c.args.sides.lane) no_lane there) c.look_beside-above.ensures.room in
+    decided-by (weave_of c.args.road.now c.args.step) c.args.sides.lane (length_of c.args.road.now) (closed_marks (lane_of c.args.road.now c.args.sides.lane).closed (length_of c.args.road.now)) c.args.ahead
+    (track_of c.args.yard.now (length_of c.args.road.now) (lane_of c.args.road.now (1 - c.args.sides.lane))) c.args.yard.now c.args.key.0 car.0 v c.cell-cell.result c.speed-speed.result c.gap_ahead-gap.result true c.may_change-goes.result car.1 seen (field-is (λ r. r.cell) car.0 _ c.cell-cell.result car.1 c.cell-cell.ensures) (field-is (λ r. r.speed) car.0 _ c.speed-speed.result car.1 c.speed-speed.ensures)
+    (gap-by (length_of c.args.road.now) (lane_of c.args.road.now c.args.sides.lane) (lane_seen c.args.sides.own) c.args.ahead c.cell-cell.result c.gap_ahead-gap.result c.requires.own (c.requires.road.lanes c.args.sides.lane no_lane here).within c.gap_ahead-gap.ensures) (c.if-not-wishes.ensures c.args.step ∙ ap (wishes_with (weave_of c.args.road.now c.args.step) c.args.sides.lane (length_of c.args.road.now) c.gap_ahead-gap.result c.cell-cell.result c.speed-speed.result) (field-is (λ r. next_link (vehicle_of r)) car.0 _ c.next_link-2.result car.1 c.next_link-2.ensures))
     (c.may_change-goes.ensures.value ∙ ap (λ (o : Odds). nat_lt (lane_draw o.seed c.number.result c.args.step) o.change) c.requires.dice
     ∙ ap (λ n. nat_lt (lane_draw c.args.road.now.network.seed n c.args.step) c.args.road.now.network.change) (field-is (λ r. r.number) car.0 _ c.number.result car.1 c.number.ensures)
     ∙ sym (ap (λ r. r && (weave_of c.args.road.now c.args.step).may_change car.0.number) (sym room ∙ c.if-not-has_room.false)))
