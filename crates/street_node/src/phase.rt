@@ -38,14 +38,19 @@ impl Model for KeptPhase {
     ghost invariant = { λ p. IsInOrder p.greens.items };
 }
 
-/// The order of turns: by the link, then by the lane, then by the next link.
+/// The order of turns: by the link, then by the lane, then by the next link. Mostly the links differ, and then nothing else
+/// is looked at.
 fn in_order(turn: &GreenTurn, other: &GreenTurn) -> Ordering
     ensures { result ≡ turn_cmp turn.now other.now }
 {
-    let by_link = turn.link.position().cmp(&other.link.position());
-    let by_lane = turn.lane.cmp(&other.lane);
-    let by_next = turn.next.position().cmp(&other.next.position());
-    by_link.then(by_lane.then(by_next))
+    match turn.link.position().cmp(&other.link.position()) {
+        Ordering::Equal => {}
+        by_link => return by_link,
+    }
+    match turn.lane.cmp(&other.lane) {
+        Ordering::Equal => turn.next.position().cmp(&other.next.position()),
+        by_lane => by_lane,
+    }
 }
 
 impl KeptPhase {
