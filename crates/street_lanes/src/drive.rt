@@ -52,13 +52,14 @@ fn end_node(net: &Network, link: LinkIx) -> NodeSpec
 
 /// Whether a lane's exit is open to its front vehicle, which goes on to this link: on its last link, or with a turn that is
 /// green and room in the buffer of the lane, in which there are so many.
-fn exit_is_open(leg: &Leg<'_>, end: NodeSpec, buffered: usize, next: Option<LinkIx>) -> bool
-    requires { end_node leg.now.net.now leg.now.at.link ≡ Some end }
+fn exit_is_open(leg: &Leg<'_>, buffered: usize, next: Option<LinkIx>) -> bool
+    requires { leg.now.at.link < length leg.now.net.now.links }
     ensures { result ≡ opens_to leg.now.net.now (option_copied leg.now.plan) leg.now.clock (place_of leg.now.at) buffered next }
 {
     let Some(next) = next else {
         return true;
     };
+    let end = end_node(leg.net, leg.at.link);
     if buffered as u64 >= end.capacity {
         return false;
     }
@@ -73,17 +74,10 @@ fn exit_is_open(leg: &Leg<'_>, end: NodeSpec, buffered: usize, next: Option<Link
 
 /// What a motion is told of the lane's exit: whether it is open to the front vehicle. To one that is too far from the lane's
 /// end it does not matter, and then nothing is looked up: neither its plan nor a turn nor the signals.
-fn exit_for(
-    yard: &Yard,
-    road: &Road<'_>,
-    leg: &Leg<'_>,
-    end: NodeSpec,
-    buffer: ListId,
-    front: Key,
-) -> bool
+fn exit_for(yard: &Yard, road: &Road<'_>, leg: &Leg<'_>, buffer: ListId, front: Key) -> bool
     requires network { road.now.network ≡ leg.now.net.now }
     requires link { road.now.link ≡ leg.now.at.link }
-    requires end { end_node leg.now.net.now leg.now.at.link ≡ Some end }
+    requires there { leg.now.at.link < length leg.now.net.now.links }
     requires list { buffer.0 < length yard.now.lists }
     requires front { IsSome (entry_at yard.now front.0) }
     ensures { (car : CarOf) → car_of yard.now front.0 ≡ Some car
@@ -95,7 +89,7 @@ fn exit_for(
     if reach < road.length() {
         return true;
     }
-    exit_is_open(leg, end, yard.list_len(buffer), yard.next_link(front))
+    exit_is_open(leg, yard.list_len(buffer), yard.next_link(front))
 }
 
 /// A car that has left its lane arrives, if it is on its last link: it is taken out and its number answered. Else it comes
@@ -136,9 +130,9 @@ fn drive(yard: &mut Yard, dice: &mut Dice, leg: &Leg<'_>, watches: &mut [Watch])
         closures: leg.closures,
     };
     let road = Road::new(leg.net, leg.at.link, own, None);
-    let end = end_node(leg.net, leg.at.link);
-    let exit = exit_for(yard, &road, leg, end, buffer, front);
+    let exit = exit_for(yard, &road, leg, buffer, front);
     let leaver = motion_pass(yard, &road, 0, leg.clock, exit, dice, watches)?;
+    let end = end_node(leg.net, leg.at.link);
     let ready = leg.clock.saturating_add(end.residence as Step);
     settle(yard, buffer, leaver.key, ready)
 }

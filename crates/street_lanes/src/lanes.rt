@@ -70,10 +70,9 @@ fn sites_of(alloc: Global, net: &Network, own: &[LaneId]) -> Result<Vec<Site>, A
     requires { AllLanes net.now (map place_of own.now) }
     ensures { IfOk result (λ sites. AreSites net.now own.now sites.items) }
 {
-    let links = net.spec().links.as_slice();
     let mut sites = Vec::with_capacity(alloc, own.len())?;
     for at in own {
-        let length = links[at.link.position()].length as CellNo;
+        let length = net.length_of(at.link);
         sites.push(Site { at: *at, length })?;
     }
     Ok(sites)
