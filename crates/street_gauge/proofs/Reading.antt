@@ -6,10 +6,10 @@ use Rattle.street_base.specs.declared.reply.MeterRow.{MeterRow}
 use Rattle.street_base.specs.declared.reply.RunningRow.{RunningRow}
 use Rattle.street_base.specs.declared.reply.Reply.{Reply}
 use Rattle.street_base.specs.declared.reply.Reply.TheVariants.{Rows}
-use Rattle.street_base.specs.Detector.{Row, full_rows, running_row}
+use Rattle.street_base.specs.Detector.{Row, full_rows}
 use Rattle.street_base.specs.Shown.{meter_row, running, shown_rows}
 use Rattle.street_base.specs.State.{Triple, Detector}
-use Rattle.street_meter.specs.Meter.{Meter, IsRead, Stands, detector_of, row_seen, running_seen}
+use Rattle.street_meter.specs.Meter.{Meter, IsRead, Stands, detector_of, row_seen}
 use Rattle.street_gauge.specs.Gauges.{MeterStands, MetersStandFor}
 
 rows-back : (rows : List MeterRow) → map meter_row (map row_seen rows) ≡ rows

@@ -1,13 +1,13 @@
--- What the fields of `Gauges` stand for.
-use Rattle.std.specs.Prelude.{◌≡◌, ◌<◌, length}
-use Rattle.std.specs.List.{All}
+-- What the field of `Gauges` stands for.
+use Rattle.std.specs.Prelude.{[]}
 use Rattle.street_gauge.specs.declared.gauges.Gauges.TheInside.{Inside}
+use Rattle.street_gauge.specs.declared.gauges.Kind.{Kind}
+use Rattle.street_gauge.specs.declared.gauges.Kind.TheVariants.{Bare, Watched}
 use Rattle.street_gauge.specs.Gauges.{Gauges}
 
-abbrev pub seen : Inside → Gauges
-seen x = record { size = x.length; meters = x.meters.items; watches = x.watches.items }
+abbrev pub gauges_of : Kind → Gauges
+gauges_of (Bare length) = record { size = length; meters = []; watches = [] }
+gauges_of (Watched kept) = kept.value
 
--- a watch for each meter, each in a cell of the lane
-pub record IsSound (x : Inside) : Type 0 where
-  pub even : length x.watches.items ≡ length x.meters.items
-  pub within : All (λ m. m.cell < x.length) x.meters.items
+abbrev pub seen : Inside → Gauges
+seen x = gauges_of x.kind

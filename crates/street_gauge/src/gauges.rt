@@ -1,5 +1,5 @@
-//! The meters and watches of a lane.
-ghost use Rattle.std.specs.Prelude.{◌≡◌, ℕ, ◌<◌, ◌≤◌, length, List, [], map, option_map, slice_get, IfOk, OnOk, OnErr};
+//! The detectors of a lane, which has some or none.
+ghost use Rattle.std.specs.Prelude.{◌≡◌, ◌<◌, ◌≤◌, length, List, [], map, option_map, slice_get, IfOk, OnOk, OnErr};
 ghost use Rattle.std.specs.List.{All};
 ghost use Rattle.std.specs.Option.{option_copied};
 ghost use Rattle.street_base.specs.Limits.{last_clock};
@@ -10,25 +10,31 @@ ghost use Rattle.street_lanes.specs.Views.{LaneStands};
 ghost use Rattle.street_lanes.specs.Lanes.{lane_of, IsOf};
 ghost use Rattle.street_lanes.specs.Driving.{DrivesAt};
 ghost use Rattle.street_meter.specs.Meter.{next_step};
-ghost use Rattle.street_gauge.specs.Gauges.{cleared, GoesOn, Notes, AllGoOn, AllNote, MetersStandFor, Placed};
+ghost use Rattle.street_gauge.specs.Gauges.{cleared, AllGoOn, AllNote, MetersStandFor, Placed};
 
+use crate::kept::Kept;
 use std::alloc::Global;
 use std::marker::Model;
 use street_base::{CarNo, CellNo, Reply, Starved, Step};
 use street_lanes::Lanes;
-use street_meter::{Meter, Place};
 use street_net::{LaneId, Network};
 use street_node::SignalPlan;
-use street_rule::Watch;
 
 /// The detectors of a lane.
 #[derive(Drop)]
 pub struct Gauges {
-    /// How many cells the lane has.
-    length: CellNo,
-    meters: Vec<Meter>,
-    /// For each meter what its detector saw of the lane's last motion.
-    watches: Vec<Watch>,
+    kind: Kind,
+}
+
+// Each step reads one for each lane, and nearly no lane has detectors: four of these fit a line of memory.
+const _: () = prove!(size_of::<Gauges>() == 16);
+
+/// Whether the lane has detectors. Those are elsewhere, so that a step reads no more than this of a lane that has none.
+#[derive(Drop)]
+enum Kind {
+    /// None, and so many cells.
+    Bare(CellNo),
+    Watched(Box<Kept>),
 }
 
 impl Model for Gauges {
@@ -36,67 +42,18 @@ impl Model for Gauges {
 
     ghost Value = { Seen };
 
-    ghost use Rattle.street_gauge.specs.Inside.{seen, IsSound};
+    ghost use Rattle.street_gauge.specs.Inside.{seen};
 
     ghost view = { seen };
-
-    ghost invariant = { IsSound };
-}
-
-/// A watch of a cell that has seen nothing.
-fn watch_at(cell: CellNo) -> Watch
-    ensures { result ≡ record { cell = cell; passes = 0; speeds = 0 } }
-{
-    Watch {
-        cell,
-        passes: 0,
-        speeds: 0,
-    }
-}
-
-/// Each watch has seen nothing, and watches its meter's cell.
-fn clear(watches: &mut [Watch], meters: &[Meter])
-    requires { length watches.old ≡ length meters.now }
-    ensures { watches.new ≡ map cleared meters.now }
-{
-    for k in 0..meters.len() {
-        watches[k] = watch_at(meters[k].place().cell);
-    }
-}
-
-/// A meter notes what its watch saw, and whether its cell is occupied now.
-fn note_one(meter: &mut Meter, watch: Watch, own: &Lanes, lane: usize)
-    requires lane { lane < length own.now.lanes }
-    requires in_time { next_step meter.old < last_clock }
-    ensures goes { GoesOn meter.old meter.new }
-    ensures notes { (s : LaneState) → LaneStands (lane_of own.now lane) s → Notes s.track.cells watch meter.old meter.new }
-{
-    let occupied = own.is_occupied(lane, meter.place().cell);
-    meter.note(watch.passes, watch.speeds, u32::from(occupied));
-}
-
-/// Each meter notes what its watch saw, and whether its cell is occupied now.
-fn note_all(meters: &mut [Meter], watches: &[Watch], own: &Lanes, lane: usize)
-    requires lane { lane < length own.now.lanes }
-    requires even { length watches.now ≡ length meters.old }
-    requires in_time { All (λ x. next_step x < last_clock) meters.old }
-    ensures goes { AllGoOn meters.old meters.new }
-    ensures notes { (s : LaneState) → LaneStands (lane_of own.now lane) s → AllNote s.track.cells watches.now meters.old meters.new }
-{
-    for k in 0..meters.len() {
-        note_one(&mut meters[k], watches[k], own, lane);
-    }
 }
 
 impl Gauges {
     /// No detectors, on a lane of so many cells. Takes no memory.
-    pub fn new(alloc: Global, length: CellNo) -> Gauges
+    pub fn new(_alloc: Global, length: CellNo) -> Gauges
         ensures { result ≡ record { size = length; meters = []; watches = [] } }
     {
         Gauges {
-            length,
-            meters: Vec::new(alloc),
-            watches: Vec::new(alloc),
+            kind: Kind::Bare(length),
         }
     }
 
@@ -115,8 +72,10 @@ impl Gauges {
         ensures drives { DrivesAt net.now (option_copied plan.entry) clock lane own.old own.new result (map cleared self.old.meters) self.new.watches }
         ensures meters { self.new ≡ record self.old { watches = self.new.watches } }
     {
-        clear(&mut self.watches, &self.meters);
-        own.drive(net, lane, clock, plan, &mut self.watches)
+        match &mut self.kind {
+            Kind::Bare(_) => own.drive(net, lane, clock, plan, &mut []),
+            Kind::Watched(kept) => kept.drive(own, net, lane, clock, plan),
+        }
     }
 
     /// At the end of the step each meter notes what its watch saw of the motion, and whether its cell is occupied. Takes no
@@ -128,7 +87,9 @@ impl Gauges {
         ensures goes { AllGoOn self.old.meters self.new.meters }
         ensures notes { (s : LaneState) → LaneStands (lane_of own.now lane) s → AllNote s.track.cells self.old.watches self.old.meters self.new.meters }
     {
-        note_all(&mut self.meters, &self.watches, own, lane);
+        if let Kind::Watched(kept) = &mut self.kind {
+            kept.note(own, lane);
+        }
     }
 
     /// Places one more detector in a cell of the lane, which is at `at`, with a period of 1 to 100,000 steps; it notes from
@@ -152,18 +113,15 @@ impl Gauges {
         ensures ok { OnOk result (Placed (place_of at) cell period start self.old self.new) }
         ensures err { OnErr result (self.new ≡ self.old) }
     {
-        let place = Place {
-            link: at.link,
-            lane: at.lane,
-            cell,
-        };
-        let meter = Meter::new(alloc, place, period, start)?;
-        self.meters.reserve(1)?;
-        self.watches.reserve(1)?;
-        let number = self.meters.len();
-        self.meters.push_reserved(meter);
-        self.watches.push_reserved(watch_at(cell));
-        Ok(number)
+        match &mut self.kind {
+            Kind::Bare(length) => {
+                let mut kept = Kept::new(alloc, *length);
+                let number = kept.place(alloc, at, cell, period, start)?;
+                self.kind = Kind::Watched(Box::new(alloc, kept)?);
+                Ok(number)
+            }
+            Kind::Watched(kept) => kept.place(alloc, at, cell, period, start),
+        }
     }
 
     /// The rows of a detector, by its number among those of the lane, if there is one.
@@ -173,13 +131,9 @@ impl Gauges {
     pub fn rows(&self, alloc: Global, number: usize) -> Result<Option<Reply>, Starved>
         ensures { IfOk result (λ reply. (ds : List Detector) → MetersStandFor self.now.meters ds → reply ≡ option_map shown_rows (slice_get ds number)) }
     {
-        if number >= self.meters.len() {
-            return Ok(None);
+        match &self.kind {
+            Kind::Bare(_) => Ok(None),
+            Kind::Watched(kept) => kept.rows(alloc, number),
         }
-        let rows = self.meters[number].rows(alloc)?;
-        Ok(Some(Reply::Rows {
-            now: rows.running,
-            rows: rows.full,
-        }))
     }
 }

@@ -5,5 +5,6 @@
 #![tactic(auto)]
 
 mod gauges;
+mod kept;
 
 pub use gauges::Gauges;

@@ -3,7 +3,7 @@ use Rattle.std.proofs.lemmas.List.{get_or_default}
 use Rattle.street_lanes.specs.Lanes.{lane_of}
 use Rattle.street_rule.specs.declared.watch.Watch.{Watch}
 use Rattle.street_gauge.proofs.Noting.{noted-next}
-use Rattle.street_gauge.proofs.gauges.note_all.Goals as goal
+use Rattle.street_gauge.proofs.kept.note_all.Goals as goal
 
 pub loop-k-preserved : goal.loop-k-preserved
 loop-k-preserved c =

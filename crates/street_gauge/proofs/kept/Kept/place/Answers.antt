@@ -1,8 +1,7 @@
-use Rattle.std.proofs.Common.{◌≡◌, ◌<◌, ◌++◌, ◌∷◌, [], List, length, get_or, sym, ◌∙◌, ap, subst, arith}
-use Rattle.street_meter.specs.Meter.{Meter}
+use Rattle.std.proofs.Common.{◌≡◌, ◌<◌, ◌++◌, ◌∷◌, [], ◌∙◌, ap, arith}
 use Rattle.street_gauge.specs.Gauges.{Gauges}
 use Rattle.street_gauge.proofs.Placing.{even-more, within-more}
-use Rattle.street_gauge.proofs.gauges.Gauges.place.Goals as goal
+use Rattle.street_gauge.proofs.kept.Kept.place.Goals as goal
 
 pub invariant_of-self-2 : goal.invariant_of-self-2
 invariant_of-self-2 c =

@@ -1,12 +1,11 @@
-use Rattle.std.proofs.Common.{◌≡◌, length, map, sym, ◌∙◌, ap, subst, arith}
+use Rattle.std.proofs.Common.{◌≡◌, map, sym, ◌∙◌, ap, subst, arith}
 use Rattle.std.specs.List.{All}
 use Rattle.std.specs.Vec.{with_items}
 use Rattle.std.proofs.lemmas.List.{with_items_is}
-use Rattle.street_lanes.specs.Lanes.{lane_of}
 use Rattle.street_rule.specs.Watching.{IsReady}
 use Rattle.street_gauge.specs.Gauges.{Gauges, cleared}
 use Rattle.street_gauge.proofs.Clearing.{cleared-ready}
-use Rattle.street_gauge.proofs.gauges.Gauges.drive.Goals as goal
+use Rattle.street_gauge.proofs.kept.Kept.drive.Goals as goal
 
 pub drive-requires-clause-watches : goal.drive-requires-clause-watches
 drive-requires-clause-watches c =

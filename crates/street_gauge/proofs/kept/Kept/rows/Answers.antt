@@ -1,9 +1,8 @@
-use Rattle.std.proofs.Common.{◌≡◌, ◌<◌, List, length, sym, ap, subst, arith, get_or}
-use Rattle.street_base.specs.State.{Detector}
+use Rattle.std.proofs.Common.{List, sym, ap, subst, arith}
 use Rattle.street_meter.specs.Meter.{Meter}
 use Rattle.street_gauge.specs.Gauges.{Gauges, MetersStandFor}
 use Rattle.street_gauge.proofs.Reading.{shown-none, shown-all}
-use Rattle.street_gauge.proofs.gauges.Gauges.rows.Goals as goal
+use Rattle.street_gauge.proofs.kept.Kept.rows.Goals as goal
 
 pub returns-then-number-len : goal.returns-then-number-len
 returns-then-number-len c ds stand =
