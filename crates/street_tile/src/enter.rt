@@ -34,6 +34,17 @@ fn enter_lane(own: &mut Lanes, n: usize, coming: Option<HandOver>, clock: Step)
     own.depart(n, clock);
 }
 
+/// Takes who comes to a lane. Mostly nobody does, and then nothing is written.
+fn taken(coming: &mut Option<HandOver>) -> Option<HandOver>
+    ensures taken { result ≡ coming.old }
+    ensures nobody { coming.new ≡ None }
+{
+    if coming.is_none() {
+        return None;
+    }
+    coming.take()
+}
+
 /// The same on all lanes.
 pub(crate) fn enter_lanes(own: &mut Lanes, coming: &mut [Option<HandOver>], clock: Step)
     requires even { length coming.old ≡ length own.old.places }
@@ -46,6 +57,6 @@ pub(crate) fn enter_lanes(own: &mut Lanes, coming: &mut [Option<HandOver>], cloc
         → LanesGo (λ p s. departed_lane clock (placed_lane entry p s)) m own.new.places own.new.lanes }
 {
     for n in 0..own.len() {
-        enter_lane(own, n, coming[n].take(), clock);
+        enter_lane(own, n, taken(&mut coming[n]), clock);
     }
 }

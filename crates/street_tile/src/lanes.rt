@@ -25,7 +25,7 @@ fn begins_pair(own: &Lanes, net: &Network, n: usize) -> bool
     ensures { IsTrue result ↔ ((place_at own.now n).lane ≡ 0) × ((link_at net.now (place_at own.now n).link).lanes ≡ 2) }
 {
     let at = own.at(n);
-    at.lane == 0 && net.spec().links.as_slice()[at.link.position()].lanes == 2
+    at.lane == 0 && net.lanes_of(at.link) == 2
 }
 
 /// Lane changes on each link of two lanes.

@@ -55,9 +55,9 @@ loop-n-preserved c = record {
       let before = c.loop-n.invariant.done m entry stand coming free in
       let here = lanes-here (λ q s. departed_lane c.args.clock (placed_lane entry q s)) m c.args.own.now c.loop-n.n c.loop-n.own before stand (within c) (omega arith) in
       let is = is_entry c m entry coming in
-      let goes = c.enter_lane.ensures.stands (lane_at m (place_at c.args.own.now c.loop-n.n)) here (λ some. free c.loop-n.n (place_at c.args.own.now c.loop-n.n) (place-is c.args.own.now c.loop-n.n (within c)) (some-entry (came c) (entry (place_at c.args.own.now c.loop-n.n)) is (rw c.take.ensures.value at some))) in
-      lanes-next (λ q s. departed_lane c.args.clock (placed_lane entry q s)) m c.args.own.now c.loop-n.n c.loop-n.own c.enter_lane.new.own before c.enter_lane.ensures.same c.enter_lane.ensures.others (rw (c.take.ensures.value, is) at goes);
-  coming = written-next (map (λ x. None) c.args.coming.now) c.args.coming.now (length-map c.args.coming.now (λ x. None)) c.loop-n.n c.loop-n.coming c.take.new.self (omega (arith, c.requires.even)) (omega arith) (c.take.ensures.after ∙ sym (get_or-map (λ x. None) c.args.coming.now c.loop-n.n c.index-coming-n.result c.take.new.self (omega (arith, c.requires.even)))) c.loop-n.invariant.coming;
+      let goes = c.enter_lane.ensures.stands (lane_at m (place_at c.args.own.now c.loop-n.n)) here (λ some. free c.loop-n.n (place_at c.args.own.now c.loop-n.n) (place-is c.args.own.now c.loop-n.n (within c)) (some-entry (came c) (entry (place_at c.args.own.now c.loop-n.n)) is (rw c.taken.ensures.taken at some))) in
+      lanes-next (λ q s. departed_lane c.args.clock (placed_lane entry q s)) m c.args.own.now c.loop-n.n c.loop-n.own c.enter_lane.new.own before c.enter_lane.ensures.same c.enter_lane.ensures.others (rw (c.taken.ensures.taken, is) at goes);
+  coming = written-next (map (λ x. None) c.args.coming.now) c.args.coming.now (length-map c.args.coming.now (λ x. None)) c.loop-n.n c.loop-n.coming c.taken.new.coming (omega (arith, c.requires.even)) (omega arith) (c.taken.ensures.nobody ∙ sym (get_or-map (λ x. None) c.args.coming.now c.loop-n.n c.index-coming-n.result c.taken.new.coming (omega (arith, c.requires.even)))) c.loop-n.invariant.coming;
 }
 
 pub returns-clause-none : goal.returns-clause-none

@@ -1,14 +1,13 @@
-use Rattle.std.proofs.Common.{◌≡◌, length, ap, refl, arith}
+use Rattle.std.proofs.Common.{◌≡◌, ap, arith}
 use Rattle.street_base.specs.Network.{Place}
 use Rattle.street_lanes.specs.Lanes.{place_at}
 use Rattle.street_tile.proofs.Going.{there-at, even-of}
 use Rattle.street_tile.proofs.lanes.begins_pair.Goals as goal
 
-pub bounds-as_slice-position : goal.bounds-as_slice-position
-bounds-as_slice-position c =
+pub lanes_of-requires : goal.lanes_of-requires
+lanes_of-requires c =
     let even = even-of c.args.net.now c.args.own.now c.requires.of in
     let there = there-at c.args.net.now c.args.own.now c.requires.of.own c.args.n (omega arith) in
     let inside = there.0 in
     let link : c.at-at.result.link ≡ (place_at c.args.own.now c.args.n).link = ap (λ (p : Place). p.link) c.at-at.ensures in
-    let long : length c.as_slice.result.now ≡ length c.args.net.now.links = rw (c.as_slice.ensures, c.spec.ensures.value) refl in
     omega arith
