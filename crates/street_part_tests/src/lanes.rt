@@ -20,7 +20,7 @@ const LINK: LinkSpec = LinkSpec {
 };
 
 /// A network of that link.
-fn one_link(alloc: Global) -> Result<NetSpec, AllocError>
+pub(crate) fn one_link(alloc: Global) -> Result<NetSpec, AllocError>
     ensures { IfOk result (λ spec. spec.links ≡ LINK ∷ []) }
 {
     let node = NodeSpec {

@@ -1,5 +1,5 @@
 //! Tests of the parts of a step, with values known beforehand: networks, the arena, gaps, draws, motion, buffers, signals,
-//! detectors and the lanes of a tile.
+//! detectors, the lanes of a tile, and a whole tile.
 //!
 //! They stand in a crate of their own since a crate is proved once more for the tests that it has.
 #![tactic(auto)]
@@ -22,5 +22,7 @@ mod motion;
 mod networks;
 #[cfg(test)]
 mod signals;
+#[cfg(test)]
+mod tiles;
 #[cfg(test)]
 mod yards;
