@@ -92,4 +92,11 @@ impl LinkIx {
     {
         usize::from(self.link)
     }
+
+    /// The position, in the 16 bits that it takes.
+    pub fn as_u16(self) -> u16
+        ensures { result ≡ self }
+    {
+        self.link
+    }
 }

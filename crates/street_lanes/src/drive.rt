@@ -7,6 +7,7 @@ ghost use Rattle.std.specs.Option.{option_copied};
 ghost use Rattle.street_base.specs.declared.car.Car.{Car as CarOf};
 ghost use Rattle.street_base.specs.Limits.{most_residence};
 ghost use Rattle.street_base.specs.Network.{end_node};
+ghost use Rattle.street_base.specs.Signal.{is_green};
 ghost use Rattle.street_change.specs.Sight.{odds_of};
 ghost use Rattle.street_gap.specs.Closed.{IsWithin};
 ghost use Rattle.street_net.specs.Tables.{place_of};
@@ -19,7 +20,7 @@ ghost use Rattle.street_lanes.specs.Driving.{opens_to, cells_on, IsToldExit, Set
 
 use crate::lanes::Lanes;
 use crate::lists::{buffer_list, cells_list};
-use street_base::{CarNo, CellNo, LinkIx, NodeSpec, Step};
+use street_base::{CarNo, CellNo, LinkIx, NodeSpec, Step, Turn};
 use street_gap::Closures;
 use street_net::{LaneId, Network};
 use street_node::SignalPlan;
@@ -51,7 +52,8 @@ fn end_node(net: &Network, link: LinkIx) -> NodeSpec
 }
 
 /// Whether a lane's exit is open to its front vehicle, which goes on to this link: on its last link, or with a turn that is
-/// green and room in the buffer of the lane, in which there are so many.
+/// green and room in the buffer of the lane, in which there are so many. The signals are asked before the lane's turns, as
+/// most who come to an end and are not let go have red.
 fn exit_is_open(leg: &Leg<'_>, buffered: usize, next: Option<LinkIx>) -> bool
     requires { leg.now.at.link < length leg.now.net.now.links }
     ensures { result ≡ opens_to leg.now.net.now (option_copied leg.now.plan) leg.now.clock (place_of leg.now.at) buffered next }
@@ -63,13 +65,24 @@ fn exit_is_open(leg: &Leg<'_>, buffered: usize, next: Option<LinkIx>) -> bool
     if buffered as u64 >= end.capacity {
         return false;
     }
-    let Some(turn) = leg.net.turn(leg.at.link, leg.at.lane, next) else {
-        return false;
+    is_shown_green(leg, next) && leg.net.serves(leg.at.link, leg.at.lane, next)
+}
+
+/// Whether the signals show green to those who go on to a link; without a plan they always do.
+fn is_shown_green(leg: &Leg<'_>, next: LinkIx) -> bool
+    ensures { result ≡ is_green (option_copied leg.now.plan) (place_of leg.now.at) next leg.now.clock }
+{
+    let Some(plan) = leg.plan else {
+        return true;
     };
-    match leg.plan {
-        Some(plan) => plan.green(&turn, leg.clock),
-        None => true,
-    }
+    // Signals do not ask to which lane of the next link a turn leads.
+    let turn = Turn {
+        link: leg.at.link,
+        lane: leg.at.lane,
+        next,
+        next_lane: 0,
+    };
+    plan.green(&turn, leg.clock)
 }
 
 /// What a motion is told of the lane's exit: whether it is open to the front vehicle. To one that is too far from the lane's

@@ -212,7 +212,7 @@ impl Lanes {
         let Some(first) = self.yard.list_front(waiting_list(lane)) else {
             return;
         };
-        if self.yard.car(first).step > clock {
+        if self.yard.step(first) > clock {
             return;
         }
         let cells = cells_list(lane);

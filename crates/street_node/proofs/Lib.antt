@@ -1,4 +1,5 @@
 pub mod Finding
+pub mod Ranking
 pub mod Showing
 pub mod Judging
 pub mod Building

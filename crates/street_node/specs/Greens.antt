@@ -1,6 +1,6 @@
 -- How a signal plan is kept, and what it shows.
 -- Source: this profile.
-use Rattle.std.specs.Prelude.{◌≡◌, ℕ, ◌-◌, ◌<◌, nat_lt, List, [], ◌∷◌, map, Bool, false, Option, Some, None, slice_index_or, if◌then◌else◌}
+use Rattle.std.specs.Prelude.{◌≡◌, ℕ, ◌+◌, ◌*◌, ◌-◌, ◌<◌, nat_lt, List, [], ◌∷◌, map, Bool, false, Option, Some, None, slice_index_or, if◌then◌else◌}
 use Rattle.std.specs.declared.cmp.Ordering.{Ordering}
 use Rattle.std.specs.Ordering.{nat_cmp, is_lt, then_cmp, on}
 use Rattle.std.specs.List.Sorted.{IsPermutation, IsSortedBy}
@@ -14,6 +14,10 @@ use Rattle.street_node.specs.declared.faults.SignalFault.TheVariants.{Bad, Starv
 -- turns by their links, then by their lanes, then by their next links
 abbrev pub turn_cmp : GreenTurn → GreenTurn → Ordering
 turn_cmp = then_cmp (on (λ t. t.link) nat_cmp) (then_cmp (on (λ t. t.lane) nat_cmp) (on (λ t. t.next) nat_cmp))
+
+-- a turn as one number; turns with lanes of 8 bits and links of 16 are in the order of these
+abbrev pub turn_rank : GreenTurn → ℕ
+turn_rank t = t.link * 16777216 + t.lane * 65536 + t.next
 
 -- the turns stand in this order
 abbrev pub IsInOrder : List GreenTurn → Type 0

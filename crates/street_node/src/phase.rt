@@ -1,7 +1,7 @@
 //! A phase of a signal plan, its green turns in order.
 //!
 //! Source: this profile.
-ghost use Rattle.std.specs.Prelude.{◌≡◌, map};
+ghost use Rattle.std.specs.Prelude.{◌≡◌, ◌<◌, map};
 ghost use Rattle.std.specs.List.Sorted.{IsPermutation};
 ghost use Rattle.street_base.specs.Network.{Place};
 ghost use Rattle.street_base.specs.Signal.{lists};
@@ -38,19 +38,25 @@ impl Model for KeptPhase {
     ghost invariant = { λ p. IsInOrder p.greens.items };
 }
 
-/// The order of turns: by the link, then by the lane, then by the next link. Mostly the links differ, and then nothing else
-/// is looked at.
+impl GreenTurn {
+    ghost use Rattle.street_node.specs.Greens.{turn_rank};
+
+    /// The turn as one number, so that a search compares once.
+    fn rank(&self) -> u64
+        ensures rank { result ≡ turn_rank self.now }
+        ensures small { (self.now.lane < 256) × (self.now.next < 65536) }
+    {
+        let link = u64::from(self.link.as_u16());
+        let lane = u64::from(self.lane);
+        link * 16_777_216 + lane * 65_536 + u64::from(self.next.as_u16())
+    }
+}
+
+/// The order of turns: by the link, then by the lane, then by the next link.
 fn in_order(turn: &GreenTurn, other: &GreenTurn) -> Ordering
     ensures { result ≡ turn_cmp turn.now other.now }
 {
-    match turn.link.position().cmp(&other.link.position()) {
-        Ordering::Equal => {}
-        by_link => return by_link,
-    }
-    match turn.lane.cmp(&other.lane) {
-        Ordering::Equal => turn.next.position().cmp(&other.next.position()),
-        by_lane => by_lane,
-    }
+    turn.rank().cmp(&other.rank())
 }
 
 impl KeptPhase {
