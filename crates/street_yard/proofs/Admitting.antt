@@ -7,7 +7,7 @@ use Rattle.std.proofs.lemmas.List.{append-nil, append_assoc, length-append, leng
 use Rattle.street_base.specs.declared.car.Car.{Car}
 use Rattle.street_yard.specs.declared.hot.Hot.{Hot}
 use Rattle.street_yard.specs.declared.hot.Cold.{Cold}
-use Rattle.street_yard.specs.declared.yard.Ends.{Ends}
+use Rattle.street_yard.specs.declared.ends.Ends.{Ends}
 use Rattle.street_yard.specs.declared.yard.Place.{Place}
 use Rattle.street_yard.specs.declared.yard.Yard.TheInside.{Inside}
 use Rattle.street_yard.specs.Yard.{Kept, Yard, entry_at, place_of, Has, Away, IsApart, IsLoose, Updates}
@@ -83,17 +83,17 @@ module _ (y : Inside) (v : Yard) (key : ℕ) (s : IsSound y) (is_v : seen y ≡ 
     kept_stays : (j : ℕ) → j ≢ key → kept_at y.hots taken_slots j ≡ kept_at y.hots y.places.slots j
     kept_stays j ne = ap (kept_with (core (hot_at y.hots j))) (taken_other j ne)
 
-    taken_stands : StandsFor (links_at y.hots taken_slots) y.ends.items (lists_of y.hots y.places.slots y.ends.items)
+    taken_stands : StandsFor (links_at y.hots taken_slots) y.ends (lists_of y.hots y.places.slots y.ends)
     taken_stands =
-        StandsFor-loose (links_at y.hots y.places.slots) (links_at y.hots taken_slots) y.ends.items _ key s.stands
+        StandsFor-loose (links_at y.hots y.places.slots) (links_at y.hots taken_slots) y.ends _ key s.stands
         (ap list_of (links_of-seen y key taken_key.0 taken_key.2) ∙ taken_key.4)
         (ap (λ o. list_of (option_map (λ (p : Place). linked (hot_at y.hots key).ahead (hot_at y.hots key).behind p.list) o)) taken_here)
         (λ k ne. ap (option_map (λ (p : Place). linked (hot_at y.hots k).ahead (hot_at y.hots k).behind p.list)) (taken_other k ne))
 
-    taken_lists : lists_of y.hots taken_slots y.ends.items ≡ lists_of y.hots y.places.slots y.ends.items
-    taken_lists = lists_of-stands y.hots taken_slots taken_within y.ends.items _ taken_stands
+    taken_lists : lists_of y.hots taken_slots y.ends ≡ lists_of y.hots y.places.slots y.ends
+    taken_lists = lists_of-stands y.hots taken_slots taken_within y.ends _ taken_stands
 
-    pub taken-sound : IsLaidOut y.hots taken_slots spare' y.reached capacity' y.ends.items
+    pub taken-sound : IsLaidOut y.hots taken_slots spare' y.reached capacity' y.ends
     taken-sound = record {
       stands = rw taken_lists taken_stands;
       within = taken_within;
@@ -115,9 +115,9 @@ module _ (y : Inside) (v : Yard) (key : ℕ) (s : IsSound y) (is_v : seen y ≡ 
       holds_all = holds;
     }
 
-    pub taken-seen : ◌≡◌ {A = Yard} (record { lists = lists_of y.hots taken_slots y.ends.items; kept = kept_in y.hots taken_slots y.reached; room = length spare' }) (record v { kept = set v.kept key None; room = v.room + 1 })
+    pub taken-seen : ◌≡◌ {A = Yard} (record { lists = lists_of y.hots taken_slots y.ends; kept = kept_in y.hots taken_slots y.reached; room = length spare' }) (record v { kept = set v.kept key None; room = v.room + 1 })
     taken-seen =
-        subst (λ w. ◌≡◌ {A = Yard} (record { lists = lists_of y.hots taken_slots y.ends.items; kept = kept_in y.hots taken_slots y.reached; room = length spare' }) (record w { kept = set w.kept key None; room = w.room + 1 })) is_v
+        subst (λ w. ◌≡◌ {A = Yard} (record { lists = lists_of y.hots taken_slots y.ends; kept = kept_in y.hots taken_slots y.reached; room = length spare' }) (record w { kept = set w.kept key None; room = w.room + 1 })) is_v
         (yard-same _ _ _ _ _ _ taken_lists (kept_in-set y.hots y.hots y.places.slots taken_slots y.reached key None kept_stays (λ _. kept_gone)) (ap length spare_is ∙ length-append y.spare.items (key ∷ [])))
 
 -- the rest of a car
@@ -181,20 +181,20 @@ module _ (y : Inside) (v : Yard) (key : ℕ) (s : IsSound y) (is_v : seen y ≡ 
       | inr ne ↦ (let b = s.below k (subst IsSome (kept_rest k ne) h) in omega arith)
     ]
 
-    new_stands : StandsFor (links_at new_hots new_slots) y.ends.items (lists_of y.hots y.places.slots y.ends.items)
+    new_stands : StandsFor (links_at new_hots new_slots) y.ends (lists_of y.hots y.places.slots y.ends)
     new_stands =
-        StandsFor-loose (links_at y.hots y.places.slots) (links_at new_hots new_slots) y.ends.items _ key s.stands
+        StandsFor-loose (links_at y.hots y.places.slots) (links_at new_hots new_slots) y.ends _ key s.stands
         (ap list_of (links_of-seen y key vacant spare_place))
         (ap (λ o. list_of (option_map (λ (p : Place). linked (hot_at new_hots key).ahead (hot_at new_hots key).behind p.list) o)) new_here)
         (λ k ne. ap (λ (h : Hot). option_map (λ (p : Place). linked h.ahead h.behind p.list) (place_in new_slots k)) (hot-other y.hots key new_hot k ne) ∙ ap (option_map (λ (p : Place). linked (hot_at y.hots k).ahead (hot_at y.hots k).behind p.list)) (new_other k ne))
 
-    lists_stay : lists_of new_hots new_slots y.ends.items ≡ lists_of y.hots y.places.slots y.ends.items
-    lists_stay = lists_of-stands new_hots new_slots new_within y.ends.items _ new_stands
+    lists_stay : lists_of new_hots new_slots y.ends ≡ lists_of y.hots y.places.slots y.ends
+    lists_stay = lists_of-stands new_hots new_slots new_within y.ends _ new_stands
 
-    set_lists : lists_of new_hots new_slots y.ends.items ≡ v.lists
+    set_lists : lists_of new_hots new_slots y.ends ≡ v.lists
     set_lists = lists_stay ∙ ap (λ (w : Yard). w.lists) is_v
 
-    set_sound : IsLaidOut new_hots new_slots rest reached' capacity' y.ends.items
+    set_sound : IsLaidOut new_hots new_slots rest reached' capacity' y.ends
     set_sound = record {
       stands = rw lists_stay new_stands;
       within = new_within;
@@ -210,7 +210,7 @@ module _ (y : Inside) (v : Yard) (key : ℕ) (s : IsSound y) (is_v : seen y ≡ 
       holds_all = omega (arith, new_length);
     }
 
-    set_updates : (room : ℕ) → Updates v (record { lists = lists_of new_hots new_slots y.ends.items; kept = kept_in new_hots new_slots reached'; room = room }) key (Some (record { car = car; mark = false; list = None }))
+    set_updates : (room : ℕ) → Updates v (record { lists = lists_of new_hots new_slots y.ends; kept = kept_in new_hots new_slots reached'; room = room }) key (Some (record { car = car; mark = false; list = None }))
     set_updates room = record {
       changed = kept-read new_hots new_slots reached' key (new_below key) ∙ kept_new;
       others = λ k ne. kept-read new_hots new_slots reached' k (new_below k) ∙ kept_rest k ne ∙ sym (entry_at-seen y s k) ∙ ap (λ w. entry_at w k) is_v;
@@ -218,14 +218,14 @@ module _ (y : Inside) (v : Yard) (key : ℕ) (s : IsSound y) (is_v : seen y ≡ 
 
     -- the same of a list that is that one
     module _ (now : List Hot) (is_now : now ≡ new_hots) where
-      pub admitted-lists : lists_of now new_slots y.ends.items ≡ v.lists
-      admitted-lists = subst (λ hots. lists_of hots new_slots y.ends.items ≡ v.lists) (sym is_now) set_lists
+      pub admitted-lists : lists_of now new_slots y.ends ≡ v.lists
+      admitted-lists = subst (λ hots. lists_of hots new_slots y.ends ≡ v.lists) (sym is_now) set_lists
 
-      pub admitted-sound : IsLaidOut now new_slots rest reached' capacity' y.ends.items
-      admitted-sound = subst (λ hots. IsLaidOut hots new_slots rest reached' capacity' y.ends.items) (sym is_now) set_sound
+      pub admitted-sound : IsLaidOut now new_slots rest reached' capacity' y.ends
+      admitted-sound = subst (λ hots. IsLaidOut hots new_slots rest reached' capacity' y.ends) (sym is_now) set_sound
 
-      pub admitted-updates : (room : ℕ) → Updates v (record { lists = lists_of now new_slots y.ends.items; kept = kept_in now new_slots reached'; room = room }) key (Some (record { car = car; mark = false; list = None }))
-      admitted-updates room = subst (λ hots. Updates v (record { lists = lists_of hots new_slots y.ends.items; kept = kept_in hots new_slots reached'; room = room }) key (Some (record { car = car; mark = false; list = None }))) (sym is_now) (set_updates room)
+      pub admitted-updates : (room : ℕ) → Updates v (record { lists = lists_of now new_slots y.ends; kept = kept_in now new_slots reached'; room = room }) key (Some (record { car = car; mark = false; list = None }))
+      admitted-updates room = subst (λ hots. Updates v (record { lists = lists_of hots new_slots y.ends; kept = kept_in hots new_slots reached'; room = room }) key (Some (record { car = car; mark = false; list = None }))) (sym is_now) (set_updates room)
 
 not_place : (o : Option Place) → (IsSome o → ⊥) → o ≡ None
 not_place None h = refl
@@ -257,15 +257,15 @@ module _ (y : Inside) (v : Yard) (s : IsSound y) (is_v : seen y ≡ v) (index : 
     | inr ne ↦ ap (λ (h : Hot). kept_with (core h) (place_in later j)) (hot_stays j ne) ∙ ap (kept_with (core (hot_at y.hots j))) (others j ne)
   ]
 
-  more_stands : StandsFor (links_at more later) y.ends.items (lists_of y.hots y.places.slots y.ends.items)
+  more_stands : StandsFor (links_at more later) y.ends (lists_of y.hots y.places.slots y.ends)
   more_stands =
-      StandsFor-loose (links_at y.hots y.places.slots) (links_at more later) y.ends.items _ index s.stands
+      StandsFor-loose (links_at y.hots y.places.slots) (links_at more later) y.ends _ index s.stands
       (ap (λ o. list_of (option_map (λ (p : Place). linked (hot_at y.hots index).ahead (hot_at y.hots index).behind p.list) o)) was_none)
       (ap (λ o. list_of (option_map (λ (p : Place). linked (hot_at more index).ahead (hot_at more index).behind p.list) o)) here)
       (λ k ne. ap (λ (h : Hot). option_map (λ (p : Place). linked h.ahead h.behind p.list) (place_in later k)) (hot_stays k ne) ∙ ap (option_map (λ (p : Place). linked (hot_at y.hots k).ahead (hot_at y.hots k).behind p.list)) (others k ne))
 
-  more_lists : lists_of more later y.ends.items ≡ lists_of y.hots y.places.slots y.ends.items
-  more_lists = lists_of-stands more later more_within y.ends.items _ more_stands
+  more_lists : lists_of more later y.ends ≡ lists_of y.hots y.places.slots y.ends
+  more_lists = lists_of-stands more later more_within y.ends _ more_stands
 
   index_away : Away index y.spare.items
   index_away = elim (has_or_away index y.spare.items) as (λ _. Away index y.spare.items) [
@@ -273,7 +273,7 @@ module _ (y : Inside) (v : Yard) (s : IsSound y) (is_v : seen y ≡ v) (index : 
     | inr a ↦ a
   ]
 
-  pub grown-sound : IsLaidOut more later spare' y.reached capacity' y.ends.items
+  pub grown-sound : IsLaidOut more later spare' y.reached capacity' y.ends
   grown-sound = record {
     stands = rw more_lists more_stands;
     within = more_within;
@@ -292,9 +292,9 @@ module _ (y : Inside) (v : Yard) (s : IsSound y) (is_v : seen y ≡ v) (index : 
     holds_all = omega (arith, more_length);
   }
 
-  pub grown-seen : ◌≡◌ {A = Yard} (record { lists = lists_of more later y.ends.items; kept = kept_in more later y.reached; room = length spare' }) (record v { room = length spare' })
+  pub grown-seen : ◌≡◌ {A = Yard} (record { lists = lists_of more later y.ends; kept = kept_in more later y.reached; room = length spare' }) (record v { room = length spare' })
   grown-seen =
-      subst (λ w. ◌≡◌ {A = Yard} (record { lists = lists_of more later y.ends.items; kept = kept_in more later y.reached; room = length spare' }) (record w { room = length spare' })) is_v
+      subst (λ w. ◌≡◌ {A = Yard} (record { lists = lists_of more later y.ends; kept = kept_in more later y.reached; room = length spare' }) (record w { room = length spare' })) is_v
       (yard-same _ _ _ _ _ _ more_lists (kept_in-same y.hots more y.places.slots later y.reached kept_all) refl)
 
 -- a yard without cars

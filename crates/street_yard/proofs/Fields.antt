@@ -7,7 +7,7 @@ use Rattle.street_base.specs.declared.car.Car.{Car}
 use Rattle.street_base.specs.Vehicle.{vehicle_of, next_link}
 use Rattle.street_yard.specs.declared.hot.Hot.{Hot}
 use Rattle.street_yard.specs.declared.hot.Cold.{Cold}
-use Rattle.street_yard.specs.declared.yard.Ends.{Ends}
+use Rattle.street_yard.specs.declared.ends.Ends.{Ends}
 use Rattle.street_yard.specs.declared.yard.Place.{Place}
 use Rattle.street_yard.specs.declared.yard.Yard.TheInside.{Inside}
 use Rattle.street_yard.specs.Yard.{Kept, Yard, list_at, entry_at, car_of, mark_of, place_of, without, put_behind, first_or, last_or, IsLoose, IsOnList, IsAhead, IsBehind, IsWhole}
@@ -41,16 +41,16 @@ names_within at ends lists k n y on = let lt = listed_within lists n k (y.placed
 pub IsWhole-seen : (y : Inside) → IsSound y → IsWhole (seen y)
 IsWhole-seen y s =
     let at = links_at y.hots y.places.slots in
-    let lists = lists_of y.hots y.places.slots y.ends.items in
+    let lists = lists_of y.hots y.places.slots y.ends in
     record {
       listed = λ k n h. s.stands.placed k n (sym (place_of-seen y s k) ∙ h);
       names = λ k n h.
           let lt = listed_within lists n k h in
-          let lt' : n < length y.ends.items = omega (arith, s.stands.count) in
+          let lt' : n < length y.ends = omega (arith, s.stands.count) in
           place_of-seen y s k ∙ IsThread-has at n None _ None k h (s.stands.each n lt').thread;
       apart = λ n.
           elim (cases_lt n (length lists)) [
-            | inl lt ↦ let lt' : n < length y.ends.items = omega (arith, s.stands.count) in (s.stands.each n lt').distinct
+            | inl lt ↦ let lt' : n < length y.ends = omega (arith, s.stands.count) in (s.stands.each n lt').distinct
             | inr ge ↦ rw (get_or_past lists n [] ge) tt
           ];
     }
@@ -178,9 +178,9 @@ module _ (at : LinksAt) (ends : List Ends) (lists : List (List ℕ)) (n : ℕ) (
   pub on_back : IsOn at n (get_or ends n no_ends).back
   on_back = let w = y.each n within in rw w.back (IsOn-last at n _ None w.thread)
 
-pub seen_within : (y : Inside) (v : Yard) (n : ℕ) → seen y ≡ v → n < length v.lists → n < length y.ends.items
+pub seen_within : (y : Inside) (v : Yard) (n : ℕ) → seen y ≡ v → n < length v.lists → n < length y.ends
 seen_within y v n is lt =
-    let e : length v.lists ≡ length y.ends.items = ap (λ (w : Yard). length w.lists) (sym is) ∙ length-map y.ends.items _ in
+    let e : length v.lists ≡ length y.ends = ap (λ (w : Yard). length w.lists) (sym is) ∙ length-map y.ends _ in
     omega (arith, lt, e)
 
 pub seen_on : (y : Inside) (v : Yard) (n : ℕ) (a : Option ℕ) → IsSound y → seen y ≡ v → IsOnList v n a → IsOn (links_at y.hots y.places.slots) n a
@@ -223,9 +223,9 @@ links_of-seen y k p is = links_of-place y.hots y.places.slots k p is
 
 links_between : (y : Inside) (key : ℕ) (l : Links) (n : ℕ) (us vs : List ℕ) → IsSound y → links_at y.hots y.places.slots key ≡ Some l → list_at (seen y) n ≡ us ++ key ∷ vs → l ≡ linked (last_or us None) (first_or vs None) (Some n)
 links_between y key l n us vs s is at =
-    let lt = listed_within (lists_of y.hots y.places.slots y.ends.items) n key (us, vs, at) in
-    let lt' : n < length y.ends.items = omega (arith, s.stands.count) in
-    let w : IsList (links_at y.hots y.places.slots) n (us ++ key ∷ vs) (get_or y.ends.items n no_ends) = rw at at (s.stands.each n lt') in
+    let lt = listed_within (lists_of y.hots y.places.slots y.ends) n key (us, vs, at) in
+    let lt' : n < length y.ends = omega (arith, s.stands.count) in
+    let w : IsList (links_at y.hots y.places.slots) n (us ++ key ∷ vs) (get_or y.ends n no_ends) = rw at at (s.stands.each n lt') in
     let e = IsThread-at (links_at y.hots y.places.slots) n None us key vs None w.thread in
     cc
 

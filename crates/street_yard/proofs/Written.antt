@@ -7,7 +7,7 @@ use Rattle.std.proofs.lemmas.List.{length-set}
 use Rattle.street_base.specs.declared.car.Car.{Car}
 use Rattle.street_yard.specs.declared.hot.Hot.{Hot}
 use Rattle.street_yard.specs.declared.hot.Cold.{Cold}
-use Rattle.street_yard.specs.declared.yard.Ends.{Ends}
+use Rattle.street_yard.specs.declared.ends.Ends.{Ends}
 use Rattle.street_yard.specs.declared.yard.Place.{Place}
 use Rattle.street_yard.specs.declared.yard.Yard.TheInside.{Inside}
 use Rattle.street_yard.specs.Yard.{Kept, Yard, entry_at, kept_set, car_set, place_set, Has}
@@ -135,8 +135,8 @@ module _ (y : Inside) (v : Yard) (key : ℕ) (place new : Place) (g : Cold → C
   links_same : links_at now slots' ≡ links_at y.hots y.places.slots
   links_same = λ i j. links_each j i
 
-  stands : StandsFor (links_at now slots') y.ends.items (lists_of y.hots y.places.slots y.ends.items)
-  stands = subst (λ at. StandsFor at y.ends.items (lists_of y.hots y.places.slots y.ends.items)) (sym links_same) s.stands
+  stands : StandsFor (links_at now slots') y.ends (lists_of y.hots y.places.slots y.ends)
+  stands = subst (λ at. StandsFor at y.ends (lists_of y.hots y.places.slots y.ends)) (sym links_same) s.stands
 
   new_fit : IsFit (hot_at now key).next new.list new.car
   new_fit = fit-filled (hot_at now key).next new (g car_is.0) new_car (next car_is.0 (next-is y v key s is_v place is car_is.0 car_is.1) car_is.1)
@@ -149,15 +149,15 @@ module _ (y : Inside) (v : Yard) (key : ℕ) (place new : Place) (g : Cold → C
       ∙ ap (λ (d : Car). Some (record { car = d; mark = (hot_at y.hots key).mark; list = place.list })) (agree (core (hot_at y.hots key)) car_is.0)
       ∙ sym (ap (option_map change) (kept-filled (core (hot_at y.hots key)) place car_is.0 car_is.1))
 
-  pub driven : IsLaidOut now slots' y.spare.items y.reached (vec_capacity y.spare) y.ends.items
-  driven = written y.hots now y.places.slots slots' y.spare.items y.reached (vec_capacity y.spare) y.ends.items y.ends.items _ key place new car_is.0 change s is car_is.1 here others_place len (λ j ne. ap inner (others j ne)) new_fit keeps refl stands
+  pub driven : IsLaidOut now slots' y.spare.items y.reached (vec_capacity y.spare) y.ends
+  driven = written y.hots now y.places.slots slots' y.spare.items y.reached (vec_capacity y.spare) y.ends y.ends _ key place new car_is.0 change s is car_is.1 here others_place len (λ j ne. ap inner (others j ne)) new_fit keeps refl stands
 
-  pub driven-seen : ◌≡◌ {A = Yard} (record { lists = lists_of now slots' y.ends.items; kept = kept_in now slots' y.reached; room = length y.spare.items }) (record v { kept = car_set v.kept key f })
+  pub driven-seen : ◌≡◌ {A = Yard} (record { lists = lists_of now slots' y.ends; kept = kept_in now slots' y.reached; room = length y.spare.items }) (record v { kept = car_set v.kept key f })
   driven-seen =
-      subst (λ w. ◌≡◌ {A = Yard} (record { lists = lists_of now slots' y.ends.items; kept = kept_in now slots' y.reached; room = length y.spare.items }) (record w { kept = car_set w.kept key f })) is_v
+      subst (λ w. ◌≡◌ {A = Yard} (record { lists = lists_of now slots' y.ends; kept = kept_in now slots' y.reached; room = length y.spare.items }) (record w { kept = car_set w.kept key f })) is_v
       (yard-same _ _ _ _ _ _
-      (written-lists y.hots now y.places.slots slots' y.spare.items y.reached (vec_capacity y.spare) y.ends.items y.ends.items _ key place new car_is.0 change s is car_is.1 here others_place len (λ j ne. ap inner (others j ne)) new_fit keeps refl stands)
-      (written-kept y.hots now y.places.slots slots' y.spare.items y.reached (vec_capacity y.spare) y.ends.items y.ends.items _ key place new car_is.0 change s is car_is.1 here others_place len (λ j ne. ap inner (others j ne)) new_fit keeps refl stands)
+      (written-lists y.hots now y.places.slots slots' y.spare.items y.reached (vec_capacity y.spare) y.ends y.ends _ key place new car_is.0 change s is car_is.1 here others_place len (λ j ne. ap inner (others j ne)) new_fit keeps refl stands)
+      (written-kept y.hots now y.places.slots slots' y.spare.items y.reached (vec_capacity y.spare) y.ends y.ends _ key place new car_is.0 change s is car_is.1 here others_place len (λ j ne. ap inner (others j ne)) new_fit keeps refl stands)
       refl)
 
 -- the same, where the next link is written
@@ -175,20 +175,20 @@ module _ (y : Inside) (v : Yard) (key : ℕ) (place new : Place) (g : Cold → C
   at_next : (c : Cold) → (hot_at y.hots key).next ≡ link_after c → place.car ≡ Some c → (hot_at (set y.hots key with_next) key).next ≡ link_after (g c)
   at_next c was has = ap (λ (h : Hot). h.next) at_now ∙ next_is ∙ ap (λ (p : Place). option_and_then link_after p.car) new_is ∙ ap (λ o. option_and_then link_after (option_map g o)) has
 
-  next_sound : IsLaidOut (set y.hots key with_next) (set y.places.slots key (Some new)) y.spare.items y.reached (vec_capacity y.spare) y.ends.items
+  next_sound : IsLaidOut (set y.hots key with_next) (set y.places.slots key (Some new)) y.spare.items y.reached (vec_capacity y.spare) y.ends
   next_sound = driven y v key place new g f s is_v named is new_is (set y.hots key with_next) (length-set y.hots key with_next) (λ j ne. hot-other y.hots key with_next j ne) (ap (λ (h : Hot). h.ahead) at_now) (ap (λ (h : Hot). h.behind) at_now) (ap core at_now) at_next agree
 
-  next_seen : ◌≡◌ {A = Yard} (record { lists = lists_of (set y.hots key with_next) (set y.places.slots key (Some new)) y.ends.items; kept = kept_in (set y.hots key with_next) (set y.places.slots key (Some new)) y.reached; room = length y.spare.items }) (record v { kept = car_set v.kept key f })
+  next_seen : ◌≡◌ {A = Yard} (record { lists = lists_of (set y.hots key with_next) (set y.places.slots key (Some new)) y.ends; kept = kept_in (set y.hots key with_next) (set y.places.slots key (Some new)) y.reached; room = length y.spare.items }) (record v { kept = car_set v.kept key f })
   next_seen = driven-seen y v key place new g f s is_v named is new_is (set y.hots key with_next) (length-set y.hots key with_next) (λ j ne. hot-other y.hots key with_next j ne) (ap (λ (h : Hot). h.ahead) at_now) (ap (λ (h : Hot). h.behind) at_now) (ap core at_now) at_next agree
 
-  pub moved_on : (now : List Hot) → now ≡ set y.hots key with_next → IsLaidOut now (set y.places.slots key (Some new)) y.spare.items y.reached (vec_capacity y.spare) y.ends.items
-  moved_on now is_now = subst (λ hots. IsLaidOut hots (set y.places.slots key (Some new)) y.spare.items y.reached (vec_capacity y.spare) y.ends.items) (sym is_now) next_sound
+  pub moved_on : (now : List Hot) → now ≡ set y.hots key with_next → IsLaidOut now (set y.places.slots key (Some new)) y.spare.items y.reached (vec_capacity y.spare) y.ends
+  moved_on now is_now = subst (λ hots. IsLaidOut hots (set y.places.slots key (Some new)) y.spare.items y.reached (vec_capacity y.spare) y.ends) (sym is_now) next_sound
 
-  pub moved_on-seen : (now : List Hot) → now ≡ set y.hots key with_next → ◌≡◌ {A = Yard} (record { lists = lists_of now (set y.places.slots key (Some new)) y.ends.items; kept = kept_in now (set y.places.slots key (Some new)) y.reached; room = length y.spare.items }) (record v { kept = car_set v.kept key f })
-  moved_on-seen now is_now = subst (λ hots. ◌≡◌ {A = Yard} (record { lists = lists_of hots (set y.places.slots key (Some new)) y.ends.items; kept = kept_in hots (set y.places.slots key (Some new)) y.reached; room = length y.spare.items }) (record v { kept = car_set v.kept key f })) (sym is_now) next_seen
+  pub moved_on-seen : (now : List Hot) → now ≡ set y.hots key with_next → ◌≡◌ {A = Yard} (record { lists = lists_of now (set y.places.slots key (Some new)) y.ends; kept = kept_in now (set y.places.slots key (Some new)) y.reached; room = length y.spare.items }) (record v { kept = car_set v.kept key f })
+  moved_on-seen now is_now = subst (λ hots. ◌≡◌ {A = Yard} (record { lists = lists_of hots (set y.places.slots key (Some new)) y.ends; kept = kept_in hots (set y.places.slots key (Some new)) y.reached; room = length y.spare.items }) (record v { kept = car_set v.kept key f })) (sym is_now) next_seen
 
 -- a change of one key's list and of the neighbours
-module _ (y : Inside) (v : Yard) (key : ℕ) (place new : Place) (car : Cold) (n : Option ℕ) (s : IsSound y) (is_v : seen y ≡ v) (is : place_in y.places.slots key ≡ Some place) (filled : place.car ≡ Some car) (new_is : new ≡ record place { list = n }) (now : List Hot) (len : length now ≡ length y.hots) (inners : (j : ℕ) → inner (hot_at now j) ≡ inner (hot_at y.hots j)) (ends' : List Ends) (len_ends : length ends' ≡ length y.ends.items)
+module _ (y : Inside) (v : Yard) (key : ℕ) (place new : Place) (car : Cold) (n : Option ℕ) (s : IsSound y) (is_v : seen y ≡ v) (is : place_in y.places.slots key ≡ Some place) (filled : place.car ≡ Some car) (new_is : new ≡ record place { list = n }) (now : List Hot) (len : length now ≡ length y.hots) (inners : (j : ℕ) → inner (hot_at now j) ≡ inner (hot_at y.hots j)) (ends' : List Ends) (len_ends : length ends' ≡ length y.ends)
     (lists_v : Yard → List (List ℕ)) (stands : StandsFor (links_at now (set y.places.slots key (Some new))) ends' (lists_v (seen y))) where
   abbrev pub moved : Kept → Kept
   moved e = record e { list = n }
@@ -207,14 +207,14 @@ module _ (y : Inside) (v : Yard) (key : ℕ) (place new : Place) (car : Cold) (n
       ∙ sym (ap (option_map moved) (kept-filled (core (hot_at y.hots key)) place car filled))
 
   pub relinked : IsLaidOut now (set y.places.slots key (Some new)) y.spare.items y.reached (vec_capacity y.spare) ends'
-  relinked = written y.hots now y.places.slots _ y.spare.items y.reached (vec_capacity y.spare) y.ends.items ends' _ key place new car moved s is filled (place-same y.places.slots key place new is) (λ j ne. place-other y.places.slots key (Some new) j ne) len (λ j ne. inners j) move_fit move_keeps len_ends stands
+  relinked = written y.hots now y.places.slots _ y.spare.items y.reached (vec_capacity y.spare) y.ends ends' _ key place new car moved s is filled (place-same y.places.slots key place new is) (λ j ne. place-other y.places.slots key (Some new) j ne) len (λ j ne. inners j) move_fit move_keeps len_ends stands
 
   pub relinked-seen : ◌≡◌ {A = Yard} (record { lists = lists_of now (set y.places.slots key (Some new)) ends'; kept = kept_in now (set y.places.slots key (Some new)) y.reached; room = length y.spare.items }) (record v { lists = lists_v v; kept = place_set v.kept key n })
   relinked-seen =
       subst (λ w. ◌≡◌ {A = Yard} (record { lists = lists_of now (set y.places.slots key (Some new)) ends'; kept = kept_in now (set y.places.slots key (Some new)) y.reached; room = length y.spare.items }) (record w { lists = lists_v w; kept = place_set w.kept key n })) is_v
       (yard-same _ _ _ _ _ _
-      (written-lists y.hots now y.places.slots _ y.spare.items y.reached (vec_capacity y.spare) y.ends.items ends' _ key place new car moved s is filled (place-same y.places.slots key place new is) (λ j ne. place-other y.places.slots key (Some new) j ne) len (λ j ne. inners j) move_fit move_keeps len_ends stands)
-      (written-kept y.hots now y.places.slots _ y.spare.items y.reached (vec_capacity y.spare) y.ends.items ends' _ key place new car moved s is filled (place-same y.places.slots key place new is) (λ j ne. place-other y.places.slots key (Some new) j ne) len (λ j ne. inners j) move_fit move_keeps len_ends stands)
+      (written-lists y.hots now y.places.slots _ y.spare.items y.reached (vec_capacity y.spare) y.ends ends' _ key place new car moved s is filled (place-same y.places.slots key place new is) (λ j ne. place-other y.places.slots key (Some new) j ne) len (λ j ne. inners j) move_fit move_keeps len_ends stands)
+      (written-kept y.hots now y.places.slots _ y.spare.items y.reached (vec_capacity y.spare) y.ends ends' _ key place new car moved s is filled (place-same y.places.slots key place new is) (λ j ne. place-other y.places.slots key (Some new) j ne) len (λ j ne. inners j) move_fit move_keeps len_ends stands)
       refl)
 
 -- a write to the hot part that keeps the neighbours
@@ -246,8 +246,8 @@ module _ (y : Inside) (v : Yard) (key : ℕ) (s : IsSound y) (is_v : seen y ≡ 
   links_all : links_at hots' y.places.slots ≡ links_at y.hots y.places.slots
   links_all = λ i j. hot_links j i
 
-  hot_stands : StandsFor (links_at hots' y.places.slots) y.ends.items (lists_of y.hots y.places.slots y.ends.items)
-  hot_stands = subst (λ at. StandsFor at y.ends.items (lists_of y.hots y.places.slots y.ends.items)) (sym links_all) s.stands
+  hot_stands : StandsFor (links_at hots' y.places.slots) y.ends (lists_of y.hots y.places.slots y.ends)
+  hot_stands = subst (λ at. StandsFor at y.ends (lists_of y.hots y.places.slots y.ends)) (sym links_all) s.stands
 
   hot_keeps : kept_with (core (hot_at hots' key)) (Some there.0) ≡ option_map f (kept_with (core (hot_at y.hots key)) (Some there.0))
   hot_keeps =
@@ -259,19 +259,19 @@ module _ (y : Inside) (v : Yard) (key : ℕ) (s : IsSound y) (is_v : seen y ≡ 
   hot_fit : IsFit (hot_at hots' key).next there.0.list there.0.car
   hot_fit = fit-filled (hot_at hots' key).next there.0 there.1 there.3 (ap (λ (h : Hot). h.next) now_is ∙ next-is y v key s is_v there.0 there.2 there.1 there.3)
 
-  set_sound : IsLaidOut hots' y.places.slots y.spare.items y.reached (vec_capacity y.spare) y.ends.items
-  set_sound = written y.hots hots' y.places.slots y.places.slots y.spare.items y.reached (vec_capacity y.spare) y.ends.items y.ends.items _ key there.0 there.0 there.1 f s there.2 there.3 there.2 (λ j ne. refl) (length-set y.hots key rewritten) (λ j ne. ap inner (hot-other y.hots key rewritten j ne)) hot_fit hot_keeps refl hot_stands
+  set_sound : IsLaidOut hots' y.places.slots y.spare.items y.reached (vec_capacity y.spare) y.ends
+  set_sound = written y.hots hots' y.places.slots y.places.slots y.spare.items y.reached (vec_capacity y.spare) y.ends y.ends _ key there.0 there.0 there.1 f s there.2 there.3 there.2 (λ j ne. refl) (length-set y.hots key rewritten) (λ j ne. ap inner (hot-other y.hots key rewritten j ne)) hot_fit hot_keeps refl hot_stands
 
-  set_seen : ◌≡◌ {A = Yard} (record { lists = lists_of hots' y.places.slots y.ends.items; kept = kept_in hots' y.places.slots y.reached; room = length y.spare.items }) (record v { kept = kept_set v.kept key f })
+  set_seen : ◌≡◌ {A = Yard} (record { lists = lists_of hots' y.places.slots y.ends; kept = kept_in hots' y.places.slots y.reached; room = length y.spare.items }) (record v { kept = kept_set v.kept key f })
   set_seen =
-      subst (λ w. ◌≡◌ {A = Yard} (record { lists = lists_of hots' y.places.slots y.ends.items; kept = kept_in hots' y.places.slots y.reached; room = length y.spare.items }) (record w { kept = kept_set w.kept key f })) is_v
+      subst (λ w. ◌≡◌ {A = Yard} (record { lists = lists_of hots' y.places.slots y.ends; kept = kept_in hots' y.places.slots y.reached; room = length y.spare.items }) (record w { kept = kept_set w.kept key f })) is_v
       (yard-same _ _ _ _ _ _
-      (written-lists y.hots hots' y.places.slots y.places.slots y.spare.items y.reached (vec_capacity y.spare) y.ends.items y.ends.items _ key there.0 there.0 there.1 f s there.2 there.3 there.2 (λ j ne. refl) (length-set y.hots key rewritten) (λ j ne. ap inner (hot-other y.hots key rewritten j ne)) hot_fit hot_keeps refl hot_stands)
-      (written-kept y.hots hots' y.places.slots y.places.slots y.spare.items y.reached (vec_capacity y.spare) y.ends.items y.ends.items _ key there.0 there.0 there.1 f s there.2 there.3 there.2 (λ j ne. refl) (length-set y.hots key rewritten) (λ j ne. ap inner (hot-other y.hots key rewritten j ne)) hot_fit hot_keeps refl hot_stands)
+      (written-lists y.hots hots' y.places.slots y.places.slots y.spare.items y.reached (vec_capacity y.spare) y.ends y.ends _ key there.0 there.0 there.1 f s there.2 there.3 there.2 (λ j ne. refl) (length-set y.hots key rewritten) (λ j ne. ap inner (hot-other y.hots key rewritten j ne)) hot_fit hot_keeps refl hot_stands)
+      (written-kept y.hots hots' y.places.slots y.places.slots y.spare.items y.reached (vec_capacity y.spare) y.ends y.ends _ key there.0 there.0 there.1 f s there.2 there.3 there.2 (λ j ne. refl) (length-set y.hots key rewritten) (λ j ne. ap inner (hot-other y.hots key rewritten j ne)) hot_fit hot_keeps refl hot_stands)
       refl)
 
-  pub rewritten-sound : (now : List Hot) → now ≡ hots' → IsLaidOut now y.places.slots y.spare.items y.reached (vec_capacity y.spare) y.ends.items
-  rewritten-sound now is_now = subst (λ hots. IsLaidOut hots y.places.slots y.spare.items y.reached (vec_capacity y.spare) y.ends.items) (sym is_now) set_sound
+  pub rewritten-sound : (now : List Hot) → now ≡ hots' → IsLaidOut now y.places.slots y.spare.items y.reached (vec_capacity y.spare) y.ends
+  rewritten-sound now is_now = subst (λ hots. IsLaidOut hots y.places.slots y.spare.items y.reached (vec_capacity y.spare) y.ends) (sym is_now) set_sound
 
-  pub rewritten-seen : (now : List Hot) → now ≡ hots' → ◌≡◌ {A = Yard} (record { lists = lists_of now y.places.slots y.ends.items; kept = kept_in now y.places.slots y.reached; room = length y.spare.items }) (record v { kept = kept_set v.kept key f })
-  rewritten-seen now is_now = subst (λ hots. ◌≡◌ {A = Yard} (record { lists = lists_of hots y.places.slots y.ends.items; kept = kept_in hots y.places.slots y.reached; room = length y.spare.items }) (record v { kept = kept_set v.kept key f })) (sym is_now) set_seen
+  pub rewritten-seen : (now : List Hot) → now ≡ hots' → ◌≡◌ {A = Yard} (record { lists = lists_of now y.places.slots y.ends; kept = kept_in now y.places.slots y.reached; room = length y.spare.items }) (record v { kept = kept_set v.kept key f })
+  rewritten-seen now is_now = subst (λ hots. ◌≡◌ {A = Yard} (record { lists = lists_of hots y.places.slots y.ends; kept = kept_in hots y.places.slots y.reached; room = length y.spare.items }) (record v { kept = kept_set v.kept key f })) (sym is_now) set_seen

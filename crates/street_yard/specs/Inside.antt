@@ -7,7 +7,7 @@ use Rattle.street_base.specs.Vehicle.{next_link}
 use Rattle.street_yard.specs.declared.hot.Hot.{Hot}
 use Rattle.street_yard.specs.declared.hot.Cold.{Cold}
 use Rattle.street_yard.specs.declared.yard.Place.{Place}
-use Rattle.street_yard.specs.declared.yard.Ends.{Ends}
+use Rattle.street_yard.specs.declared.ends.Ends.{Ends}
 use Rattle.street_yard.specs.declared.yard.Yard.TheInside.{Inside}
 use Rattle.street_yard.specs.Neighbour.{nobody}
 use Rattle.street_yard.specs.Thread.{LinksAt, linked, StandsFor, walk}
@@ -58,7 +58,7 @@ lists_of hots slots ends = map (λ e. walk (links_at hots slots) (length hots) e
 
 abbrev pub seen : Inside → Yard
 seen y = record {
-  lists = lists_of y.hots y.places.slots y.ends.items;
+  lists = lists_of y.hots y.places.slots y.ends;
   kept = kept_in y.hots y.places.slots y.reached;
   room = length y.spare.items;
 }
@@ -92,7 +92,7 @@ pub record IsLaidOut (hots : List Hot) (slots : List (Option Place)) (spare : Li
   pub holds_all : length hots ≤ capacity
 
 abbrev pub IsSound : Inside → Type 0
-IsSound y = IsLaidOut y.hots y.places.slots y.spare.items y.reached (vec_capacity y.spare) y.ends.items
+IsSound y = IsLaidOut y.hots y.places.slots y.spare.items y.reached (vec_capacity y.spare) y.ends
 
 -- the key, if there is one, lies below the bound
 abbrev pub IsBelow : ℕ → Option ℕ → Type 0

@@ -1,5 +1,7 @@
--- What the two tables of a `Hots` stand for.
+-- What the two tables of a `Hots` stand for, and those of a `Listed`.
 use Rattle.std.specs.Prelude.{ℕ, Bool, true, false, List, [], ◌∷◌, Option, Some, None, cond}
+use Rattle.street_yard.specs.declared.ends.Ends.{Ends}
+use Rattle.street_yard.specs.declared.ends.Rest.{Rest}
 use Rattle.street_yard.specs.declared.hot.Hot.{Hot}
 use Rattle.street_yard.specs.declared.hot.Near.{Near}
 use Rattle.street_yard.specs.declared.hot.Signs.{Signs}
@@ -30,3 +32,13 @@ abbrev pub zipped : List Near → List (Option ℕ) → List Hot
 zipped [] aheads = []
 zipped (n ∷ near) [] = []
 zipped (n ∷ near) (a ∷ aheads) = hot_of n a ∷ zipped near aheads
+
+-- a list's entries in both tables
+abbrev pub ends_of : Option ℕ → Rest → Ends
+ends_of front rest = record { front = front; back = rest.back; count = rest.count }
+
+-- the tables, list by list
+abbrev pub joined : List (Option ℕ) → List Rest → List Ends
+joined [] rests = []
+joined (f ∷ fronts) [] = []
+joined (f ∷ fronts) (r ∷ rests) = ends_of f r ∷ joined fronts rests

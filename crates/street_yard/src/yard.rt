@@ -2,6 +2,7 @@
 ghost use Rattle.std.specs.Option.{option_map};
 ghost use Rattle.std.specs.Prelude.{◌≡◌, ◌+◌, ◌<◌, ◌≤◌, ◌↔◌, length, [], ◌∷◌, ◌++◌, IsTrue, Some, None, IsSome, false, OnOk, IfOk, if◌then◌else◌, is_ok, slice_set, replicate};
 
+use crate::ends::Listed;
 use crate::hot::{Cold, Hot, NOBODY, Neighbour};
 use crate::names::{Key, ListId, list_named};
 use crate::relink::{next_behind, set_ahead, set_behind};
@@ -45,14 +46,6 @@ impl Place {
     }
 }
 
-/// The first and the last key of a list, and how many it has.
-#[derive(Clone, Copy)]
-pub(crate) struct Ends {
-    pub(crate) front: Neighbour,
-    pub(crate) back: Neighbour,
-    pub(crate) count: u32,
-}
-
 /// Cars by key, and lists of keys.
 ///
 /// The slab keeps the places, each with its key; a place that a car has left is used again. What walks read of a car lies
@@ -65,7 +58,7 @@ pub struct Yard {
     spare: Vec<u32>,
     // Every car that there ever was had a key below this.
     reached: usize,
-    ends: Vec<Ends>,
+    ends: Listed,
 }
 
 impl Model for Yard {
@@ -93,12 +86,7 @@ impl Yard {
         if lists > NOBODY as usize {
             return Err(Starved);
         }
-        let empty = Ends {
-            front: Neighbour::nobody(),
-            back: Neighbour::nobody(),
-            count: 0,
-        };
-        let ends = vec![in alloc; empty; lists]?;
+        let ends = Listed::new(alloc, lists)?;
         Ok(Yard {
             places: Slab::new(alloc),
             hots: Hots::new(alloc),
@@ -198,7 +186,7 @@ impl Yard {
         ensures front { option_map (λ k. k.0) result ≡ first_or (list_at self.now list.0) None }
         ensures whole { IsWhole self.now }
     {
-        self.ends[list.0].front.key()
+        self.ends.front(list.0).key()
     }
 
     /// The last key of a list.
@@ -206,7 +194,7 @@ impl Yard {
         requires { list.0 < length self.now.lists }
         ensures { option_map (λ k. k.0) result ≡ last_or (list_at self.now list.0) None }
     {
-        self.ends[list.0].back.key()
+        self.ends.back(list.0).key()
     }
 
     /// How many keys a list has.
@@ -214,7 +202,7 @@ impl Yard {
         requires { list.0 < length self.now.lists }
         ensures { result ≡ length (list_at self.now list.0) }
     {
-        self.ends[list.0].count as usize
+        self.ends.count(list.0) as usize
     }
 
     /// The key ahead of this one on its list.
@@ -244,10 +232,11 @@ impl Yard {
         place.list = None;
         let ahead = self.hots.ahead(key);
         let behind = self.hots.behind(key);
-        let ends = &mut self.ends[list];
+        let mut ends = self.ends.get(list);
         ends.count -= 1;
-        set_behind(&mut self.hots, ends, ahead, behind);
-        set_ahead(&mut self.hots, ends, behind, ahead);
+        set_behind(&mut self.hots, &mut ends, ahead, behind);
+        set_ahead(&mut self.hots, &mut ends, behind, ahead);
+        self.ends.set(list, ends);
         self.hots
             .set_links(key, Neighbour::nobody(), Neighbour::nobody());
         ListId(list)
@@ -262,11 +251,12 @@ impl Yard {
         let place = &mut self.places[key.0 as usize];
         place.list = Some(list.0 as u32);
         let last = Neighbour::of(Some(key));
-        let ends = &mut self.ends[list.0];
+        let mut ends = self.ends.get(list.0);
         let ahead = ends.back;
         ends.count += 1;
-        set_behind(&mut self.hots, ends, ahead, last);
-        set_ahead(&mut self.hots, ends, Neighbour::nobody(), last);
+        set_behind(&mut self.hots, &mut ends, ahead, last);
+        set_ahead(&mut self.hots, &mut ends, Neighbour::nobody(), last);
+        self.ends.set(list.0, ends);
         self.hots.set_links(key, ahead, Neighbour::nobody());
     }
 
@@ -281,11 +271,12 @@ impl Yard {
         place.list = Some(list.0 as u32);
         let new = Neighbour::of(Some(key));
         let ahead = Neighbour::of(at);
-        let ends = &mut self.ends[list.0];
-        let behind = next_behind(&self.hots, ends, ahead);
+        let mut ends = self.ends.get(list.0);
+        let behind = next_behind(&self.hots, &ends, ahead);
         ends.count += 1;
-        set_behind(&mut self.hots, ends, ahead, new);
-        set_ahead(&mut self.hots, ends, behind, new);
+        set_behind(&mut self.hots, &mut ends, ahead, new);
+        set_ahead(&mut self.hots, &mut ends, behind, new);
+        self.ends.set(list.0, ends);
         self.hots.set_links(key, ahead, behind);
     }
 
