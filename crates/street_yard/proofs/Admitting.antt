@@ -122,7 +122,7 @@ module _ (y : Inside) (v : Yard) (key : ℕ) (s : IsSound y) (is_v : seen y ≡ 
 
 -- the rest of a car
 abbrev pub cold_of : Car → Cold
-cold_of c = record { plan = c.plan; step = c.step; at = c.at }
+cold_of c = record { plan = c.plan; at = c.at }
 
 -- a car comes into a spare place
 module _ (y : Inside) (v : Yard) (key : ℕ) (s : IsSound y) (is_v : seen y ≡ v) (rest : List ℕ) (popped : y.spare.items ≡ rest ++ key ∷ []) where
@@ -143,7 +143,7 @@ module _ (y : Inside) (v : Yard) (key : ℕ) (s : IsSound y) (is_v : seen y ≡ 
 
   module _ (car : Car) (ahead behind next : Option ℕ) (next_is : next ≡ link_after (cold_of car)) (new : Place) (new_is : new ≡ record { car = Some (cold_of car); list = None }) (reached' : ℕ) (reaches : key < reached') (grows : y.reached ≤ reached') (capacity' : ℕ) (holds : length y.hots ≤ capacity') where
     abbrev pub new_hot : Hot
-    new_hot = record { ahead = ahead; behind = behind; cell = car.cell; number = car.number; next = next; speed = car.speed; mark = false }
+    new_hot = record { ahead = ahead; behind = behind; cell = car.cell; number = car.number; next = next; speed = car.speed; step = car.step; mark = false }
 
     abbrev pub new_hots : List Hot
     new_hots = set y.hots key new_hot

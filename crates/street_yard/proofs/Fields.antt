@@ -296,6 +296,9 @@ module _ (y : Inside) (v : Yard) (k : ℕ) (s : IsSound y) (is : seen y ≡ v) (
   pub speed-read : option_map (λ (d : Car). d.speed) (car_of v k) ≡ Some (hot_at y.hots k).speed
   speed-read = ap (option_map (λ (d : Car). d.speed)) car-read
 
+  pub step-read : option_map (λ (d : Car). d.step) (car_of v k) ≡ Some (hot_at y.hots k).step
+  step-read = ap (option_map (λ (d : Car). d.step)) car-read
+
   pub next-is : (hot_at y.hots k).next ≡ link_after c
   next-is = subst (IsFit (hot_at y.hots k).next p.list) has (subst (IsPlaced (hot_at y.hots k).next) there (s.placed k))
 

@@ -149,10 +149,10 @@ module _ (y : Inside) (v : Yard) (key : ℕ) (place new : Place) (g : Cold → C
       ∙ ap (λ (d : Car). Some (record { car = d; mark = (hot_at y.hots key).mark; list = place.list })) (agree (core (hot_at y.hots key)) car_is.0)
       ∙ sym (ap (option_map change) (kept-filled (core (hot_at y.hots key)) place car_is.0 car_is.1))
 
-  pub driven : IsLaidOut now slots' y.spare.items y.reached (vec_capacity y.spare) y.ends
+  driven : IsLaidOut now slots' y.spare.items y.reached (vec_capacity y.spare) y.ends
   driven = written y.hots now y.places.slots slots' y.spare.items y.reached (vec_capacity y.spare) y.ends y.ends _ key place new car_is.0 change s is car_is.1 here others_place len (λ j ne. ap inner (others j ne)) new_fit keeps refl stands
 
-  pub driven-seen : ◌≡◌ {A = Yard} (record { lists = lists_of now slots' y.ends; kept = kept_in now slots' y.reached; room = length y.spare.items }) (record v { kept = car_set v.kept key f })
+  driven-seen : ◌≡◌ {A = Yard} (record { lists = lists_of now slots' y.ends; kept = kept_in now slots' y.reached; room = length y.spare.items }) (record v { kept = car_set v.kept key f })
   driven-seen =
       subst (λ w. ◌≡◌ {A = Yard} (record { lists = lists_of now slots' y.ends; kept = kept_in now slots' y.reached; room = length y.spare.items }) (record w { kept = car_set w.kept key f })) is_v
       (yard-same _ _ _ _ _ _
@@ -221,7 +221,7 @@ module _ (y : Inside) (v : Yard) (key : ℕ) (place new : Place) (car : Cold) (n
 module _ (y : Inside) (v : Yard) (key : ℕ) (s : IsSound y) (is_v : seen y ≡ v) (named : IsSome (entry_at v key)) (t : Core) (f : Kept → Kept)
     (agree : (list : Option ℕ) (c : Cold) → kept_of t list c ≡ f (kept_of (core (hot_at y.hots key)) list c)) where
   abbrev pub rewritten : Hot
-  rewritten = record (hot_at y.hots key) { cell = t.0; number = t.1; speed = t.2; mark = t.3 }
+  rewritten = record (hot_at y.hots key) { cell = t.0; number = t.1; speed = t.2; step = t.3; mark = t.4 }
 
   abbrev pub hots' : List Hot
   hots' = set y.hots key rewritten

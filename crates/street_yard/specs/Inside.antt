@@ -14,7 +14,7 @@ use Rattle.street_yard.specs.Thread.{LinksAt, linked, StandsFor, walk}
 use Rattle.street_yard.specs.Yard.{Yard, Kept, Has, IsApart}
 
 abbrev pub no_hot : Hot
-no_hot = record { ahead = None; behind = None; cell = 0; number = 0; next = None; speed = 0; mark = false }
+no_hot = record { ahead = None; behind = None; cell = 0; number = 0; next = None; speed = 0; step = 0; mark = false }
 
 abbrev pub hot_at : List Hot → ℕ → Hot
 hot_at hots k = slice_index_or hots k no_hot
@@ -28,10 +28,10 @@ links_at hots slots k = option_map (λ p. linked (hot_at hots k).ahead (hot_at h
 
 -- what the hot part alone keeps of a car, with its mark
 abbrev pub Core : Type 0
-Core = ℕ × ℕ × ℕ × Bool
+Core = ℕ × ℕ × ℕ × ℕ × Bool
 
 abbrev pub core : Hot → Core
-core h = (h.cell, h.number, h.speed, h.mark)
+core h = (h.cell, h.number, h.speed, h.step, h.mark)
 
 -- and all that it keeps but the neighbours
 abbrev pub inner : Hot → Core × Option ℕ
@@ -39,10 +39,10 @@ inner h = (core h, h.next)
 
 -- the car of both parts
 abbrev pub car_with : Core → Cold → Car
-car_with t c = record { plan = c.plan; number = t.1; cell = t.0; step = c.step; at = c.at; speed = t.2 }
+car_with t c = record { plan = c.plan; number = t.1; cell = t.0; step = t.3; at = c.at; speed = t.2 }
 
 abbrev pub kept_of : Core → Option ℕ → Cold → Kept
-kept_of t list c = record { car = car_with t c; mark = t.3; list = list }
+kept_of t list c = record { car = car_with t c; mark = t.4; list = list }
 
 abbrev pub kept_with : Core → Option Place → Option Kept
 kept_with t = option_and_then (λ p. option_map (kept_of t p.list) p.car)

@@ -1,5 +1,5 @@
--- What the two tables of a `Hots` stand for, and those of a `Listed`.
-use Rattle.std.specs.Prelude.{ℕ, Bool, true, false, List, [], ◌∷◌, Option, Some, None, cond}
+-- What the three tables of a `Hots` stand for, and the two of a `Listed`.
+use Rattle.std.specs.Prelude.{◌≡◌, ℕ, Bool, true, false, List, [], ◌∷◌, length, Option, Some, None, cond}
 use Rattle.street_yard.specs.declared.ends.Ends.{Ends}
 use Rattle.street_yard.specs.declared.ends.Rest.{Rest}
 use Rattle.street_yard.specs.declared.hot.Hot.{Hot}
@@ -23,15 +23,20 @@ is_marked OnMarked = true
 abbrev pub told : Signs → ℕ → Option ℕ
 told signs link = cond (goes_on signs) (Some link) None
 
--- a key's entries in both tables
-abbrev pub hot_of : Near → Option ℕ → Hot
-hot_of n ahead = record { ahead = ahead; behind = n.behind; cell = n.cell; number = n.number; next = told n.signs n.next; speed = n.speed; mark = is_marked n.signs }
+-- a key's entries in all of them
+abbrev pub hot_of : Near → Option ℕ → ℕ → Hot
+hot_of n ahead step = record { ahead = ahead; behind = n.behind; cell = n.cell; number = n.number; next = told n.signs n.next; speed = n.speed; step = step; mark = is_marked n.signs }
 
 -- the tables, key by key
-abbrev pub zipped : List Near → List (Option ℕ) → List Hot
-zipped [] aheads = []
-zipped (n ∷ near) [] = []
-zipped (n ∷ near) (a ∷ aheads) = hot_of n a ∷ zipped near aheads
+abbrev pub zipped : List Near → List (Option ℕ) → List ℕ → List Hot
+zipped [] aheads steps = []
+zipped (n ∷ near) [] steps = []
+zipped (n ∷ near) (a ∷ aheads) [] = []
+zipped (n ∷ near) (a ∷ aheads) (s ∷ steps) = hot_of n a s ∷ zipped near aheads steps
+
+-- each has as many entries as the others
+abbrev pub AreEven : List Near → List (Option ℕ) → List ℕ → Type 0
+AreEven near aheads steps = (length near ≡ length aheads) × (length near ≡ length steps)
 
 -- a list's entries in both tables
 abbrev pub ends_of : Option ℕ → Rest → Ends

@@ -61,8 +61,8 @@ impl Neighbour {
     }
 }
 
-/// What is kept of a car beside the rest of it: its neighbours on its list, its cell, number and speed, its mark, and the
-/// link after the present one, read from its plan.
+/// What is kept of a car beside the rest of it: its neighbours on its list, its cell, number, speed and step, its mark, and
+/// the link after the present one, read from its plan.
 #[derive(Clone, Copy)]
 pub(crate) struct Hot {
     pub(crate) ahead: Neighbour,
@@ -71,6 +71,7 @@ pub(crate) struct Hot {
     pub(crate) number: CarNo,
     pub(crate) next: Option<LinkIx>,
     pub(crate) speed: Speed,
+    pub(crate) step: Step,
     pub(crate) mark: bool,
 }
 
@@ -116,8 +117,8 @@ impl Signs {
     }
 }
 
-/// The part of a car that walks read, 16 bytes: a `Hot` without the neighbour ahead, which walks from front to back never
-/// read. The next link is 0 where the signs tell of none, so that every link stays possible.
+/// The part of a car that walks read, 16 bytes: a `Hot` without the neighbour ahead and the step, which walks from front to
+/// back never read. The next link is 0 where the signs tell of none, so that every link stays possible.
 #[derive(Clone, Copy)]
 pub(crate) struct Near {
     pub(crate) behind: Neighbour,
@@ -134,9 +135,9 @@ const _: () = prove!(size_of::<Near>() == 16);
 impl Near {
     ghost use Rattle.street_yard.specs.Tables.{hot_of, told};
 
-    /// All but who is ahead.
+    /// All but who is ahead and the step.
     pub(crate) fn of(hot: Hot) -> Self
-        ensures { hot_of result hot.ahead ≡ hot }
+        ensures { hot_of result hot.ahead hot.step ≡ hot }
     {
         Near {
             behind: hot.behind,
@@ -162,7 +163,7 @@ impl Near {
 
     /// Writes the next link.
     pub(crate) fn set_next(&mut self, next: Option<LinkIx>)
-        ensures { (ahead : Option ℕ) → hot_of self.new ahead ≡ record (hot_of self.old ahead) { next = next } }
+        ensures { (ahead : Option ℕ) (step : ℕ) → hot_of self.new ahead step ≡ record (hot_of self.old ahead step) { next = next } }
     {
         self.signs = Signs::of(next.is_some(), self.signs.is_marked());
         self.next = next.unwrap_or(LinkIx::new(0));
@@ -170,7 +171,7 @@ impl Near {
 
     /// Sets the mark, or clears it.
     pub(crate) fn set_mark(&mut self, mark: bool)
-        ensures { (ahead : Option ℕ) → hot_of self.new ahead ≡ record (hot_of self.old ahead) { mark = mark } }
+        ensures { (ahead : Option ℕ) (step : ℕ) → hot_of self.new ahead step ≡ record (hot_of self.old ahead step) { mark = mark } }
     {
         self.signs = Signs::of(self.signs.goes_on(), mark);
     }
@@ -180,7 +181,6 @@ impl Near {
 #[derive(Drop)]
 pub(crate) struct Cold {
     pub(crate) plan: Box<Plan>,
-    pub(crate) step: Step,
     pub(crate) at: u16,
 }
 

@@ -5,26 +5,28 @@ use crate::hot::{Hot, Near, Neighbour};
 use crate::names::Key;
 use std::alloc::{AllocError, Global};
 use std::marker::Model;
-use street_base::{CarNo, CellNo, LinkIx, Speed};
+use street_base::{CarNo, CellNo, LinkIx, Speed, Step};
 
-/// The hot parts by key, in two tables: what walks read, and who is ahead, which only changes of a list read.
+/// The hot parts by key, in three tables: what walks read; who is ahead, which only changes of a list read; and the steps,
+/// which a queue asks of its first alone.
 #[derive(Drop)]
 pub(crate) struct Hots {
     near: Vec<Near>,
     aheads: Vec<Neighbour>,
+    steps: Vec<Step>,
 }
 
 impl Model for Hots {
-    ghost use Rattle.std.specs.Prelude.{◌≡◌, List, length};
+    ghost use Rattle.std.specs.Prelude.{List};
     ghost use Rattle.street_yard.specs.declared.hot.Hot.{Hot as Entry};
 
     ghost Value = { List Entry };
 
-    ghost use Rattle.street_yard.specs.Tables.{zipped};
+    ghost use Rattle.street_yard.specs.Tables.{zipped, AreEven};
 
-    ghost view = { λ h. zipped h.near.items h.aheads.items };
+    ghost view = { λ h. zipped h.near.items h.aheads.items h.steps.items };
 
-    ghost invariant = { λ h. length h.near.items ≡ length h.aheads.items };
+    ghost invariant = { λ h. AreEven h.near.items h.aheads.items h.steps.items };
 }
 
 impl Hots {
@@ -37,6 +39,7 @@ impl Hots {
         Hots {
             near: Vec::new(alloc),
             aheads: Vec::new(alloc),
+            steps: Vec::new(alloc),
         }
     }
 
@@ -53,11 +56,14 @@ impl Hots {
         ensures { self.new ≡ (if is_ok result then self.old ++ hot ∷ [] else self.old) }
     {
         let ahead = hot.ahead;
+        let step = hot.step;
         let near = Near::of(hot);
         self.near.reserve(1)?;
         self.aheads.reserve(1)?;
+        self.steps.reserve(1)?;
         self.near.push_reserved(near);
         self.aheads.push_reserved(ahead);
+        self.steps.push_reserved(step);
         Ok(())
     }
 
@@ -67,8 +73,10 @@ impl Hots {
         ensures { self.new ≡ slice_set self.old key.0 hot }
     {
         let ahead = hot.ahead;
+        let step = hot.step;
         self.near[key.0 as usize] = Near::of(hot);
         self.aheads[key.0 as usize] = ahead;
+        self.steps[key.0 as usize] = step;
     }
 
     /// Who is ahead of the key.
@@ -123,6 +131,15 @@ impl Hots {
         ensures { result ≡ (hot_at self.now key.0).speed }
     {
         self.near[key.0 as usize].speed
+    }
+
+    /// The step.
+    #[inline]
+    pub(crate) fn step(&self, key: Key) -> Step
+        requires { key.0 < length self.now }
+        ensures { result ≡ (hot_at self.now key.0).step }
+    {
+        self.steps[key.0 as usize]
     }
 
     /// Whether the key has the mark.
@@ -193,6 +210,15 @@ impl Hots {
         let near = &mut self.near[key.0 as usize];
         near.cell = cell;
         near.speed = speed;
+    }
+
+    /// Writes the step.
+    #[inline]
+    pub(crate) fn set_step(&mut self, key: Key, step: Step)
+        requires { key.0 < length self.old }
+        ensures { self.new ≡ slice_set self.old key.0 (record (hot_at self.old key.0) { step = step }) }
+    {
+        self.steps[key.0 as usize] = step;
     }
 
     /// Writes the next link.

@@ -24,14 +24,6 @@ impl Place {
     ghost use Rattle.std.specs.Option.{option_and_then};
     ghost use Rattle.street_yard.specs.Inside.{with_cold, link_after};
 
-    fn set_step(&mut self, step: Step)
-        ensures { self.new ≡ with_cold (λ c. record c { step = step }) self.old }
-    {
-        if let Some(car) = &mut self.car {
-            car.step = step;
-        }
-    }
-
     // Writes the position, and tells the link after it.
     fn set_at(&mut self, at: u16) -> Option<LinkIx>
         ensures after { self.new ≡ with_cold (λ c. record c { at = at }) self.old }
@@ -137,6 +129,7 @@ impl Yard {
             number: 0,
             next: None,
             speed: 0,
+            step: 0,
             mark: false,
         })?;
         self.places.insert_reserved(Place {
@@ -159,7 +152,6 @@ impl Yard {
         let index = key as usize;
         let cold = Cold {
             plan: car.plan,
-            step: car.step,
             at: car.at,
         };
         let hot = Hot {
@@ -169,6 +161,7 @@ impl Yard {
             number: car.number,
             next: cold.next_link(),
             speed: car.speed,
+            step: car.step,
             mark: false,
         };
         self.hots.set(Key(key), hot);
@@ -293,7 +286,7 @@ impl Yard {
             plan: cold.plan,
             number: self.hots.number(key),
             cell: self.hots.cell(key),
-            step: cold.step,
+            step: self.hots.step(key),
             at: cold.at,
             speed: self.hots.speed(key),
         }
@@ -309,7 +302,7 @@ impl Yard {
             plan: &cold.plan,
             number: self.hots.number(key),
             cell: self.hots.cell(key),
-            step: cold.step,
+            step: self.hots.step(key),
             at: cold.at,
             speed: self.hots.speed(key),
         }
@@ -345,6 +338,14 @@ impl Yard {
         ensures { option_map (λ c. c.speed) (car_of self.now key.0) ≡ Some result }
     {
         self.hots.speed(key)
+    }
+
+    /// The step of a car, read without the rest of it.
+    pub fn step(&self, key: Key) -> Step
+        requires { IsSome (entry_at self.now key.0) }
+        ensures { option_map (λ c. c.step) (car_of self.now key.0) ≡ Some result }
+    {
+        self.hots.step(key)
     }
 
     /// Whether the key has the mark.
@@ -384,8 +385,7 @@ impl Yard {
         requires { IsSome (entry_at self.old key.0) }
         ensures { self.new ≡ record self.old { kept = car_set self.old.kept key.0 (λ c. record c { step = step }) } }
     {
-        let place = &mut self.places[key.0 as usize];
-        place.set_step(step);
+        self.hots.set_step(key, step);
     }
 
     /// Writes the position that a car has reached in its plan.

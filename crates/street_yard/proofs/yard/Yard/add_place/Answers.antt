@@ -24,7 +24,7 @@ here c = ap (place_in c.insert_reserved.new.self.slots) (sym (same_key c)) ∙ c
 others : (c : goal.After-push_reserved) (j : ℕ) → j ≢ c.len-index.result → place_in c.insert_reserved.new.self.slots j ≡ place_in c.self.inside.places.slots j
 others c j ne = c.insert_reserved.ensures.updates.others j (λ e. ne (e ∙ same_key c)) ∙ ap (λ (p : Slab Place). place_in p.slots j) c.reserve.ensures.rest_kept
 
-more : (c : goal.After-push_reserved) → c.push.new.self ≡ c.self.inside.hots ++ record { ahead = c.nobody.result; behind = c.nobody-2.result; cell = 0; number = 0; next = None; speed = 0; mark = false } ∷ []
+more : (c : goal.After-push_reserved) → c.push.new.self ≡ c.self.inside.hots ++ record { ahead = c.nobody.result; behind = c.nobody-2.result; cell = 0; number = 0; next = None; speed = 0; step = 0; mark = false } ∷ []
 more c = c.in_ok-push.ensures
 
 spare : (c : goal.After-push_reserved) → c.push_reserved.new.self.items ≡ c.self.inside.spare.items ++ c.len-index.result ∷ []

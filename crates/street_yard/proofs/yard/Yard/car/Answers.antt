@@ -11,6 +11,9 @@ number-requires c = named_below c.self.inside c.args.self.now c.args.key.0 c.sel
 pub cell-requires : goal.cell-requires
 cell-requires c = named_below c.self.inside c.args.self.now c.args.key.0 c.self.invariant c.self.view_is c.requires
 
+pub step-requires : goal.step-requires
+step-requires c = named_below c.self.inside c.args.self.now c.args.key.0 c.self.invariant c.self.view_is c.requires
+
 pub speed-requires : goal.speed-requires
 speed-requires c = named_below c.self.inside c.args.self.now c.args.key.0 c.self.invariant c.self.view_is c.requires
 
@@ -29,4 +32,4 @@ pub returns : goal.returns
 returns c =
     let same : c.index.result.now.car ≡ Some c.unwrap-cold.result.now = sym c.as_ref.ensures.value ∙ ap option_copied c.unwrap-cold.ensures in
     car-read c.self.inside c.args.self.now c.args.key.0 c.self.invariant c.self.view_is c.index.result.now c.index.ensures c.unwrap-cold.result.now same
-    ∙ (λ i. Some (car_with (sym c.cell.ensures i, sym c.number.ensures i, sym c.speed.ensures i, (hot_at c.self.inside.hots c.args.key.0).mark) c.unwrap-cold.result.now))
+    ∙ (λ i. Some (car_with (sym c.cell.ensures i, sym c.number.ensures i, sym c.speed.ensures i, sym c.step.ensures i, (hot_at c.self.inside.hots c.args.key.0).mark) c.unwrap-cold.result.now))

@@ -9,7 +9,7 @@ pub drive-requires : goal.drive-requires
 drive-requires c = named_below c.self.inside c.args.self.now c.args.key.0 c.self.invariant c.self.view_is c.requires
 
 pub invariant_of-self : goal.invariant_of-self
-invariant_of-self c = rewritten-sound c.self.inside c.args.self.now c.args.key.0 c.self.invariant c.self.view_is c.requires (c.args.cell, (hot_at c.self.inside.hots c.args.key.0).number, c.args.speed, (hot_at c.self.inside.hots c.args.key.0).mark) (λ (e : Kept). record e { car = record e.car { cell = c.args.cell; speed = c.args.speed } }) (λ list d. refl) c.drive.new.self c.drive.ensures
+invariant_of-self c = rewritten-sound c.self.inside c.args.self.now c.args.key.0 c.self.invariant c.self.view_is c.requires (c.args.cell, (hot_at c.self.inside.hots c.args.key.0).number, c.args.speed, (hot_at c.self.inside.hots c.args.key.0).step, (hot_at c.self.inside.hots c.args.key.0).mark) (λ (e : Kept). record e { car = record e.car { cell = c.args.cell; speed = c.args.speed } }) (λ list d. refl) c.drive.new.self c.drive.ensures
 
 pub returns : goal.returns
-returns c = rewritten-seen c.self.inside c.args.self.now c.args.key.0 c.self.invariant c.self.view_is c.requires (c.args.cell, (hot_at c.self.inside.hots c.args.key.0).number, c.args.speed, (hot_at c.self.inside.hots c.args.key.0).mark) (λ (e : Kept). record e { car = record e.car { cell = c.args.cell; speed = c.args.speed } }) (λ list d. refl) c.drive.new.self c.drive.ensures
+returns c = rewritten-seen c.self.inside c.args.self.now c.args.key.0 c.self.invariant c.self.view_is c.requires (c.args.cell, (hot_at c.self.inside.hots c.args.key.0).number, c.args.speed, (hot_at c.self.inside.hots c.args.key.0).step, (hot_at c.self.inside.hots c.args.key.0).mark) (λ (e : Kept). record e { car = record e.car { cell = c.args.cell; speed = c.args.speed } }) (λ list d. refl) c.drive.new.self c.drive.ensures

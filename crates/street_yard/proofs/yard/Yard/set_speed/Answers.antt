@@ -9,7 +9,7 @@ pub set_speed-requires : goal.set_speed-requires
 set_speed-requires c = named_below c.self.inside c.args.self.now c.args.key.0 c.self.invariant c.self.view_is c.requires
 
 pub invariant_of-self : goal.invariant_of-self
-invariant_of-self c = rewritten-sound c.self.inside c.args.self.now c.args.key.0 c.self.invariant c.self.view_is c.requires ((hot_at c.self.inside.hots c.args.key.0).cell, (hot_at c.self.inside.hots c.args.key.0).number, c.args.speed, (hot_at c.self.inside.hots c.args.key.0).mark) (λ (e : Kept). record e { car = record e.car { speed = c.args.speed } }) (λ list d. refl) c.set_speed.new.self c.set_speed.ensures
+invariant_of-self c = rewritten-sound c.self.inside c.args.self.now c.args.key.0 c.self.invariant c.self.view_is c.requires ((hot_at c.self.inside.hots c.args.key.0).cell, (hot_at c.self.inside.hots c.args.key.0).number, c.args.speed, (hot_at c.self.inside.hots c.args.key.0).step, (hot_at c.self.inside.hots c.args.key.0).mark) (λ (e : Kept). record e { car = record e.car { speed = c.args.speed } }) (λ list d. refl) c.set_speed.new.self c.set_speed.ensures
 
 pub returns : goal.returns
-returns c = rewritten-seen c.self.inside c.args.self.now c.args.key.0 c.self.invariant c.self.view_is c.requires ((hot_at c.self.inside.hots c.args.key.0).cell, (hot_at c.self.inside.hots c.args.key.0).number, c.args.speed, (hot_at c.self.inside.hots c.args.key.0).mark) (λ (e : Kept). record e { car = record e.car { speed = c.args.speed } }) (λ list d. refl) c.set_speed.new.self c.set_speed.ensures
+returns c = rewritten-seen c.self.inside c.args.self.now c.args.key.0 c.self.invariant c.self.view_is c.requires ((hot_at c.self.inside.hots c.args.key.0).cell, (hot_at c.self.inside.hots c.args.key.0).number, c.args.speed, (hot_at c.self.inside.hots c.args.key.0).step, (hot_at c.self.inside.hots c.args.key.0).mark) (λ (e : Kept). record e { car = record e.car { speed = c.args.speed } }) (λ list d. refl) c.set_speed.new.self c.set_speed.ensures

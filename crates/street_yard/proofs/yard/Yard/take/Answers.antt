@@ -39,13 +39,16 @@ number-requires c = loose_below c.self.inside c.args.self.now c.args.key.0 c.sel
 pub cell-requires : goal.cell-requires
 cell-requires c = loose_below c.self.inside c.args.self.now c.args.key.0 c.self.invariant c.self.view_is c.requires
 
+pub step-requires : goal.step-requires
+step-requires c = loose_below c.self.inside c.args.self.now c.args.key.0 c.self.invariant c.self.view_is c.requires
+
 pub speed-requires : goal.speed-requires
 speed-requires c = loose_below c.self.inside c.args.self.now c.args.key.0 c.self.invariant c.self.view_is c.requires
 
 pub returns-clause-car : goal.returns-clause-car
 returns-clause-car c =
     car-read c.self.inside c.args.self.now c.args.key.0 c.self.invariant c.self.view_is c.index_mut-place.result.now c.index_mut-place.ensures.value c.unwrap-cold.result (sym c.take.ensures.value ∙ c.unwrap-cold.ensures)
-    ∙ (λ i. Some (car_with (sym c.cell.ensures i, sym c.number.ensures i, sym c.speed.ensures i, (hot_at c.self.inside.hots c.args.key.0).mark) c.unwrap-cold.result))
+    ∙ (λ i. Some (car_with (sym c.cell.ensures i, sym c.number.ensures i, sym c.speed.ensures i, sym c.step.ensures i, (hot_at c.self.inside.hots c.args.key.0).mark) c.unwrap-cold.result))
 
 pub returns-clause-after : goal.returns-clause-after
 returns-clause-after c = taken-seen c.self.inside c.args.self.now c.args.key.0 c.self.invariant c.self.view_is c.requires (record { car = c.take.new.self; list = c.index_mut-place.result.now.list }) (new_is c) c.push_reserved.new.self.items c.push_reserved.ensures.items (vec_capacity c.push_reserved.new.self) (holds c)
