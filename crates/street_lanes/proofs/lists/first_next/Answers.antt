@@ -6,8 +6,8 @@ use Rattle.street_lanes.specs.Lists.{cars_on}
 use Rattle.street_lanes.proofs.Cars.{head-held, cars-none}
 use Rattle.street_lanes.proofs.lists.first_next.Goals as goal
 
-pub car-requires : goal.car-requires
-car-requires c = head-held c.args.yard.now c.args.list.0 c.in_ok-key.key.0 c.in_ok-key.ensures.whole (sym c.in_ok-key.ensures.front)
+pub step-requires : goal.step-requires
+step-requires c = head-held c.args.yard.now c.args.list.0 c.in_ok-key.key.0 c.in_ok-key.ensures.whole (sym c.in_ok-key.ensures.front)
 
 pub next_link-requires : goal.next_link-requires
 next_link-requires c = head-held c.args.yard.now c.args.list.0 c.in_ok-key.key.0 c.in_ok-key.ensures.whole (sym c.in_ok-key.ensures.front)
