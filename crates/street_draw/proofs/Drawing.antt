@@ -1,7 +1,7 @@
 -- Kept bits and draws.
 use Rattle.std.proofs.Common.{◌≡◌, ℕ, zero, suc, ◌+◌, ◌-◌, ◌*◌, ◌/◌, ◌%◌, ◌^◌, ◌<◌, ◌≤◌, Bool, true, false, List, refl, sym, ap, ap₂, ◌∙◌, inl, inr, arith}
-use Rattle.std.specs.Prelude.{nat_lt, nat_le, ◌==◌, if◌then◌else◌}
-use Rattle.std.proofs.lemmas.Bool.{eq-eqb, ne_eqb, lt-ltb, le-ltb}
+use Rattle.std.specs.Prelude.{IsTrue, ◌↔◌, nat_lt, nat_le, ◌==◌, if◌then◌else◌}
+use Rattle.std.proofs.lemmas.Bool.{eq-eqb, ne_eqb, lt-ltb, le-ltb, false≢true}
 use Rattle.std.proofs.lemmas.Bool.Decides.{leb_tells}
 use Rattle.std.proofs.Math.Nat.{pow-succ', mul_assoc, div-one, div-div-eq-div-mul}
 use lib.Lanes.{top}
@@ -84,11 +84,14 @@ unfolding draw
 draw-is seed number place odds = refl
 
 -- nobody's draw is below 0, and each is below 1,000
-pub never : (seed number place odds : ℕ) → odds ≡ 0 → nat_lt (draw seed number place) odds ≡ false
-never seed number place odds e = le-ltb _ _ (omega arith)
-
-pub always : (seed number place odds : ℕ) → 1000 ≤ odds → nat_lt (draw seed number place) odds ≡ true
-always seed number place odds h = lt-ltb _ _ (omega (arith, draw-below seed number place))
+pub settled : (seed number place odds : ℕ) (drawn : Bool) → (IsTrue drawn ↔ (0 < odds) × (odds < 1000)) → drawn ≡ false → nat_lt 0 odds ≡ nat_lt (draw seed number place) odds
+settled seed number place odds drawn tells fails = elim (leb_tells 1000 odds) as (λ _. nat_lt 0 odds ≡ nat_lt (draw seed number place) odds) [
+  | inl t ↦ lt-ltb _ _ (omega (arith, t.1)) ∙ sym (lt-ltb _ _ (omega (arith, t.1, draw-below seed number place)))
+  | inr f ↦ elim (leb_tells 1 odds) as (λ _. nat_lt 0 odds ≡ nat_lt (draw seed number place) odds) [
+    | inl t ↦ absurd (false≢true (sym fails ∙ tells.1 (t.1, f.1)))
+    | inr f ↦ le-ltb _ _ (omega (arith, f.1)) ∙ sym (le-ltb _ _ (omega (arith, f.1)))
+  ]
+]
 
 -- the words whose draw is below the odds are those up to the last
 below-is : (word odds last : ℕ) → 0 < odds → last ≡ (odds * 2 ^ 32 - 1) / 1000 → nat_le word last ≡ nat_lt (word * 1000 / 2 ^ 32) odds

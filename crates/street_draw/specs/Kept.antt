@@ -1,6 +1,6 @@
 -- Draws that are kept: two bits for each of 32 steps of a vehicle. No rule stands here: what a draw is stands in
 -- street_base's Draw.
-use Rattle.std.specs.Prelude.{◌≡◌, ℕ, zero, suc, ◌+◌, ◌*◌, ◌/◌, ◌%◌, ◌^◌, ◌<◌, ◌==◌, nat_lt, nat_le, Bool, List, if◌then◌else◌}
+use Rattle.std.specs.Prelude.{◌≡◌, ℕ, zero, suc, ◌+◌, ◌*◌, ◌/◌, ◌%◌, ◌^◌, ◌<◌, ◌==◌, nat_lt, nat_le, Bool, IsTrue, ◌↔◌, List, if◌then◌else◌}
 use Rattle.std.specs.List.{All}
 use Rattle.rand_chacha.specs.ChaCha.{ChaCha, word_at}
 use Rattle.street_base.specs.Draw.{key_of_seed}
@@ -30,7 +30,9 @@ pub record IsKept (key : List ℕ) (dawdle change : ℕ) (kept : KeptDraws) : Ty
   pub dawdles : 0 < dawdle → dawdle < 1000 → (i : ℕ) → i < 32 → (kept.bits / 2 ^ (2 * i + 1) % 2 == 1) ≡ is_drawn key dawdle kept.number (kept.block * 64 + 2 * i + 1)
 
 -- all that is kept is right, whatever its place
-pub record IsSound (key : List ℕ) (seed dawdle change : ℕ) (kept aside : List KeptDraws) : Type 0 where
+pub record IsSound (key : List ℕ) (seed dawdle change : ℕ) (dawdle_drawn change_drawn : Bool) (kept aside : List KeptDraws) : Type 0 where
   pub of_seed : key ≡ key_of_seed seed
+  pub of_dawdle : IsTrue dawdle_drawn ↔ (0 < dawdle) × (dawdle < 1000)
+  pub of_change : IsTrue change_drawn ↔ (0 < change) × (change < 1000)
   pub each : All (IsKept key dawdle change) kept
   pub set_aside : All (IsKept key dawdle change) aside

@@ -31,6 +31,9 @@ pub struct Dice {
     seed: u64,
     dawdle: u16,
     change: u16,
+    // Whether these odds leave a choice to the draws, which is asked for each vehicle and step.
+    dawdle_drawn: bool,
+    change_drawn: bool,
     kept: Vec<KeptDraws>,
     // Draws of vehicles that lost their place, by the number modulo the length.
     aside: Vec<KeptDraws>,
@@ -47,7 +50,14 @@ impl Model for Dice {
 
     ghost view = { λ d. record { seed = d.seed; dawdle = d.dawdle; change = d.change } };
 
-    ghost invariant = { λ d. IsSound d.rng.key d.seed d.dawdle d.change d.kept.items d.aside.items };
+    ghost invariant = { λ d. IsSound d.rng.key d.seed d.dawdle d.change d.dawdle_drawn d.change_drawn d.kept.items d.aside.items };
+}
+
+/// Whether some draws are below the odds and some are not.
+fn leaves_choice(odds: u16) -> bool
+    ensures { IsTrue result ↔ (0 < odds) × (odds < 1000) }
+{
+    0 < odds && odds < 1000
 }
 
 /// The greatest word whose draw is below the odds, where these leave a choice.
@@ -163,6 +173,8 @@ impl Dice {
             seed,
             dawdle,
             change,
+            dawdle_drawn: leaves_choice(dawdle),
+            change_drawn: leaves_choice(change),
             kept,
             aside,
         })
@@ -243,11 +255,8 @@ impl Dice {
         ensures value { result ≡ nat_lt (dawdle_draw self.old.seed number step) self.old.dawdle }
         ensures same { self.new ≡ self.old }
     {
-        if self.dawdle == 0 {
-            return false;
-        }
-        if self.dawdle >= 1000 {
-            return true;
+        if !self.dawdle_drawn {
+            return self.dawdle > 0;
         }
         let kept = self.look(at, step, number);
         bit(kept.bits, 2 * (step % 32) + 1)
@@ -258,11 +267,8 @@ impl Dice {
         ensures value { result ≡ nat_lt (lane_draw self.old.seed number step) self.old.change }
         ensures same { self.new ≡ self.old }
     {
-        if self.change == 0 {
-            return false;
-        }
-        if self.change >= 1000 {
-            return true;
+        if !self.change_drawn {
+            return self.change > 0;
         }
         let kept = self.look(at, step, number);
         bit(kept.bits, 2 * (step % 32))
