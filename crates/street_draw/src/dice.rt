@@ -1,25 +1,25 @@
 //! The dice of a network, with what was drawn lately kept.
 
-ghost use Rattle.std.specs.Prelude.{◌≡◌, ℕ, ◌+◌, ◌-◌, ◌*◌, ◌/◌, ◌%◌, ◌^◌, ◌<◌, ◌==◌, ◌++◌, nat_lt, replicate, IfOk, IsTrue, ◌↔◌, if◌then◌else◌};
+ghost use Rattle.std.specs.Prelude.{◌≡◌, ℕ, ◌+◌, ◌-◌, ◌*◌, ◌/◌, ◌%◌, ◌^◌, ◌<◌, ◌==◌, ◌++◌, nat_lt, replicate, IfOk, IsTrue, ◌↔◌};
 ghost use Rattle.street_base.specs.Draw.{key_of_seed, lane_draw, dawdle_draw};
 ghost use Rattle.street_draw.specs.Odds.{Odds};
-ghost use Rattle.street_draw.specs.Kept.{IsKept};
+ghost use Rattle.street_draw.specs.Kept.{IsKept, Asked};
 
 use crate::draws::generator;
 use rand_chacha::ChaCha20Rng;
 use rand_core::utils::NextWord;
 use std::alloc::Global;
 use std::marker::Model;
+use std::simd::prelude::*;
 use street_base::{CarNo, Starved, Step};
 
-/// The draws of one vehicle in 32 steps, from `32 * block` on: a bit each for whether it dawdles, and for whether it may
-/// change lane, the first step's the highest.
+/// The draws of one vehicle in 32 steps, from `32 * block` on: two bits for each step, the first step's the lowest. The lower
+/// one of a step says whether the vehicle may change lane, the other whether it dawdles.
 #[derive(Clone, Copy)]
 struct KeptDraws {
     number: CarNo,
     block: u32,
-    dawdles: u32,
-    changes: u32,
+    bits: u64,
 }
 
 /// The dice of a network, whose vehicles dawdle and change lane so many times in 1,000.
@@ -31,6 +31,9 @@ pub struct Dice {
     seed: u64,
     dawdle: u16,
     change: u16,
+    // Whether these odds leave a choice to the draws, which is asked for each vehicle and step.
+    dawdle_drawn: bool,
+    change_drawn: bool,
     kept: Vec<KeptDraws>,
     // Draws of vehicles that lost their place, by the number modulo the length.
     aside: Vec<KeptDraws>,
@@ -47,37 +50,30 @@ impl Model for Dice {
 
     ghost view = { λ d. record { seed = d.seed; dawdle = d.dawdle; change = d.change } };
 
-    ghost invariant = { λ d. IsSound d.rng.key d.seed d.dawdle d.change d.kept.items d.aside.items };
+    ghost invariant = { λ d. IsSound d.rng.key d.seed d.dawdle d.change d.dawdle_drawn d.change_drawn d.kept.items d.aside.items };
 }
 
-/// The least number that is above each word whose draw is below the odds.
-fn bound_of(odds: u16) -> u64
-    ensures { result ≡ (odds * 2 ^ 32 + 999) / 1000 }
+/// Whether some draws are below the odds and some are not.
+fn leaves_choice(odds: u16) -> bool
+    ensures { IsTrue result ↔ (0 < odds) × (odds < 1000) }
 {
-    (u64::from(odds) * 4_294_967_296 + 999) / 1000
+    0 < odds && odds < 1000
 }
 
-/// Whether the draw of a word is below the odds that have this bound.
-fn is_below(word: u32, bound: u64) -> bool
-    ensures { (odds : ℕ) → bound ≡ (odds * 2 ^ 32 + 999) / 1000 → result ≡ nat_lt (word * 1000 / 2 ^ 32) odds }
+/// The greatest word whose draw is below the odds, where these leave a choice.
+fn last_of(odds: u16) -> u32
+    ensures { 0 < odds → odds < 1000 → result ≡ (odds * 2 ^ 32 - 1) / 1000 }
 {
-    u64::from(word) < bound
+    let odds = u64::from(odds.clamp(1, 999));
+    ((odds * 4_294_967_296 - 1) / 1000) as u32
 }
 
-/// The bit of a step within its block.
-fn bit(bits: u32, at: u32) -> bool
-    requires { at < 32 }
-    ensures { result ≡ (bits / 2 ^ (31 - at) % 2 == 1) }
+/// A bit, the lowest for 0.
+fn bit(bits: u64, at: u32) -> bool
+    requires { at < 64 }
+    ensures { result ≡ (bits / 2 ^ at % 2 == 1) }
 {
-    (bits >> (31 - at)) % 2 == 1
-}
-
-/// The bits with one more, the lowest.
-fn with_bit(bits: u32, answer: bool) -> u32
-    requires { bits < 2 ^ 31 }
-    ensures { result ≡ bits * 2 + (if answer then 1 else 0) }
-{
-    if answer { bits * 2 + 1 } else { bits * 2 }
+    (bits >> at) % 2 == 1
 }
 
 /// Whether these are the draws of a vehicle in a block.
@@ -87,30 +83,58 @@ fn is_for(kept: KeptDraws, number: CarNo, block: u32) -> bool
     kept.number == number && kept.block == block
 }
 
-/// Draws for a vehicle in a block of 32 steps: 64 words, asked from a multiple of 64 on, are one call of the cipher.
+/// Whether each of the next four words is at most `lane` (the first and the third) or `slow`: a bit each, the first word's
+/// the lowest.
+#[inline(always)]
+fn four(rng: &mut ChaCha20Rng, lane: u32, slow: u32) -> u64
+    ensures bound { result < 16 }
+    ensures asked { rng.old.word_pos + 4 < 2 ^ 68 → Asked 4 lane slow rng.old rng.new result }
+{
+    let first = rng.next_word();
+    let second = rng.next_word();
+    let third = rng.next_word();
+    let fourth = rng.next_word();
+    let words = u32x4::from_array([first, second, third, fourth]);
+    words
+        .simd_le(u32x4::from_array([lane, slow, lane, slow]))
+        .to_bitmask()
+}
+
+/// The same of the next sixteen words.
+#[inline(always)]
+fn sixteen(rng: &mut ChaCha20Rng, lane: u32, slow: u32) -> u64
+    ensures bound { result < 2 ^ 16 }
+    ensures asked { rng.old.word_pos + 16 < 2 ^ 68 → Asked 16 lane slow rng.old rng.new result }
+{
+    let first = four(rng, lane, slow);
+    let second = four(rng, lane, slow);
+    let third = four(rng, lane, slow);
+    let fourth = four(rng, lane, slow);
+    first + second * 16 + third * 256 + fourth * 4_096
+}
+
+/// Draws for a vehicle in a block of 32 steps: 64 words, asked from a multiple of 64 on, are one call of the cipher. With no
+/// loop the compiler knows the place of each word, and none asks whether the cipher is due.
 fn drawn(rng: &mut ChaCha20Rng, number: CarNo, block: u32, dawdle: u16, change: u16) -> KeptDraws
     ensures kept { IsKept rng.old.key dawdle change result }
     ensures number { result.number ≡ number }
     ensures block { result.block ≡ block }
     ensures key { rng.new.key ≡ rng.old.key }
 {
-    rng.set_stream(u64::from(number));
     rng.set_word_pos(u128::from(block) * 64);
-    let slow_bound = bound_of(dawdle);
-    let lane_bound = bound_of(change);
-    let mut dawdles = 0u32;
-    let mut changes = 0u32;
-    for i in 0..32u32 {
-        let lane = rng.next_word();
-        changes = with_bit(changes, is_below(lane, lane_bound));
-        let slow = rng.next_word();
-        dawdles = with_bit(dawdles, is_below(slow, slow_bound));
-    }
+    rng.set_stream(u64::from(number));
+    let lane = last_of(change);
+    let slow = last_of(dawdle);
+    let first = sixteen(rng, lane, slow);
+    let second = sixteen(rng, lane, slow);
+    let third = sixteen(rng, lane, slow);
+    let fourth = sixteen(rng, lane, slow);
+    let low = first + second * 65_536;
+    let high = third + fourth * 65_536;
     KeptDraws {
         number,
         block,
-        dawdles,
-        changes,
+        bits: low + high * 4_294_967_296,
     }
 }
 
@@ -149,6 +173,8 @@ impl Dice {
             seed,
             dawdle,
             change,
+            dawdle_drawn: leaves_choice(dawdle),
+            change_drawn: leaves_choice(change),
             kept,
             aside,
         })
@@ -229,14 +255,11 @@ impl Dice {
         ensures value { result ≡ nat_lt (dawdle_draw self.old.seed number step) self.old.dawdle }
         ensures same { self.new ≡ self.old }
     {
-        if self.dawdle == 0 {
-            return false;
-        }
-        if self.dawdle >= 1000 {
-            return true;
+        if !self.dawdle_drawn {
+            return self.dawdle > 0;
         }
         let kept = self.look(at, step, number);
-        bit(kept.dawdles, step % 32)
+        bit(kept.bits, 2 * (step % 32) + 1)
     }
 
     /// Whether the draw of a step lets the vehicle change lane. Its draws are kept as those of `dawdles` are. Takes no memory.
@@ -244,13 +267,10 @@ impl Dice {
         ensures value { result ≡ nat_lt (lane_draw self.old.seed number step) self.old.change }
         ensures same { self.new ≡ self.old }
     {
-        if self.change == 0 {
-            return false;
-        }
-        if self.change >= 1000 {
-            return true;
+        if !self.change_drawn {
+            return self.change > 0;
         }
         let kept = self.look(at, step, number);
-        bit(kept.changes, step % 32)
+        bit(kept.bits, 2 * (step % 32))
     }
 }

@@ -32,7 +32,7 @@ pub fn draw(seed: u64, car: CarNo, place: u64) -> u16
     ensures { result ≡ draw seed car place }
 {
     let mut rng = generator(seed);
-    rng.set_stream(u64::from(car));
     rng.set_word_pos(u128::from(place));
+    rng.set_stream(u64::from(car));
     scaled(rng.next_word())
 }

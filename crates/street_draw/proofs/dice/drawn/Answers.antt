@@ -1,18 +1,23 @@
-use Rattle.std.proofs.Common.{◌≡◌, ap, ◌∙◌, arith}
-use Rattle.street_draw.specs.Kept.{bits_of, slow_in, lane_in}
-use Rattle.street_draw.proofs.Drawing.{bits-short}
+use Rattle.std.proofs.Common.{◌≡◌, ◌+◌, ◌*◌, refl, ap, subst, arith}
+use Rattle.rand_chacha.specs.ChaCha.{ChaCha}
+use Rattle.street_draw.specs.Kept.{Asked}
+use Rattle.street_draw.proofs.Drawing.{at_block, placed, joined-four, lane-asked, slow-asked}
 use Rattle.street_draw.proofs.dice.drawn.Goals as goal
-
-pub with_bit-changes-requires : goal.with_bit-changes-requires
-with_bit-changes-requires c = omega (arith, bits-short (lane_in c.args.rng.now.key c.args.change c.args.number c.args.block) c.loop-i.i c.loop-i-test.true, c.loop-i.invariant.changes)
-
-pub with_bit-dawdles-requires : goal.with_bit-dawdles-requires
-with_bit-dawdles-requires c = omega (arith, bits-short (slow_in c.args.rng.now.key c.args.dawdle c.args.number c.args.block) c.loop-i.i c.loop-i-test.true, c.loop-i.invariant.dawdles)
 
 pub returns-clause-kept : goal.returns-clause-kept
 returns-clause-kept c =
-    let e : c.loop-i.i ≡ 32 = omega arith in
+    let begun = at_block c.args.rng.now.key c.args.number c.args.block in
+    let start : c.set_stream.new.self ≡ begun =
+    placed c.args.rng.now c.set_word_pos.new.self c.set_stream.new.self _ _ (c.args.block * 64) _ _ c.set_word_pos.ensures c.set_stream.ensures refl c.from-2.ensures (omega arith) in
+    let place : c.set_stream.new.self.word_pos ≡ c.args.block * 64 = ap (λ (s : ChaCha). s.word_pos) start in
+    let low = c.sixteen-first.result + c.sixteen-second.result * 65536 in
+    let bits = low + (c.sixteen-third.result + c.sixteen-fourth.result * 65536) * 4294967296 in
+    let lane = c.last_of-lane.result in
+    let slow = c.last_of-slow.result in
+    let asked = joined-four 16 lane slow c.set_stream.new.self _ _ _ _ _ _ _ _ (omega arith) (omega (arith, place)) c.sixteen-first.ensures.asked c.sixteen-second.ensures.asked c.sixteen-third.ensures.asked c.sixteen-fourth.ensures.asked in
+    let whole : Asked 64 lane slow begun c.sixteen-fourth.new.rng bits =
+    subst (λ s. Asked 64 lane slow s c.sixteen-fourth.new.rng bits) start (subst (Asked 64 lane slow c.set_stream.new.self c.sixteen-fourth.new.rng) (omega arith) asked) in
     record {
-      dawdles = c.loop-i.invariant.dawdles ∙ ap (bits_of (slow_in c.args.rng.now.key c.args.dawdle c.args.number c.args.block)) e;
-      changes = c.loop-i.invariant.changes ∙ ap (bits_of (lane_in c.args.rng.now.key c.args.change c.args.number c.args.block)) e;
+      changes = λ some under i small. lane-asked _ _ _ _ _ _ _ i _ whole some (c.last_of-lane.ensures some under) small;
+      dawdles = λ some under i small. slow-asked _ _ _ _ _ _ _ i _ whole some (c.last_of-slow.ensures some under) small;
     }

@@ -6,5 +6,5 @@ pub returns : goal.returns
 returns c =
     c.scaled.ensures
     ∙ draw-read _ _ _ _ _ _ c.next_word.ensures
-    (placed c.generator-rng.result c.set_stream.new.self c.set_word_pos.new.self _ _ c.args.place _ _ c.set_stream.ensures c.set_word_pos.ensures c.generator-rng.ensures c.from.ensures (omega arith))
+    (placed c.generator-rng.result c.set_word_pos.new.self c.set_stream.new.self _ _ c.args.place _ _ c.set_word_pos.ensures c.set_stream.ensures c.generator-rng.ensures c.from-2.ensures (omega arith))
     (omega arith)
