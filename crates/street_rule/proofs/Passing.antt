@@ -160,7 +160,7 @@ module _ (drive : Drive) (closed : List Bool) where
           obstacle-is first n count w.whole_first lane w.was (key ∷ tail.0) before car.cell above below closed len
           ∙ ap (λ o. nearest o (entrance_after closed car.cell)) (sym w.at_ahead)
 
-      low-above : car.cell < low_of ahead count
+      pub low-above : car.cell < low_of ahead count
       low-above = at-low w.was refl
         where
           at-low : (us : List ℕ) → us ≡ w.was → car.cell < low_of ahead count

@@ -1,6 +1,6 @@
 -- How the code reckons a vehicle's new speed: from the old cell of the one ahead and the least entrance above. The rule
 -- itself stands in street_base's Motion.
-use Rattle.std.specs.Prelude.{◌≡◌, ℕ, ◌-◌, nat_lt, Bool, cond, List, Option, Some, None, if◌then◌else◌}
+use Rattle.std.specs.Prelude.{◌≡◌, ℕ, ◌+◌, ◌-◌, min, nat_lt, Bool, cond, List, Option, Some, None, if◌then◌else◌}
 use Rattle.std.specs.Option.{option_map, unwrap_or}
 use Rattle.street_base.specs.declared.car.Car.{Car}
 use Rattle.street_base.specs.Draw.{dawdle_draw}
@@ -21,6 +21,19 @@ nearest (Some p) (Some q) = cond (nat_lt p q) (Some p) (Some q)
 -- the gap in motion to a known obstacle
 abbrev pub gap_to : Option ℕ → ℕ → ℕ → Bool → ℕ
 gap_to obstacle x count is_open = unwrap_or (option_map (λ y. y - x - 1) obstacle) (if is_open then 16 else count - 1 - x)
+
+-- where the way of a car with nothing ahead ends: at the lane's end, or 16 cells past it where the exit is open
+abbrev pub end_of : ℕ → Bool → ℕ
+end_of count is_open = if is_open then count + 16 else count
+
+-- the first cell that a car does not reach: that of the one ahead, or the end
+abbrev pub bar_of : ℕ → Bool → Option ℕ → ℕ
+bar_of count is_open ahead = unwrap_or ahead (end_of count is_open)
+
+-- the bar, or an entrance before it
+abbrev pub nearer : ℕ → Option ℕ → ℕ
+nearer bar None = bar
+nearer bar (Some e) = min bar e
 
 -- the advance of the car that a key has
 pub record Reckons (course : Course) (odds : Odds) (closed : List Stretch) (y : Yard) (key : ℕ) (ahead : Option ℕ) (advance : Advance) : Type 0 where

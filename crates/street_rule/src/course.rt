@@ -2,11 +2,12 @@
 //!
 //! Rule by Nagel and Schreckenberg 1992; exits and closed cells are this profile.
 
-ghost use Rattle.std.specs.Prelude.{◌≡◌, ◌+◌, ◌<◌, IsSome, false};
+ghost use Rattle.std.specs.Prelude.{◌≡◌, ◌+◌, ◌<◌, ◌≤◌, ℕ, IsSome, Option, [], false};
+ghost use Rattle.std.specs.Option.{ForSome};
 ghost use Rattle.street_base.specs.Motion.{Drive, speed_after};
-ghost use Rattle.street_gap.specs.Closed.{IsWithin};
-ghost use Rattle.street_yard.specs.Yard.{entry_at};
-ghost use Rattle.street_rule.specs.Course.{nearest, gap_to, Reckons};
+ghost use Rattle.street_gap.specs.Closed.{IsWithin, closed_marks, entrance_after};
+ghost use Rattle.street_yard.specs.Yard.{entry_at, car_of};
+ghost use Rattle.street_rule.specs.Course.{end_of, bar_of, nearer, Reckons};
 
 use street_base::{CellNo, Speed, Step};
 use street_draw::Dice;
@@ -24,6 +25,8 @@ pub(crate) struct Course {
     pub(crate) limit: Speed,
     /// To a vehicle with nothing ahead the lane's exit is open.
     pub(crate) is_open: bool,
+    /// A cell is closed. Few lanes have one, and each vehicle asks.
+    pub(crate) has_closed: bool,
     /// The step.
     pub(crate) step: Step,
 }
@@ -36,29 +39,32 @@ pub(crate) struct Advance {
     pub(crate) new_speed: Speed,
 }
 
-/// The lesser, where both are there.
-fn nearest(car: Option<CellNo>, entrance: Option<CellNo>) -> Option<CellNo>
-    ensures { result ≡ nearest car entrance }
+/// The bar of a vehicle with nothing ahead: the lane's end, or with an open exit 16 cells more, which no speed reaches.
+pub(crate) fn end_of(course: Course) -> CellNo
+    requires { course.count ≤ 1000000 }
+    ensures { result ≡ end_of course.count course.is_open }
 {
-    match (car, entrance) {
-        (Some(car), Some(entrance)) => if car < entrance {
-            Some(car)
-        } else {
-            Some(entrance)
-        },
-        (Some(car), None) => Some(car),
-        (None, entrance) => entrance,
+    if course.is_open {
+        course.count + 16
+    } else {
+        course.count
     }
 }
 
-/// The gap in motion: up to the obstacle ahead, or with nothing ahead 16 if the exit is open, else up to the lane's end.
-fn gap_to(obstacle: Option<CellNo>, cell: CellNo, count: CellNo, is_open: bool) -> CellNo
-    ensures { result ≡ gap_to obstacle cell count is_open }
+/// The bar of a vehicle in this cell, or an entrance before it.
+fn obstacle_above(cell: CellNo, bar: CellNo, course: Course, closures: &Closures) -> CellNo
+    requires closed { IsWithin closures.now course.count }
+    requires told { course.has_closed ≡ false → closures.now ≡ [] }
+    requires below { cell < bar }
+    ensures above { cell < result }
+    ensures value { result ≡ nearer bar (entrance_after (closed_marks closures.now course.count) cell) }
 {
-    match obstacle {
-        Some(obstacle) => obstacle.saturating_sub(cell).saturating_sub(1),
-        None if is_open => 16,
-        None => count.saturating_sub(1).saturating_sub(cell),
+    if !course.has_closed {
+        return bar;
+    }
+    match closures.entrance_after(cell) {
+        Some(entrance) => bar.min(entrance),
+        None => bar,
     }
 }
 
@@ -69,27 +75,29 @@ fn wished_speed(speed: Speed, limit: Speed, gap: CellNo) -> CellNo
     (CellNo::from(speed) + 1).min(CellNo::from(limit)).min(gap)
 }
 
-/// How the vehicle of a key drives on: by one faster, within the limit and the gap to the old cell of the one ahead or to
-/// an entrance, and by one slower if it dawdles. Each is asked whether it dawdles, also one that stands: a jump that goes now
-/// this way, now that way costs more than a look.
+/// How the vehicle of a key drives on: by one faster, within the limit and the gap to its bar, the old cell of the one ahead,
+/// or to an entrance, and by one slower if it dawdles. Each is asked whether it dawdles, also one that stands: a jump that
+/// goes now this way, now that way costs more than a look.
 pub(crate) fn reckon(
     yard: &Yard,
     key: Key,
-    ahead: Option<CellNo>,
+    bar: CellNo,
     course: Course,
     closures: &Closures,
     dice: &mut Dice,
 ) -> Advance
-    requires car { IsSome (entry_at yard.now key.0) }
+    requires limit { course.limit ≤ 16 }
     requires closed { IsWithin closures.now course.count }
-    ensures advance { Reckons course dice.old closures.now yard.now key.0 ahead result }
+    requires told { course.has_closed ≡ false → closures.now ≡ [] }
+    requires car { IsSome (entry_at yard.now key.0) }
+    requires below { ForSome (car_of yard.now key.0) (λ c. (c.cell < course.count) × (c.cell < bar)) }
+    ensures advance { (ahead : Option ℕ) → bar ≡ bar_of course.count course.is_open ahead → Reckons course dice.old closures.now yard.now key.0 ahead result }
     ensures dice { dice.new ≡ dice.old }
 {
     let cell = yard.cell(key);
     let speed = yard.speed(key);
-    let obstacle = nearest(ahead, closures.entrance_after(cell));
-    let gap = gap_to(obstacle, cell, course.count, course.is_open);
-    let wish = wished_speed(speed, course.limit, gap);
+    let obstacle = obstacle_above(cell, bar, course, closures);
+    let wish = wished_speed(speed, course.limit, obstacle - cell - 1);
     let slow = dice.dawdles(key.index(), course.step, yard.number(key));
     let new_speed = wish.saturating_sub(CellNo::from(slow)) as Speed;
     Advance {

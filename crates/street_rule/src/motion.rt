@@ -2,7 +2,7 @@
 //!
 //! Rule by Nagel and Schreckenberg 1992; exits, closed cells and detectors are this profile.
 
-ghost use Rattle.std.specs.Prelude.{◌≡◌, ℕ, ◌+◌, ◌<◌, ◌≤◌, length, Bool, IsSome, IsSomeAnd, Some, None, option_map};
+ghost use Rattle.std.specs.Prelude.{◌≡◌, ℕ, ◌+◌, ◌<◌, ◌≤◌, length, Bool, false, [], IsSome, IsSomeAnd, Some, None, option_map};
 ghost use Rattle.std.specs.List.{All};
 ghost use Rattle.street_base.specs.Vehicle.{Vehicle};
 ghost use Rattle.street_base.specs.Lane.{Track};
@@ -14,7 +14,7 @@ ghost use Rattle.street_yard.specs.Listed.{cells_at, IsLane};
 ghost use Rattle.street_rule.specs.Pass.{drive_with, IsExit, HasMoved, Moves, Drives, Leaves};
 ghost use Rattle.street_rule.specs.Watching.{IsReady};
 
-use crate::course::{Advance, Course, reckon};
+use crate::course::{Advance, Course, end_of, reckon};
 use crate::watch::{Watch, note};
 use street_base::{CellNo, LaneNo, Speed, Step};
 use street_change::{Road, RoadLane};
@@ -65,7 +65,9 @@ pub(crate) fn drive_all(
     requires list { course.list.0 < length yard.old.lists }
     requires lane { IsLane yard.old course.list.0 course.count }
     requires short { course.count ≤ 1000000 }
+    requires limit { course.limit ≤ 16 }
     requires closed { IsWithin closures.now course.count }
+    requires told { course.has_closed ≡ false → closures.now ≡ [] }
     requires watches { All (IsReady course.count) watches.old }
     ensures moved { (is_open_to : Vehicle → Bool)
         → let track : Track = record { cells = cells_at yard.old course.list.0 course.count; closed = closed_marks closures.now course.count } in
@@ -76,14 +78,14 @@ pub(crate) fn drive_all(
     ensures dice { dice.new ≡ dice.old }
 {
     let mut leaver = None;
-    let mut ahead = None;
+    let mut bar = end_of(course);
     let mut cursor = yard.list_front(course.list);
     while let Some(key) = cursor {
-        let advance = reckon(yard, key, ahead, course, closures, dice);
+        let advance = reckon(yard, key, bar, course, closures, dice);
         let place = advance.cell + CellNo::from(advance.new_speed);
-        note(watches, advance.cell, place, advance.new_speed);
         cursor = yard.behind(key);
         drive_car(yard, key, advance, place);
+        note(watches, advance.cell, place, advance.new_speed);
         if place >= course.count {
             leave(yard, course.list, key);
             leaver = Some(Leaver {
@@ -91,7 +93,7 @@ pub(crate) fn drive_all(
                 speed: advance.new_speed,
             });
         }
-        ahead = Some(advance.cell);
+        bar = advance.cell;
     }
     leaver
 }
@@ -130,6 +132,7 @@ pub fn motion_pass(
         count: road.length(),
         limit: road.limit(),
         is_open: exit,
+        has_closed: !closures.is_empty(),
         step,
     };
     drive_all(yard, course, closures, dice, watches)
