@@ -1,20 +1,23 @@
 -- What a driver decides, from what the code has looked up.
-use Rattle.std.proofs.Common.{◌≡◌, ℕ, ◌+◌, ◌<◌, ◌≤◌, Bool, true, false, List, [], ◌∷◌, ◌++◌, length, IsSome, Option, Some, None, refl, sym, ap, subst, ◌∙◌, arith}
+use Rattle.std.proofs.Common.{◌≡◌, ℕ, ◌+◌, ◌<◌, ◌≤◌, Bool, List, [], ◌∷◌, ◌++◌, length, IsSome, Option, Some, None, refl, sym, ap, subst, ◌∙◌, arith}
 use Rattle.std.specs.Prelude.{MatchOption, ◌&&◌}
-use Rattle.std.specs.Option.{option_map, unwrap_or}
+use Rattle.std.specs.Option.{option_map}
 use Rattle.street_base.specs.declared.car.Car.{Car}
 use Rattle.street_base.specs.Vehicle.{Vehicle, vehicle_of, next_link}
-use Rattle.street_base.specs.Lane.{Track, is_closed}
+use Rattle.street_base.specs.Lane.{Track}
 use Rattle.street_base.specs.LaneChange.{Weave}
-use Rattle.street_yard.specs.Yard.{Kept, Yard, list_at, entry_at, car_of, first_or, last_or, IsWhole}
-use Rattle.street_yard.specs.Listed.{cell_at, vehicle_with, IsFalling, IsLane, AllAbove}
+use Rattle.street_yard.specs.Yard.{Kept, Yard, entry_at, car_of, first_or, last_or, IsWhole}
+use Rattle.street_yard.specs.Listed.{cell_at, vehicle_with, IsFalling}
 use Rattle.street_yard.proofs.Callers.{cell_is}
 use Rattle.street_yard.proofs.Placed.{falling-split}
-use Rattle.street_gap.specs.Closed.{is_in, closed_marks, IsWithin}
+use Rattle.street_gap.specs.Closed.{is_in, closed_marks, entrance_after, IsWithin}
+use Rattle.street_gap.specs.declared.closures.Stretch.{Stretch}
+use Rattle.street_gap.specs.Sight.{lesser}
+use Rattle.street_gap.proofs.Entrances.{entrance-empty}
 use Rattle.street_gap.proofs.Marks.{closed_marks-length, closed_marks-at}
 use Rattle.street_change.specs.Road.{RoadLane, IsRoadLane, track_of}
 use Rattle.street_change.specs.Places.{IsUpTo, IsPlace, IsNext}
-use Rattle.street_change.specs.Sight.{gap_up, gap_down, has_room, has_room_between, wishes_with, decision}
+use Rattle.street_change.specs.Sight.{gap_between, gap_up, has_room, has_room_between, wishes_with, decision}
 use Rattle.street_change.proofs.Sights.{room-is}
 
 -- a place is one from which on to search
@@ -38,11 +41,19 @@ room-beside y count lane cell speed place below whole ok p next above_cell below
     ∙ room-is y lane.list count whole ok.stands p.up p.down p.split cell p.above (under y count cell p.up p.down (subst (IsFalling (cell_at y) count) p.split ok.stands) p.below)
     (closed_marks lane.closed count) (is_in lane.closed cell) speed (closed_marks-length lane.closed count) (sym (closed_marks-at lane.closed count cell ok.within))
 
--- the gap ahead, and the room beside, on a lane of the road
-pub gap-by : (count : ℕ) (lane seen : RoadLane) (ahead : Option ℕ) (cell r : ℕ) → seen ≡ lane → IsWithin lane.closed count
-    → ((n : ℕ) → IsWithin seen.closed n → r ≡ gap_up (closed_marks seen.closed n) ahead cell) → r ≡ gap_up (closed_marks lane.closed count) ahead cell
-gap-by count lane seen ahead cell r same within is =
-    is count (subst (λ (l : RoadLane). IsWithin l.closed count) (sym same) within) ∙ ap (λ (l : RoadLane). gap_up (closed_marks l.closed count) ahead cell) same
+-- where no cell is closed, only the vehicle ahead counts
+pub obstacle-open : (count : ℕ) (closed : List Stretch) (ahead : Option ℕ) (cell : ℕ) → closed ≡ [] → IsWithin closed count → ahead ≡ lesser ahead (entrance_after (closed_marks closed count) cell)
+obstacle-open count closed ahead cell none within = sym (ap (lesser ahead) (entrance-empty closed cell count (ap length none) within) ∙ lesser-none ahead)
+  where
+    lesser-none : (o : Option ℕ) → lesser o None ≡ o
+    lesser-none None = refl
+    lesser-none (Some a) = refl
+
+-- the gap up to the obstacle ahead, and the room beside, on a lane of the road
+pub gap-by : (count : ℕ) (lane seen : RoadLane) (ahead obstacle : Option ℕ) (cell : ℕ) → seen ≡ lane → IsWithin lane.closed count
+    → ((n : ℕ) → IsWithin seen.closed n → obstacle ≡ lesser ahead (entrance_after (closed_marks seen.closed n) cell)) → gap_between obstacle cell ≡ gap_up (closed_marks lane.closed count) ahead cell
+gap-by count lane seen ahead obstacle cell same within is =
+    ap (λ o. gap_between o cell) (is count (subst (λ (l : RoadLane). IsWithin l.closed count) (sym same) within)) ∙ ap (λ (l : RoadLane). gap_up (closed_marks l.closed count) ahead cell) same
 
 pub room-by : (y : Yard) (count : ℕ) (lane seen : RoadLane) (cell speed : ℕ) (r : Bool) → seen ≡ lane → IsRoadLane y count lane
     → ((n : ℕ) → IsRoadLane y n seen → r ≡ has_room (track_of y n seen) cell speed) → r ≡ has_room (track_of y count lane) cell speed

@@ -1,13 +1,12 @@
 -- The passes of a link, put together.
-use Rattle.std.proofs.Common.{◌≡◌, ◌≢◌, ℕ, zero, suc, ◌+◌, ◌-◌, ◌<◌, Bool, true, false, List, length, get_or, Option, Some, None, refl, sym, ap, subst, ◌∙◌, inl, inr, arith}
-use Rattle.std.specs.Prelude.{◌&&◌, ◌⊎◌, nat_lt}
+use Rattle.std.proofs.Common.{◌≡◌, ◌≢◌, ℕ, zero, suc, ◌-◌, ◌<◌, ◌≤◌, Bool, false, length, get_or, Option, Some, None, refl, sym, ap, subst, ◌∙◌, arith}
 use Rattle.std.proofs.lemmas.Bool.{and_right, cond-false, le-ltb}
 use Rattle.street_base.specs.Vehicle.{Vehicle}
 use Rattle.street_base.specs.Lane.{Track, vehicle_at}
-use Rattle.street_base.specs.LaneChange.{Weave, changes, settled, woven}
+use Rattle.street_base.specs.LaneChange.{Weave, changes, woven}
 use Rattle.std.specs.Option.{option_map, unwrap_or}
-use Rattle.street_yard.specs.Yard.{Kept, Yard, list_at, place_of, IsWhole}
-use Rattle.street_yard.specs.Listed.{cell_at, cells_at, IsLane}
+use Rattle.street_yard.specs.Yard.{Kept, Yard, list_at, place_of, first_or, IsWhole}
+use Rattle.street_yard.specs.Listed.{IsLane}
 use Rattle.street_gap.specs.Closed.{closed_marks}
 use Rattle.street_change.specs.Road.{RoadLane, Road, no_lane, lane_of, length_of, track_of, lists_of, IsRoad}
 use Rattle.street_change.specs.Sight.{weave_of}
@@ -16,6 +15,7 @@ use Rattle.street_change.specs.Marks.{Marks}
 use Rattle.street_change.specs.Relinked.{HasNoMarks, Relinks}
 use Rattle.street_change.specs.Changed.{Changes, KeepsRest}
 use Rattle.street_change.proofs.Roads.{IsRoad-by, two-apart, two-changes, two-keeps}
+use Rattle.street_change.proofs.Marking.{IsMarking, IsMarking-start}
 use Rattle.street_change.proofs.Unmarked.{Relinks-none}
 use Rattle.street_change.proofs.Passing.{marks-lane, second_falls, first_lane, second_lane, first_woven, second_woven, keeps, woven-is, settled-is}
 
@@ -43,7 +43,17 @@ never-changes y road step two none =
     (never-woven (weave_of road step) never 0 (track_of y (length_of road) (lane_of road 0)) (track_of y (length_of road) (lane_of road 1)))
     (never-woven (weave_of road step) never 1 (track_of y (length_of road) (lane_of road 1)) (track_of y (length_of road) (lane_of road 0)))
 
--- ---- a mark pass keeps the road
+-- ---- a mark pass
+
+-- before the first vehicle of a lane of the road, or where there is none
+pub IsMarking-road : (y : Yard) (road : Road) (lane step : ℕ) (front : Option ℕ) → length road.lanes ≡ 2 → lane ≤ 1 → IsRoad y road → IsWhole y → front ≡ first_or (list_at y (lane_of road lane).list) None
+    → IsMarking y y (lane_of road lane).list (lane_of road (1 - lane)).list
+    (changes (weave_of road step) lane (track_of y (length_of road) (lane_of road lane)) (track_of y (length_of road) (lane_of road (1 - lane)))) None None front false
+IsMarking-road y road lane step front two few ok whole at =
+    let here : lane < length road.lanes = omega arith in
+    IsMarking-start y (lane_of road lane).list (lane_of road (1 - lane)).list (length_of road) _ front whole (ok.lanes lane no_lane here).stands at
+
+-- it keeps the road
 
 pub marked-road : (old new : Yard) (road : Road) (own : ℕ) (test : ℕ → Bool) → Marks old new own test → IsRoad old road → IsRoad new road
 marked-road old new road own test m ok =

@@ -26,9 +26,13 @@ weave_of road step = record {
   may_change = λ number. nat_lt (lane_draw road.network.seed number step) road.network.change;
 }
 
--- the gap ahead of cell x, up to the vehicle ahead or to an entrance: 16 where there is none
+-- the gap ahead of cell x up to an obstacle: 16 where there is none
+abbrev pub gap_between : Option ℕ → ℕ → ℕ
+gap_between obstacle x = unwrap_or (option_map (λ y. y - x - 1) obstacle) 16
+
+-- the gap ahead of cell x, up to the vehicle ahead or to an entrance
 abbrev pub gap_up : List Bool → Option ℕ → ℕ → ℕ
-gap_up closed ahead x = unwrap_or (option_map (λ y. y - x - 1) (lesser ahead (entrance_after closed x))) 16
+gap_up closed ahead x = gap_between (lesser ahead (entrance_after closed x)) x
 
 -- the gap behind cell x, down to the vehicle behind: 16 where there is none
 abbrev pub gap_down : Option ℕ → ℕ → ℕ

@@ -1,16 +1,16 @@
 //! The lane pass: first who goes is marked, then the marked ones go.
-ghost use Rattle.std.specs.Prelude.{◌≡◌, ℕ, ◌<◌, ◌≤◌, ◌-◌, length, false, IsSome};
+ghost use Rattle.std.specs.Prelude.{◌≡◌, ℕ, ◌<◌, ◌≤◌, ◌-◌, length, Some, None, false, IsSome};
 ghost use Rattle.street_base.specs.LaneChange.{changes};
 ghost use Rattle.street_change.specs.Road.{lane_of, length_of, track_of, lists_of, IsRoad};
 ghost use Rattle.street_change.specs.Sight.{odds_of, weave_of};
 ghost use Rattle.street_change.specs.Marks.{Marks};
 ghost use Rattle.street_change.specs.Changed.{Changes, KeepsRest};
 ghost use Rattle.street_change.specs.Relinked.{HasNoMarks};
-ghost use Rattle.street_yard.specs.Yard.{entry_at, mark_set};
+ghost use Rattle.street_yard.specs.Yard.{list_at, entry_at, mark_set, first_or};
 
 use crate::relink::relink;
 use crate::road::Road;
-use crate::sight::{Sides, decide};
+use crate::sight::{Outlook, decide, zone_begin};
 use street_base::{LaneNo, Step};
 use street_draw::Dice;
 use street_yard::{Key, Yard};
@@ -25,6 +25,49 @@ fn set_mark(yard: &mut Yard, key: Key, mark: bool)
     }
 }
 
+/// Marks the vehicles of one lane as `mark_pass` does, where there are some: `front` is the first. It stands apart, so that a
+/// lane without vehicles costs no call.
+#[inline(never)]
+fn mark_from(
+    yard: &mut Yard,
+    road: &Road<'_>,
+    lane: LaneNo,
+    front: Key,
+    step: Step,
+    dice: &mut Dice,
+) -> bool
+    requires lanes { length road.now.lanes ≡ 2 }
+    requires lane { lane ≤ 1 }
+    requires road { IsRoad yard.old road.now }
+    requires dice { dice.old ≡ odds_of road.now.network }
+    requires front { Some front.0 ≡ first_or (list_at yard.old (lane_of road.now lane).list) None }
+    ensures marks { Marks yard.old yard.new (lane_of road.now lane).list (changes (weave_of road.now step) lane (track_of yard.old (length_of road.now) (lane_of road.now lane)) (track_of yard.old (length_of road.now) (lane_of road.now (1 - lane)))) }
+    ensures none { result ≡ false → HasNoMarks yard.new (lane_of road.now lane).list }
+    ensures dice { dice.new ≡ dice.old }
+{
+    yard.whole();
+    let own = road.lane(lane);
+    let outlook = Outlook {
+        lane,
+        own,
+        is_open: own.closures.is_empty(),
+        zone: zone_begin(road),
+    };
+    let mut goes = false;
+    let mut above = None;
+    let mut ahead = None;
+    let mut cursor = Some(front);
+    while let Some(key) = cursor {
+        let decision = decide(yard, road, outlook, key, ahead, above, step, dice);
+        above = decision.above;
+        ahead = Some(yard.cell(key));
+        goes |= decision.goes;
+        set_mark(yard, key, decision.goes);
+        cursor = yard.behind(key);
+    }
+    goes
+}
+
 /// Marks each vehicle of one lane that goes to the other, and takes the mark of each that stays. Answers whether there is one
 /// that goes.
 fn mark_pass(yard: &mut Yard, road: &Road<'_>, lane: LaneNo, step: Step, dice: &mut Dice) -> bool
@@ -36,24 +79,10 @@ fn mark_pass(yard: &mut Yard, road: &Road<'_>, lane: LaneNo, step: Step, dice: &
     ensures none { result ≡ false → HasNoMarks yard.new (lane_of road.now lane).list }
     ensures dice { dice.new ≡ dice.old }
 {
-    let sides = Sides {
-        lane,
-        own: road.lane(lane),
-        other: road.lane(1 - lane),
-    };
-    let mut goes = false;
-    let mut above = None;
-    let mut ahead = None;
-    let mut cursor = yard.list_front(sides.own.list);
-    while let Some(key) = cursor {
-        let decision = decide(yard, road, sides, key, ahead, above, step, dice);
-        above = decision.above;
-        ahead = Some(yard.cell(key));
-        goes |= decision.goes;
-        set_mark(yard, key, decision.goes);
-        cursor = yard.behind(key);
+    match yard.list_front(road.lane(lane).list) {
+        Some(front) => mark_from(yard, road, lane, front, step, dice),
+        None => false,
     }
-    goes
 }
 
 /// The lane changes of one link in one step, all decided from where the vehicles stood before. On a link of one lane nobody

@@ -1,15 +1,16 @@
 //! What a driver sees on both lanes, and whether they wish to change and have room for it.
 //!
 //! Rule by Rickert, Nagel, Schreckenberg and Latour 1996, with this profile's turn zone and closed cells.
-ghost use Rattle.std.specs.Prelude.{◌≡◌, ℕ, ◌<◌, ◌≤◌, ◌-◌, length, Some, option_map, false};
+ghost use Rattle.std.specs.Prelude.{◌≡◌, ℕ, ◌<◌, ◌≤◌, ◌+◌, ◌-◌, nat_lt, Bool, List, Option, length, [], Some, option_map, true, false};
+ghost use Rattle.street_base.specs.LaneChange.{Weave};
 ghost use Rattle.street_base.specs.Vehicle.{Vehicle};
 ghost use Rattle.street_yard.specs.Yard.{place_of};
 ghost use Rattle.street_yard.specs.Listed.{cell_at, vehicle_with};
-ghost use Rattle.street_gap.specs.Closed.{IsWithin, closed_marks, is_in};
+ghost use Rattle.street_gap.specs.Closed.{IsWithin, closed_marks, entrance_after, is_in};
 ghost use Rattle.street_gap.specs.Sight.{lesser};
 ghost use Rattle.street_change.specs.Road.{length_of, lane_of, track_of, lane_seen, IsRoadLane, IsRoad};
 ghost use Rattle.street_change.specs.Places.{IsUpTo, IsPlace};
-ghost use Rattle.street_change.specs.Sight.{odds_of, weave_of, gap_up, gap_down, is_at, wishes_with, has_room, has_room_between, decision};
+ghost use Rattle.street_change.specs.Sight.{odds_of, weave_of, gap_between, gap_up, gap_down, is_at, wishes_with, has_room, has_room_between, decision};
 
 use crate::places::{cell_of, last_above, next};
 use crate::road::{Road, RoadLane};
@@ -38,14 +39,21 @@ fn lesser(vehicle: Option<CellNo>, entrance: Option<CellNo>) -> Option<CellNo>
     }
 }
 
+/// The gap from a cell up to an obstacle, or 16.
+fn gap_to(obstacle: Option<CellNo>, cell: CellNo) -> CellNo
+    ensures { result ≡ gap_between obstacle cell }
+{
+    match obstacle {
+        Some(obstacle) => obstacle.saturating_sub(cell).saturating_sub(1),
+        None => FAR,
+    }
+}
+
 /// The gap from a cell up to the vehicle ahead or to an entrance, or 16.
 fn gap_ahead(closures: &Closures, ahead: Option<CellNo>, cell: CellNo) -> CellNo
     ensures { (count : ℕ) → IsWithin closures.now count → result ≡ gap_up (closed_marks closures.now count) ahead cell }
 {
-    match lesser(ahead, closures.entrance_after(cell)) {
-        Some(obstacle) => obstacle.saturating_sub(cell).saturating_sub(1),
-        None => FAR,
-    }
+    gap_to(lesser(ahead, closures.entrance_after(cell)), cell)
 }
 
 /// The gap from a cell down to the vehicle behind, or 16.
@@ -96,14 +104,39 @@ fn wishes(
     }
 }
 
-/// Whether a vehicle with this gap ahead may want the other lane at all: it is slow, or goes on in the turn zone. Which lanes
-/// serve its next link is not asked yet.
-fn may_wish(road: &Road<'_>, gap: CellNo, cell: CellNo, speed: Speed, next: Option<LinkIx>) -> bool
-    ensures { (step lane : ℕ) → result ≡ false → wishes_with (weave_of road.now step) lane (length_of road.now) gap cell speed next ≡ false }
+/// The first cell of the turn zone of a link.
+pub(crate) fn zone_begin(road: &Road<'_>) -> CellNo
+    ensures { result ≡ length_of road.now - road.now.network.zone }
 {
-    let slow = gap < CellNo::from(speed) + 1;
     let zone = road.network().spec().zone;
-    slow || next.is_some() && u64::from(road.length().saturating_sub(cell)) <= zone
+    u64::from(road.length()).saturating_sub(zone) as CellNo
+}
+
+/// Whether the gap from a cell up to an obstacle is less than one more than the speed. The sum where nothing is in sight
+/// takes the place of a jump that cannot be foretold: in sparse traffic about each second vehicle is the first of its lane.
+fn is_slow(obstacle: Option<CellNo>, cell: CellNo, speed: Speed) -> bool
+    ensures { result ≡ nat_lt (gap_between obstacle cell) (speed + 1) }
+{
+    let cell = u64::from(cell);
+    let obstacle = match obstacle {
+        Some(obstacle) => u64::from(obstacle),
+        None => cell + u64::from(FAR) + 1,
+    };
+    obstacle <= cell + u64::from(speed) + 1
+}
+
+/// Whether a vehicle with this obstacle ahead may want the other lane at all: it is slow, or goes on in the turn zone, which
+/// begins with this cell. Which lanes serve its next link is not asked yet. All is reckoned, for one jump on the outcome.
+fn may_wish(
+    zone: CellNo,
+    obstacle: Option<CellNo>,
+    cell: CellNo,
+    speed: Speed,
+    next: Option<LinkIx>,
+) -> bool
+    ensures { (weave : Weave) (lane count : ℕ) → zone ≡ count - weave.zone → result ≡ false → wishes_with weave lane count (gap_between obstacle cell) cell speed next ≡ false }
+{
+    is_slow(obstacle, cell, speed) | (next.is_some() & (zone <= cell))
 }
 
 /// Whether a vehicle fits beside, by the cells of the vehicles above the cell beside, and at it or below.
@@ -156,22 +189,74 @@ pub(crate) struct Decision {
     pub(crate) goes: bool,
 }
 
-/// The lane from which drivers look, and the one beside it.
+/// The lane from which drivers look, and what all of them go by.
 #[derive(Clone, Copy)]
-pub(crate) struct Sides<'a> {
+pub(crate) struct Outlook<'a> {
     /// The number of their lane.
     pub(crate) lane: LaneNo,
     pub(crate) own: RoadLane<'a>,
-    pub(crate) other: RoadLane<'a>,
+    /// Whether no cell of their lane is closed.
+    pub(crate) is_open: bool,
+    /// The first cell of the turn zone.
+    pub(crate) zone: CellNo,
+}
+
+/// The vehicle or the entrance ahead on the own lane. Its closed cells are looked up only where there are some.
+fn own_obstacle(outlook: Outlook<'_>, ahead: Option<CellNo>, cell: CellNo) -> Option<CellNo>
+    requires { outlook.is_open ≡ true → outlook.own.closures.now ≡ [] }
+    ensures { (count : ℕ) → IsWithin outlook.entry.own.closures.now count → result ≡ lesser ahead (entrance_after (closed_marks outlook.entry.own.closures.now count) cell) }
+{
+    if outlook.is_open {
+        ahead
+    } else {
+        lesser(ahead, outlook.own.closures.entrance_after(cell))
+    }
+}
+
+/// Whether the vehicle of a key, with this gap ahead, goes to the other lane. `above` is a key of the other lane whose vehicle
+/// is above the cell beside, from which on to look there. Room is looked for before the turns of the lanes, which lie farther
+/// away; the draw is asked last. It stands apart from the walk, since most vehicles do not come here.
+#[inline(never)]
+fn decide_beside(
+    yard: &Yard,
+    road: &Road<'_>,
+    lane: LaneNo,
+    key: Key,
+    gap: CellNo,
+    above: Option<Key>,
+    step: Step,
+    dice: &mut Dice,
+) -> Decision
+    requires lanes { length road.now.lanes ≡ 2 }
+    requires lane { lane ≤ 1 }
+    requires road { IsRoad yard.now road.now }
+    requires dice { dice.old ≡ odds_of road.now.network }
+    requires key { place_of yard.now key.0 ≡ Some (lane_of road.now lane).list }
+    requires above { IsUpTo yard.now (lane_of road.now (1 - lane)).list (cell_at yard.now key.0) (option_map (λ k. k.0) above) }
+    ensures above { IsUpTo yard.now (lane_of road.now (1 - lane)).list (cell_at yard.now key.0) (option_map (λ k. k.0) result.above) }
+    ensures goes { (v : Vehicle) (closed : List Bool) (ahead : Option ℕ) → vehicle_with yard.now key.0 ≡ Some v → gap ≡ gap_up closed ahead (cell_at yard.now key.0) → result.goes ≡ decision (weave_of road.now step) lane (length_of road.now) closed ahead (track_of yard.now (length_of road.now) (lane_of road.now (1 - lane))) (cell_at yard.now key.0) v }
+    ensures dice { dice.new ≡ dice.old }
+{
+    let cell = yard.cell(key);
+    let speed = yard.speed(key);
+    let (above, has_room) = look_beside(yard, road.lane(1 - lane), above, cell, speed);
+    if !has_room {
+        return Decision { above, goes: false };
+    }
+    if !wishes(road, lane, gap, cell, speed, yard.next_link(key)) {
+        return Decision { above, goes: false };
+    }
+    let goes = dice.may_change(key.index(), step, yard.number(key));
+    Decision { above, goes }
 }
 
 /// Whether the vehicle of a key goes to the other lane. `ahead` is the cell of the vehicle ahead; `above` is a key of the
-/// other lane whose vehicle is above the cell beside, from which on to look there. Room is looked for before the turns of
-/// the lanes, which lie farther away; the draw is asked last.
+/// other lane whose vehicle is above the cell beside, from which on to look there. Nothing of the other lane is read where
+/// the vehicle does not wish to go.
 pub(crate) fn decide(
     yard: &Yard,
     road: &Road<'_>,
-    sides: Sides<'_>,
+    outlook: Outlook<'_>,
     key: Key,
     ahead: Option<CellNo>,
     above: Option<Key>,
@@ -179,30 +264,24 @@ pub(crate) fn decide(
     dice: &mut Dice,
 ) -> Decision
     requires lanes { length road.now.lanes ≡ 2 }
-    requires lane { sides.lane ≤ 1 }
-    requires own { lane_seen sides.own ≡ lane_of road.now sides.lane }
-    requires other { lane_seen sides.other ≡ lane_of road.now (1 - sides.lane) }
+    requires lane { outlook.lane ≤ 1 }
+    requires own { lane_seen outlook.own ≡ lane_of road.now outlook.lane }
+    requires closed { outlook.is_open ≡ true → outlook.own.closures.now ≡ [] }
+    requires zone { outlook.zone ≡ length_of road.now - road.now.network.zone }
     requires road { IsRoad yard.now road.now }
     requires dice { dice.old ≡ odds_of road.now.network }
-    requires key { place_of yard.now key.0 ≡ Some (lane_of road.now sides.lane).list }
-    requires above { IsUpTo yard.now (lane_of road.now (1 - sides.lane)).list (cell_at yard.now key.0) (option_map (λ k. k.0) above) }
-    ensures above { IsUpTo yard.now (lane_of road.now (1 - sides.entry.lane)).list (cell_at yard.now key.0) (option_map (λ k. k.0) result.above) }
-    ensures goes { (v : Vehicle) → vehicle_with yard.now key.0 ≡ Some v → result.goes ≡ decision (weave_of road.now step) sides.entry.lane (length_of road.now) (closed_marks (lane_of road.now sides.entry.lane).closed (length_of road.now)) ahead (track_of yard.now (length_of road.now) (lane_of road.now (1 - sides.entry.lane))) (cell_at yard.now key.0) v }
+    requires key { place_of yard.now key.0 ≡ Some (lane_of road.now outlook.lane).list }
+    requires above { IsUpTo yard.now (lane_of road.now (1 - outlook.lane)).list (cell_at yard.now key.0) (option_map (λ k. k.0) above) }
+    ensures above { IsUpTo yard.now (lane_of road.now (1 - outlook.entry.lane)).list (cell_at yard.now key.0) (option_map (λ k. k.0) result.above) }
+    ensures goes { (v : Vehicle) → vehicle_with yard.now key.0 ≡ Some v → result.goes ≡ decision (weave_of road.now step) outlook.entry.lane (length_of road.now) (closed_marks (lane_of road.now outlook.entry.lane).closed (length_of road.now)) ahead (track_of yard.now (length_of road.now) (lane_of road.now (1 - outlook.entry.lane))) (cell_at yard.now key.0) v }
     ensures dice { dice.new ≡ dice.old }
 {
     let cell = yard.cell(key);
     let speed = yard.speed(key);
-    let gap = gap_ahead(sides.own.closures, ahead, cell);
-    if !may_wish(road, gap, cell, speed, yard.next_link(key)) {
+    let obstacle = own_obstacle(outlook, ahead, cell);
+    if !may_wish(outlook.zone, obstacle, cell, speed, yard.next_link(key)) {
         return Decision { above, goes: false };
     }
-    let (above, has_room) = look_beside(yard, sides.other, above, cell, speed);
-    if !has_room {
-        return Decision { above, goes: false };
-    }
-    if !wishes(road, sides.lane, gap, cell, speed, yard.next_link(key)) {
-        return Decision { above, goes: false };
-    }
-    let goes = dice.may_change(key.index(), step, yard.number(key));
-    Decision { above, goes }
+    let gap = gap_to(obstacle, cell);
+    decide_beside(yard, road, outlook.lane, key, gap, above, step, dice)
 }

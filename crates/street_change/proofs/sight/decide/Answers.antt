@@ -1,36 +1,26 @@
-use Rattle.std.proofs.Common.{◌≡◌, ◌<◌, ◌-◌, Bool, true, false, length, refl, sym, ap, ◌∙◌, arith}
-use Rattle.std.specs.Prelude.{◌&&◌, nat_lt}
-use Rattle.std.proofs.lemmas.Bool.{and_left, and_right}
-use Rattle.street_base.specs.Draw.{lane_draw}
-use Rattle.street_draw.specs.Odds.{Odds}
+use Rattle.std.proofs.Common.{◌<◌, ◌-◌, false, length, refl, sym, ap, ◌∙◌, arith}
 use Rattle.street_gap.specs.Closed.{closed_marks}
 use Rattle.street_change.specs.Road.{no_lane, lane_seen, lane_of, length_of, track_of}
 use Rattle.street_base.specs.Vehicle.{vehicle_of, next_link}
-use Rattle.street_change.specs.Sight.{weave_of, wishes_with}
-use Rattle.street_yard.proofs.Callers.{on_has_entry}
-use Rattle.street_change.proofs.Deciding.{its_car, gap-by, room-by, field-is, decided-by}
+use Rattle.street_change.specs.Sight.{weave_of, gap_between, gap_up, wishes_with}
+use Rattle.street_yard.proofs.Callers.{on_has_entry, cell_reads}
+use Rattle.street_change.proofs.Deciding.{its_car, gap-by, field-is, decided-by}
 use Rattle.street_change.proofs.sight.decide.Goals as goal
 
-pub returns-then-not-has_room-clause-goes : goal.returns-then-not-has_room-clause-goes
-returns-then-not-has_room-clause-goes c = λ v seen.
+pub returns-then-not-may_wish-clause-goes : goal.returns-then-not-may_wish-clause-goes
+returns-then-not-may_wish-clause-goes c = λ v seen.
     let car = its_car c.args.yard.now c.args.key.0 (on_has_entry c.args.yard.now c.args.key.0 _ c.requires.key) in
-    let here : c.args.sides.lane < length c.args.road.now.lanes = (let l = c.requires.lane in let t = c.requires.lanes in omega arith) in
-    let there : 1 - c.args.sides.lane < length c.args.road.now.lanes = (let t = c.requires.lanes in omega arith) in
-    let room = room-by c.args.yard.now (length_of c.args.road.now) (lane_of c.args.road.now (1 - c.args.sides.lane)) (lane_seen c.args.sides.other) c.cell-cell.result c.speed-speed.result c.look_beside-above.result.1 c.requires.other (c.requires.road.lanes (1 - c.args.sides.lane) no_lane there) c.look_beside-above.ensures.room in
-    decided-by (weave_of c.args.road.now c.args.step) c.args.sides.lane (length_of c.args.road.now) (closed_marks (lane_of c.args.road.now c.args.sides.lane).closed (length_of c.args.road.now)) c.args.ahead
-    (track_of c.args.yard.now (length_of c.args.road.now) (lane_of c.args.road.now (1 - c.args.sides.lane))) c.args.yard.now c.args.key.0 car.0 v c.cell-cell.result c.speed-speed.result c.gap_ahead-gap.result (wishes_with (weave_of c.args.road.now c.args.step) c.args.sides.lane (length_of c.args.road.now) c.gap_ahead-gap.result c.cell-cell.result c.speed-speed.result (next_link (vehicle_of car.0))) false car.1 seen (field-is (λ r. r.cell) car.0 _ c.cell-cell.result car.1 c.cell-cell.ensures) (field-is (λ r. r.speed) car.0 _ c.speed-speed.result car.1 c.speed-speed.ensures)
-    (gap-by (length_of c.args.road.now) (lane_of c.args.road.now c.args.sides.lane) (lane_seen c.args.sides.own) c.args.ahead c.cell-cell.result c.gap_ahead-gap.result c.requires.own (c.requires.road.lanes c.args.sides.lane no_lane here).within c.gap_ahead-gap.ensures) refl
-    (sym (and_right (wishes_with (weave_of c.args.road.now c.args.step) c.args.sides.lane (length_of c.args.road.now) c.gap_ahead-gap.result c.cell-cell.result c.speed-speed.result (next_link (vehicle_of car.0))) _ (and_left _ _ (sym room ∙ c.if-not-has_room.true))))
+    let here : c.args.outlook.lane < length c.args.road.now.lanes = (let l = c.requires.lane in let t = c.requires.lanes in omega arith) in
+    decided-by (weave_of c.args.road.now c.args.step) c.args.outlook.lane (length_of c.args.road.now) (closed_marks (lane_of c.args.road.now c.args.outlook.lane).closed (length_of c.args.road.now)) c.args.ahead
+    (track_of c.args.yard.now (length_of c.args.road.now) (lane_of c.args.road.now (1 - c.args.outlook.lane))) c.args.yard.now c.args.key.0 car.0 v c.cell-cell.result c.speed-speed.result (gap_between c.own_obstacle-obstacle.result c.cell-cell.result) false false car.1 seen (field-is (λ r. r.cell) car.0 _ c.cell-cell.result car.1 c.cell-cell.ensures) (field-is (λ r. r.speed) car.0 _ c.speed-speed.result car.1 c.speed-speed.ensures)
+    (gap-by (length_of c.args.road.now) (lane_of c.args.road.now c.args.outlook.lane) (lane_seen c.args.outlook.own) c.args.ahead c.own_obstacle-obstacle.result c.cell-cell.result c.requires.own (c.requires.road.lanes c.args.outlook.lane no_lane here).within c.own_obstacle-obstacle.ensures)
+    (sym (c.may_wish.ensures (weave_of c.args.road.now c.args.step) c.args.outlook.lane (length_of c.args.road.now) c.requires.zone c.if-not-may_wish.true) ∙ ap (wishes_with (weave_of c.args.road.now c.args.step) c.args.outlook.lane (length_of c.args.road.now) (gap_between c.own_obstacle-obstacle.result c.cell-cell.result) c.cell-cell.result c.speed-speed.result) (field-is (λ r. next_link (vehicle_of r)) car.0 _ c.next_link.result car.1 c.next_link.ensures))
+    refl
 
 pub returns-clause-goes : goal.returns-clause-goes
 returns-clause-goes c = λ v seen.
-    let car = its_car c.args.yard.now c.args.key.0 (on_has_entry c.args.yard.now c.args.key.0 _ c.requires.key) in
-    let here : c.args.sides.lane < length c.args.road.now.lanes = (let l = c.requires.lane in let t = c.requires.lanes in omega arith) in
-    let there : 1 - c.args.sides.lane < length c.args.road.now.lanes = (let t = c.requires.lanes in omega arith) in
-    let room = room-by c.args.yard.now (length_of c.args.road.now) (lane_of c.args.road.now (1 - c.args.sides.lane)) (lane_seen c.args.sides.other) c.cell-cell.result c.speed-speed.result c.look_beside-above.result.1 c.requires.other (c.requires.road.lanes (1 - c.args.sides.lane) no_lane there) c.look_beside-above.ensures.room in
-    decided-by (weave_of c.args.road.now c.args.step) c.args.sides.lane (length_of c.args.road.now) (closed_marks (lane_of c.args.road.now c.args.sides.lane).closed (length_of c.args.road.now)) c.args.ahead
-    (track_of c.args.yard.now (length_of c.args.road.now) (lane_of c.args.road.now (1 - c.args.sides.lane))) c.args.yard.now c.args.key.0 car.0 v c.cell-cell.result c.speed-speed.result c.gap_ahead-gap.result true c.may_change-goes.result car.1 seen (field-is (λ r. r.cell) car.0 _ c.cell-cell.result car.1 c.cell-cell.ensures) (field-is (λ r. r.speed) car.0 _ c.speed-speed.result car.1 c.speed-speed.ensures)
-    (gap-by (length_of c.args.road.now) (lane_of c.args.road.now c.args.sides.lane) (lane_seen c.args.sides.own) c.args.ahead c.cell-cell.result c.gap_ahead-gap.result c.requires.own (c.requires.road.lanes c.args.sides.lane no_lane here).within c.gap_ahead-gap.ensures) (c.if-not-wishes.ensures c.args.step ∙ ap (wishes_with (weave_of c.args.road.now c.args.step) c.args.sides.lane (length_of c.args.road.now) c.gap_ahead-gap.result c.cell-cell.result c.speed-speed.result) (field-is (λ r. next_link (vehicle_of r)) car.0 _ c.next_link-2.result car.1 c.next_link-2.ensures))
-    (c.may_change-goes.ensures.value ∙ ap (λ (o : Odds). nat_lt (lane_draw o.seed c.number.result c.args.step) o.change) c.requires.dice
-    ∙ ap (λ n. nat_lt (lane_draw c.args.road.now.network.seed n c.args.step) c.args.road.now.network.change) (field-is (λ r. r.number) car.0 _ c.number.result car.1 c.number.ensures)
-    ∙ sym (ap (λ r. r && (weave_of c.args.road.now c.args.step).may_change car.0.number) (sym room ∙ c.if-not-has_room.false)))
+    let here : c.args.outlook.lane < length c.args.road.now.lanes = (let l = c.requires.lane in let t = c.requires.lanes in omega arith) in
+    c.decide_beside.ensures.goes v (closed_marks (lane_of c.args.road.now c.args.outlook.lane).closed (length_of c.args.road.now)) c.args.ahead seen
+    (c.gap_to-gap.ensures
+    ∙ gap-by (length_of c.args.road.now) (lane_of c.args.road.now c.args.outlook.lane) (lane_seen c.args.outlook.own) c.args.ahead c.own_obstacle-obstacle.result c.cell-cell.result c.requires.own (c.requires.road.lanes c.args.outlook.lane no_lane here).within c.own_obstacle-obstacle.ensures
+    ∙ ap (gap_up (closed_marks (lane_of c.args.road.now c.args.outlook.lane).closed (length_of c.args.road.now)) c.args.ahead) (sym (cell_reads c.args.yard.now c.args.key.0 c.cell-cell.result c.cell-cell.ensures)))
