@@ -16,7 +16,7 @@ use Rattle.street_tile.proofs.tile.Tile.phase_motion.Goals as goal
 pub drive_lanes-requires-clause-nodes : goal.drive_lanes-requires-clause-nodes
 drive_lanes-requires-clause-nodes c = λ n h.
     let s = c.self.inside in
-    let x : Part = record { low = s.low; high = s.high; links = s.links; own = s.own; clock = s.clock; signals = s.signals.items; mouths = s.mouths.items; handed = s.handed.items; coming = map vehicle_in s.coming.items; arrived = s.arrived.items; gauges = s.gauges.items } in
+    let x : Part = record { low = s.low; high = s.high; links = s.links; own = s.own; clock = s.clock; signals = s.signals.items; mouths = s.mouths.items; handed = s.handed.items; coming = map vehicle_in s.coming; arrived = s.arrived.items; gauges = s.gauges.items } in
     let tile : IsTileOf c.args.net.now x = subst (IsTileOf c.args.net.now) (sym c.self.view_is) c.requires.tile in
     let nodes : s.low + length c.deref.result.now ≡ s.high = rw c.deref.ensures.value c.self.invariant.nodes in
     subst (λ high. is_own c.args.net.now s.low high (place_at s.own n) ≡ true) (sym nodes) (tile-owns c.args.net.now x tile n h)
@@ -24,21 +24,21 @@ drive_lanes-requires-clause-nodes c = λ n h.
 pub drive_lanes-requires-clause-gauged : goal.drive_lanes-requires-clause-gauged
 drive_lanes-requires-clause-gauged c =
     let s = c.self.inside in
-    let x : Part = record { low = s.low; high = s.high; links = s.links; own = s.own; clock = s.clock; signals = s.signals.items; mouths = s.mouths.items; handed = s.handed.items; coming = map vehicle_in s.coming.items; arrived = s.arrived.items; gauges = s.gauges.items } in
+    let x : Part = record { low = s.low; high = s.high; links = s.links; own = s.own; clock = s.clock; signals = s.signals.items; mouths = s.mouths.items; handed = s.handed.items; coming = map vehicle_in s.coming; arrived = s.arrived.items; gauges = s.gauges.items } in
     let tile : IsTileOf c.args.net.now x = subst (IsTileOf c.args.net.now) (sym c.self.view_is) c.requires.tile in
     ap sizes_of c.deref_mut.ensures.value ∙ tile.gauged
 
 pub show_lanes-requires-clause-there : goal.show_lanes-requires-clause-there
 show_lanes-requires-clause-there c =
     let s = c.self.inside in
-    let x : Part = record { low = s.low; high = s.high; links = s.links; own = s.own; clock = s.clock; signals = s.signals.items; mouths = s.mouths.items; handed = s.handed.items; coming = map vehicle_in s.coming.items; arrived = s.arrived.items; gauges = s.gauges.items } in
+    let x : Part = record { low = s.low; high = s.high; links = s.links; own = s.own; clock = s.clock; signals = s.signals.items; mouths = s.mouths.items; handed = s.handed.items; coming = map vehicle_in s.coming; arrived = s.arrived.items; gauges = s.gauges.items } in
     let tile : IsTileOf c.args.net.now x = subst (IsTileOf c.args.net.now) (sym c.self.view_is) c.requires.tile in
     subst (AllLanes c.args.net.now) (sym c.drive_lanes.ensures.same.places) (tile-lanes c.args.net.now x tile)
 
 pub show_lanes-requires-clause-wide : goal.show_lanes-requires-clause-wide
 show_lanes-requires-clause-wide c =
     let s = c.self.inside in
-    let x : Part = record { low = s.low; high = s.high; links = s.links; own = s.own; clock = s.clock; signals = s.signals.items; mouths = s.mouths.items; handed = s.handed.items; coming = map vehicle_in s.coming.items; arrived = s.arrived.items; gauges = s.gauges.items } in
+    let x : Part = record { low = s.low; high = s.high; links = s.links; own = s.own; clock = s.clock; signals = s.signals.items; mouths = s.mouths.items; handed = s.handed.items; coming = map vehicle_in s.coming; arrived = s.arrived.items; gauges = s.gauges.items } in
     let tile : IsTileOf c.args.net.now x = subst (IsTileOf c.args.net.now) (sym c.self.view_is) c.requires.tile in
     ap length c.deref_mut-2.ensures.value ∙ c.self.invariant.mouths_wide ∙ ap (λ (n : ℕ). 2 * n) tile.links
 
@@ -63,7 +63,7 @@ invariant_of-self c =
 pub returns : goal.returns
 returns c =
     let s = c.self.inside in
-    let x : Part = record { low = s.low; high = s.high; links = s.links; own = s.own; clock = s.clock; signals = s.signals.items; mouths = s.mouths.items; handed = s.handed.items; coming = map vehicle_in s.coming.items; arrived = s.arrived.items; gauges = s.gauges.items } in
+    let x : Part = record { low = s.low; high = s.high; links = s.links; own = s.own; clock = s.clock; signals = s.signals.items; mouths = s.mouths.items; handed = s.handed.items; coming = map vehicle_in s.coming; arrived = s.arrived.items; gauges = s.gauges.items } in
     let tile : IsTileOf c.args.net.now x = subst (IsTileOf c.args.net.now) (sym c.self.view_is) c.requires.tile in
     let nodes : s.low + length c.deref.result.now ≡ s.high = rw c.deref.ensures.value c.self.invariant.nodes in
     let shows : (m : Traffic) → ShowSignals s.low s.high s.signals.items m → ShowSignals s.low (s.low + length c.deref.result.now) c.deref.result.now m = λ m h. rw (nodes, c.deref.ensures.value) h in
