@@ -15,7 +15,7 @@ use crate::hand_over::HandOver;
 use crate::lanes::{change_lanes, drive_lanes};
 use crate::meters::note_lanes;
 use crate::release::release_lanes;
-use crate::show::{copy_lanes, show_lanes};
+use crate::show::copy_lanes;
 use crate::view::{View, slot};
 use std::marker::Model;
 use street_base::{CarNo, Starved, Step};
@@ -90,8 +90,8 @@ impl Tile {
             self.low,
             &self.signals,
             &mut self.arrived,
+            &mut self.mouths,
         );
-        show_lanes(&self.own, net, &mut self.mouths);
     }
 
     /// Copies into the view what the tile holds of the mouth of each own lane, as motion left it; the lanes are not looked at.
