@@ -9,6 +9,7 @@ mod Changing
 mod Driving
 mod Releases
 mod Showing
+mod Slots
 pub mod Tiling
 pub mod Publishing
 pub mod Keeping

@@ -8,7 +8,7 @@ ghost use Rattle.street_tile.specs.Tiles.{IsTileOf, IsIdle, StandsFor, AreTiles,
 ghost use Rattle.street_tile.specs.Metering.{bare, MetersStand, AllMetersStand};
 ghost use Rattle.street_tile.specs.Walks.{AtMostOnce};
 
-use crate::hand_over::HandOver;
+use crate::coming::Coming;
 use crate::tile::Tile;
 use crate::view::slot;
 use std::alloc::{AllocError, Global};
@@ -75,7 +75,7 @@ fn numbers_of(alloc: Global, links: usize, own: &[LaneId]) -> Result<Vec<usize>,
 ///
 /// # Errors
 /// Memory was refused.
-fn nones<T: Drop>(alloc: Global, count: usize) -> Result<Vec<Option<T>>, AllocError>
+pub(crate) fn nones<T: Drop>(alloc: Global, count: usize) -> Result<Vec<Option<T>>, AllocError>
     ensures { IfOk result (λ nones. nones.items ≡ replicate count None) }
 {
     let mut nones = Vec::with_capacity(alloc, count)?;
@@ -129,7 +129,7 @@ impl Tile {
             signals: nones(alloc, high - low)?,
             mouths: vec![in alloc; false; 2 * links]?,
             handed: Vec::with_capacity(alloc, lanes)?,
-            coming: nones(alloc, lanes)?,
+            coming: Coming::new(alloc, lanes)?,
             arrived: Vec::with_capacity(alloc, lanes)?,
             gauges: gauges_of(alloc, net, &places)?,
         })

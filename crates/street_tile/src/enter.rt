@@ -13,6 +13,7 @@ ghost use Rattle.street_lanes.specs.Lanes.{Same, Others, lane_of};
 ghost use Rattle.street_lanes.specs.Whole.{LanesStand, LanesGo, AllFree};
 ghost use Rattle.street_tile.specs.Halves.{placed_lane, vehicle_in};
 
+use crate::coming::Coming;
 use crate::hand_over::HandOver;
 use street_base::Step;
 use street_lanes::Lanes;
@@ -34,19 +35,8 @@ fn enter_lane(own: &mut Lanes, n: usize, coming: Option<HandOver>, clock: Step)
     own.depart(n, clock);
 }
 
-/// Takes who comes to a lane. Mostly nobody does, and then nothing is written.
-fn taken(coming: &mut Option<HandOver>) -> Option<HandOver>
-    ensures taken { result ≡ coming.old }
-    ensures nobody { coming.new ≡ None }
-{
-    if coming.is_none() {
-        return None;
-    }
-    coming.take()
-}
-
 /// The same on all lanes.
-pub(crate) fn enter_lanes(own: &mut Lanes, coming: &mut [Option<HandOver>], clock: Step)
+pub(crate) fn enter_lanes(own: &mut Lanes, coming: &mut Coming, clock: Step)
     requires even { length coming.old ≡ length own.old.places }
     requires room { length own.old.places ≤ own.old.room }
     ensures same { Same own.old own.new }
@@ -57,6 +47,6 @@ pub(crate) fn enter_lanes(own: &mut Lanes, coming: &mut [Option<HandOver>], cloc
         → LanesGo (λ p s. departed_lane clock (placed_lane entry p s)) m own.new.places own.new.lanes }
 {
     for n in 0..own.len() {
-        enter_lane(own, n, taken(&mut coming[n]), clock);
+        enter_lane(own, n, coming.take(n), clock);
     }
 }

@@ -1,7 +1,8 @@
 //! Lane changes and motion on a tile's own lanes.
-ghost use Rattle.std.specs.Prelude.{◌≡◌, ℕ, ◌+◌, ◌<◌, ◌≤◌, length, map, ◌++◌, filter_map, true, IsTrue, ◌↔◌, vec_len, vec_capacity};
+ghost use Rattle.std.specs.Prelude.{◌≡◌, ℕ, ◌+◌, ◌*◌, ◌<◌, ◌≤◌, length, map, ◌++◌, filter_map, true, IsTrue, ◌↔◌, vec_len, vec_capacity, slice_get, Some};
 ghost use Rattle.street_base.specs.Limits.{last_clock};
-ghost use Rattle.street_base.specs.Network.{link_at};
+ghost use Rattle.street_base.specs.Network.{Place, link_at};
+ghost use Rattle.street_base.specs.Lane.{is_free};
 ghost use Rattle.street_base.specs.State.{Traffic, lane_at};
 ghost use Rattle.street_base.specs.Step.{changed, driven, driven_lane, arrival, leaver_of};
 ghost use Rattle.street_lanes.specs.Views.{LaneStands};
@@ -9,9 +10,10 @@ ghost use Rattle.street_lanes.specs.Lanes.{Same, Others, IsOf, lane_of, place_at
 ghost use Rattle.street_lanes.specs.Whole.{IsOn, LanesStand};
 ghost use Rattle.street_lanes.specs.Driving.{cells_on};
 ghost use Rattle.street_gauge.specs.Gauges.{watch_of};
-ghost use Rattle.street_tile.specs.Tiles.{IsRoads, ArePairs, ShowSignals, is_own, sizes_of};
+ghost use Rattle.street_tile.specs.Tiles.{IsRoads, ArePairs, ShowSignals, is_own, mouth, sizes_of};
 ghost use Rattle.street_tile.specs.Metering.{KeepMeters, HaveWatched};
 
+use crate::view::slot;
 use street_base::{CarNo, Step};
 use street_gauge::Gauges;
 use street_lanes::Lanes;
@@ -83,7 +85,8 @@ fn drive_lane(
     gauges.drive(own, net, n, clock, plan)
 }
 
-/// Motion on each of these lanes, which their detectors watch. The numbers of those who arrived are added to `arrived`.
+/// Motion on each of these lanes, which their detectors watch. The numbers of those who arrived are added to `arrived`, and
+/// of each lane, while it is at hand, the list of mouths gets whether its cell 0 is free.
 pub(crate) fn drive_lanes(
     own: &mut Lanes,
     gauges: &mut [Gauges],
@@ -92,12 +95,15 @@ pub(crate) fn drive_lanes(
     low: usize,
     signals: &[Option<SignalPlan>],
     arrived: &mut Vec<CarNo>,
+    mouths: &mut [bool],
 )
     requires of { IsOf net.now own.old }
     requires in_time { clock ≤ last_clock }
     requires nodes { (n : ℕ) → n < length own.old.places → is_own net.now low (low + length signals.now) (place_at own.old n) ≡ true }
     requires gauged { sizes_of gauges.old ≡ map (cells_on net.now) own.old.places }
     requires room { vec_len arrived.old + length own.old.places ≤ vec_capacity arrived.old }
+    requires roads { IsRoads net.now }
+    requires wide { length mouths.old ≡ 2 * length net.now.links }
     ensures same { Same own.old own.new }
     ensures room { own.old.room ≤ own.new.room }
     ensures stand { (m : Traffic) → IsOn net.now m → m.clock ≡ clock
@@ -112,10 +118,15 @@ pub(crate) fn drive_lanes(
     ensures watched { (m : Traffic) → IsOn net.now m → m.clock ≡ clock
         → ShowSignals low (low + length signals.now) signals.now m
         → LanesStand own.old.places own.old.lanes m → HaveWatched m own.old.places gauges.new }
+    ensures shown { (m : Traffic) → LanesStand own.new.places own.new.lanes m → (j : ℕ)
+        → (p : Place) → slice_get own.new.places j ≡ Some p
+        → mouth mouths.new p ≡ is_free (lane_at m p).track 0 }
 {
     for n in 0..own.len() {
+        let at = own.at(n);
         if let Some(number) = drive_lane(own, &mut gauges[n], net, n, clock, low, signals) {
             arrived.push_reserved(number);
         }
+        mouths[slot(at.link, at.lane)] = own.is_open(n);
     }
 }

@@ -5,6 +5,7 @@
 //! go to the tile that owns their next lane ([`HandOver`]).
 #![tactic(auto)]
 
+mod coming;
 mod commands;
 mod cut;
 mod enter;

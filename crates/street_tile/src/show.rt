@@ -4,30 +4,12 @@
 ghost use Rattle.std.specs.Prelude.{◌≡◌, ℕ, ◌*◌, ◌<◌, length, false, slice_get, Some};
 ghost use Rattle.std.specs.List.{list_any};
 ghost use Rattle.street_base.specs.Network.{Place, is_place};
-ghost use Rattle.street_base.specs.Lane.{is_free};
-ghost use Rattle.street_base.specs.State.{Traffic, lane_at};
 ghost use Rattle.street_lanes.specs.Lanes.{IsLane, AllLanes};
-ghost use Rattle.street_lanes.specs.Whole.{LanesStand};
 ghost use Rattle.street_tile.specs.Tiles.{IsRoads, mouth};
 
 use crate::view::{View, slot};
 use street_lanes::Lanes;
 use street_net::Network;
-
-/// Writes into a list of mouths of each of these lanes whether its cell 0 is free.
-pub(crate) fn show_lanes(own: &Lanes, net: &Network, mouths: &mut [bool])
-    requires roads { IsRoads net.now }
-    requires there { AllLanes net.now own.now.places }
-    requires wide { length mouths.old ≡ 2 * length net.now.links }
-    ensures { (m : Traffic) → LanesStand own.now.places own.now.lanes m → (j : ℕ)
-        → (p : Place) → slice_get own.now.places j ≡ Some p
-        → mouth mouths.new p ≡ is_free (lane_at m p).track 0 }
-{
-    for n in 0..own.len() {
-        let at = own.at(n);
-        mouths[slot(at.link, at.lane)] = own.is_open(n);
-    }
-}
 
 /// Copies the mouth of each of these lanes from a list of mouths into the view.
 pub(crate) fn copy_lanes(own: &Lanes, net: &Network, mouths: &[bool], view: &mut View)

@@ -9,12 +9,13 @@ ghost use Rattle.street_tile.specs.Tiles.{IsTileOf, IsPrepared, is_own, mouth};
 ghost use Rattle.street_tile.specs.Phases.{Changes, Moves, Releases, Enters, Ticks};
 ghost use Rattle.street_tile.specs.Moves.{Awaits};
 
+use crate::coming::Coming;
 use crate::enter::enter_lanes;
 use crate::hand_over::HandOver;
 use crate::lanes::{change_lanes, drive_lanes};
 use crate::meters::note_lanes;
 use crate::release::release_lanes;
-use crate::show::{copy_lanes, show_lanes};
+use crate::show::copy_lanes;
 use crate::view::{View, slot};
 use std::marker::Model;
 use street_base::{CarNo, Starved, Step};
@@ -35,7 +36,7 @@ pub struct Tile {
     pub(crate) signals: Vec<Option<SignalPlan>>,
     pub(crate) mouths: Vec<bool>,
     pub(crate) handed: Vec<HandOver>,
-    pub(crate) coming: Vec<Option<HandOver>>,
+    pub(crate) coming: Coming,
     pub(crate) arrived: Vec<CarNo>,
     pub(crate) gauges: Vec<Gauges>,
 }
@@ -56,12 +57,12 @@ impl Model for Tile {
       signals = t.signals.items;
       mouths = t.mouths.items;
       handed = t.handed.items;
-      coming = map vehicle_in t.coming.items;
+      coming = map vehicle_in t.coming;
       arrived = t.arrived.items;
       gauges = t.gauges.items;
     } };
 
-    ghost invariant = { λ t. IsKept t.low t.high t.links t.own.places t.numbers.items (length t.signals.items) (length t.mouths.items) (length t.coming.items) (vec_capacity t.handed) (vec_capacity t.arrived) t.clock t.gauges.items };
+    ghost invariant = { λ t. IsKept t.low t.high t.links t.own.places t.numbers.items (length t.signals.items) (length t.mouths.items) (length t.coming) (vec_capacity t.handed) (vec_capacity t.arrived) t.clock t.gauges.items };
 }
 
 impl Tile {
@@ -89,8 +90,8 @@ impl Tile {
             self.low,
             &self.signals,
             &mut self.arrived,
+            &mut self.mouths,
         );
-        show_lanes(&self.own, net, &mut self.mouths);
     }
 
     /// Copies into the view what the tile holds of the mouth of each own lane, as motion left it; the lanes are not looked at.
@@ -171,7 +172,7 @@ impl Tile {
     {
         let to = hand_over.to();
         let n = self.numbers[slot(to.link, to.lane)];
-        self.coming[n] = Some(hand_over);
+        self.coming.put(n, hand_over);
     }
 
     /// Takes a number that arrived in the last step; none when all were taken. Takes no memory.

@@ -1,6 +1,6 @@
-use Rattle.std.proofs.Common.{◌≡◌, List, ◌<◌, length, map, get_or, ap, ◌∙◌, sym, subst, refl, arith}
+use Rattle.std.proofs.Common.{◌≡◌, List, ◌+◌, ◌<◌, length, map, get_or, ap, ◌∙◌, sym, subst, refl, arith}
 use Rattle.std.specs.Prelude.{Option, None, Some, IsSome}
-use Rattle.std.proofs.lemmas.List.{length-map, get_or-map}
+use Rattle.std.proofs.lemmas.List.{length-map, length-set, get_or-map}
 use Rattle.street_base.specs.Network.{Place}
 use Rattle.street_base.specs.Vehicle.{Vehicle}
 use Rattle.street_base.specs.State.{Traffic, lane_at}
@@ -16,6 +16,7 @@ loop-n-init c = record {
   same = same-none c.args.own.now;
   room = omega (arith, c.requires.room);
   done = λ m entry stand coming free. lanes-start (λ p s. departed_lane c.args.clock (placed_lane entry p s)) m c.args.own.now;
+  long = refl;
   coming = written-start (map (λ x. None) c.args.coming.now) c.args.coming.now;
 }
 
@@ -27,7 +28,7 @@ enter_lane-requires-clause-room c = let e = c.loop-n.invariant.room in omega ari
 
 module _ (c : goal.After-enter_lane) where
   abbrev came : Option Entry
-  came = get_or c.loop-n.coming c.loop-n.n c.index-coming-n.result
+  came = get_or c.loop-n.coming c.loop-n.n None
 
   within : c.loop-n.n < length c.args.own.now.places
   within = omega arith
@@ -38,8 +39,8 @@ module _ (c : goal.After-enter_lane) where
 
     is_entry : vehicle_in came ≡ entry p
     is_entry =
-        ap vehicle_in (written-old (map (λ x. None) c.args.coming.now) c.args.coming.now c.loop-n.n c.loop-n.coming c.index-coming-n.result c.loop-n.invariant.coming)
-        ∙ sym (get_or-map vehicle_in c.args.coming.now c.loop-n.n c.index-coming-n.result None (omega (arith, c.requires.even)))
+        ap vehicle_in (written-old (map (λ x. None) c.args.coming.now) c.args.coming.now c.loop-n.n c.loop-n.coming None c.loop-n.invariant.coming)
+        ∙ sym (get_or-map vehicle_in c.args.coming.now c.loop-n.n None None (omega (arith, c.requires.even)))
         ∙ ap (λ (os : List (Option Vehicle)). get_or os c.loop-n.n None) coming
         ∙ get_or-map entry c.args.own.now.places c.loop-n.n (record { link = 0; lane = 0 }) None within
 
@@ -55,13 +56,17 @@ loop-n-preserved c = record {
       let before = c.loop-n.invariant.done m entry stand coming free in
       let here = lanes-here (λ q s. departed_lane c.args.clock (placed_lane entry q s)) m c.args.own.now c.loop-n.n c.loop-n.own before stand (within c) (omega arith) in
       let is = is_entry c m entry coming in
-      let goes = c.enter_lane.ensures.stands (lane_at m (place_at c.args.own.now c.loop-n.n)) here (λ some. free c.loop-n.n (place_at c.args.own.now c.loop-n.n) (place-is c.args.own.now c.loop-n.n (within c)) (some-entry (came c) (entry (place_at c.args.own.now c.loop-n.n)) is (rw c.taken.ensures.taken at some))) in
-      lanes-next (λ q s. departed_lane c.args.clock (placed_lane entry q s)) m c.args.own.now c.loop-n.n c.loop-n.own c.enter_lane.new.own before c.enter_lane.ensures.same c.enter_lane.ensures.others (rw (c.taken.ensures.taken, is) at goes);
-  coming = written-next (map (λ x. None) c.args.coming.now) c.args.coming.now (length-map c.args.coming.now (λ x. None)) c.loop-n.n c.loop-n.coming c.taken.new.coming (omega (arith, c.requires.even)) (omega arith) (c.taken.ensures.nobody ∙ sym (get_or-map (λ x. None) c.args.coming.now c.loop-n.n c.index-coming-n.result c.taken.new.coming (omega (arith, c.requires.even)))) c.loop-n.invariant.coming;
+      let goes = c.enter_lane.ensures.stands (lane_at m (place_at c.args.own.now c.loop-n.n)) here (λ some. free c.loop-n.n (place_at c.args.own.now c.loop-n.n) (place-is c.args.own.now c.loop-n.n (within c)) (some-entry (came c) (entry (place_at c.args.own.now c.loop-n.n)) is (rw c.take.ensures.taken at some))) in
+      lanes-next (λ q s. departed_lane c.args.clock (placed_lane entry q s)) m c.args.own.now c.loop-n.n c.loop-n.own c.enter_lane.new.own before c.enter_lane.ensures.same c.enter_lane.ensures.others (rw (c.take.ensures.taken, is) at goes);
+  long = ap length c.take.ensures.nobody ∙ length-set c.loop-n.coming c.loop-n.n None ∙ c.loop-n.invariant.long;
+  coming = subst (IsWritten (map (λ x. None) c.args.coming.now) c.args.coming.now (c.loop-n.n + 1)) (sym c.take.ensures.nobody) (written-next (map (λ x. None) c.args.coming.now) c.args.coming.now (length-map c.args.coming.now (λ x. None)) c.loop-n.n c.loop-n.coming None (omega (arith, c.requires.even)) c.loop-n.invariant.long (sym (get_or-map (λ x. None) c.args.coming.now c.loop-n.n None None (omega (arith, c.requires.even)))) c.loop-n.invariant.coming);
 }
 
+pub take-requires : goal.take-requires
+take-requires c = omega (arith, c.loop-n.invariant.long, c.requires.even)
+
 pub returns-clause-none : goal.returns-clause-none
-returns-clause-none c = written-all (map (λ x. None) c.args.coming.now) c.args.coming.now (length-map c.args.coming.now (λ x. None)) c.loop-n.coming (omega arith) (subst (λ n. IsWritten (map (λ x. None) c.args.coming.now) c.args.coming.now n c.loop-n.coming) (omega (arith, c.requires.even)) c.loop-n.invariant.coming)
+returns-clause-none c = written-all (map (λ x. None) c.args.coming.now) c.args.coming.now (length-map c.args.coming.now (λ x. None)) c.loop-n.coming c.loop-n.invariant.long (subst (λ n. IsWritten (map (λ x. None) c.args.coming.now) c.args.coming.now n c.loop-n.coming) (omega (arith, c.requires.even)) c.loop-n.invariant.coming)
 
 pub returns-clause-lanes : goal.returns-clause-lanes
 returns-clause-lanes c = λ m entry stand coming free.

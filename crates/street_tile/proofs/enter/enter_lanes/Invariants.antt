@@ -16,5 +16,6 @@ invariant-loop-n l = record {
   same : Same l.fn.own l.own;
   room : length l.fn.own.places ≤ l.own.room + l.n;
   done : (m : Traffic) (entry : Place → Option Vehicle) → LanesStand l.fn.own.places l.fn.own.lanes m → map vehicle_in l.fn.coming ≡ map entry l.fn.own.places → AllFree l.fn.own.places m entry → LanesDone (λ p s. departed_lane l.clock (placed_lane entry p s)) m l.fn.own l.n l.own;
+  long : length l.coming ≡ length l.fn.coming;
   coming : IsWritten (map (λ x. None) l.fn.coming) l.fn.coming l.n l.coming;
 }

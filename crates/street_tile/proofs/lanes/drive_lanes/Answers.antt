@@ -1,18 +1,20 @@
-use Rattle.std.proofs.Common.{◌≡◌, ◌+◌, ◌<◌, length, map, get_or, arith, refl, sym, ap, subst, ◌∙◌}
+use Rattle.std.proofs.Common.{◌≡◌, ◌+◌, ◌*◌, ◌<◌, length, map, get_or, arith, refl, sym, ap, subst, ◌∙◌}
 use Rattle.std.specs.Prelude.{Some, None}
-use Rattle.std.proofs.lemmas.List.{append-nil}
+use Rattle.std.proofs.lemmas.List.{append-nil, length-set}
 use Rattle.std.proofs.lemmas.Option.{slice_get_within}
 use Rattle.street_base.specs.Network.{Place}
 use Rattle.street_base.specs.State.{Traffic, lane_at}
 use Rattle.street_base.specs.Step.{driven, driven_lane, arrival, leaver_of}
+use Rattle.street_net.specs.Tables.{place_of}
 use Rattle.street_lanes.specs.Views.{LaneStands}
 use Rattle.street_lanes.specs.Lanes.{lane_of, place_at}
 use Rattle.street_lanes.specs.Whole.{IsOn, LanesStand}
 use Rattle.street_lanes.specs.Driving.{cells_on}
 use Rattle.street_gauge.specs.Gauges.{watch_of}
-use Rattle.street_tile.specs.Tiles.{ShowSignals}
-use Rattle.street_tile.proofs.Going.{same-then, same-long, of-same, lanes-here, lanes-next, lanes-all, place-is}
+use Rattle.street_tile.specs.Tiles.{ShowSignals, slot_of}
+use Rattle.street_tile.proofs.Going.{same-then, same-long, of-same, even-of, lanes-here, lanes-next, lanes-all, place-is}
 use Rattle.street_tile.proofs.Driving.{lane_at-driven, arrivals-more, arrivals-all}
+use Rattle.street_tile.proofs.Showing.{slot-inside, shown-after, shown-all}
 use Rattle.street_tile.proofs.Metering.{keep-sizes, gauges-even, size-at, keep-next, watched-next}
 use Rattle.street_tile.proofs.lanes.drive_lanes.Goals as goal
 use Rattle.street_tile.proofs.lanes.drive_lanes.Goals.{in-Some, in_default}
@@ -34,7 +36,7 @@ drive_lane-requires-clause-size c =
     let gauged = keep-sizes c.args.gauges.now c.loop-n.gauges c.loop-n.invariant.gauges ∙ c.requires.gauged ∙ ap (map (cells_on c.args.net.now)) (sym places) in
     size-at c.args.net.now c.loop-n.own of c.loop-n.gauges gauged c.loop-n.n (omega arith) _
 
-module _ (c : goal.Joined-drive_lane) (m : Traffic) (on : IsOn c.args.net.now m) (in_time : m.clock ≡ c.args.clock) (shows : ShowSignals c.args.low (c.args.low + length c.args.signals.now) c.args.signals.now m) (stand : LanesStand c.args.own.now.places c.args.own.now.lanes m) where
+module _ (c : goal.After-slot) (m : Traffic) (on : IsOn c.args.net.now m) (in_time : m.clock ≡ c.args.clock) (shows : ShowSignals c.args.low (c.args.low + length c.args.signals.now) c.args.signals.now m) (stand : LanesStand c.args.own.now.places c.args.own.now.lanes m) where
   within : c.loop-n.n < length c.args.own.now.places
   within = omega arith
 
@@ -53,10 +55,13 @@ module _ (c : goal.Joined-drive_lane) (m : Traffic) (on : IsOn c.args.net.now m)
   saw : c.drive_lane.new.gauges.watches ≡ map (watch_of m (place_at c.args.own.now c.loop-n.n)) (get_or c.loop-n.gauges c.loop-n.n c.index-gauges-n.result).meters
   saw = c.drive_lane.ensures.watched m on in_time shows here ∙ ap (λ (p : Place). map (watch_of m p) (get_or c.loop-n.gauges c.loop-n.n c.index-gauges-n.result).meters) same_place
 
-there : (c : goal.Joined-drive_lane) → c.loop-n.n < length c.args.gauges.now
+there : (c : goal.After-slot) → c.loop-n.n < length c.args.gauges.now
 there c =
     let long = gauges-even c.args.net.now c.args.own.now c.requires.of c.args.gauges.now c.requires.gauged in
     omega arith
+
+at-is : (c : goal.After-slot) → place_of c.at-at.result ≡ place_at c.args.own.now c.loop-n.n
+at-is c = c.at-at.ensures ∙ rw c.loop-n.invariant.same.places refl
 
 pub loop-n-preserved : goal.loop-n-preserved
 loop-n-preserved c = record {
@@ -79,11 +84,29 @@ loop-n-preserved c = record {
         | in-Some w ↦ rw w.arrived-is (arrivals-more m ps c.loop-n.n (place_at c.args.own.now c.loop-n.n) (place-is c.args.own.now c.loop-n.n (within c m on in_time shows stand)) c.args.arrived.now.items c.loop-n.arrived.items w.push_reserved.new.self.items (Some w.in-Some.number) before (sym w.in-Some.is ∙ number) w.push_reserved.ensures.items)
         | in_default w ↦ rw w.arrived-is (arrivals-more m ps c.loop-n.n (place_at c.args.own.now c.loop-n.n) (place-is c.args.own.now c.loop-n.n (within c m on in_time shows stand)) c.args.arrived.now.items c.loop-n.arrived.items c.loop-n.arrived.items None before (sym w.in_default.is ∙ number) (sym (append-nil c.loop-n.arrived.items)))
       ];
+  shown = λ roads there.
+      let p = place_at c.args.own.now c.loop-n.n in
+      let before = c.loop-n.invariant.shown roads there in
+      let slot : c.slot.result ≡ slot_of p = c.slot.ensures ∙ ap (λ (q : Place). slot_of q) (at-is c) in
+      rw slot
+      (shown-after c.args.net.now roads c.args.own.now.places there c.args.mouths.now c.loop-n.own c.drive_lane.new.own c.loop-n.n c.loop-n.mouths p c.is_open.result before (place-is c.args.own.now c.loop-n.n (omega arith)) c.drive_lane.ensures.others c.is_open.ensures
+      (length-set c.loop-n.mouths (slot_of p) c.is_open.result ∙ before.wide));
   gauges = keep-next c.args.gauges.now c.loop-n.gauges c.loop-n.invariant.gauges c.loop-n.n (there c) c.drive_lane.new.gauges c.index-gauges-n.result c.drive_lane.ensures.meters;
   watched = λ m on in_time shows stand.
       watched-next c.args.gauges.now c.loop-n.gauges c.loop-n.invariant.gauges c.loop-n.n (there c) c.drive_lane.new.gauges c.index-gauges-n.result c.drive_lane.ensures.meters m c.args.own.now.places
       (c.loop-n.invariant.watched m on in_time shows stand) (place_at c.args.own.now c.loop-n.n) (place-is c.args.own.now c.loop-n.n (within c m on in_time shows stand)) (saw c m on in_time shows stand);
 }
+
+pub slot-requires : goal.slot-requires
+slot-requires c = subst (λ (p : Place). slot_of p < 65536) (sym (c.at-at.ensures ∙ rw c.loop-n.invariant.same.places refl)) (slot-inside c.args.net.now c.requires.roads c.args.own.now c.requires.of.own c.loop-n.n (omega arith)).0
+
+pub bounds-mouths-slot : goal.bounds-mouths-slot
+bounds-mouths-slot c =
+    let inside : slot_of (place_of c.at-at.result) < 2 * length c.args.net.now.links =
+    subst (λ (p : Place). slot_of p < 2 * length c.args.net.now.links) (sym (at-is c)) (slot-inside c.args.net.now c.requires.roads c.args.own.now c.requires.of.own c.loop-n.n (omega arith)).1 in
+    let wide = (c.loop-n.invariant.shown c.requires.roads c.requires.of.own).wide in
+    let is = c.slot.ensures in
+    omega arith
 
 pub returns-clause-stand : goal.returns-clause-stand
 returns-clause-stand c = λ m on in_time shows stand.
@@ -97,3 +120,10 @@ pub returns-clause-watched : goal.returns-clause-watched
 returns-clause-watched c = λ m on in_time shows stand k p at.
     let within = slice_get_within c.args.own.now.places k p at in
     c.loop-n.invariant.watched m on in_time shows stand k p (omega arith) at
+
+pub returns-clause-shown : goal.returns-clause-shown
+returns-clause-shown c =
+    let own = c.args.own.now in
+    let same = c.loop-n.invariant.same in
+    shown-all c.args.net.now c.requires.roads own.places c.requires.of.own c.args.mouths.now c.loop-n.own c.loop-n.n c.loop-n.mouths (c.loop-n.invariant.shown c.requires.roads c.requires.of.own)
+    same.places (even-of c.args.net.now c.loop-n.own (of-same c.args.net.now own c.loop-n.own same c.requires.of)) (omega arith)

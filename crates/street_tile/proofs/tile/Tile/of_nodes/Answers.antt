@@ -77,7 +77,7 @@ returns-clause-idle c =
     let long : c.len-lanes.result ≡ length c.in_ok-new.field-0.places = omega arith in
     record {
       handed = c.in_ok-with_capacity.ensures.items;
-      coming = ap (map vehicle_in) c.in_ok-nones-2.ensures ∙ nobody-comes c.len-lanes.result c.in_ok-new.field-0.places long;
+      coming = ap (map vehicle_in) c.in_ok-new-2.ensures ∙ nobody-comes c.len-lanes.result c.in_ok-new.field-0.places long;
       arrived = c.in_ok-with_capacity-2.ensures.items;
     }
 
@@ -115,7 +115,7 @@ invariant_of-result c =
     let long : c.len-lanes.result ≡ length ps = omega arith in
     let numbers : map place_of c.deref-2.result.now ≡ ps = ap (map place_of) (c.deref-2.ensures.value ∙ sym c.deref.ensures.value) ∙ sym places in
     let plans : length c.in_ok-nones.field-0.items ≡ c.args.high - c.args.low = ap length c.in_ok-nones.ensures ∙ length-replicate (c.args.high - c.args.low) None in
-    let slots : length c.in_ok-nones-2.field-0.items ≡ c.len-lanes.result = ap length c.in_ok-nones-2.ensures ∙ length-replicate c.len-lanes.result None in
+    let slots : length c.in_ok-new-2.field-0 ≡ c.len-lanes.result = ap length c.in_ok-new-2.ensures ∙ length-replicate c.len-lanes.result None in
     let order = c.requires.order in
     let handed = c.in_ok-with_capacity.ensures.exact in
     let arrived = c.in_ok-with_capacity-2.ensures.exact in

@@ -14,7 +14,7 @@ use Rattle.street_tile.proofs.tile.Tile.phase_meter.Goals as goal
 pub note_lanes-requires-clause-even : goal.note_lanes-requires-clause-even
 note_lanes-requires-clause-even c =
     let s = c.self.inside in
-    let x : Part = record { low = s.low; high = s.high; links = s.links; own = s.own; clock = s.clock; signals = s.signals.items; mouths = s.mouths.items; handed = s.handed.items; coming = map vehicle_in s.coming.items; arrived = s.arrived.items; gauges = s.gauges.items } in
+    let x : Part = record { low = s.low; high = s.high; links = s.links; own = s.own; clock = s.clock; signals = s.signals.items; mouths = s.mouths.items; handed = s.handed.items; coming = map vehicle_in s.coming; arrived = s.arrived.items; gauges = s.gauges.items } in
     let tile : IsTileOf c.args.net.now x = subst (IsTileOf c.args.net.now) (sym c.self.view_is) c.requires.tile in
     ap length c.deref_mut.ensures.value ∙ gauges-even c.args.net.now s.own tile.own s.gauges.items tile.gauged ∙ sym (even-of c.args.net.now s.own tile.own)
 
@@ -27,7 +27,7 @@ note_lanes-requires-clause-in_time c =
 pub returns : goal.returns
 returns c =
     let s = c.self.inside in
-    let x : Part = record { low = s.low; high = s.high; links = s.links; own = s.own; clock = s.clock; signals = s.signals.items; mouths = s.mouths.items; handed = s.handed.items; coming = map vehicle_in s.coming.items; arrived = s.arrived.items; gauges = s.gauges.items } in
+    let x : Part = record { low = s.low; high = s.high; links = s.links; own = s.own; clock = s.clock; signals = s.signals.items; mouths = s.mouths.items; handed = s.handed.items; coming = map vehicle_in s.coming; arrived = s.arrived.items; gauges = s.gauges.items } in
     let tile : IsTileOf c.args.net.now x = subst (IsTileOf c.args.net.now) (sym c.self.view_is) c.requires.tile in
     let items : (with_items s.gauges c.note_lanes.new.gauges).items ≡ c.note_lanes.new.gauges = with_items_is s.gauges c.note_lanes.new.gauges (let e = c.note_lanes.auto.gauges in let f = c.deref_mut.ensures.len in let ok = s.gauges.ok in omega arith) in
     let noted = subst (λ gs. HaveNoted s.own gs c.note_lanes.new.gauges) c.deref_mut.ensures.value c.note_lanes.ensures in

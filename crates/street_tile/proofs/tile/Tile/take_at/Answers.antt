@@ -15,7 +15,7 @@ use Rattle.street_tile.proofs.tile.Tile.take_at.Goals as goal
 pub take_out-requires : goal.take_out-requires
 take_out-requires c =
     let s = c.self.inside in
-    let x : Part = record { low = s.low; high = s.high; links = s.links; own = s.own; clock = s.clock; signals = s.signals.items; mouths = s.mouths.items; handed = s.handed.items; coming = map vehicle_in s.coming.items; arrived = s.arrived.items; gauges = s.gauges.items } in
+    let x : Part = record { low = s.low; high = s.high; links = s.links; own = s.own; clock = s.clock; signals = s.signals.items; mouths = s.mouths.items; handed = s.handed.items; coming = map vehicle_in s.coming; arrived = s.arrived.items; gauges = s.gauges.items } in
     let is : x ≡ c.args.self.now = c.self.view_is in
     let tile : IsTileOf c.args.net.now x = subst (IsTileOf c.args.net.now) (sym is) c.requires.tile in
     let within : c.args.n < length x.own.places = subst (λ (t : Part). c.args.n < length t.own.places) (sym is) c.requires.lane in
@@ -25,7 +25,7 @@ take_out-requires c =
 pub returns-clause-some : goal.returns-clause-some
 returns-clause-some c =
     let s = c.self.inside in
-    let x : Part = record { low = s.low; high = s.high; links = s.links; own = s.own; clock = s.clock; signals = s.signals.items; mouths = s.mouths.items; handed = s.handed.items; coming = map vehicle_in s.coming.items; arrived = s.arrived.items; gauges = s.gauges.items } in
+    let x : Part = record { low = s.low; high = s.high; links = s.links; own = s.own; clock = s.clock; signals = s.signals.items; mouths = s.mouths.items; handed = s.handed.items; coming = map vehicle_in s.coming; arrived = s.arrived.items; gauges = s.gauges.items } in
     let is : x ≡ c.args.self.now = c.self.view_is in
     let tile : IsTileOf c.args.net.now x = subst (IsTileOf c.args.net.now) (sym is) c.requires.tile in
     let within : c.args.n < length x.own.places = subst (λ (t : Part). c.args.n < length t.own.places) (sym is) c.requires.lane in
@@ -35,7 +35,7 @@ returns-clause-some c =
 pub returns-clause-had : goal.returns-clause-had
 returns-clause-had c =
     let s = c.self.inside in
-    let x : Part = record { low = s.low; high = s.high; links = s.links; own = s.own; clock = s.clock; signals = s.signals.items; mouths = s.mouths.items; handed = s.handed.items; coming = map vehicle_in s.coming.items; arrived = s.arrived.items; gauges = s.gauges.items } in
+    let x : Part = record { low = s.low; high = s.high; links = s.links; own = s.own; clock = s.clock; signals = s.signals.items; mouths = s.mouths.items; handed = s.handed.items; coming = map vehicle_in s.coming; arrived = s.arrived.items; gauges = s.gauges.items } in
     let is : x ≡ c.args.self.now = c.self.view_is in
     let tile : IsTileOf c.args.net.now x = subst (IsTileOf c.args.net.now) (sym is) c.requires.tile in
     let within : c.args.n < length x.own.places = subst (λ (t : Part). c.args.n < length t.own.places) (sym is) c.requires.lane in
@@ -45,7 +45,7 @@ returns-clause-had c =
 pub returns-clause-had_not : goal.returns-clause-had_not
 returns-clause-had_not c =
     let s = c.self.inside in
-    let x : Part = record { low = s.low; high = s.high; links = s.links; own = s.own; clock = s.clock; signals = s.signals.items; mouths = s.mouths.items; handed = s.handed.items; coming = map vehicle_in s.coming.items; arrived = s.arrived.items; gauges = s.gauges.items } in
+    let x : Part = record { low = s.low; high = s.high; links = s.links; own = s.own; clock = s.clock; signals = s.signals.items; mouths = s.mouths.items; handed = s.handed.items; coming = map vehicle_in s.coming; arrived = s.arrived.items; gauges = s.gauges.items } in
     let is : x ≡ c.args.self.now = c.self.view_is in
     let tile : IsTileOf c.args.net.now x = subst (IsTileOf c.args.net.now) (sym is) c.requires.tile in
     let within : c.args.n < length x.own.places = subst (λ (t : Part). c.args.n < length t.own.places) (sym is) c.requires.lane in
