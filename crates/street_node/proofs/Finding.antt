@@ -1,6 +1,7 @@
 -- A search among green turns in order.
-use Rattle.std.proofs.Common.{◌≡◌, ℕ, zero, suc, ◌<◌, Bool, true, false, List, [], ◌∷◌, map, length, get_or, refl, sym, ◌∙◌, arith, inl, inr}
+use Rattle.std.proofs.Common.{◌≡◌, ℕ, zero, suc, ◌<◌, Bool, true, false, List, [], ◌∷◌, map, length, get_or, refl, sym, subst, ◌∙◌, arith, inl, inr}
 use Rattle.std.specs.Prelude.{Result, Ok, Err, ◌==◌, ◌&&◌}
+use Rattle.std.specs.Int.{bit_at}
 use Rattle.std.specs.List.{list_any}
 use Rattle.std.specs.Result.{is_ok}
 use Rattle.std.specs.List.Sorted.{IsBinarySearchResult, IsSearchInRange}
@@ -16,7 +17,7 @@ use Rattle.street_base.specs.Network.{Place}
 use Rattle.street_base.specs.Signal.{Green}
 use Rattle.street_net.proofs.Searching.{list_any-keys}
 use Rattle.street_node.specs.declared.phase.GreenTurn.{GreenTurn}
-use Rattle.street_node.specs.Greens.{turn_cmp, green_seen, IsInOrder}
+use Rattle.street_node.specs.Greens.{turn_cmp, green_seen, mark_of, HasMarks, IsInOrder}
 
 pub turns_total : IsTotalOrder turn_cmp
 turns_total = then_total (on_total (λ (t : GreenTurn). t.link) nat_cmp_total) (then_total (on_total (λ (t : GreenTurn). t.lane) nat_cmp_total) (on_total (λ (t : GreenTurn). t.next) nat_cmp_total))
@@ -82,6 +83,16 @@ module _ (turns : List GreenTurn) (wanted : GreenTurn) where
         | inl low ↦ not-tied (get_or turns k d) Less (compared.0 k d (omega arith) low) (λ e. cc)
         | inr high ↦ not-tied (get_or turns k d) Greater (compared.1 k d high h) (λ e. cc)
       ])
+
+  -- where the link of the wanted one has no mark, it is none of these
+  pub unmarked : (marks : ℕ) → HasMarks marks turns → bit_at marks (mark_of wanted.link) ≡ 0 → list_any (leads_from (place_from wanted) wanted.next) (map green_seen turns) ≡ false
+  unmarked marks marked none = seen ∙ none-of is_wanted turns (λ k d h. elim (cases_Bool (is_wanted (get_or turns k d))) as (λ _. is_wanted (get_or turns k d) ≡ false) [
+    | inl same ↦
+      let link : (get_or turns k d).link ≡ wanted.link = eqb-true _ _ (and_parts _ _ (and_parts _ _ same).0).0 in
+      let one : bit_at marks (mark_of wanted.link) ≡ 1 = subst (λ l. bit_at marks (mark_of l) ≡ 1) link (marked k d h) in
+      absurd (omega (arith, one, none))
+    | inr apart ↦ apart
+  ])
 
   -- so the search answers whether it is among them
   pub answered : IsInOrder turns → (r : Result ℕ ℕ) → IsSearchInRange r (length turns) → IsBinarySearchResult (λ t. turn_cmp t wanted) turns r → is_ok r ≡ list_any (leads_from (place_from wanted) wanted.next) (map green_seen turns)

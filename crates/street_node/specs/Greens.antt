@@ -1,6 +1,8 @@
 -- How a signal plan is kept, and what it shows.
 -- Source: this profile.
-use Rattle.std.specs.Prelude.{◌≡◌, ℕ, ◌+◌, ◌*◌, ◌-◌, ◌<◌, nat_lt, List, [], ◌∷◌, map, Bool, false, Option, Some, None, slice_index_or, if◌then◌else◌}
+use Rattle.std.specs.Prelude.{◌≡◌, ℕ, ◌+◌, ◌*◌, ◌-◌, ◌%◌, ◌<◌, nat_lt, List, [], ◌∷◌, map, Bool, false, Option, Some, None, slice_index_or, if◌then◌else◌}
+use Rattle.std.specs.Int.{bit_at}
+use Rattle.std.specs.List.{All}
 use Rattle.std.specs.declared.cmp.Ordering.{Ordering}
 use Rattle.std.specs.Ordering.{nat_cmp, is_lt, then_cmp, on}
 use Rattle.std.specs.List.Sorted.{IsPermutation, IsSortedBy}
@@ -22,6 +24,19 @@ turn_rank t = t.link * 16777216 + t.lane * 65536 + t.next
 -- the turns stand in this order
 abbrev pub IsInOrder : List GreenTurn → Type 0
 IsInOrder turns = IsSortedBy (λ a b. is_lt (turn_cmp a b)) turns
+
+-- the mark of a link, one of 64
+abbrev pub mark_of : ℕ → ℕ
+mark_of link = link % 64
+
+-- among the marks is that of the link of each of these turns
+abbrev pub HasMarks : ℕ → List GreenTurn → Type 0
+HasMarks marks turns = All (λ t. bit_at marks (mark_of t.link) ≡ 1) turns
+
+-- the turns stand in order, and their links have marks
+pub record AreKeptGreens (marks : ℕ) (turns : List GreenTurn) : Type 0 where
+  pub ordered : IsInOrder turns
+  pub marked : HasMarks marks turns
 
 -- a green turn of the definitions
 abbrev pub green_seen : GreenTurn → Green

@@ -5,7 +5,7 @@ ghost use Rattle.std.specs.Prelude.{◌≡◌, ◌<◌, map};
 ghost use Rattle.std.specs.List.Sorted.{IsPermutation};
 ghost use Rattle.street_base.specs.Network.{Place};
 ghost use Rattle.street_base.specs.Signal.{lists};
-ghost use Rattle.street_node.specs.Greens.{turn_cmp, green_seen};
+ghost use Rattle.street_node.specs.Greens.{turn_cmp, green_seen, mark_of, HasMarks};
 
 use std::cmp::Ordering;
 use std::marker::Model;
@@ -19,10 +19,12 @@ pub(crate) struct GreenTurn {
     pub(crate) lane: LaneNo,
 }
 
-/// How long a phase lasts, and its green turns, in the order of `in_order`.
+/// How long a phase lasts, its green turns, in the order of `in_order`, and marks of the links that these leave. A link without
+/// its mark has no green turn, and then no list is read.
 #[derive(Drop)]
 pub(crate) struct KeptPhase {
     duration: Step,
+    marks: u64,
     greens: Vec<GreenTurn>,
 }
 
@@ -31,11 +33,11 @@ impl Model for KeptPhase {
 
     ghost Value = { Phase };
 
-    ghost use Rattle.street_node.specs.Greens.{phase_seen, IsInOrder};
+    ghost use Rattle.street_node.specs.Greens.{phase_seen, AreKeptGreens};
 
     ghost view = { λ p. phase_seen p.duration p.greens.items };
 
-    ghost invariant = { λ p. IsInOrder p.greens.items };
+    ghost invariant = { λ p. AreKeptGreens p.marks p.greens.items };
 }
 
 impl GreenTurn {
@@ -59,6 +61,25 @@ fn in_order(turn: &GreenTurn, other: &GreenTurn) -> Ordering
     turn.rank().cmp(&other.rank())
 }
 
+/// Which of the 64 marks is that of a link; links may share one.
+fn mark_of(link: LinkIx) -> u32
+    ensures is { result ≡ mark_of link }
+    ensures small { result < 64 }
+{
+    u32::from(link.as_u16() % 64)
+}
+
+/// The marks of the links that these turns leave.
+fn marks_of(greens: &[GreenTurn]) -> u64
+    ensures { HasMarks result greens.now }
+{
+    let mut marks = 0;
+    for green in greens {
+        marks |= 1 << mark_of(green.link);
+    }
+    marks
+}
+
 impl KeptPhase {
     /// A phase of these green turns, which it puts into order.
     pub(crate) fn new(duration: Step, greens: Vec<GreenTurn>) -> KeptPhase
@@ -67,7 +88,12 @@ impl KeptPhase {
     {
         let mut greens = greens;
         greens.sort_unstable_by(|turn, other| in_order(turn, other));
-        KeptPhase { duration, greens }
+        let marks = marks_of(&greens);
+        KeptPhase {
+            duration,
+            marks,
+            greens,
+        }
     }
 
     /// How many steps it lasts.
@@ -77,11 +103,14 @@ impl KeptPhase {
         self.duration
     }
 
-    /// Whether it shows a turn green; found by a search among its green turns.
+    /// Whether it shows a turn green; found by a search among its green turns, where its link has the mark.
     pub(crate) fn shows(&self, turn: &Turn) -> bool
         ensures { let place : Place = record { link = turn.now.link; lane = turn.now.lane } in
             result ≡ lists self.now place turn.now.next }
     {
+        if (self.marks >> mark_of(turn.link)) % 2 == 0 {
+            return false;
+        }
         let wanted = GreenTurn {
             link: turn.link,
             next: turn.next,
