@@ -9,3 +9,4 @@ pub mod Edits
 pub mod Sights
 pub mod Counts
 pub mod Uniqueness
+pub mod Keeping

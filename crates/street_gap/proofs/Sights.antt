@@ -1,11 +1,11 @@
 -- What is seen from a cell, by the neighbours on the list.
-use Rattle.std.proofs.Common.{◌≡◌, ◌≢◌, ℕ, ◌+◌, ◌-◌, ◌<◌, ◌≤◌, Bool, true, false, List, [], ◌∷◌, ◌++◌, length, Option, Some, None, IsSome, refl, sym, ap, subst, ◌∙◌, inl, inr, arith}
+use Rattle.std.proofs.Common.{◌≡◌, ℕ, ◌+◌, ◌-◌, ◌<◌, ◌≤◌, Bool, List, [], ◌∷◌, ◌++◌, length, Option, Some, None, IsSome, refl, sym, ap, subst, ◌∙◌, inl, inr, arith}
 use Rattle.std.specs.Option.{option_map}
 use Rattle.std.proofs.lemmas.Bool.{cond-true, cond-false, eq-eqb, ne_eqb}
 use Rattle.std.proofs.lemmas.List.{append_assoc}
 use Rattle.street_base.specs.Search.{least, greatest}
 use Rattle.street_base.specs.Lane.{is_occupied, is_entrance, obstacle_ahead, gap_ahead, gap_behind}
-use Rattle.street_yard.specs.Yard.{Yard, list_at, place_of, entry_at, first_or, last_or, Has, IsWhole, IsOnList, IsAhead, IsBehind}
+use Rattle.street_yard.specs.Yard.{Yard, list_at, place_of, first_or, last_or, IsWhole, IsOnList, IsAhead, IsBehind}
 use Rattle.street_yard.specs.Listed.{cell_at, key_at, cells_at, IsFalling, IsLane, AllAbove}
 use Rattle.street_yard.proofs.Keys.{snoc_cases, last_or-push}
 use Rattle.street_yard.proofs.Callers.{on_has_entry}

@@ -1,11 +1,11 @@
-//! The closed cells of a lane.
+//! The closed cells of a lane, which has some or none.
 //!
 //! Source: this profile.
-ghost use Rattle.std.specs.Prelude.{◌≡◌, ◌↔◌, ℕ, ◌+◌, ◌-◌, ◌<◌, ◌≤◌, not, ◌&&◌, ◌||◌, true, false, IsTrue, List, [], ◌∷◌, ◌++◌, length, take, drop, count_by, OnOk, OnErr};
+ghost use Rattle.std.specs.Prelude.{◌≡◌, ◌↔◌, ℕ, ◌+◌, ◌≤◌, not, ◌&&◌, ◌||◌, true, false, IsTrue, List, [], count_by, OnOk, OnErr};
 ghost use Rattle.street_gap.specs.declared.closures.Stretch.{Stretch as Closed};
-ghost use Rattle.street_gap.specs.Closed.{is_between, is_in, IsRising, IsWithin, closed_marks, entrance_after, closed_count};
-ghost use Rattle.street_gap.specs.Inside.{IsCut};
+ghost use Rattle.street_gap.specs.Closed.{is_between, is_in, IsRising, IsWithin, closed_marks, entrance_after};
 
+use crate::kept::Kept;
 use std::alloc::Global;
 use std::marker::Model;
 use street_base::{CellNo, Starved};
@@ -19,102 +19,28 @@ pub struct Stretch {
     pub last: CellNo,
 }
 
-/// The closed cells of a lane, kept as its closed stretches, each as long as possible, in rising order.
+/// The closed cells of a lane, told as its closed stretches, each as long as possible, in rising order.
 #[derive(Drop)]
 pub struct Closures {
-    stretches: Vec<Stretch>,
+    alloc: Global,
+    /// The stretches, if there are any. They are elsewhere, so that a step reads no more than this of a lane without them.
+    kept: Option<Box<Kept>>,
 }
+
+// There is one for each lane, and most lanes have no closed cell. Four of these fit a line of memory.
+const _: () = prove!(size_of::<Closures>() == 16);
 
 impl Model for Closures {
     ghost use Rattle.std.specs.Prelude.{List};
     ghost use Rattle.street_gap.specs.declared.closures.Stretch.{Stretch as Closed};
-    ghost use Rattle.street_gap.specs.Closed.{IsRising};
 
     ghost Value = { List Closed };
 
-    ghost view = { λ c. c.stretches.items };
+    ghost use Rattle.street_gap.specs.Kept.{seen, HasSome};
 
-    ghost invariant = { λ c. IsRising c.stretches.items };
-}
+    ghost view = { seen };
 
-/// How many of the stretches end below the cell.
-fn ending_below(stretches: &[Stretch], cell: CellNo) -> usize
-    requires { IsRising stretches.now }
-    ensures { IsCut (λ s. s.last < cell) (λ s. cell ≤ s.last) stretches.now result }
-{
-    stretches.partition_point(|stretch| stretch.last < cell)
-}
-
-/// How many of the stretches begin at the cell or below it. It stands apart from the walks, as few lanes have closed cells.
-#[cold]
-#[inline(never)]
-fn beginning_by(stretches: &[Stretch], cell: CellNo) -> usize
-    requires { IsRising stretches.now }
-    ensures { IsCut (λ s. s.first ≤ cell) (λ s. cell < s.first) stretches.now result }
-{
-    stretches.partition_point(|stretch| stretch.first <= cell)
-}
-
-/// How many of the stretches begin right above the cell, at it or below it.
-fn beginning_beside(stretches: &[Stretch], cell: CellNo) -> usize
-    requires { IsRising stretches.now }
-    ensures { IsCut (λ s. s.first - 1 ≤ cell) (λ s. cell < s.first - 1) stretches.now result }
-{
-    stretches.partition_point(|stretch| stretch.first.saturating_sub(1) <= cell)
-}
-
-/// Takes out the stretches from `low` up to, but not including, `high`.
-fn remove_from(stretches: &mut Vec<Stretch>, low: usize, high: usize)
-    requires ordered { low ≤ high }
-    requires inside { high ≤ length stretches.old.items }
-    ensures { stretches.new.items ≡ take low stretches.old.items ++ drop high stretches.old.items }
-{
-    stretches.drain(low..high);
-}
-
-/// Writes a stretch in place of those from `low` up to, but not including, `high`.
-fn replace(stretches: &mut Vec<Stretch>, low: usize, high: usize, stretch: Stretch)
-    requires some { low < high }
-    requires inside { high ≤ length stretches.old.items }
-    ensures { stretches.new.items ≡ take low stretches.old.items ++ stretch ∷ drop high stretches.old.items }
-{
-    stretches[low] = stretch;
-    remove_from(stretches, low + 1, high);
-}
-
-/// Writes two stretches in place of those from `low` up to, but not including, `high`.
-fn replace_by_two(
-    stretches: &mut Vec<Stretch>,
-    low: usize,
-    high: usize,
-    left: Stretch,
-    right: Stretch,
-) -> Result<(), Starved>
-    requires some { low < high }
-    requires inside { high ≤ length stretches.old.items }
-    ensures ok { OnOk result (stretches.new.items ≡ take low stretches.old.items ++ left ∷ right ∷ drop high stretches.old.items) }
-    ensures err { OnErr result ((stretches.new.items ≡ stretches.old.items) × (high ≡ low + 1)) }
-{
-    if high - low == 1 {
-        stretches.insert(low, left)?;
-        stretches[high] = right;
-    } else {
-        stretches[low] = left;
-        replace(stretches, low + 1, high, right);
-    }
-    Ok(())
-}
-
-/// How many cells lie on the stretches.
-fn cells_on(stretches: &[Stretch]) -> u64
-    requires { IsRising stretches.now }
-    ensures { result ≡ closed_count stretches.now }
-{
-    let mut cells = 0;
-    for stretch in stretches {
-        cells += u64::from(stretch.last - stretch.first) + 1;
-    }
-    cells
+    ghost invariant = { HasSome };
 }
 
 impl Closures {
@@ -122,16 +48,14 @@ impl Closures {
     pub fn new(alloc: Global) -> Closures
         ensures { result ≡ [] }
     {
-        Closures {
-            stretches: Vec::new(alloc),
-        }
+        Closures { alloc, kept: None }
     }
 
     /// Whether no cell is closed; takes constant time.
     pub fn is_empty(&self) -> bool
         ensures { IsTrue result ↔ (self.now ≡ []) }
     {
-        self.stretches.is_empty()
+        self.kept.is_none()
     }
 
     /// The closed stretches, each as long as possible, in rising order.
@@ -140,37 +64,40 @@ impl Closures {
         ensures longest { IsRising self.now }
         ensures only { (other : List Closed) → IsRising other → ((x : ℕ) → is_in other x ≡ is_in self.now x) → other ≡ self.now }
     {
-        self.stretches.as_slice()
+        match &self.kept {
+            Some(kept) => kept.stretches(),
+            None => &[],
+        }
     }
 
     /// How many cells are closed.
     pub fn count_closed(&self) -> u64
         ensures { (count : ℕ) → IsWithin self.now count → result ≡ count_by (λ closed. closed) (closed_marks self.now count) }
     {
-        cells_on(&self.stretches)
+        match &self.kept {
+            Some(kept) => kept.count_closed(),
+            None => 0,
+        }
     }
 
     /// Whether the cell is closed.
     pub fn is_closed(&self, cell: CellNo) -> bool
         ensures { result ≡ is_in self.now cell }
     {
-        let at = ending_below(&self.stretches, cell);
-        at < self.stretches.len() && self.stretches[at].first <= cell
+        match &self.kept {
+            Some(kept) => kept.is_closed(cell),
+            None => false,
+        }
     }
 
     /// The least entrance above the cell.
     pub fn entrance_after(&self, cell: CellNo) -> Option<CellNo>
         ensures { (count : ℕ) → IsWithin self.now count → result ≡ entrance_after (closed_marks self.now count) cell }
     {
-        // Most lanes have no closed cell, and each vehicle asks.
-        if self.stretches.is_empty() {
-            return None;
-        }
-        let at = beginning_by(&self.stretches, cell);
-        if at < self.stretches.len() {
-            Some(self.stretches[at].first)
-        } else {
-            None
+        // Most lanes have no closed cell.
+        match &self.kept {
+            Some(kept) => kept.entrance_after(cell),
+            None => None,
         }
     }
 
@@ -185,20 +112,15 @@ impl Closures {
         ensures err { OnErr result (self.new ≡ self.old) }
         ensures apart { OnErr result ((x : ℕ) → first ≤ x + 1 → x ≤ last + 1 → is_in self.old x ≡ false) }
     {
-        let low = ending_below(&self.stretches, first.saturating_sub(1));
-        let high = beginning_beside(&self.stretches, last);
-        if high <= low {
-            self.stretches.insert(low, Stretch { first, last })?;
-            return Ok(());
+        match &mut self.kept {
+            Some(kept) => kept.close(first, last),
+            None => {
+                let mut kept = Kept::new(self.alloc);
+                kept.close(first, last)?;
+                self.kept = Some(Box::new(self.alloc, kept)?);
+                Ok(())
+            }
         }
-        let lowest = self.stretches[low].first;
-        let highest = self.stretches[high - 1].last;
-        let joined = Stretch {
-            first: first.min(lowest),
-            last: last.max(highest),
-        };
-        replace(&mut self.stretches, low, high, joined);
-        Ok(())
     }
 
     /// Opens the cells from the first to the last; cells that are open stay so.
@@ -212,40 +134,12 @@ impl Closures {
         ensures err { OnErr result (self.new ≡ self.old) }
         ensures within { OnErr result ((x : ℕ) → first ≤ x + 1 → x ≤ last + 1 → is_in self.old x ≡ true) }
     {
-        let low = ending_below(&self.stretches, first);
-        let high = beginning_by(&self.stretches, last);
-        if high <= low {
+        let Some(kept) = &mut self.kept else {
             return Ok(());
-        }
-        let lowest = self.stretches[low].first;
-        let highest = self.stretches[high - 1].last;
-        match (lowest < first, last < highest) {
-            (false, false) => remove_from(&mut self.stretches, low, high),
-            (true, false) => {
-                let left = Stretch {
-                    first: lowest,
-                    last: first - 1,
-                };
-                replace(&mut self.stretches, low, high, left);
-            }
-            (false, true) => {
-                let right = Stretch {
-                    first: last + 1,
-                    last: highest,
-                };
-                replace(&mut self.stretches, low, high, right);
-            }
-            (true, true) => {
-                let left = Stretch {
-                    first: lowest,
-                    last: first - 1,
-                };
-                let right = Stretch {
-                    first: last + 1,
-                    last: highest,
-                };
-                replace_by_two(&mut self.stretches, low, high, left, right)?;
-            }
+        };
+        kept.reopen(first, last)?;
+        if kept.is_empty() {
+            self.kept = None;
         }
         Ok(())
     }
