@@ -53,7 +53,7 @@ fn end_node(net: &Network, link: LinkIx) -> NodeSpec
 
 /// Whether a lane's exit is open to its front vehicle, which goes on to this link: on its last link, or with a turn that is
 /// green and room in the buffer of the lane, in which there are so many. The signals are asked before the lane's turns, as
-/// most who come to an end and are not let go have red.
+/// where there are signals most who wait at an end have red.
 fn exit_is_open(leg: &Leg<'_>, buffered: usize, next: Option<LinkIx>) -> bool
     requires { leg.now.at.link < length leg.now.net.now.links }
     ensures { result ≡ opens_to leg.now.net.now (option_copied leg.now.plan) leg.now.clock (place_of leg.now.at) buffered next }
