@@ -113,7 +113,7 @@ pub(crate) fn zone_begin(road: &Road<'_>) -> CellNo
 }
 
 /// Whether the gap from a cell up to an obstacle is less than one more than the speed. The sum where nothing is in sight
-/// takes the place of a jump that cannot be foretold: in sparse traffic about each second vehicle is the first of its lane.
+/// takes the place of a jump that cannot be foretold where there are few vehicles on each lane.
 fn is_slow(obstacle: Option<CellNo>, cell: CellNo, speed: Speed) -> bool
     ensures { result ≡ nat_lt (gap_between obstacle cell) (speed + 1) }
 {
@@ -126,7 +126,7 @@ fn is_slow(obstacle: Option<CellNo>, cell: CellNo, speed: Speed) -> bool
 }
 
 /// Whether a vehicle with this obstacle ahead may want the other lane at all: it is slow, or goes on in the turn zone, which
-/// begins with this cell. Which lanes serve its next link is not asked yet. All is reckoned, for one jump on the outcome.
+/// begins with the cell `zone`. Which lanes serve its next link is not asked yet. All is reckoned, for one jump on the outcome.
 fn may_wish(
     zone: CellNo,
     obstacle: Option<CellNo>,
@@ -252,7 +252,7 @@ fn decide_beside(
 
 /// Whether the vehicle of a key goes to the other lane. `ahead` is the cell of the vehicle ahead; `above` is a key of the
 /// other lane whose vehicle is above the cell beside, from which on to look there. Nothing of the other lane is read where
-/// the vehicle does not wish to go.
+/// the vehicle is not slow and does not go on in the turn zone.
 pub(crate) fn decide(
     yard: &Yard,
     road: &Road<'_>,

@@ -272,8 +272,8 @@ impl<G: Gate + Sync + Drop + Send> Desk<G> {
         self.look(&mut pass.seat) / 2
     }
 
-    /// A note of what the pass has seen and of the count that it knows. Waits for nobody and takes no memory: it is never
-    /// starved so far.
+    /// A note of what the pass has seen and of the count that it knows. Waits for nobody and takes no memory; it is never
+    /// starved, as `given` says.
     pub fn note(&self, pass: &mut Pass<G>) -> Result<Note<G>, Starved>
         requires { pass.old.desk ≡ self.now }
         ensures same { pass.new ≡ pass.old }

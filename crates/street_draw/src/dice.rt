@@ -14,7 +14,8 @@ use std::simd::prelude::*;
 use street_base::{CarNo, Starved, Step};
 
 /// The draws of one vehicle in 32 steps, from `32 * block` on: two bits for each step, the first step's the lowest. The lower
-/// one of a step says whether the vehicle may change lane, the other whether it dawdles.
+/// one of a step says whether the vehicle may change lane, the other whether it dawdles; of odds that leave no choice (0, and
+/// 1,000 or more) they tell nothing, and are not asked.
 #[derive(Clone, Copy)]
 struct KeptDraws {
     number: CarNo,
@@ -60,7 +61,7 @@ fn leaves_choice(odds: u16) -> bool
     0 < odds && odds < 1000
 }
 
-/// The greatest word whose draw is below the odds, where these leave a choice.
+/// The greatest word whose draw is below the odds, where these leave a choice; else some word, as the bits are not asked then.
 fn last_of(odds: u16) -> u32
     ensures { 0 < odds → odds < 1000 → result ≡ (odds * 2 ^ 32 - 1) / 1000 }
 {
@@ -114,7 +115,7 @@ fn sixteen(rng: &mut ChaCha20Rng, lane: u32, slow: u32) -> u64
 }
 
 /// Draws for a vehicle in a block of 32 steps: 64 words, asked from a multiple of 64 on, are one call of the cipher. With no
-/// loop the compiler knows the place of each word, and none asks whether the cipher is due.
+/// loop the compiler may know the place of each word, and then none asks whether the cipher is due.
 fn drawn(rng: &mut ChaCha20Rng, number: CarNo, block: u32, dawdle: u16, change: u16) -> KeptDraws
     ensures kept { IsKept rng.old.key dawdle change result }
     ensures number { result.number ≡ number }

@@ -39,7 +39,8 @@ pub(crate) struct Advance {
     pub(crate) new_speed: Speed,
 }
 
-/// The bar of a vehicle with nothing ahead: the lane's end, or with an open exit 16 cells more, which no speed reaches.
+/// The bar of a vehicle with nothing ahead. A bar is the first cell that a vehicle does not reach: the old cell of the one
+/// ahead, and else the lane's end, or with an open exit 16 cells more, which no speed reaches.
 pub(crate) fn end_of(course: Course) -> CellNo
     requires { course.count ≤ 1000000 }
     ensures { result ≡ end_of course.count course.is_open }
@@ -51,7 +52,7 @@ pub(crate) fn end_of(course: Course) -> CellNo
     }
 }
 
-/// The bar of a vehicle in this cell, or an entrance before it.
+/// The bar of a vehicle in this cell, or the entrance above the cell where that comes before the bar.
 fn obstacle_above(cell: CellNo, bar: CellNo, course: Course, closures: &Closures) -> CellNo
     requires closed { IsWithin closures.now course.count }
     requires told { course.has_closed ≡ false → closures.now ≡ [] }
@@ -75,9 +76,9 @@ fn wished_speed(speed: Speed, limit: Speed, gap: CellNo) -> CellNo
     (CellNo::from(speed) + 1).min(CellNo::from(limit)).min(gap)
 }
 
-/// How the vehicle of a key drives on: by one faster, within the limit and the gap to its bar, the old cell of the one ahead,
-/// or to an entrance, and by one slower if it dawdles. Each is asked whether it dawdles, also one that stands: a jump that
-/// goes now this way, now that way costs more than a look.
+/// How the vehicle of a key drives on: by one faster, within the limit and the gap to its bar or to an entrance, and by one
+/// slower if it dawdles. Each is asked whether it dawdles, also one that stands: a jump that goes now this way, now that way
+/// costs more than a look.
 pub(crate) fn reckon(
     yard: &Yard,
     key: Key,

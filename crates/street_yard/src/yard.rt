@@ -40,8 +40,8 @@ impl Place {
 
 /// Cars by key, and lists of keys.
 ///
-/// The slab keeps the places, each with its key; a place that a car has left is used again. What walks read of a car lies
-/// in `hots` under the same key, and nowhere else.
+/// The slab keeps the places, each with its key; a place that a car has left is used again. All of a car but its plan and its
+/// position in that lies in `hots` under the same key, and nowhere else.
 #[derive(Drop)]
 pub struct Yard {
     places: Slab<Place>,
