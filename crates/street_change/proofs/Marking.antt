@@ -1,22 +1,21 @@
 -- A walk that writes marks.
-use Rattle.std.proofs.Common.{◌≡◌, ◌≢◌, ◌⊎◌, ℕ, ◌+◌, ◌<◌, ◌≤◌, Bool, true, false, List, [], ◌∷◌, ◌++◌, length, get_or, Option, Some, None, IsSome, refl, sym, ap, subst, ◌∙◌, inl, inr, arith}
-use Rattle.std.specs.Prelude.{MatchOption, ◌||◌}
-use Rattle.std.specs.Option.{option_map, option_and_then, unwrap_or}
+use Rattle.std.proofs.Common.{◌≡◌, ◌≢◌, ◌⊎◌, ℕ, ◌<◌, Bool, false, List, [], ◌∷◌, ◌++◌, length, get_or, Option, Some, None, IsSome, refl, sym, ap, subst, ◌∙◌, inl, inr, arith}
+use Rattle.std.specs.Prelude.{◌||◌}
+use Rattle.std.specs.Option.{option_map, unwrap_or}
 use Rattle.std.proofs.lemmas.Bool.{cases_eq, or_parts}
 use Rattle.std.proofs.lemmas.List.{append_assoc, append-nil}
-use Rattle.street_base.specs.declared.car.Car.{Car}
 use Rattle.street_base.specs.Vehicle.{Vehicle, vehicle_of}
 use Rattle.street_base.specs.Lane.{Cells, Track}
 use Rattle.street_base.specs.LaneChange.{Weave, changes}
-use Rattle.street_yard.specs.Yard.{Kept, Yard, list_at, entry_at, car_of, place_of, mark_of, kept_set, mark_set, first_or, last_or, Has, Away, IsApart, IsWhole, IsBehind, IsOnList}
-use Rattle.street_yard.specs.Listed.{cell_at, vehicle_with, cells_at, IsFalling, IsLane, AllAbove}
-use Rattle.street_yard.proofs.Keys.{IsApart-split, last_or-push, snoc_cases, has_or_away, has-away, has-later}
+use Rattle.street_yard.specs.Yard.{Kept, Yard, list_at, entry_at, car_of, place_of, mark_of, mark_set, first_or, last_or, Has, IsWhole, IsBehind}
+use Rattle.street_yard.specs.Listed.{cell_at, vehicle_with, IsFalling, IsLane, AllAbove}
+use Rattle.street_yard.proofs.Keys.{last_or-push, has_or_away, has-away, has-later}
 use Rattle.street_yard.proofs.Callers.{entry-kept_set, entry-kept_set_other, field-kept_set, IsWhole-kept_set, place_of-mark_set, left, left-is, head_is, no_head, AllAbove-same, AllAbove-lower, cell_same, on_has_entry}
 use Rattle.street_change.specs.Places.{IsUpTo}
 use Rattle.street_change.specs.Marks.{Marks}
 use Rattle.street_change.specs.Relinked.{HasNoMarks}
 use Rattle.street_change.specs.Sight.{decision}
-use Rattle.street_yard.proofs.Placed.{cells-agree, IsLane-agree, falling-split}
+use Rattle.street_yard.proofs.Placed.{cells-agree, IsLane-agree}
 use Rattle.street_change.proofs.Sights.{track, decides}
 
 as_track : Cells → List Bool → Track

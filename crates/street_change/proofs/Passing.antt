@@ -1,10 +1,10 @@
 -- The two mark passes and the two relink passes make the new arrays.
-use Rattle.std.proofs.Common.{◌≡◌, ◌≢◌, ◌⊎◌, ℕ, ◌+◌, ◌-◌, ◌<◌, ◌≤◌, Bool, true, false, not, cond, List, [], ◌∷◌, ◌++◌, map, length, get_or, Option, Some, None, refl, sym, ap, subst, ◌∙◌, inl, inr, arith}
-use Rattle.std.specs.Prelude.{◌==◌, ◌&&◌, is_some, if◌then◌else◌}
+use Rattle.std.proofs.Common.{◌≡◌, ◌≢◌, ◌⊎◌, ℕ, ◌-◌, Bool, true, false, not, cond, List, [], ◌∷◌, length, get_or, Option, Some, None, refl, sym, ap, subst, ◌∙◌, inl, inr, arith}
+use Rattle.std.specs.Prelude.{◌==◌}
 use Rattle.std.specs.Option.{option_map, option_and_then, unwrap_or}
-use Rattle.std.specs.List.{filter, range_with_len}
+use Rattle.std.specs.List.{filter}
 use Rattle.std.proofs.lemmas.Bool.{cases_Bool, both_ways, and_parts, not-true}
-use Rattle.std.proofs.lemmas.List.FromFn.{fill_by_all, get_or-map-range_with_len, length-map-range_with_len}
+use Rattle.std.proofs.lemmas.List.FromFn.{fill_by_all}
 use Rattle.street_yard.specs.Yard.{Kept, Yard, list_at, car_of, mark_of, place_of, Has, IsWhole}
 use Rattle.street_base.specs.Vehicle.{Vehicle}
 use Rattle.street_base.specs.Lane.{Cells, Track, vehicle_at, is_occupied, is_closed, is_free}
@@ -15,9 +15,9 @@ use Rattle.street_change.specs.Relinked.{is_marked, is_unmarked, put_all, IsOnEi
 use Rattle.street_change.specs.Marks.{Marks}
 use Rattle.street_change.proofs.Sights.{track}
 use Rattle.street_yard.proofs.Callers.{cell_same}
-use Rattle.street_yard.proofs.Placed.{cells-agree, cells-length, cells-read, seen-none, seen-key, occupied-key}
+use Rattle.street_yard.proofs.Placed.{cells-agree, cells-length, cells-read, seen-none, occupied-key}
 use Rattle.street_change.proofs.Roads.{KeepsElse}
-use Rattle.street_change.proofs.Weaving.{IsWeave, none-or-key, not_at, put_all-same, y_mid, x_mid, x_end, y_end, y_mid-falls, x_end-falls, y_end-falls, key-x_end, key-y_end}
+use Rattle.street_change.proofs.Weaving.{IsWeave, none-or-key, put_all-same, x_end, y_end, y_mid-falls, x_end-falls, y_end-falls, key-x_end, key-y_end}
 
 veh-none-or-some : (o : Option Vehicle) → (o ≡ None) ⊎ ((v : Vehicle) × (o ≡ Some v))
 veh-none-or-some None = inl refl

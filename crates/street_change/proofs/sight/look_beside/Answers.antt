@@ -1,4 +1,4 @@
-use Rattle.std.proofs.Common.{◌≡◌, refl, sym, ap, ◌∙◌}
+use Rattle.std.proofs.Common.{◌∙◌}
 use Rattle.std.specs.Option.{option_map}
 use Rattle.street_change.specs.Road.{lane_seen}
 use Rattle.street_change.proofs.Seeking.{last_on, first_on, named}
