@@ -4,5 +4,7 @@ pub mod Telling
 pub mod Planning
 pub mod Good
 pub mod Turning
+pub mod Permuting
+pub mod Cutting
 pub mod Landing
 pub mod Told

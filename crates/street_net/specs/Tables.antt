@@ -1,7 +1,8 @@
 -- What a network keeps beside its lists, so that a step searches for nothing in them.
 -- Source: the order of release is this profile's.
-use Rattle.std.specs.Prelude.{◌≡◌, ℕ, ◌+◌, ◌*◌, ◌<◌, ◌==◌, List, map, filter, length, Bool, false, ◌&&◌, Some, None, Vec, unwrap_or, slice_index_or}
+use Rattle.std.specs.Prelude.{◌≡◌, ℕ, ◌+◌, ◌*◌, ◌<◌, ◌≤◌, ◌==◌, List, map, filter, length, Bool, false, ◌&&◌, Some, None, Vec, unwrap_or, slice_index_or}
 use Rattle.std.specs.Option.{option_map_or}
+use Rattle.std.specs.List.{between}
 use Rattle.std.specs.declared.alloc.Global.{Global}
 use Rattle.std.specs.List.Sorted.{IsPermutation, IsNonDecreasingBy}
 use Rattle.street_base.specs.declared.net.NetSpec.{NetSpec}
@@ -69,18 +70,42 @@ pub record AreTurnsFrom (net : NetSpec) (place : Place) (turns : List Turn) : Ty
   pub same : IsPermutation (turns_from net place net.turns) turns
   pub rising : IsNonDecreasingBy (λ t. t.next) turns
 
--- for each link two lists of turns, one a lane
-pub record IsTurnTable (net : NetSpec) (table : List (Vec Turn Global)) : Type 0 where
-  pub two_each : length table ≡ 2 * length net.links
-  pub lists : (place : Place) (d : Vec Turn Global) → place.link < length net.links → place.lane < 2 → AreTurnsFrom net place (slice_index_or table (2 * place.link + place.lane) d).items
+-- the number of the list that a turn stands in: each link has two, one a lane
+abbrev pub list_number : Turn → ℕ
+list_number t = 2 * t.link + t.lane
+
+-- turns are sorted by their lists, and those of a list by their next links
+abbrev pub turn_rank : Turn → ℕ
+turn_rank t = list_number t * 65536 + t.next
+
+-- before the start of a list stand turns of lists before it, from there on those of this list and of later ones
+pub record IsStart (turns : List Turn) (list start : ℕ) : Type 0 where
+  pub within : start ≤ length turns
+  pub before : (k : ℕ) (d : Turn) → k < start → list_number (slice_index_or turns k d) < list
+  pub after : (k : ℕ) (d : Turn) → start ≤ k → k < length turns → list ≤ list_number (slice_index_or turns k d)
+
+-- where each list starts
+abbrev pub AreStarts : List ℕ → List Turn → Type 0
+AreStarts starts turns = (list d : ℕ) → list < length starts → IsStart turns list (slice_index_or starts list d)
+
+-- the turns from where this list starts to where the next one does
+abbrev pub list_at : List ℕ → List Turn → ℕ → List Turn
+list_at starts turns list = between (slice_index_or starts list 0) (slice_index_or starts (list + 1) 0) turns
+
+-- all turns of the load, sorted, and where the lists start; the last start is where all end
+pub record IsTurnTable (net : NetSpec) (starts : List ℕ) (turns : List Turn) : Type 0 where
+  pub same : IsPermutation (map (seen_turn net) net.turns) turns
+  pub rising : IsNonDecreasingBy turn_rank turns
+  pub two_each : length starts ≡ 2 * length net.links + 1
+  pub cut : AreStarts starts turns
 
 -- ---- a network
 
 -- a load without faults, with its identifiers in order and its tables
-pub record IsChecked (net : NetSpec) (nodes links : List ℕ) (briefs : List Brief) (in_lanes : List (Vec LaneId Global)) (turns : List (Vec Turn Global)) : Type 0 where
+pub record IsChecked (net : NetSpec) (nodes links : List ℕ) (briefs : List Brief) (in_lanes : List (Vec LaneId Global)) (starts : List ℕ) (turns : List Turn) : Type 0 where
   pub faultless : network_fault net ≡ None
   pub nodes_listed : nodes ≡ ids_of_nodes net.nodes
   pub links_listed : links ≡ ids_of_links net.links
   pub briefs_kept : AreBriefs net briefs
   pub in_lanes_kept : AreInLanes net in_lanes
-  pub turns_kept : IsTurnTable net turns
+  pub turns_kept : IsTurnTable net starts turns

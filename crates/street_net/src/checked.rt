@@ -10,7 +10,7 @@ use crate::faults::NetFault;
 use crate::keys::{find_link, find_node};
 use crate::lanes::{LaneId, lanes_by_end};
 use crate::lists::{read_links, read_nodes, read_turns, read_values};
-use crate::turns::{LISTS, list_of, turn_to, turns_by_lane};
+use crate::turns::{LISTS, TurnTable, list_of, turn_to};
 use indexmap::IndexSet;
 use std::alloc::{AllocError, Global};
 use std::marker::Model;
@@ -24,7 +24,7 @@ pub struct Network {
     link_ids: IndexSet<u64>,
     briefs: Vec<Brief>,
     in_lanes: Vec<Vec<LaneId>>,
-    turns: Vec<Vec<Turn>>,
+    turns: TurnTable,
 }
 
 impl Model for Network {
@@ -36,7 +36,7 @@ impl Model for Network {
 
     ghost view = { λ n. n.spec };
 
-    ghost invariant = { λ n. IsChecked n.spec n.node_ids.keys n.link_ids.keys n.briefs.items n.in_lanes.items n.turns.items };
+    ghost invariant = { λ n. IsChecked n.spec n.node_ids.keys n.link_ids.keys n.briefs.items n.in_lanes.items n.turns.starts.items n.turns.turns.items };
 }
 
 /// A load that equals `spec`.
@@ -73,7 +73,7 @@ impl Network {
         read_values(spec)?;
         let briefs = briefs_of_links(alloc, spec, &node_ids)?;
         let in_lanes = lanes_by_end(alloc, spec, &briefs)?;
-        let turns = turns_by_lane(alloc, spec, &link_ids)?;
+        let turns = TurnTable::build(alloc, spec, &link_ids)?;
         Ok(Network {
             spec: copy_spec(alloc, spec)?,
             node_ids,
@@ -137,7 +137,7 @@ impl Network {
         if link.position() >= self.briefs.len() || usize::from(lane) >= LISTS {
             return None;
         }
-        turn_to(&self.turns[list_of(link, lane)], next)
+        turn_to(self.turns.list(list_of(link, lane)), next)
     }
 
     /// Whether a lane has a turn to a next link.

@@ -1,15 +1,14 @@
 //! The turns from each lane, by the positions of their next links.
 //!
 //! Source: turns of TRANSIMS; that a lane serves a link by a turn is this profile.
-ghost use Rattle.std.specs.Prelude.{◌≡◌, ◌≢◌, ℕ, ◌+◌, ◌*◌, ◌<◌, [], length, true, None, Some, IfOk, OnOk, EachIndex, MatchOption, Vec, slice_index_or};
+ghost use Rattle.std.specs.Prelude.{◌≡◌, ◌≢◌, ℕ, ◌+◌, ◌*◌, ◌<◌, ◌≤◌, length, map, true, None, Some, IfOk, MatchOption, slice_index_or};
 ghost use Rattle.std.specs.List.{Contains};
-ghost use Rattle.std.specs.declared.alloc.Global.{Global};
-ghost use Rattle.std.specs.List.Sorted.{IsPermutation, IsNonDecreasingBy};
+ghost use Rattle.std.specs.List.Sorted.{IsNonDecreasingBy};
 ghost use Rattle.street_base.specs.declared.net.Turn.{Turn as TurnSeen};
-ghost use Rattle.street_base.specs.Network.{Place};
 ghost use Rattle.street_base.specs.Faults.{network_fault, joins};
+ghost use Rattle.street_base.specs.Limits.{most_turns};
 ghost use Rattle.street_net.specs.Keys.{ids_of_links};
-ghost use Rattle.street_net.specs.Tables.{seen_turn, turns_from, IsTurnTable};
+ghost use Rattle.street_net.specs.Tables.{seen_turn, list_number, turn_rank, list_at, IsStart, AreStarts, IsTurnTable};
 
 use crate::keys::find_link;
 use indexmap::IndexSet;
@@ -19,47 +18,75 @@ use street_base::{LaneNo, LinkIx, NetSpec, Turn, TurnSpec};
 /// How many lists of turns a link has: one for each lane that a link may have.
 pub(crate) const LISTS: usize = 2;
 
-/// Where the turns from a lane stand.
-pub(crate) fn list_of(link: LinkIx, lane: LaneNo) -> usize
-    requires { link < 65536 }
-    ensures { result ≡ 2 * link + lane }
-{
-    LISTS * link.position() + usize::from(lane)
+/// More than any position of a next link.
+const NEXTS: usize = 65_536;
+
+/// The turns from each lane, by the positions of their next links; those of a lane stand side by side.
+#[derive(Drop)]
+pub(crate) struct TurnTable {
+    /// Where each lane's list starts, and at last where all end.
+    starts: Vec<u16>,
+    turns: Vec<Turn>,
 }
 
-/// The turns from each lane. `links` are the identifiers of the links.
-///
-/// # Errors
-///
-/// Memory was refused.
-pub(crate) fn turns_by_lane(
+/// The number of the list of the turns from a lane.
+pub(crate) fn list_of(link: LinkIx, lane: LaneNo) -> usize
+    ensures value { result ≡ 2 * link + lane }
+    ensures within { result < 131_326 }
+{
+    LISTS * usize::from(link.as_u16()) + usize::from(lane)
+}
+
+impl TurnTable {
+    /// The turns of a load. `links` are the identifiers of the links.
+    ///
+    /// # Errors
+    ///
+    /// Memory was refused.
+    pub(crate) fn build(
+        alloc: Global,
+        spec: &NetSpec,
+        links: &IndexSet<u64>,
+    ) -> Result<TurnTable, AllocError>
+        requires faultless { network_fault spec.now ≡ None }
+        requires listed { links.now.keys ≡ ids_of_links spec.now.links }
+        ensures { IfOk result (λ table. IsTurnTable spec.now table.starts.items table.turns.items) }
+    {
+        let mut turns = turns_by_position(alloc, spec, links)?;
+        turns.sort_unstable_by_key(|turn| rank_of(turn));
+        let lists = LISTS * spec.links.as_slice().len();
+        let starts = starts_of(alloc, &turns, lists + 1)?;
+        Ok(TurnTable { starts, turns })
+    }
+
+    /// The turns of the list with a number.
+    pub(crate) fn list(&self, list: usize) -> &[Turn]
+        requires there { list + 1 < length self.now.starts.items }
+        requires cut { AreStarts self.now.starts.items self.now.turns.items }
+        ensures { result.now ≡ list_at self.now.starts.items self.now.turns.items list }
+    {
+        let start = usize::from(self.starts[list]);
+        let end = usize::from(self.starts[list + 1]);
+        &self.turns[start..end]
+    }
+}
+
+/// All turns by the positions of their links, in the order of the load. `links` are the identifiers of the links.
+fn turns_by_position(
     alloc: Global,
     spec: &NetSpec,
     links: &IndexSet<u64>,
-) -> Result<Vec<Vec<Turn>>, AllocError>
+) -> Result<Vec<Turn>, AllocError>
     requires faultless { network_fault spec.now ≡ None }
     requires listed { links.now.keys ≡ ids_of_links spec.now.links }
-    ensures { IfOk result (λ table. IsTurnTable spec.now table.items) }
+    ensures { IfOk result (λ turns. turns.items ≡ map (seen_turn spec.now) spec.now.turns) }
 {
-    let mut table = no_turns(alloc, LISTS * spec.links.as_slice().len())?;
-    for turn in spec.turns.as_slice() {
-        let turn = by_position(spec, links, turn);
-        table[list_of(turn.link, turn.lane)].push(turn)?;
+    let listed = spec.turns.as_slice();
+    let mut turns = Vec::with_capacity(alloc, listed.len())?;
+    for turn in listed {
+        turns.push(by_position(spec, links, turn))?;
     }
-    sort_lists(&mut table);
-    Ok(table)
-}
-
-/// So many lists of no turns.
-fn no_turns(alloc: Global, count: usize) -> Result<Vec<Vec<Turn>>, AllocError>
-    ensures count { IfOk result (λ lists. length lists.items ≡ count) }
-    ensures empty { IfOk result (λ lists. EachIndex lists.items (λ k. (d : Vec TurnSeen Global) → (slice_index_or lists.items k d).items ≡ [])) }
-{
-    let mut lists = Vec::with_capacity(alloc, count)?;
-    for _listed in 0..count {
-        lists.push(Vec::new(alloc))?;
-    }
-    Ok(lists)
+    Ok(turns)
 }
 
 /// A turn by the positions of its links.
@@ -79,22 +106,37 @@ fn by_position(spec: &NetSpec, links: &IndexSet<u64>, turn: &TurnSpec) -> Turn
     }
 }
 
-/// Sorts each list by next links.
-fn sort_lists(table: &mut [Vec<Turn>])
-    ensures { (k : ℕ) (d : Vec TurnSeen Global) → k < length table.old
-        → IsPermutation (slice_index_or table.old k d).items (slice_index_or table.new k d).items
-        × IsNonDecreasingBy (λ t. t.next) (slice_index_or table.new k d).items }
+/// By what the turns are sorted: first by their lists, then by their next links.
+fn rank_of(turn: &Turn) -> usize
+    ensures { result ≡ turn_rank turn.now }
 {
-    for turns in table.iter_mut() {
-        sort_by_next(turns);
-    }
+    list_of(turn.link, turn.lane) * NEXTS + usize::from(turn.next.as_u16())
 }
 
-fn sort_by_next(turns: &mut Vec<Turn>)
-    ensures same { IsPermutation turns.old.items turns.new.items }
-    ensures rising { IsNonDecreasingBy (λ t. t.next) turns.new.items }
+/// Where each of so many lists starts among turns in the order of their lists.
+///
+/// # Errors
+///
+/// Memory was refused.
+fn starts_of(alloc: Global, turns: &[Turn], lists: usize) -> Result<Vec<u16>, AllocError>
+    requires few { length turns.now ≤ most_turns }
+    requires rising { IsNonDecreasingBy list_number turns.now }
+    ensures one_each { IfOk result (λ starts. length starts.items ≡ lists) }
+    ensures cut { IfOk result (λ starts. AreStarts starts.items turns.now) }
 {
-    turns.sort_unstable_by_key(|turn| turn.next.position());
+    let mut starts = Vec::with_capacity(alloc, lists)?;
+    for list in 0..lists {
+        starts.push(start_of(turns, list) as u16)?;
+    }
+    Ok(starts)
+}
+
+/// Where a list starts among turns in the order of their lists.
+fn start_of(turns: &[Turn], list: usize) -> usize
+    requires { IsNonDecreasingBy list_number turns.now }
+    ensures { IsStart turns.now list result }
+{
+    turns.partition_point(|turn| list_of(turn.link, turn.lane) < list)
 }
 
 /// The turn to a next link, among turns in the order of their next links.

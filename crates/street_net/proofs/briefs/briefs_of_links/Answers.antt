@@ -1,8 +1,8 @@
-use Rattle.std.proofs.Common.{◌≡◌, ◌<◌, ◌≤◌, ◌∷◌, [], length, length-append, get_or, ◌∙◌, sym, ap, subst, arith}
+use Rattle.std.proofs.Common.{◌<◌, ◌≤◌, ◌∷◌, [], length, length-append, get_or, ◌∙◌, sym, ap, subst, arith}
 use Rattle.std.specs.Prelude.{is_some, List, Some}
 use Rattle.street_base.specs.declared.net.LinkSpec.{LinkSpec}
 use Rattle.street_base.specs.Limits.{most_cells, most_lanes, most_limit}
-use Rattle.street_base.specs.Network.{link_at, node_of, no_link}
+use Rattle.street_base.specs.Network.{node_of, no_link}
 use Rattle.street_base.proofs.FaultLemmas.{node_of_below, link_keeps_limits}
 use Rattle.street_net.specs.declared.briefs.Brief.{Brief}
 use Rattle.street_net.specs.Tables.{IsBrief}

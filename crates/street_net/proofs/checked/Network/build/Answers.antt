@@ -33,8 +33,8 @@ pub lanes_by_end-requires-clause-faultless : goal.lanes_by_end-requires-clause-f
 lanes_by_end-requires-clause-faultless c =
     nothing-told c.args.spec.now c.in_ok-node_ids.ensures.faultless c.in_ok-link_ids.ensures.faultless c.in_ok-read_turns.ensures.faultless c.in_ok-read_values.ensures.faultless
 
-pub turns_by_lane-requires-clause-faultless : goal.turns_by_lane-requires-clause-faultless
-turns_by_lane-requires-clause-faultless c =
+pub build-requires-clause-faultless : goal.build-requires-clause-faultless
+build-requires-clause-faultless c =
     nothing-told c.args.spec.now c.in_ok-node_ids.ensures.faultless c.in_ok-link_ids.ensures.faultless c.in_ok-read_turns.ensures.faultless c.in_ok-read_values.ensures.faultless
 
 pub returns-clause-faultless : goal.returns-clause-faultless
@@ -46,7 +46,7 @@ invariant_of-result c =
     let same = c.in_ok-copy_spec.ensures in
     let faultless : network_fault c.args.spec.now ≡ None =
     nothing-told c.args.spec.now c.in_ok-node_ids.ensures.faultless c.in_ok-link_ids.ensures.faultless c.in_ok-read_turns.ensures.faultless c.in_ok-read_values.ensures.faultless in
-    subst (λ net. IsChecked net c.in_ok-node_ids.node_ids.keys c.in_ok-link_ids.link_ids.keys c.in_ok-briefs.briefs.items c.in_ok-in_lanes.in_lanes.items c.in_ok-turns.turns.items) (sym same) (record {
+    subst (λ net. IsChecked net c.in_ok-node_ids.node_ids.keys c.in_ok-link_ids.link_ids.keys c.in_ok-briefs.briefs.items c.in_ok-in_lanes.in_lanes.items c.in_ok-turns.turns.starts.items c.in_ok-turns.turns.turns.items) (sym same) (record {
       faultless = faultless;
       nodes_listed = c.in_ok-node_ids.ensures.keys;
       links_listed = c.in_ok-link_ids.ensures.keys;

@@ -1,10 +1,9 @@
-use Rattle.std.proofs.Common.{◌≡◌, ◌+◌, ◌*◌, ◌∙◌, Vec, get_or, sym, ap, subst, arith}
+use Rattle.std.proofs.Common.{◌≡◌, ◌+◌, ◌*◌, ◌∙◌, sym, ap, subst, arith}
 use Rattle.std.specs.Prelude.{option_map}
-use Rattle.std.specs.declared.alloc.Global.{Global}
-use Rattle.street_base.specs.declared.net.Turn.{Turn}
 use Rattle.street_base.specs.Network.{Place}
-use Rattle.street_net.specs.Tables.{turn_by_position, AreTurnsFrom}
+use Rattle.street_net.specs.Tables.{turn_by_position, list_at, AreTurnsFrom}
 use Rattle.street_net.proofs.Turning.{turn-nowhere, turn-answer}
+use Rattle.street_net.proofs.Cutting.{turns-at}
 use Rattle.street_net.proofs.checked.Network.turn.Goals as goal
 use Rattle.street_net.proofs.checked.Network.turn.Goals.{then-position-len-via-then-position-len, then-position-len-via-else-position-len+then-from-ge-LISTS}
 
@@ -20,16 +19,18 @@ returns-then-position-len c =
 
 pub turn_to-requires : goal.turn_to-requires
 turn_to-requires c =
+    let net = c.self.inside.spec in
+    let table = c.self.inside.turns in
     let place : Place = record { link = c.args.link; lane = c.args.lane } in
-    let are = c.self.invariant.turns_kept.lists place c.index.result.now (omega (arith, c.self.invariant.briefs_kept.one_each, c.if-position-len.false, c.position.ensures, c.len.ensures)) (omega (arith, c.from.ensures)) in
-    let is : c.deref.result.now ≡ (get_or c.self.inside.turns.items (2 * c.args.link + c.args.lane) c.index.result.now).items =
-    c.deref.ensures.value ∙ ap (λ (v : Vec Turn Global). v.items) (c.index.ensures ∙ ap (λ k. get_or c.self.inside.turns.items k c.index.result.now) c.list_of.ensures) in
-    (subst (AreTurnsFrom c.self.inside.spec place) (sym is) are).rising
+    let are = turns-at net c.self.invariant.faultless table.starts.items table.turns.items c.self.invariant.turns_kept place (omega (arith, c.self.invariant.briefs_kept.one_each, c.if-position-len.false, c.position.ensures, c.len.ensures)) (omega (arith, c.from.ensures)) in
+    let is : c.list.result.now ≡ list_at table.starts.items table.turns.items (2 * c.args.link + c.args.lane) = c.list.ensures ∙ ap (list_at table.starts.items table.turns.items) c.list_of.ensures.value in
+    (subst (AreTurnsFrom net place) (sym is) are).rising
 
 pub returns : goal.returns
 returns c =
+    let net = c.self.inside.spec in
+    let table = c.self.inside.turns in
     let place : Place = record { link = c.args.link; lane = c.args.lane } in
-    let are = c.self.invariant.turns_kept.lists place c.index.result.now (omega (arith, c.self.invariant.briefs_kept.one_each, c.if-position-len.false, c.position.ensures, c.len.ensures)) (omega (arith, c.from.ensures)) in
-    let is : c.deref.result.now ≡ (get_or c.self.inside.turns.items (2 * c.args.link + c.args.lane) c.index.result.now).items =
-    c.deref.ensures.value ∙ ap (λ (v : Vec Turn Global). v.items) (c.index.ensures ∙ ap (λ k. get_or c.self.inside.turns.items k c.index.result.now) c.list_of.ensures) in
-    rw (← c.self.view_is) (turn-answer c.self.inside.spec c.self.invariant.faultless place c.args.next c.deref.result.now (subst (AreTurnsFrom c.self.inside.spec place) (sym is) are) c.turn_to.result c.turn_to.ensures)
+    let are = turns-at net c.self.invariant.faultless table.starts.items table.turns.items c.self.invariant.turns_kept place (omega (arith, c.self.invariant.briefs_kept.one_each, c.if-position-len.false, c.position.ensures, c.len.ensures)) (omega (arith, c.from.ensures)) in
+    let is : c.list.result.now ≡ list_at table.starts.items table.turns.items (2 * c.args.link + c.args.lane) = c.list.ensures ∙ ap (list_at table.starts.items table.turns.items) c.list_of.ensures.value in
+    rw (← c.self.view_is) (turn-answer net c.self.invariant.faultless place c.args.next c.list.result.now (subst (AreTurnsFrom net place) (sym is) are) c.turn_to.result c.turn_to.ensures)

@@ -1,7 +1,0 @@
-use Rattle.std.proofs.Common.{◌≡◌, ℕ, ◌<◌, [], length, get_or, Vec}
-use Rattle.std.specs.declared.alloc.Global.{Global}
-use Rattle.street_base.specs.declared.net.Turn.{Turn}
-use Rattle.street_net.proofs.turns.no_turns.Given as goal
-
-abbrev pub invariant-loop-listed : goal.invariant-loop-listed
-invariant-loop-listed l = (length l.lists.items ≡ l._listed) × ((k : ℕ) → k < length l.lists.items → (d : Vec Turn Global) → (get_or l.lists.items k d).items ≡ [])
