@@ -20,7 +20,7 @@ use Rattle.street_net.proofs.Turning.{no_turn, from-list, from-other}
 use Rattle.street_net.proofs.Permuting.{filter-permutation, filter-map}
 
 -- where a test passes from one place on for so many, these are what passes
-pub filter-cut : {X : Type 0} (q : X → Bool) (xs : List X) (start count : ℕ)
+filter-cut : {X : Type 0} (q : X → Bool) (xs : List X) (start count : ℕ)
     → ((k : ℕ) (d : X) → k < length xs → k < start → q (get_or xs k d) ≡ false)
     → ((k : ℕ) (d : X) → k < length xs → start ≤ k → k < start + count → q (get_or xs k d) ≡ true)
     → ((k : ℕ) (d : X) → k < length xs → start + count ≤ k → q (get_or xs k d) ≡ false)
@@ -53,14 +53,14 @@ module _ (turns : List Turn) (list start next : ℕ) (from : IsStart turns list 
   ]
 
   -- between them stand the turns of this list
-  pub number-between : (k : ℕ) (d : Turn) → start ≤ k → k < next → list_number (get_or turns k d) ≡ list
+  number-between : (k : ℕ) (d : Turn) → start ≤ k → k < next → list_number (get_or turns k d) ≡ list
   number-between k d low high =
       let within = to.within in
       let least = from.after k d low (omega arith) in
       let most = to.before k d high in
       omega arith
 
-  pub filter-between : filter (λ t. list_number t == list) turns ≡ between start next turns
+  filter-between : filter (λ t. list_number t == list) turns ≡ between start next turns
   filter-between =
       let rise = starts-rise in
       filter-cut (λ t. list_number t == list) turns start (next - start)
@@ -69,7 +69,7 @@ module _ (turns : List Turn) (list start next : ℕ) (from : IsStart turns list 
       (λ k d low after. let more = to.after k d (omega arith) low in ne_eqb (list_number (get_or turns k d)) list (λ e. omega arith))
 
   -- in the order of their next links
-  pub rising-between : IsNonDecreasingBy turn_rank turns → IsNonDecreasingBy (λ t. t.next) (between start next turns)
+  rising-between : IsNonDecreasingBy turn_rank turns → IsNonDecreasingBy (λ t. t.next) (between start next turns)
   rising-between rising i j d low high =
       let rise = starts-rise in
       let within = to.within in
@@ -94,9 +94,9 @@ module _ (net : NetSpec) (faultless : network_fault net ≡ None) where
     | inr few ↦ omega arith
   ]
 
-  -- what a turn of the load is by the positions of its links
+  -- the next link of each turn is one of the load
   module _ (turns : List Turn) (same : IsPermutation (map (seen_turn net) net.turns) turns) where
-    pub next-low : (k : ℕ) (d : Turn) → k < length turns → (get_or turns k d).next < 65536
+    next-low : (k : ℕ) (d : Turn) → k < length turns → (get_or turns k d).next < 65536
     next-low k d low =
         let seen_here : Contains turns (get_or turns k d) = (k, low, get_or_default turns k (get_or turns k d) d low) in
         let has = Contains-permutation turns (map (seen_turn net) net.turns) (get_or turns k d) (IsPermutation-sym (map (seen_turn net) net.turns) turns same) seen_here in

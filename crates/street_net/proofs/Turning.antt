@@ -9,8 +9,8 @@ use Rattle.std.proofs.lemmas.Cmp.{ranked}
 use Rattle.std.proofs.lemmas.Bool.Decides.{nat_tests}
 use Rattle.std.specs.List.Sorted.{IsNonDecreasingBy, IsBinarySearchResult}
 use Rattle.std.proofs.lemmas.Bool.{cases_Bool, cases_lt, cond-true, cond-false, and_parts, eqb-true, eq-eqb, both_ways}
-use Rattle.std.proofs.lemmas.List.{take_more, length-take, get_or-take, map-append, append-nil}
-use Rattle.std.proofs.lemmas.List.Elements.{Contains-append_right, Contains-append_cases, filter-append}
+use Rattle.std.proofs.lemmas.List.{length-take, get_or-take}
+use Rattle.std.proofs.lemmas.List.Elements.{Contains-append_right, Contains-append_cases}
 use Rattle.std.proofs.lemmas.List.Folds.{find_at, list_any_at}
 use Rattle.std.proofs.lemmas.List.Sums.{fails_before_first}
 use Rattle.std.proofs.lemmas.List.Sorted.{Contains-permutation, IsPermutation-sym}
@@ -153,22 +153,7 @@ module _ (turns : List Turn) (rising : IsNonDecreasingBy (λ t. t.next) turns) (
     | inr high ↦ (let above = ranked (get_or turns k d).next next _ (sym ((parted compared).1 k d high h)) in omega arith)
   ]
 
--- ---- the turns of a lane, turn by turn
-
-module _ (net : NetSpec) (place : Place) (i : ℕ) (h : i < length net.turns) where
-  abbrev turn_i : TurnSpec
-  turn_i = get_or net.turns i no_turn
-
-  pub turns-here : is_from net place turn_i ≡ true → turns_from net place (take (i + 1) net.turns) ≡ turns_from net place (take i net.turns) ++ seen_turn net turn_i ∷ []
-  turns-here from =
-      ap (turns_from net place) (take_more net.turns i no_turn h)
-      ∙ ap (map (seen_turn net)) (filter-append (is_from net place) (take i net.turns) (turn_i ∷ []) ∙ ap (λ ts. filter (is_from net place) (take i net.turns) ++ ts) (cond-true _ (turn_i ∷ []) [] from))
-      ∙ map-append (seen_turn net) (filter (is_from net place) (take i net.turns)) (turn_i ∷ [])
-
-  pub turns-elsewhere : is_from net place turn_i ≡ false → turns_from net place (take (i + 1) net.turns) ≡ turns_from net place (take i net.turns)
-  turns-elsewhere other =
-      ap (turns_from net place) (take_more net.turns i no_turn h)
-      ∙ ap (map (seen_turn net)) (filter-append (is_from net place) (take i net.turns) (turn_i ∷ []) ∙ ap (λ ts. filter (is_from net place) (take i net.turns) ++ ts) (cond-false _ (turn_i ∷ []) [] other) ∙ append-nil (filter (is_from net place) (take i net.turns)))
+-- ---- the lists of lanes
 
 -- the list of a lane is that of no other
 pub from-list : (net : NetSpec) (place : Place) (t : TurnSpec) (link : ℕ) → link_of net t.link ≡ Some link → t.lane < 2 → place.lane < 2 → 2 * place.link + place.lane ≡ 2 * link + t.lane → is_from net place t ≡ true

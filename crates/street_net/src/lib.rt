@@ -1,7 +1,7 @@
 //! A network that was checked, with its look-ups.
 //!
-//! [`Network::build`] reads a load once, in time linear in it, and answers its first fault or a [`Network`]. Of a network
-//! it is known from then on that it has no fault, and that each look-up of an identifier takes constant time.
+//! [`Network::build`] checks each entry of a load once, and answers the first fault or, with the turns sorted, a [`Network`].
+//! Of a network it is known from then on that it has no fault, and that each look-up of an identifier takes constant time.
 #![tactic(auto)]
 
 mod briefs;

@@ -1,7 +1,7 @@
 //! The turns from each lane, by the positions of their next links.
 //!
 //! Source: turns of TRANSIMS; that a lane serves a link by a turn is this profile.
-ghost use Rattle.std.specs.Prelude.{◌≡◌, ◌≢◌, ℕ, ◌+◌, ◌*◌, ◌<◌, ◌≤◌, length, map, true, None, Some, IfOk, MatchOption, slice_index_or};
+ghost use Rattle.std.specs.Prelude.{◌≡◌, ◌≢◌, ℕ, ◌+◌, ◌*◌, ◌<◌, ◌≤◌, length, map, true, None, IfOk, MatchOption, slice_index_or};
 ghost use Rattle.std.specs.List.{Contains};
 ghost use Rattle.std.specs.List.Sorted.{IsNonDecreasingBy};
 ghost use Rattle.street_base.specs.declared.net.Turn.{Turn as TurnSeen};
@@ -32,7 +32,7 @@ pub(crate) struct TurnTable {
 /// The number of the list of the turns from a lane.
 pub(crate) fn list_of(link: LinkIx, lane: LaneNo) -> usize
     ensures value { result ≡ 2 * link + lane }
-    ensures within { result < 131_326 }
+    ensures within { result ≤ 2 * 65535 + 255 }
 {
     LISTS * usize::from(link.as_u16()) + usize::from(lane)
 }
@@ -53,7 +53,7 @@ impl TurnTable {
         ensures { IfOk result (λ table. IsTurnTable spec.now table.starts.items table.turns.items) }
     {
         let mut turns = turns_by_position(alloc, spec, links)?;
-        turns.sort_unstable_by_key(|turn| rank_of(turn));
+        turns.sort_unstable_by_key(rank_of);
         let lists = LISTS * spec.links.as_slice().len();
         let starts = starts_of(alloc, &turns, lists + 1)?;
         Ok(TurnTable { starts, turns })
