@@ -50,7 +50,7 @@ fn mark_from(
     let outlook = Outlook {
         lane,
         own,
-        is_open: own.closures.is_empty(),
+        has_closed: !own.closures.is_empty(),
         zone: zone_begin(road),
     };
     let mut goes = false;

@@ -195,21 +195,21 @@ pub(crate) struct Outlook<'a> {
     /// The number of their lane.
     pub(crate) lane: LaneNo,
     pub(crate) own: RoadLane<'a>,
-    /// Whether no cell of their lane is closed.
-    pub(crate) is_open: bool,
+    /// Whether some cell of their lane is closed.
+    pub(crate) has_closed: bool,
     /// The first cell of the turn zone.
     pub(crate) zone: CellNo,
 }
 
 /// The vehicle or the entrance ahead on the own lane. Its closed cells are looked up only where there are some.
 fn own_obstacle(outlook: Outlook<'_>, ahead: Option<CellNo>, cell: CellNo) -> Option<CellNo>
-    requires { outlook.is_open ≡ true → outlook.own.closures.now ≡ [] }
+    requires { outlook.has_closed ≡ false → outlook.own.closures.now ≡ [] }
     ensures { (count : ℕ) → IsWithin outlook.entry.own.closures.now count → result ≡ lesser ahead (entrance_after (closed_marks outlook.entry.own.closures.now count) cell) }
 {
-    if outlook.is_open {
-        ahead
-    } else {
+    if outlook.has_closed {
         lesser(ahead, outlook.own.closures.entrance_after(cell))
+    } else {
+        ahead
     }
 }
 
@@ -266,7 +266,7 @@ pub(crate) fn decide(
     requires lanes { length road.now.lanes ≡ 2 }
     requires lane { outlook.lane ≤ 1 }
     requires own { lane_seen outlook.own ≡ lane_of road.now outlook.lane }
-    requires closed { outlook.is_open ≡ true → outlook.own.closures.now ≡ [] }
+    requires closed { outlook.has_closed ≡ false → outlook.own.closures.now ≡ [] }
     requires zone { outlook.zone ≡ length_of road.now - road.now.network.zone }
     requires road { IsRoad yard.now road.now }
     requires dice { dice.old ≡ odds_of road.now.network }
