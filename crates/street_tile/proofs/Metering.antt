@@ -3,7 +3,7 @@ use Rattle.std.proofs.Common.{◌≡◌, ℕ, zero, suc, ◌+◌, ◌<◌, ◌�
 use Rattle.std.specs.Prelude.{Option, Some, filter, slice_get, if◌then◌else◌}
 use Rattle.std.specs.List.{All}
 use Rattle.std.proofs.lemmas.Bool.{cases_eq}
-use Rattle.std.proofs.lemmas.List.{ext_get_or, get_or_default, get_or-map, get_or-set_same, get_or-set_other, length-map, length-set}
+use Rattle.std.proofs.lemmas.List.{ext_get_or, get_or_default, get_or-map, get_or-set_same, get_or-set_other, length-map, length-set, nil_from_length}
 use Rattle.std.proofs.lemmas.Option.{slice_get_within, slice_get-get_or, get_or_from_slice_get}
 use Rattle.street_base.specs.declared.net.NetSpec.{NetSpec}
 use Rattle.street_base.specs.Detector.{triple}
@@ -23,7 +23,7 @@ use Rattle.street_lanes.specs.Driving.{cells_on}
 use Rattle.street_meter.specs.Meter.{Meter, Stands, detector_of, next_step}
 use Rattle.street_rule.specs.declared.watch.Watch.{Watch}
 use Rattle.street_gauge.specs.Gauges.{Gauges, cleared, watch_of, triple_of, GoesOn, Notes, AllGoOn, AllNote, MeterStands, MetersStandFor}
-use Rattle.street_tile.specs.Tiles.{Part, AreDue, sizes_of}
+use Rattle.street_tile.specs.Tiles.{Part, AreBare, AreDue, sizes_of}
 use Rattle.street_tile.specs.Metering.{no_gauges, gauges_at, bare, KeepMeters, HaveWatched, HaveNoted, detectors_on, MetersStand, noted_by}
 use Rattle.street_tile.proofs.Going.{even-of}
 use Rattle.street_tile.proofs.Owning.{filter-holds}
@@ -78,6 +78,33 @@ bare-due net own clock k d h =
 pub bare-stand : (net : NetSpec) (ps : List Place) (own : List LaneId) (gauges : List Gauges) → gauges ≡ map (bare net) own → (k : ℕ) (p : Place) → slice_get ps k ≡ Some p → MetersStandFor (gauges_at gauges k).meters (detectors_on p (loaded net).detectors)
 unfolding loaded
 bare-stand net ps own gauges is k p at = subst (λ (ms : List Meter). MetersStandFor ms []) (sym (ap (λ gs. (gauges_at gs k).meters) is ∙ bare-none net own k)) (record { even = refl; each = λ j y d h. absurd (omega arith) })
+
+-- none of the lanes has a detector
+pub bare-all : (net : NetSpec) (own : List LaneId) → AreBare (map (bare net) own)
+bare-all net own k d h = ap (λ (g : Gauges). g.meters) (get_or_default (map (bare net) own) k d no_gauges h) ∙ bare-none net own k
+
+-- so there is nothing to note
+pub bare-noted : (own : Lanes) (gauges : List Gauges) → AreBare gauges → HaveNoted own gauges gauges
+bare-noted own gauges bare = record {
+  even = refl;
+  each = λ k. refl;
+  go = λ k h. record { even = refl; each = λ j x l. absurd (let none = ap length (bare k no_gauges h) in omega arith) };
+  note = λ k s h stands j x w l. absurd (let none = ap length (bare k no_gauges h) in omega arith);
+}
+
+-- motion places no detector
+pub keep-bare : (olds news : List Gauges) → KeepMeters olds news → AreBare olds → AreBare news
+keep-bare olds news keep bare k d h =
+    let even = keep.even in
+    ap (λ (g : Gauges). g.meters) (get_or_default news k d no_gauges h ∙ keep.each k) ∙ bare k no_gauges (omega arith)
+
+-- nor does noting a step
+pub noted-bare : (own : Lanes) (olds news : List Gauges) → HaveNoted own olds news → AreBare olds → AreBare news
+noted-bare own olds news noted bare k d h =
+    let even = noted.even in
+    let go = (noted.go k (omega arith)).even in
+    let none = ap length (bare k no_gauges (omega arith)) in
+    ap (λ (g : Gauges). g.meters) (get_or_default news k d no_gauges h) ∙ nil_from_length (gauges_at news k).meters (omega arith)
 
 -- ---- motion, lane after lane
 

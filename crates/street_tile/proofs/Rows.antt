@@ -32,6 +32,9 @@ row-from net k i (x ∷ xs) some e shares =
     shift : (i j : ℕ) → i + suc j ≡ i + 1 + j
     shift i j = omega arith
 
+zero-times : (n : ℕ) → 0 * n ≡ 0
+zero-times n = omega arith
+
 pub in-row : (net : NetSpec) (xs : List Part) → AreTiles net xs → AreInRow net xs
 in-row net xs t =
     let row = row-from net (length xs) 0 xs t.some (zero-plus (length xs)) (λ j d h. subst (λ (i : ℕ). IsShare net (length xs) i (get_or xs j d)) (sym (zero-plus j)) (t.shares j d h)) in
@@ -42,8 +45,14 @@ in-row net xs t =
     zero-plus : (n : ℕ) → 0 + n ≡ n
     zero-plus n = omega arith
 
-    zero-times : (n : ℕ) → 0 * n ≡ 0
-    zero-times n = omega arith
+-- one tile has all nodes
+pub one-tile : (net : NetSpec) (xs : List Part) → AreTiles net xs → length xs ≡ 1 → (d : Part) → ((get_or xs 0 d).low ≡ 0) × ((get_or xs 0 d).high ≡ length net.nodes)
+one-tile net xs tiles one d =
+    let is = tiles.shares 0 d tiles.some in
+    let low : 0 * length net.nodes / length xs ≡ 0 = ap (λ (n : ℕ). n / length xs) (zero-times (length net.nodes)) ∙ zero-div (length xs) in
+    let count : 0 + 1 ≡ length xs = omega arith in
+    let high : (0 + 1) * length net.nodes / length xs ≡ length net.nodes = ap (λ (k : ℕ). k * length net.nodes / length xs) count ∙ mul-div_cancel_left (length net.nodes) tiles.some in
+    (is.low ∙ low, is.high ∙ high)
 
 -- ---- whose a node is
 

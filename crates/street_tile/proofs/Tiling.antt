@@ -16,6 +16,7 @@ use Rattle.street_base.specs.State.{Traffic}
 use Rattle.street_base.specs.Census.{one_if}
 use Rattle.street_base.specs.Release.{entering}
 use Rattle.street_base.proofs.PlaceOnceLemmas.{places-once}
+use Rattle.street_lanes.specs.Lanes.{IsLane}
 use Rattle.street_tile.specs.Halves.{Entry, crossing, entry_in}
 use Rattle.street_tile.specs.Tiles.{Part, IsRoads, is_own}
 use Rattle.street_tile.specs.Walks.{times}
@@ -66,18 +67,22 @@ row-times net low high (x ∷ xs) r q =
     ∙ ap (λ (n : ℕ). gated (is_own net x.high high q) (times q (places net)) + gated (is_own net n x.high q) (times q (places net))) r.1
     ∙ own-split net low x.high high q (times q (places net)) r.2 (row-le net x.high high xs r.3)
 
-pub tiles-once : (net : NetSpec) → IsRoads net → (xs : List Part) → AreInRow net xs → (q : Place) → list_any (is_place q) (places net) ≡ true → times q (all_places xs) ≡ 1
-tiles-once net roads xs row q among =
-    row-times net 0 (length net.nodes) xs row q
-    ∙ ap (λ (b : Bool). gated b (times q (places net))) (whole (node_of net (link_at net q.link).to) refl (roads.ends q.link (lane-of net q among).0))
-    ∙ places-once net q among
+-- whose are all nodes, its are all lanes
+pub all-own : (net : NetSpec) → IsRoads net → (p : Place) → IsLane net p → is_own net 0 (length net.nodes) p ≡ true
+all-own net roads p there = whole (node_of net (link_at net p.link).to) refl (roads.ends p.link there.0)
   where
     nowhere : NodeSpec
     nowhere = record { id = 0; residence = 0; capacity = 0 }
 
-    whole : (o : Option ℕ) → node_of net (link_at net q.link).to ≡ o → IsSome o → option_map_or (λ node. nat_le 0 node && nat_lt node (length net.nodes)) o false ≡ true
+    whole : (o : Option ℕ) → node_of net (link_at net p.link).to ≡ o → IsSome o → option_map_or (λ node. nat_le 0 node && nat_lt node (length net.nodes)) o false ≡ true
     whole None e some = cc
-    whole (Some node) e some = rw (le-leb 0 node (omega arith)) (lt-ltb node (length net.nodes) (position-Some (λ (n : NodeSpec). n.id == (link_at net q.link).to) net.nodes node nowhere e).0)
+    whole (Some node) e some = rw (le-leb 0 node (omega arith)) (lt-ltb node (length net.nodes) (position-Some (λ (n : NodeSpec). n.id == (link_at net p.link).to) net.nodes node nowhere e).0)
+
+pub tiles-once : (net : NetSpec) → IsRoads net → (xs : List Part) → AreInRow net xs → (q : Place) → list_any (is_place q) (places net) ≡ true → times q (all_places xs) ≡ 1
+tiles-once net roads xs row q among =
+    row-times net 0 (length net.nodes) xs row q
+    ∙ ap (λ (b : Bool). gated b (times q (places net))) (all-own net roads q (lane-of net q among))
+    ∙ places-once net q among
 
 -- ---- the hand-overs of all tiles are the entries of the machine
 

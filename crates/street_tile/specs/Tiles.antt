@@ -111,14 +111,20 @@ pub record AreNumbers (links : ℕ) (ps : List Place) (numbers : List ℕ) : Typ
 abbrev pub AreDue : ℕ → List Gauges → Type 0
 AreDue clock gauges = All (λ g. All (λ x. next_step x ≡ clock) g.meters) gauges
 
--- what a tile keeps beside its lanes: a place for each of its nodes, links and lanes, and room for a hand-over and an arrival of each lane; its detectors have noted all steps so far
-pub record IsKept (low high links : ℕ) (ps : List Place) (numbers : List ℕ) (signals mouths coming handed arrived clock : ℕ) (gauges : List Gauges) : Type 0 where
+-- none of these lanes has a detector
+abbrev pub AreBare : List Gauges → Type 0
+AreBare gauges = All (λ g. g.meters ≡ []) gauges
+
+-- what a tile keeps beside its lanes: a place for each of its nodes, links and lanes, and room for a hand-over and an arrival of each lane; where it says
+-- that it has no detectors it has none, and those that it has have noted all steps so far
+pub record IsKept (low high links : ℕ) (ps : List Place) (numbers : List ℕ) (signals mouths coming handed arrived clock : ℕ) (has_meters : Bool) (gauges : List Gauges) : Type 0 where
   pub nodes : low + signals ≡ high
   pub numbered : AreNumbers links ps numbers
   pub mouths_wide : mouths ≡ 2 * links
   pub coming_long : coming ≡ length ps
   pub handed_room : length ps ≤ handed
   pub arrived_room : length ps ≤ arrived
+  pub bare : has_meters ≡ false → AreBare gauges
   pub due : AreDue clock gauges
 
 -- nobody is on the way to a tile

@@ -131,6 +131,7 @@ impl Tile {
             handed: Vec::with_capacity(alloc, lanes)?,
             coming: Coming::new(alloc, lanes)?,
             arrived: Vec::with_capacity(alloc, lanes)?,
+            has_meters: false,
             gauges: gauges_of(alloc, net, &places)?,
         })
     }

@@ -30,6 +30,7 @@ impl Tile {
     fn take_at(&mut self, net: &Network, n: usize, number: CarNo) -> Option<Car>
         requires tile { IsTileOf net.now self.old }
         requires lane { n < length self.old.own.places }
+        ensures number { IfSome result (λ car. car.number ≡ number) }
         ensures some { IfSome result (λ car. DoesIf net.now (λ m. HaveAtMostOne self.old.own.places m number) (without number) self.old self.new) }
         ensures had { IfSome result (λ car. (m : Traffic) → IsOn net.now m → StandsFor self.old m → HaveAtMostOne self.old.own.places m number → 0 < in_lane number (lane_at m (place_at self.old.own n))) }
         ensures none { result ≡ None → self.new ≡ self.old }
@@ -43,6 +44,7 @@ impl Tile {
         requires tile { IsTileOf net.now self.old }
         requires lane { IsLane net.now (place_of at) }
         requires own { is_own net.now self.old.low self.old.high (place_of at) ≡ true }
+        ensures number { IfSome result (λ car. car.number ≡ number) }
         ensures some { IfSome result (λ car. DoesIf net.now (λ m. HaveAtMostOne self.old.own.places m number) (without number) self.old self.new) }
         ensures had { IfSome result (λ car. (m : Traffic) → IsOn net.now m → StandsFor self.old m → HaveAtMostOne self.old.own.places m number → 0 < in_lane number (lane_at m (place_of at))) }
         ensures none { result ≡ None → self.new ≡ self.old }
@@ -55,6 +57,7 @@ impl Tile {
     /// Takes a vehicle out, wherever it is on the own lanes. Takes no memory.
     pub fn take_out(&mut self, net: &Network, number: CarNo) -> Option<Car>
         requires { IsTileOf net.now self.old }
+        ensures number { IfSome result (λ car. car.number ≡ number) }
         ensures some { IfSome result (λ car. DoesIf net.now (λ m. HaveAtMostOne self.old.own.places m number) (without number) self.old self.new) }
         ensures had { IfSome result (λ car. (m : Traffic) → IsOn net.now m → StandsFor self.old m → HaveAtMostOne self.old.own.places m number → Have self.old.own.places m number) }
         ensures none { result ≡ None → self.new ≡ self.old }

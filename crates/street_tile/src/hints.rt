@@ -60,7 +60,7 @@ impl Hints {
     }
 
     /// The vehicle of a number was put on a link; nothing if the number was not given. Takes no memory.
-    pub fn put(&mut self, number: CarNo, link: LinkIx)
+    pub(crate) fn put(&mut self, number: CarNo, link: LinkIx)
         ensures links { self.new.links ≡ slice_set self.old.links number link }
         ensures room { self.new.room ≡ self.old.room }
     {

@@ -1,14 +1,14 @@
 //! The detectors of a tile.
 //!
 //! Source: this profile.
-ghost use Rattle.std.specs.Prelude.{◌≡◌, ℕ, ◌<◌, ◌≤◌, length, true, option_map, slice_get, IfOk, OnOk, OnErr};
+ghost use Rattle.std.specs.Prelude.{◌≡◌, ℕ, ◌<◌, ◌≤◌, length, true, false, option_map, slice_get, IfOk, OnOk, OnErr};
 ghost use Rattle.street_base.specs.Limits.{last_clock};
 ghost use Rattle.street_base.specs.Network.{link_at};
 ghost use Rattle.street_base.specs.Shown.{shown_rows};
 ghost use Rattle.street_base.specs.State.{Traffic};
 ghost use Rattle.street_net.specs.Tables.{place_of};
 ghost use Rattle.street_lanes.specs.Lanes.{IsLane};
-ghost use Rattle.street_tile.specs.Tiles.{IsTileOf, AreDue, is_own};
+ghost use Rattle.street_tile.specs.Tiles.{IsTileOf, AreBare, AreDue, is_own};
 ghost use Rattle.street_tile.specs.Metering.{HaveNoted, MetersStand, PlacesMeter, detectors_on};
 
 use crate::tile::Tile;
@@ -18,12 +18,16 @@ use street_gauge::Gauges;
 use street_lanes::Lanes;
 use street_net::{LaneId, Network};
 
-/// The detectors of each of these lanes note the step.
-pub(crate) fn note_lanes(gauges: &mut [Gauges], own: &Lanes)
+/// The detectors of each of these lanes note the step. Where `has_meters` is false there are none, and no lane is looked at.
+pub(crate) fn note_lanes(has_meters: bool, gauges: &mut [Gauges], own: &Lanes)
+    requires bare { has_meters ≡ false → AreBare gauges.old }
     requires even { length gauges.old ≡ length own.now.lanes }
     requires in_time { (clock : ℕ) × (clock < last_clock) × AreDue clock gauges.old }
     ensures { HaveNoted own.now gauges.old gauges.new }
 {
+    if !has_meters {
+        return;
+    }
     for n in 0..own.len() {
         gauges[n].note(own, n);
     }
@@ -57,6 +61,8 @@ impl Tile {
         let LaneId { link, lane } = at;
         let n = self.number(net, at);
         let start = self.clock;
+        // Also where memory is then refused: that costs no more than a walk over the lanes in each step.
+        self.has_meters = true;
         self.gauges[n].place(alloc, LaneId { link, lane }, cell, period, start)
     }
 

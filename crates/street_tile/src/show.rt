@@ -1,4 +1,4 @@
-//! Which of a tile's own lanes are open.
+//! What a tile found of its own lanes' mouths, as the view shows it.
 //!
 //! Source: this profile.
 ghost use Rattle.std.specs.Prelude.{◌≡◌, ℕ, ◌*◌, ◌<◌, length, false, slice_get, Some};

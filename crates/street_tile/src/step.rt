@@ -163,7 +163,7 @@ fn publish(net: &Network, tiles: &[Tile], view: &mut View)
     }
 }
 
-/// Which of so many tiles owns a lane: that of the node to which its link runs.
+/// Which of so many tiles owns a lane: that of the node to which its link runs. Of one tile, without a look at the network.
 fn owner(net: &Network, tiles: &[Tile], to: LaneId) -> usize
     requires tiles { AreTiles net.now tiles.now }
     requires lane { IsLane net.now (place_of to) }
@@ -171,6 +171,9 @@ fn owner(net: &Network, tiles: &[Tile], to: LaneId) -> usize
     ensures own { (d : Part) → is_own net.now (slice_index_or tiles.now result d).low
         (slice_index_or tiles.now result d).high (place_of to) ≡ true }
 {
+    if tiles.len() == 1 {
+        return 0;
+    }
     let nodes = net.spec().nodes.as_slice().len();
     let node = net.end_of(to.link).position();
     ((node + 1) * tiles.len() - 1) / nodes

@@ -1,5 +1,5 @@
 //! A tile and its phases.
-ghost use Rattle.std.specs.Prelude.{◌≡◌, ℕ, ◌+◌, ◌*◌, ◌<◌, ◌≤◌, length, List, [], ◌∷◌, ◌++◌, Some, None, option_to_list, map, slice_get, true, false, OnOk, OnErr};
+ghost use Rattle.std.specs.Prelude.{◌≡◌, ℕ, ◌+◌, ◌*◌, ◌<◌, ◌≤◌, length, List, [], ◌∷◌, ◌++◌, Some, None, option_to_list, map, slice_get, true, false, IsTrue, ◌↔◌, OnOk, OnErr};
 ghost use Rattle.std.specs.List.{list_any};
 ghost use Rattle.street_base.specs.Limits.{last_clock};
 ghost use Rattle.street_base.specs.Network.{Place, is_place};
@@ -38,6 +38,8 @@ pub struct Tile {
     pub(crate) handed: Vec<HandOver>,
     pub(crate) coming: Coming,
     pub(crate) arrived: Vec<CarNo>,
+    /// Whether a detector was ever placed in the tile. While none was, nothing is noted.
+    pub(crate) has_meters: bool,
     pub(crate) gauges: Vec<Gauges>,
 }
 
@@ -62,7 +64,7 @@ impl Model for Tile {
       gauges = t.gauges.items;
     } };
 
-    ghost invariant = { λ t. IsKept t.low t.high t.links t.own.places t.numbers.items (length t.signals.items) (length t.mouths.items) (length t.coming) (vec_capacity t.handed) (vec_capacity t.arrived) t.clock t.gauges.items };
+    ghost invariant = { λ t. IsKept t.low t.high t.links t.own.places t.numbers.items (length t.signals.items) (length t.mouths.items) (length t.coming) (vec_capacity t.handed) (vec_capacity t.arrived) t.clock t.has_meters t.gauges.items };
 }
 
 impl Tile {
@@ -94,6 +96,13 @@ impl Tile {
         );
     }
 
+    /// Whether all nodes are the tile's, and so all lanes.
+    fn has_all_nodes(&self, net: &Network) -> bool
+        ensures { IsTrue result ↔ (self.now.low ≡ 0) × (self.now.high ≡ length net.now.nodes) }
+    {
+        self.low == 0 && self.high == net.spec().nodes.as_slice().len()
+    }
+
     /// Copies into the view what the tile holds of the mouth of each own lane, as motion left it; the lanes are not looked at.
     /// Takes no memory.
     pub fn mouths(&self, net: &Network, view: &mut View)
@@ -105,7 +114,11 @@ impl Tile {
             → mouth view.new p ≡ mouth view.old p }
         ensures wide { length view.new ≡ length view.old }
     {
-        copy_lanes(&self.own, net, &self.mouths, view);
+        if self.has_all_nodes(net) {
+            view.copy(&self.mouths);
+        } else {
+            copy_lanes(&self.own, net, &self.mouths, view);
+        }
     }
 
     /// The fronts that go leave the buffers and are handed over. Of the lanes that they enter, which may be other tiles', the
@@ -135,13 +148,14 @@ impl Tile {
         enter_lanes(&mut self.own, &mut self.coming, self.clock);
     }
 
-    /// Each detector notes the step, and the clock goes on. Takes no memory.
+    /// Each detector notes the step, and the clock goes on. In a tile where none was ever placed, the lanes are not looked at.
+    /// Takes no memory.
     pub fn phase_meter(&mut self, net: &Network)
         requires tile { IsTileOf net.now self.old }
         requires in_time { self.old.clock < last_clock }
         ensures { Ticks net.now self.old self.new }
     {
-        note_lanes(&mut self.gauges, &self.own);
+        note_lanes(self.has_meters, &mut self.gauges, &self.own);
         self.clock += 1;
     }
 

@@ -51,6 +51,14 @@ impl View {
         &self.mouths
     }
 
+    /// Writes all mouths.
+    pub(crate) fn copy(&mut self, mouths: &[bool])
+        requires { length mouths.now ≡ length self.old }
+        ensures { self.new ≡ mouths.now }
+    {
+        self.mouths.copy_from_slice(mouths);
+    }
+
     /// Writes the mouth of a lane.
     pub(crate) fn show(&mut self, at: LaneId, is_open: bool)
         requires small { slot_of (place_of at) < 65536 }

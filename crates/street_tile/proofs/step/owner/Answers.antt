@@ -1,8 +1,10 @@
 use Rattle.std.proofs.Common.{◌≡◌, ◌+◌, ◌-◌, ◌*◌, ◌/◌, ◌<◌, ◌≤◌, length, get_or, refl, arith}
 use Rattle.std.proofs.lemmas.Nat.{mul-le}
 use Rattle.std.proofs.lemmas.Bool.{le-leb, lt-ltb}
+use Rattle.street_net.specs.Tables.{place_of}
 use Rattle.street_tile.specs.Tiles.{Part}
-use Rattle.street_tile.proofs.Rows.{share-of, roads-of}
+use Rattle.street_tile.proofs.Rows.{share-of, roads-of, one-tile}
+use Rattle.street_tile.proofs.Tiling.{all-own}
 use Rattle.street_tile.proofs.step.owner.Goals as goal
 
 module _ (c : goal.After-position-node) where
@@ -17,6 +19,15 @@ module _ (c : goal.After-position-node) where
 
   share : let n = length c.args.net.now.nodes in let k = length c.args.tiles.now in let j = ((c.position-node.result + 1) * k - 1) / n in (j < k) × (j * n / k ≤ c.position-node.result) × (c.position-node.result < (j + 1) * n / k)
   share = share-of (length c.args.net.now.nodes) (length c.args.tiles.now) c.position-node.result some c.requires.tiles.some node
+
+-- one tile has all lanes
+pub returns-then-tiles-eq1-clause-own : goal.returns-then-tiles-eq1-clause-own
+returns-then-tiles-eq1-clause-own c = λ d.
+    let net = c.args.net.now in
+    let xs = c.args.tiles.now in
+    let one : length xs ≡ 1 = omega arith in
+    let all = one-tile net xs c.requires.tiles one d in
+    rw (all.0, all.1) (all-own net (roads-of net xs c.requires.tiles) (place_of c.args.to) c.requires.lane)
 
 pub overflow_mul-result : goal.overflow_mul-result
 overflow_mul-result c =

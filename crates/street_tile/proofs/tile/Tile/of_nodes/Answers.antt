@@ -12,11 +12,11 @@ use Rattle.street_lanes.specs.Lanes.{Lanes, IsLane, AllLanes}
 use Rattle.street_lanes.specs.Whole.{LanesStand}
 use Rattle.street_lanes.specs.Driving.{cells_on}
 use Rattle.street_tile.specs.Halves.{vehicle_in}
-use Rattle.street_tile.specs.Tiles.{ShowSignals, AreNumbers, AreDue, own_places, sizes_of}
+use Rattle.street_tile.specs.Tiles.{ShowSignals, AreNumbers, AreBare, AreDue, own_places, sizes_of}
 use Rattle.street_tile.specs.Walks.{AtMostOnce}
 use Rattle.street_tile.proofs.Owning.{own-lanes, own-once}
 use Rattle.street_tile.proofs.Cutting.{faultless-roads, loaded-lanes, loaded-clock, loaded-signals, nobody-comes}
-use Rattle.street_tile.proofs.Metering.{bare-sizes, bare-due, bare-stand}
+use Rattle.street_tile.proofs.Metering.{bare-sizes, bare-all, bare-due, bare-stand}
 use Rattle.street_tile.proofs.tile.Tile.of_nodes.Goals as goal
 
 pub new-requires : goal.new-requires
@@ -126,5 +126,6 @@ invariant_of-result c =
       coming_long = slots ∙ long;
       handed_room = omega arith;
       arrived_room = omega arith;
+      bare = λ none. subst AreBare (sym c.in_ok-gauges_of.ensures) (bare-all net c.deref-3.result.now);
       due = subst (AreDue c.spec-2.result.now.start) (sym c.in_ok-gauges_of.ensures) (bare-due net c.deref-3.result.now c.spec-2.result.now.start);
     }

@@ -2,12 +2,12 @@ use Rattle.std.proofs.Common.{◌≡◌, ◌+◌, length, map, sym, subst, ap, �
 use Rattle.std.specs.Vec.{with_items}
 use Rattle.std.proofs.lemmas.List.{with_items_is}
 use Rattle.street_tile.specs.Halves.{vehicle_in}
-use Rattle.street_tile.specs.Tiles.{Part, IsTileOf, AreDue}
+use Rattle.street_tile.specs.Tiles.{Part, IsTileOf, AreBare, AreDue}
 use Rattle.street_tile.specs.Metering.{HaveNoted}
 use Rattle.street_tile.specs.Phases.{Ticks}
 use Rattle.street_tile.proofs.Going.{even-of}
 use Rattle.street_tile.proofs.Keeping.{at-view}
-use Rattle.street_tile.proofs.Metering.{gauges-even, noted-due}
+use Rattle.street_tile.proofs.Metering.{gauges-even, noted-bare, noted-due}
 use Rattle.street_tile.proofs.Ticking.{ticks-of}
 use Rattle.street_tile.proofs.tile.Tile.phase_meter.Goals as goal
 
@@ -17,6 +17,9 @@ note_lanes-requires-clause-even c =
     let x : Part = record { low = s.low; high = s.high; links = s.links; own = s.own; clock = s.clock; signals = s.signals.items; mouths = s.mouths.items; handed = s.handed.items; coming = map vehicle_in s.coming; arrived = s.arrived.items; gauges = s.gauges.items } in
     let tile : IsTileOf c.args.net.now x = subst (IsTileOf c.args.net.now) (sym c.self.view_is) c.requires.tile in
     ap length c.deref_mut.ensures.value ∙ gauges-even c.args.net.now s.own tile.own s.gauges.items tile.gauged ∙ sym (even-of c.args.net.now s.own tile.own)
+
+pub note_lanes-requires-clause-bare : goal.note_lanes-requires-clause-bare
+note_lanes-requires-clause-bare c = λ none. subst AreBare (sym c.deref_mut.ensures.value) (c.self.invariant.bare none)
 
 pub note_lanes-requires-clause-in_time : goal.note_lanes-requires-clause-in_time
 note_lanes-requires-clause-in_time c =
@@ -46,5 +49,6 @@ invariant_of-self c =
       coming_long = inv.coming_long;
       handed_room = inv.handed_room;
       arrived_room = inv.arrived_room;
+      bare = λ none. subst AreBare (sym items) (noted-bare s.own s.gauges.items c.note_lanes.new.gauges noted (inv.bare none));
       due = subst (AreDue (s.clock + 1)) (sym items) (noted-due s.own s.gauges.items s.clock c.note_lanes.new.gauges noted inv.due);
     }

@@ -5,11 +5,11 @@ use Rattle.std.proofs.lemmas.List.{with_items_is}
 use Rattle.street_base.specs.State.{Traffic}
 use Rattle.street_lanes.specs.Lanes.{place_at}
 use Rattle.street_tile.specs.Halves.{vehicle_in}
-use Rattle.street_tile.specs.Tiles.{Part, IsTileOf, AreDue, ShowSignals, mouth, is_own, sizes_of}
+use Rattle.street_tile.specs.Tiles.{Part, IsTileOf, AreBare, AreDue, ShowSignals, mouth, is_own, sizes_of}
 use Rattle.street_tile.specs.Metering.{KeepMeters, HaveWatched}
 use Rattle.street_tile.specs.Phases.{Moves}
 use Rattle.street_tile.proofs.Keeping.{at-view}
-use Rattle.street_tile.proofs.Metering.{keep-due}
+use Rattle.street_tile.proofs.Metering.{keep-bare, keep-due}
 use Rattle.street_tile.proofs.Parting.{tile-owns, moves-of}
 use Rattle.street_tile.proofs.tile.Tile.phase_motion.Goals as goal
 
@@ -50,6 +50,7 @@ invariant_of-self c =
       coming_long = rw places inv.coming_long;
       handed_room = rw places inv.handed_room;
       arrived_room = (let le = inv.arrived_room in let cap = c.drive_lanes.ensures.capacity in rw places (omega arith));
+      bare = λ none. subst AreBare (sym items) (keep-bare s.gauges.items c.drive_lanes.new.gauges keep (inv.bare none));
       due = subst (AreDue s.clock) (sym items) (keep-due s.clock s.gauges.items c.drive_lanes.new.gauges keep inv.due);
     }
 

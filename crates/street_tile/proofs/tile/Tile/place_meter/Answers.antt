@@ -50,5 +50,6 @@ invariant_of-self c =
       coming_long = inv.coming_long;
       handed_room = inv.handed_room;
       arrived_room = inv.arrived_room;
+      bare = λ none. cc;
       due = placed-or-not s.clock s.gauges.items n p c.args.cell c.args.period g c.place.new.self (seen-there c.args.net.now c.self.view_is c.requires.tile n p c.number-n.ensures) c.place.result ok err inv.due;
     }
