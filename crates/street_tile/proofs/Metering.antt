@@ -1,10 +1,10 @@
 -- The detectors of a tile, lane after lane and phase after phase.
 use Rattle.std.proofs.Common.{◌≡◌, ℕ, zero, suc, ◌+◌, ◌<◌, ◌≤◌, Bool, true, false, List, [], ◌∷◌, ◌++◌, length, map, set, get_or, refl, sym, ◌∙◌, ap, subst, arith, inl, inr}
-use Rattle.std.specs.Prelude.{Option, Some, filter, slice_get, if◌then◌else◌}
+use Rattle.std.specs.Prelude.{Option, Some, slice_get, if◌then◌else◌}
 use Rattle.std.specs.List.{All}
 use Rattle.std.proofs.lemmas.Bool.{cases_eq}
 use Rattle.std.proofs.lemmas.List.{ext_get_or, get_or_default, get_or-map, get_or-set_same, get_or-set_other, length-map, length-set, nil_from_length}
-use Rattle.std.proofs.lemmas.Option.{slice_get_within, slice_get-get_or, get_or_from_slice_get}
+use Rattle.std.proofs.lemmas.Option.{slice_get-get_or}
 use Rattle.street_base.specs.declared.net.NetSpec.{NetSpec}
 use Rattle.street_base.specs.Detector.{triple}
 use Rattle.street_base.specs.Lane.{Cells, Track}
@@ -24,7 +24,7 @@ use Rattle.street_meter.specs.Meter.{Meter, Stands, detector_of, next_step}
 use Rattle.street_rule.specs.declared.watch.Watch.{Watch}
 use Rattle.street_gauge.specs.Gauges.{Gauges, cleared, watch_of, triple_of, GoesOn, Notes, AllGoOn, AllNote, MeterStands, MetersStandFor}
 use Rattle.street_tile.specs.Tiles.{Part, AreBare, AreDue, sizes_of}
-use Rattle.street_tile.specs.Metering.{no_gauges, gauges_at, bare, KeepMeters, HaveWatched, HaveNoted, detectors_on, MetersStand, noted_by}
+use Rattle.street_tile.specs.Metering.{no_gauges, gauges_at, bare, KeepMeters, HaveNoted, detectors_on, MetersStand}
 use Rattle.street_tile.proofs.Going.{even-of}
 use Rattle.street_tile.proofs.Owning.{filter-holds}
 

@@ -1,8 +1,7 @@
 -- A detector more on a tile.
-use Rattle.std.proofs.Common.{◌≡◌, ℕ, ◌+◌, ◌<◌, ◌≤◌, Bool, true, false, List, [], ◌∷◌, ◌++◌, length, map, set, get_or, refl, sym, ◌∙◌, ap, subst, arith, inl, inr}
-use Rattle.std.specs.Prelude.{Some, Result, Ok, Err, OnOk, OnErr, filter, slice_get, if◌then◌else◌}
-use Rattle.std.specs.List.{All}
-use Rattle.std.proofs.lemmas.Bool.{cases_eq, cases_Bool, false_from_ne_true}
+use Rattle.std.proofs.Common.{◌≡◌, ℕ, ◌+◌, ◌<◌, true, false, List, [], ◌∷◌, ◌++◌, length, set, get_or, refl, sym, ◌∙◌, ap, subst, arith, inl, inr}
+use Rattle.std.specs.Prelude.{Some, Result, Ok, Err, OnOk, OnErr, slice_get}
+use Rattle.std.proofs.lemmas.Bool.{cases_eq, false_from_ne_true}
 use Rattle.std.proofs.lemmas.List.{append-nil, length-append, get_or_append_left, get_or_push, get_or_default, get_or-set_same, get_or-set_other, set-get_or, length-set}
 use Rattle.std.proofs.lemmas.List.Elements.{filter-append}
 use Rattle.std.proofs.lemmas.Option.{slice_get_within}
@@ -11,7 +10,6 @@ use Rattle.street_base.specs.Effects.{metered}
 use Rattle.street_base.specs.Network.{Place, is_place, link_at}
 use Rattle.street_base.specs.State.{Traffic, Detector}
 use Rattle.street_base.proofs.ReleaseLemmas.{is_place-same, is_place-refl}
-use Rattle.street_lanes.specs.Lanes.{lane_of}
 use Rattle.street_meter.specs.Meter.{Meter, next_step}
 use Rattle.street_gauge.specs.Gauges.{Gauges, MeterStands, MetersStandFor, Placed}
 use Rattle.street_tile.specs.Tiles.{Part, IsTileOf, StandsFor, AreDue, sizes_of}

@@ -1,9 +1,7 @@
 -- The detectors of a tile note the step, and its clock goes on.
-use Rattle.std.proofs.Common.{ℕ, ◌+◌, ◌<◌, List, length, refl, ap, sym, ◌∙◌, arith}
-use Rattle.std.specs.Prelude.{Some, slice_get}
+use Rattle.std.proofs.Common.{◌+◌, List, refl, ap, arith}
 use Rattle.std.proofs.lemmas.Option.{slice_get_within, slice_get-get_or}
 use Rattle.street_base.specs.declared.net.NetSpec.{NetSpec}
-use Rattle.street_base.specs.Network.{Place}
 use Rattle.street_base.specs.State.{no_lane, lane_at}
 use Rattle.street_lanes.specs.Lanes.{lane_of}
 use Rattle.street_gauge.specs.Gauges.{Gauges}

@@ -6,11 +6,10 @@ use Rattle.street_base.specs.declared.net.NetSpec.{NetSpec}
 use Rattle.street_net.specs.declared.lanes.LaneId.{LaneId}
 use Rattle.street_base.specs.Effects.{metered}
 use Rattle.street_base.specs.Network.{Place, is_place, link_at}
-use Rattle.street_base.specs.State.{Traffic, LaneState, Detector, lane_at}
+use Rattle.street_base.specs.State.{Traffic, LaneState, Detector}
 use Rattle.street_base.specs.Step.{noted}
 use Rattle.street_lanes.specs.Views.{LaneStands}
 use Rattle.street_lanes.specs.Lanes.{Lanes, lane_of}
-use Rattle.street_meter.specs.Meter.{Meter}
 use Rattle.street_gauge.specs.Gauges.{Gauges, watch_of, AllGoOn, AllNote, MetersStandFor}
 use Rattle.street_tile.specs.Tiles.{Part, StandsFor, SameTile}
 

@@ -1,8 +1,4 @@
-use Rattle.std.proofs.Common.{ap, subst, sym, get_or, arith}
-use Rattle.std.specs.List.{All}
-use Rattle.street_base.specs.Limits.{last_clock}
-use Rattle.street_meter.specs.Meter.{next_step}
-use Rattle.street_gauge.specs.Gauges.{Gauges}
+use Rattle.std.proofs.Common.{arith}
 use Rattle.street_tile.proofs.Metering.{bare-noted, noted-next, noted-all, due-early}
 use Rattle.street_tile.proofs.meters.note_lanes.Goals as goal
 

@@ -2,7 +2,7 @@ use Rattle.std.proofs.Common.{◌≡◌, ℕ, ◌*◌, Bool, true, List, length,
 use Rattle.std.specs.Prelude.{Some, slice_get}
 use Rattle.std.specs.List.{list_any}
 use Rattle.std.proofs.lemmas.Bool.{both_ways}
-use Rattle.street_base.specs.Network.{Place, is_place}
+use Rattle.street_base.specs.Network.{is_place}
 use Rattle.street_base.proofs.PlaceLemmas.{places-listed}
 use Rattle.street_base.proofs.PlaceOnceLemmas.{places-once}
 use Rattle.street_tile.specs.Halves.{vehicle_in}

@@ -1,5 +1,4 @@
-use Rattle.std.proofs.Common.{ap, subst, sym, arith}
-use Rattle.std.proofs.lemmas.List.{get_or_read}
+use Rattle.std.proofs.Common.{subst, sym, arith}
 use Rattle.std.proofs.lemmas.Result.{IfOk-weaker}
 use Rattle.street_net.specs.Tables.{place_of}
 use Rattle.street_gauge.specs.Gauges.{Gauges, MetersStandFor}
