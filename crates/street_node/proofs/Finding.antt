@@ -88,9 +88,9 @@ module _ (turns : List GreenTurn) (wanted : GreenTurn) where
   pub unmarked : (marks : ℕ) → HasMarks marks turns → bit_at marks (mark_of wanted.link) ≡ 0 → list_any (leads_from (place_from wanted) wanted.next) (map green_seen turns) ≡ false
   unmarked marks marked none = seen ∙ none-of is_wanted turns (λ k d h. elim (cases_Bool (is_wanted (get_or turns k d))) as (λ _. is_wanted (get_or turns k d) ≡ false) [
     | inl same ↦
-      let link : (get_or turns k d).link ≡ wanted.link = eqb-true _ _ (and_parts _ _ (and_parts _ _ same).0).0 in
-      let one : bit_at marks (mark_of wanted.link) ≡ 1 = subst (λ l. bit_at marks (mark_of l) ≡ 1) link (marked k d h) in
-      absurd (omega (arith, one, none))
+        let link : (get_or turns k d).link ≡ wanted.link = eqb-true _ _ (and_parts _ _ (and_parts _ _ same).0).0 in
+        let one : bit_at marks (mark_of wanted.link) ≡ 1 = subst (λ l. bit_at marks (mark_of l) ≡ 1) link (marked k d h) in
+        absurd (omega (arith, one, none))
     | inr apart ↦ apart
   ])
 

@@ -19,5 +19,5 @@ pub more : (marks : ℕ) (turns : List GreenTurn) (i : ℕ) (d : GreenTurn) (k :
 more marks turns i d k h small is marked =
     let both : ℕ = bit_or marks (1 * 2 ^ k % 2 ^ 64) in
     All-more (λ (t : GreenTurn). bit_at both (mark_of t.link) ≡ 1) turns i d h
-      (λ j e l. stays marks (1 * 2 ^ k % 2 ^ 64) (mark_of (get_or (take i turns) j e).link) (marked j e l))
-      (subst (λ x. bit_at both x ≡ 1) is (bit_at_set_same w64 marks k small))
+    (λ j e l. stays marks (1 * 2 ^ k % 2 ^ 64) (mark_of (get_or (take i turns) j e).link) (marked j e l))
+    (subst (λ x. bit_at both x ≡ 1) is (bit_at_set_same w64 marks k small))
