@@ -2,7 +2,8 @@
 ghost use Rattle.std.specs.Prelude.{◌≡◌, ◌<◌, None, Some, length, map, option_map, slice_get, IfOk, IfErr, IfSome, OnOk};
 ghost use Rattle.street_base.specs.Network.{Place, link_at, link_of, node_of, end_node, turn, serves};
 ghost use Rattle.street_base.specs.Faults.{network_fault};
-ghost use Rattle.street_net.specs.Tables.{place_of, in_places, turn_by_position};
+ghost use Rattle.street_net.specs.Keys.{ids_of_nodes, ids_of_links};
+ghost use Rattle.street_net.specs.Tables.{AreBriefs, AreInLanes, IsTurnTable, place_of, in_places, turn_by_position};
 ghost use Rattle.street_net.specs.Refused.{TellsFault};
 
 use crate::briefs::{Brief, briefs_of_links};
@@ -55,6 +56,41 @@ fn copy_spec(alloc: Global, spec: &NetSpec) -> Result<NetSpec, AllocError>
     })
 }
 
+/// The identifiers of the nodes, and those of the links, of a load without faults.
+fn identifiers(alloc: Global, spec: &NetSpec) -> Result<(IndexSet<u64>, IndexSet<u64>), NetFault>
+    ensures keys { IfOk result (λ ids. (ids.0.keys ≡ ids_of_nodes spec.now.nodes) × (ids.1.keys ≡ ids_of_links spec.now.links)) }
+    ensures faultless { OnOk result (network_fault spec.now ≡ None) }
+    ensures fault { IfErr result (TellsFault (network_fault spec.now)) }
+{
+    let nodes = read_nodes(alloc, spec)?;
+    let links = read_links(alloc, spec, &nodes)?;
+    read_turns(alloc, spec, &links)?;
+    read_values(spec)?;
+    Ok((nodes, links))
+}
+
+// What a network keeps of each link, of each node and of the turns.
+type Tables = (Vec<Brief>, Vec<Vec<LaneId>>, TurnTable);
+
+/// The tables of a load without faults.
+fn tables(
+    alloc: Global,
+    spec: &NetSpec,
+    nodes: &IndexSet<u64>,
+    links: &IndexSet<u64>,
+) -> Result<Tables, AllocError>
+    requires faultless { network_fault spec.now ≡ None }
+    requires nodes { nodes.now.keys ≡ ids_of_nodes spec.now.nodes }
+    requires links { links.now.keys ≡ ids_of_links spec.now.links }
+    ensures { IfOk result (λ found. AreBriefs spec.now found.0.items × AreInLanes spec.now found.1.items
+        × IsTurnTable spec.now found.2.starts.items found.2.turns.items) }
+{
+    let briefs = briefs_of_links(alloc, spec, nodes)?;
+    let in_lanes = lanes_by_end(alloc, spec, &briefs)?;
+    let turns = TurnTable::build(alloc, spec, links)?;
+    Ok((briefs, in_lanes, turns))
+}
+
 impl Network {
     /// Checks a load, and copies it.
     ///
@@ -67,15 +103,11 @@ impl Network {
         ensures faultless { OnOk result (network_fault spec.now ≡ None) }
         ensures fault { IfErr result (TellsFault (network_fault spec.now)) }
     {
-        let node_ids = read_nodes(alloc, spec)?;
-        let link_ids = read_links(alloc, spec, &node_ids)?;
-        read_turns(alloc, spec, &link_ids)?;
-        read_values(spec)?;
-        let briefs = briefs_of_links(alloc, spec, &node_ids)?;
-        let in_lanes = lanes_by_end(alloc, spec, &briefs)?;
-        let turns = TurnTable::build(alloc, spec, &link_ids)?;
+        let (node_ids, link_ids) = identifiers(alloc, spec)?;
+        let spec = copy_spec(alloc, spec)?;
+        let (briefs, in_lanes, turns) = tables(alloc, &spec, &node_ids, &link_ids)?;
         Ok(Network {
-            spec: copy_spec(alloc, spec)?,
+            spec,
             node_ids,
             link_ids,
             briefs,
