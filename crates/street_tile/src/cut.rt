@@ -1,18 +1,19 @@
 //! Tiles of a network, with nobody on them.
-ghost use Rattle.std.specs.Prelude.{◌≡◌, ℕ, ◌+◌, ◌*◌, ◌/◌, ◌<◌, ◌≤◌, ◌++◌, length, map, replicate, min, None, IfOk, OnOk};
+ghost use Rattle.std.specs.Prelude.{◌≡◌, ℕ, ◌+◌, ◌*◌, ◌/◌, ◌<◌, ◌≤◌, ◌++◌, [], length, map, replicate, min, vec_capacity, None, IfOk, OnOk};
 ghost use Rattle.std.specs.List.{All, range_with_len};
 ghost use Rattle.street_base.specs.Machine.{loaded};
 ghost use Rattle.street_net.specs.Tables.{place_of};
-ghost use Rattle.street_lanes.specs.Lanes.{AllLanes};
+ghost use Rattle.street_lanes.specs.Lanes.{AllLanes, IsOf, fresh};
 ghost use Rattle.street_tile.specs.Tiles.{IsTileOf, IsIdle, StandsFor, AreTiles, AreNumbers, own_places};
 ghost use Rattle.street_tile.specs.Metering.{bare, MetersStand, AllMetersStand};
 ghost use Rattle.street_tile.specs.Walks.{AtMostOnce};
 
 use crate::coming::Coming;
+use crate::hand_over::HandOver;
 use crate::tile::Tile;
 use crate::view::slot;
 use std::alloc::{AllocError, Global};
-use street_base::{CellNo, LaneNo, LinkIx, Starved, Step};
+use street_base::{CarNo, CellNo, LaneNo, LinkIx, Starved, Step};
 use street_gauge::Gauges;
 use street_lanes::Lanes;
 use street_net::{LaneId, Network};
@@ -102,6 +103,88 @@ fn gauges_of(alloc: Global, net: &Network, own: &[LaneId]) -> Result<Vec<Gauges>
     Ok(gauges)
 }
 
+/// These lanes with nobody on them, and for each its detectors, none so far.
+///
+/// # Errors
+/// Memory was refused.
+fn lanes_of(alloc: Global, net: &Network, own: &[LaneId]) -> Result<(Lanes, Vec<Gauges>), Starved>
+    requires { AllLanes net.now (map place_of own.now) }
+    ensures fresh { IfOk result (λ found. found.0 ≡ fresh net.now (map place_of own.now) found.0.room) }
+    ensures of { IfOk result (λ found. IsOf net.now found.0) }
+    ensures gauges { IfOk result (λ found. found.1.items ≡ map (bare net.now) own.now) }
+{
+    let lanes = Lanes::new(alloc, net, own)?;
+    let gauges = gauges_of(alloc, net, own)?;
+    Ok((lanes, gauges))
+}
+
+/// For each slot the number of its lane among these, and a mouth.
+///
+/// # Errors
+/// Memory was refused.
+fn slots_of(
+    alloc: Global,
+    links: usize,
+    own: &[LaneId],
+) -> Result<(Vec<usize>, Vec<bool>), AllocError>
+    requires few { links ≤ 4096 }
+    requires inside { All (λ at. (at.link < links) × (at.lane < 2)) own.now }
+    requires once { AtMostOnce (map place_of own.now) }
+    ensures numbers { IfOk result (λ slots. AreNumbers links (map place_of own.now) slots.0.items) }
+    ensures mouths { IfOk result (λ slots. length slots.1.items ≡ 2 * links) }
+{
+    let numbers = numbers_of(alloc, links, own)?;
+    let mouths = vec![in alloc; false; 2 * links]?;
+    Ok((numbers, mouths))
+}
+
+// Who is handed over, who comes to each lane, and who arrived.
+type Moving = (Vec<HandOver>, Coming, Vec<CarNo>);
+
+/// Room for all who move in a step between so many lanes, of each of which one vehicle may leave.
+///
+/// # Errors
+/// Memory was refused.
+fn nobody_moves(alloc: Global, lanes: usize) -> Result<Moving, AllocError>
+    ensures handed { IfOk result (λ moving. (moving.0.items ≡ []) × (lanes ≤ vec_capacity moving.0)) }
+    ensures coming { IfOk result (λ moving. moving.1 ≡ replicate lanes None) }
+    ensures arrived { IfOk result (λ moving. (moving.2.items ≡ []) × (lanes ≤ vec_capacity moving.2)) }
+{
+    let handed = Vec::with_capacity(alloc, lanes)?;
+    let coming = Coming::new(alloc, lanes)?;
+    let arrived = Vec::with_capacity(alloc, lanes)?;
+    Ok((handed, coming, arrived))
+}
+
+// By slot; who moves; and for each node its plan.
+type Tables = ((Vec<usize>, Vec<bool>), Moving, Vec<Option<SignalPlan>>);
+
+/// What a tile keeps beside its lanes: by slot, of who moves, and for each of its nodes no plan.
+///
+/// # Errors
+/// Memory was refused.
+fn tables_of(
+    alloc: Global,
+    links: usize,
+    nodes: usize,
+    own: &[LaneId],
+) -> Result<Tables, AllocError>
+    requires few { links ≤ 4096 }
+    requires inside { All (λ at. (at.link < links) × (at.lane < 2)) own.now }
+    requires once { AtMostOnce (map place_of own.now) }
+    ensures numbers { IfOk result (λ tables. AreNumbers links (map place_of own.now) tables.0.0.items) }
+    ensures mouths { IfOk result (λ tables. length tables.0.1.items ≡ 2 * links) }
+    ensures handed { IfOk result (λ tables. (tables.1.0.items ≡ []) × (length own.now ≤ vec_capacity tables.1.0)) }
+    ensures coming { IfOk result (λ tables. tables.1.1 ≡ replicate (length own.now) None) }
+    ensures arrived { IfOk result (λ tables. (tables.1.2.items ≡ []) × (length own.now ≤ vec_capacity tables.1.2)) }
+    ensures plans { IfOk result (λ tables. tables.2.items ≡ replicate nodes None) }
+{
+    let slots = slots_of(alloc, links, own)?;
+    let moving = nobody_moves(alloc, own.len())?;
+    let plans = nones(alloc, nodes)?;
+    Ok((slots, moving, plans))
+}
+
 impl Tile {
     /// The tile of the nodes from `low` up to `high`, with nobody on it.
     ///
@@ -118,21 +201,23 @@ impl Tile {
     {
         let links = net.spec().links.as_slice().len();
         let places = own_lanes(alloc, net, low, high)?;
-        let lanes = places.len();
+        let (own, gauges) = lanes_of(alloc, net, &places)?;
+        let tables = tables_of(alloc, links, high - low, &places)?;
+        let ((numbers, mouths), (handed, coming, arrived), signals) = tables;
         Ok(Tile {
             low,
             high,
             links,
-            own: Lanes::new(alloc, net, &places)?,
-            numbers: numbers_of(alloc, links, &places)?,
+            own,
+            numbers,
             clock: net.spec().start as Step,
-            signals: nones(alloc, high - low)?,
-            mouths: vec![in alloc; false; 2 * links]?,
-            handed: Vec::with_capacity(alloc, lanes)?,
-            coming: Coming::new(alloc, lanes)?,
-            arrived: Vec::with_capacity(alloc, lanes)?,
+            signals,
+            mouths,
+            handed,
+            coming,
+            arrived,
             has_meters: false,
-            gauges: gauges_of(alloc, net, &places)?,
+            gauges,
         })
     }
 

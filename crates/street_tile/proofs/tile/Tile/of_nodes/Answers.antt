@@ -1,4 +1,4 @@
-use Rattle.std.proofs.Common.{rules, ◌≡◌, ◌-◌, ◌<◌, ◌≤◌, List, length, map, get_or, refl, sym, ◌∙◌, ap, subst, arith}
+use Rattle.std.proofs.Common.{◌≡◌, ◌-◌, ◌<◌, ◌≤◌, List, length, map, get_or, refl, sym, ◌∙◌, ap, subst, arith}
 use Rattle.std.specs.Prelude.{Option, Some, None, slice_get, option_map}
 use Rattle.std.proofs.lemmas.List.{length-map, length-replicate}
 use Rattle.std.proofs.lemmas.Option.{slice_get-map, slice_get-get_or}
@@ -19,19 +19,19 @@ use Rattle.street_tile.proofs.Cutting.{faultless-roads, loaded-lanes, loaded-clo
 use Rattle.street_tile.proofs.Metering.{bare-sizes, bare-all, bare-due, bare-stand}
 use Rattle.street_tile.proofs.tile.Tile.of_nodes.Goals as goal
 
-pub new-requires : goal.new-requires
-new-requires c =
+pub lanes_of-requires : goal.lanes_of-requires
+lanes_of-requires c =
     let is : map place_of c.deref.result.now ≡ own_places c.args.net.now c.args.low c.args.high = ap (map place_of) c.deref.ensures.value ∙ c.in_ok-places.ensures in
     subst (AllLanes c.args.net.now) (sym is) (own-lanes c.args.net.now c.args.low c.args.high)
 
-pub numbers_of-requires-clause-few : goal.numbers_of-requires-clause-few
-numbers_of-requires-clause-few c =
+pub tables_of-requires-clause-few : goal.tables_of-requires-clause-few
+tables_of-requires-clause-few c =
     let long : length c.as_slice-links.result.now ≡ length c.args.net.now.links = rw (c.as_slice-links.ensures, c.spec.ensures.value) refl in
     let few : length c.args.net.now.links ≤ 4096 = few_links c.args.net.now c.spec.ensures.faultless in
     omega arith
 
-pub numbers_of-requires-clause-inside : goal.numbers_of-requires-clause-inside
-numbers_of-requires-clause-inside c = λ k d h.
+pub tables_of-requires-clause-inside : goal.tables_of-requires-clause-inside
+tables_of-requires-clause-inside c = λ k d h.
     let net = c.args.net.now in
     let own = c.deref-2.result.now in
     let p : Place = place_of (get_or own k d) in
@@ -44,8 +44,8 @@ numbers_of-requires-clause-inside c = λ k d h.
     let side = lane.1 in
     ((let l : p.link < length c.as_slice-links.result.now = omega arith in l), (let l : p.lane < 2 = omega arith in l))
 
-pub numbers_of-requires-clause-once : goal.numbers_of-requires-clause-once
-numbers_of-requires-clause-once c =
+pub tables_of-requires-clause-once : goal.tables_of-requires-clause-once
+tables_of-requires-clause-once c =
     let is : map place_of c.deref-2.result.now ≡ own_places c.args.net.now c.args.low c.args.high = ap (map place_of) c.deref-2.ensures.value ∙ c.in_ok-places.ensures in
     subst AtMostOnce (sym is) (own-once c.args.net.now c.args.low c.args.high)
 
@@ -62,70 +62,62 @@ returns-clause-tile c =
       roads = faultless-roads c.args.net.now c.spec.ensures.faultless;
       links = rw (c.as_slice-links.ensures, c.spec.ensures.value) refl;
       within = c.requires.within;
-      places = ap (λ (x : Lanes). x.places) c.in_ok-new.ensures.fresh ∙ is;
-      own = c.in_ok-new.ensures.of;
-      gauged = ap sizes_of c.in_ok-gauges_of.ensures ∙ bare-sizes c.args.net.now c.deref-3.result.now ∙ ap (map (cells_on c.args.net.now)) (ap (map place_of) (c.deref-3.ensures.value ∙ sym c.deref.ensures.value) ∙ sym (ap (λ (x : Lanes). x.places) c.in_ok-new.ensures.fresh));
+      places = ap (λ (x : Lanes). x.places) c.in_ok-own.ensures.fresh ∙ is;
+      own = c.in_ok-own.ensures.of;
+      gauged = ap sizes_of c.in_ok-own.ensures.gauges ∙ bare-sizes c.args.net.now c.deref.result.now ∙ ap (map (cells_on c.args.net.now)) (sym (ap (λ (x : Lanes). x.places) c.in_ok-own.ensures.fresh));
     }
 
 pub returns-clause-idle : goal.returns-clause-idle
 returns-clause-idle c =
-    let places : c.in_ok-new.field-0.places ≡ map place_of c.deref.result.now = ap (λ (x : Lanes). x.places) c.in_ok-new.ensures.fresh in
-    let lanes = c.len-lanes.ensures in
-    let items = c.deref.ensures.len in
+    let places : c.in_ok-own.own.places ≡ map place_of c.deref.result.now = ap (λ (x : Lanes). x.places) c.in_ok-own.ensures.fresh in
+    let items : length c.deref-2.result.now ≡ length c.deref.result.now = ap length (c.deref-2.ensures.value ∙ sym c.deref.ensures.value) in
     let mapped = length-map c.deref.result.now place_of in
-    let same : length c.in_ok-new.field-0.places ≡ length (map place_of c.deref.result.now) = ap length places in
-    let long : c.len-lanes.result ≡ length c.in_ok-new.field-0.places = omega arith in
+    let same : length c.in_ok-own.own.places ≡ length (map place_of c.deref.result.now) = ap length places in
+    let long : length c.deref-2.result.now ≡ length c.in_ok-own.own.places = omega arith in
     record {
-      handed = c.in_ok-with_capacity.ensures.items;
-      coming = ap (map vehicle_in) c.in_ok-new-2.ensures ∙ nobody-comes c.len-lanes.result c.in_ok-new.field-0.places long;
-      arrived = c.in_ok-with_capacity-2.ensures.items;
+      handed = c.in_ok-tables.ensures.handed.0;
+      coming = ap (map vehicle_in) c.in_ok-tables.ensures.coming ∙ nobody-comes (length c.deref-2.result.now) c.in_ok-own.own.places long;
+      arrived = c.in_ok-tables.ensures.arrived.0;
     }
 
 pub returns-clause-stands : goal.returns-clause-stands
 returns-clause-stands c =
     let net = c.args.net.now in
-    let own = c.in_ok-new.field-0 in
     let ps = map place_of c.deref.result.now in
     let is : ps ≡ own_places net c.args.low c.args.high = ap (map place_of) c.deref.ensures.value ∙ c.in_ok-places.ensures in
     let all : AllLanes net ps = subst (AllLanes net) (sym is) (own-lanes net c.args.low c.args.high) in
     let start : c.spec-2.result.now.start ≡ net.start = rw c.spec-2.ensures.value refl in
     record {
       clock = start ∙ sym (loaded-clock net);
-      lanes = subst (λ (x : Lanes). LanesStand x.places x.lanes (loaded net)) (sym c.in_ok-new.ensures.fresh) (loaded-lanes net ps all);
-      signals = subst (λ (ss : List (Option SignalPlan)). ShowSignals c.args.low c.args.high ss (loaded net)) (sym c.in_ok-nones.ensures) (loaded-signals net c.args.low c.args.high c.requires.within);
+      lanes = subst (λ (x : Lanes). LanesStand x.places x.lanes (loaded net)) (sym c.in_ok-own.ensures.fresh) (loaded-lanes net ps all);
+      signals = subst (λ (ss : List (Option SignalPlan)). ShowSignals c.args.low c.args.high ss (loaded net)) (sym c.in_ok-tables.ensures.plans) (loaded-signals net c.args.low c.args.high c.requires.within);
     }
 
 pub returns-clause-meters : goal.returns-clause-meters
-returns-clause-meters c = bare-stand c.args.net.now c.in_ok-new.field-0.places c.deref-3.result.now c.in_ok-gauges_of.field-0.items c.in_ok-gauges_of.ensures
-
-pub gauges_of-requires : goal.gauges_of-requires
-gauges_of-requires c =
-    let is : map place_of c.deref-3.result.now ≡ own_places c.args.net.now c.args.low c.args.high = ap (map place_of) c.deref-3.ensures.value ∙ c.in_ok-places.ensures in
-    subst (AllLanes c.args.net.now) (sym is) (own-lanes c.args.net.now c.args.low c.args.high)
+returns-clause-meters c = bare-stand c.args.net.now c.in_ok-own.own.places c.deref.result.now c.in_ok-own.gauges.items c.in_ok-own.ensures.gauges
 
 pub invariant_of-result : goal.invariant_of-result
 invariant_of-result c =
     let net = c.args.net.now in
-    let ps = c.in_ok-new.field-0.places in
-    let places : ps ≡ map place_of c.deref.result.now = ap (λ (x : Lanes). x.places) c.in_ok-new.ensures.fresh in
-    let lanes = c.len-lanes.ensures in
-    let items = c.deref.ensures.len in
+    let ps = c.in_ok-own.own.places in
+    let places : ps ≡ map place_of c.deref.result.now = ap (λ (x : Lanes). x.places) c.in_ok-own.ensures.fresh in
+    let items : length c.deref-2.result.now ≡ length c.deref.result.now = ap length (c.deref-2.ensures.value ∙ sym c.deref.ensures.value) in
     let mapped = length-map c.deref.result.now place_of in
     let same : length ps ≡ length (map place_of c.deref.result.now) = ap length places in
-    let long : c.len-lanes.result ≡ length ps = omega arith in
+    let long : length c.deref-2.result.now ≡ length ps = omega arith in
     let numbers : map place_of c.deref-2.result.now ≡ ps = ap (map place_of) (c.deref-2.ensures.value ∙ sym c.deref.ensures.value) ∙ sym places in
-    let plans : length c.in_ok-nones.field-0.items ≡ c.args.high - c.args.low = ap length c.in_ok-nones.ensures ∙ length-replicate (c.args.high - c.args.low) None in
-    let slots : length c.in_ok-new-2.field-0 ≡ c.len-lanes.result = ap length c.in_ok-new-2.ensures ∙ length-replicate c.len-lanes.result None in
+    let plans : length c.in_ok-tables.tables.2.items ≡ c.args.high - c.args.low = ap length c.in_ok-tables.ensures.plans ∙ length-replicate (c.args.high - c.args.low) None in
+    let slots : length c.in_ok-tables.tables.1.1 ≡ length c.deref-2.result.now = ap length c.in_ok-tables.ensures.coming ∙ length-replicate (length c.deref-2.result.now) None in
     let order = c.requires.order in
-    let handed = c.in_ok-with_capacity.ensures.exact in
-    let arrived = c.in_ok-with_capacity-2.ensures.exact in
+    let handed = c.in_ok-tables.ensures.handed.1 in
+    let arrived = c.in_ok-tables.ensures.arrived.1 in
     record {
       nodes = omega arith;
-      numbered = subst (λ qs. AreNumbers (length c.as_slice-links.result.now) qs c.in_ok-numbers_of.field-0.items) numbers c.in_ok-numbers_of.ensures;
-      mouths_wide = search rules;
+      numbered = subst (λ qs. AreNumbers (length c.as_slice-links.result.now) qs c.in_ok-tables.tables.0.0.items) numbers c.in_ok-tables.ensures.numbers;
+      mouths_wide = c.in_ok-tables.ensures.mouths;
       coming_long = slots ∙ long;
       handed_room = omega arith;
       arrived_room = omega arith;
-      bare = λ none. subst AreBare (sym c.in_ok-gauges_of.ensures) (bare-all net c.deref-3.result.now);
-      due = subst (AreDue c.spec-2.result.now.start) (sym c.in_ok-gauges_of.ensures) (bare-due net c.deref-3.result.now c.spec-2.result.now.start);
+      bare = λ none. subst AreBare (sym c.in_ok-own.ensures.gauges) (bare-all net c.deref.result.now);
+      due = subst (AreDue c.spec-2.result.now.start) (sym c.in_ok-own.ensures.gauges) (bare-due net c.deref.result.now c.spec-2.result.now.start);
     }
