@@ -1,7 +1,8 @@
 -- A place is made, gets a car, or loses it.
 use Rattle.std.proofs.Common.{◌≡◌, ◌≢◌, ℕ, ◌+◌, ◌<◌, ◌≤◌, Bool, true, false, List, [], ◌∷◌, ◌++◌, length, set, replicate, IsSome, IsSomeAnd, Option, Some, None, refl, sym, ap, subst, ◌∙◌, inl, inr, arith}
 use Rattle.std.specs.Option.{option_map, option_and_then}
-use Rattle.std.specs.Prelude.{is_some, not}
+use Rattle.std.specs.Prelude.{is_some, is_ok, not, Result, Ok, Err, vec_capacity, if◌then◌else◌}
+use Rattle.std.specs.Result.{is_err}
 use Rattle.std.proofs.lemmas.Bool.{cases_eq, cases_lt}
 use Rattle.std.proofs.lemmas.List.{append-nil, append_assoc, length-append, length-set, length-replicate, get_or_past, get_or_append_left}
 use Rattle.street_base.specs.declared.car.Car.{Car}
@@ -230,6 +231,30 @@ module _ (y : Inside) (v : Yard) (key : ℕ) (s : IsSound y) (is_v : seen y ≡ 
 not_place : (o : Option Place) → (IsSome o → ⊥) → o ≡ None
 not_place None h = refl
 not_place (Some p) h = absurd (h refl)
+
+-- more memory about the same places
+module _ (y : Inside) (v : Yard) (s : IsSound y) (is_v : seen y ≡ v) (hots : List Hot) (hots_are : hots ≡ y.hots) (slots : List (Option Place)) (slots_are : slots ≡ y.places.slots) (spare : List ℕ) (spare_is : spare ≡ y.spare.items) where
+  pub roomier-sound : (capacity : ℕ) → vec_capacity y.spare ≤ capacity → IsLaidOut hots slots spare y.reached capacity y.ends
+  roomier-sound capacity holds =
+      rw (hots_are, slots_are, spare_is) (record {
+        stands = s.stands;
+        within = s.within;
+        placed = s.placed;
+        below = s.below;
+        few = s.few;
+        few_lists = s.few_lists;
+        spared = s.spared;
+        apart = s.apart;
+        holds_all = (let a = s.holds_all in omega arith);
+      })
+
+  pub roomier-seen : ◌≡◌ {A = Yard} (record { lists = lists_of hots slots y.ends; kept = kept_in hots slots y.reached; room = length spare }) (record v { room = length spare })
+  roomier-seen = rw (hots_are, slots_are, ← is_v) refl
+
+-- and as many spare ones
+pub room_stays : {E : Type 0} (y : Inside) (v : Yard) (is_v : seen y ≡ v) (spare : List ℕ) (spare_is : spare ≡ y.spare.items) (r : Result (Unit {0}) E) → is_err r ≡ true → length spare ≡ if◌then◌else◌ (is_ok r) (v.room + 1) v.room
+room_stays y v is_v spare spare_is (Ok u) failed = absurd (cc)
+room_stays y v is_v spare spare_is (Err e) failed = ap length spare_is ∙ ap (λ (w : Yard). w.room) is_v
 
 -- one more place, which is spare
 module _ (y : Inside) (v : Yard) (s : IsSound y) (is_v : seen y ≡ v) (index : ℕ) (index_is : index ≡ length y.hots) (few : index < 4294967295) (hot : Hot) (more : List Hot) (more_is : more ≡ y.hots ++ hot ∷ []) (later : List (Option Place)) (here : place_in later index ≡ Some vacant) (others : (j : ℕ) → j ≢ index → place_in later j ≡ place_in y.places.slots j) (spare' : List ℕ) (spare_is : spare' ≡ y.spare.items ++ index ∷ []) (capacity' : ℕ) (holds : index + 1 ≤ capacity') where

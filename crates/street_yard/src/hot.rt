@@ -75,6 +75,26 @@ pub(crate) struct Hot {
     pub(crate) mark: bool,
 }
 
+impl Hot {
+    ghost use Rattle.street_yard.specs.Inside.{no_hot};
+
+    /// What is kept where there is no car.
+    pub(crate) fn vacant() -> Self
+        ensures { result ≡ no_hot }
+    {
+        Hot {
+            ahead: Neighbour::nobody(),
+            behind: Neighbour::nobody(),
+            cell: 0,
+            number: 0,
+            next: None,
+            speed: 0,
+            step: 0,
+            mark: false,
+        }
+    }
+}
+
 /// Whether a car is on the last link of its plan or goes on to a next one, and whether it has the mark: one byte for both.
 #[derive(Clone, Copy)]
 pub(crate) enum Signs {

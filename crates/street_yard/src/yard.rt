@@ -1,6 +1,7 @@
 //! The arena.
 ghost use Rattle.std.specs.Option.{option_map};
-ghost use Rattle.std.specs.Prelude.{◌≡◌, ◌+◌, ◌<◌, ◌≤◌, ◌↔◌, length, [], ◌∷◌, ◌++◌, IsTrue, Some, None, IsSome, false, OnOk, IfOk, if◌then◌else◌, is_ok, slice_set, replicate};
+ghost use Rattle.std.specs.Prelude.{◌≡◌, ◌+◌, ◌<◌, ◌≤◌, ◌↔◌, length, [], ◌∷◌, ◌++◌, IsTrue, Some, None, IsSome, false, OnOk, OnErr, IsOk, IfOk, if◌then◌else◌, is_ok, slice_set, replicate, vec_capacity};
+ghost use Rattle.slab.specs.Slab.{HasRoomFor};
 
 use crate::ends::Listed;
 use crate::hot::{Cold, Hot, NOBODY, Neighbour};
@@ -9,7 +10,7 @@ use crate::relink::{next_behind, set_ahead, set_behind};
 use crate::tables::Hots;
 use crate::view::CarView;
 use slab::Slab;
-use std::alloc::Global;
+use std::alloc::{AllocError, Global};
 use std::marker::Model;
 use street_base::{Car, CarNo, CellNo, LinkIx, Speed, Starved, Step};
 
@@ -36,6 +37,37 @@ impl Place {
             None
         }
     }
+}
+
+/// The key of the next place.
+///
+/// The slab gives its keys in turn while none is given back; that no place has another key, and that keys stay below
+/// `NOBODY`, is tested here.
+fn next_key(places: &Slab<Place>, hots: &Hots) -> Result<usize, Starved>
+    ensures ok { IfOk result (λ key. (key ≡ length hots.now) × (key ≡ places.now.vacant_key) × (key < 4294967295)) }
+    ensures err { OnErr result (length hots.now ≡ places.now.vacant_key → 4294967295 ≤ length hots.now) }
+{
+    let key = hots.len();
+    if key >= NOBODY as usize || places.vacant_key() != key {
+        return Err(Starved);
+    }
+    Ok(key)
+}
+
+/// Makes room for one more place, and for all keys up to this one among the spare ones.
+fn make_room(places: &mut Slab<Place>, spare: &mut Vec<u32>, key: usize) -> Result<(), AllocError>
+    requires spare { length spare.old.items ≤ key }
+    requires few { key < 4294967295 }
+    ensures places { OnOk result (HasRoomFor places.new 1) }
+    ensures spare { OnOk result (key + 1 ≤ vec_capacity spare.new) }
+    ensures succeeds { HasRoomFor places.old 1 → key + 1 ≤ vec_capacity spare.old → IsOk result }
+    ensures places_kept { places.new ≡ record places.old { capacity = places.new.capacity } }
+    ensures spare_kept { spare.new.items ≡ spare.old.items }
+    ensures never_shrinks { vec_capacity spare.old ≤ vec_capacity spare.new }
+{
+    places.reserve(1)?;
+    let used = key - spare.len();
+    spare.reserve(used + 1)
 }
 
 /// Cars by key, and lists of keys.
@@ -108,35 +140,18 @@ impl Yard {
     }
 
     // Makes one more place.
-    //
-    // The slab gives its keys in turn while none is given back; that no place has another key, and that keys stay below
-    // `NOBODY`, is tested here.
     fn add_place(&mut self) -> Result<(), Starved>
         ensures room { self.new.room ≡ (if is_ok result then self.old.room + 1 else self.old.room) }
         ensures rest_kept { self.new ≡ record self.old { room = self.new.room } }
     {
-        let index = self.hots.len();
-        if index >= NOBODY as usize || self.places.vacant_key() != index {
-            return Err(Starved);
-        }
-        self.places.reserve(1)?;
-        let used = index - self.spare.len();
-        self.spare.reserve(used + 1)?;
-        self.hots.push(Hot {
-            ahead: Neighbour::nobody(),
-            behind: Neighbour::nobody(),
-            cell: 0,
-            number: 0,
-            next: None,
-            speed: 0,
-            step: 0,
-            mark: false,
-        })?;
+        let key = next_key(&self.places, &self.hots)?;
+        make_room(&mut self.places, &mut self.spare, key)?;
+        self.hots.push(Hot::vacant())?;
         self.places.insert_reserved(Place {
             car: None,
             list: None,
         });
-        self.spare.push_reserved(index as u32);
+        self.spare.push_reserved(key as u32);
         Ok(())
     }
 
