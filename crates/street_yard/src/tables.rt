@@ -55,12 +55,12 @@ impl Hots {
     pub(crate) fn push(&mut self, hot: Hot) -> Result<(), AllocError>
         ensures { self.new ≡ (if is_ok result then self.old ++ hot ∷ [] else self.old) }
     {
-        let ahead = hot.ahead;
-        let step = hot.step;
-        let near = Near::of(hot);
         self.near.reserve(1)?;
         self.aheads.reserve(1)?;
         self.steps.reserve(1)?;
+        let ahead = hot.ahead;
+        let step = hot.step;
+        let near = Near::of(hot);
         self.near.push_reserved(near);
         self.aheads.push_reserved(ahead);
         self.steps.push_reserved(step);
