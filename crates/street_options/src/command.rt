@@ -21,36 +21,44 @@ fn scripts<'a>(alloc: Global) -> Arg<'a> {
         .help("Files of commands, at most 1024. Each is a session with a thread of its own")
 }
 
+/// The options, and then the scripts.
+fn arguments<'a>(alloc: Global) -> Result<Vec<Arg<'a>>, AllocError> {
+    Ok(vec![in alloc;
+        option(
+            alloc,
+            "workers",
+            "N",
+            "Workers that share the links, 1 to 64; the replies are the same for every number. More than one pays from some 50000 vehicles on [default: 1]",
+        ),
+        option(
+            alloc,
+            "calls",
+            "N",
+            "Calls that there is a place for, 1 to 1000000; later ones are answered by Full [default: 65536]",
+        ),
+        option(
+            alloc,
+            "tape",
+            "FILE",
+            "Writes all calls to a tape at the end, in the order in which they were served",
+        ),
+        option(
+            alloc,
+            "replay",
+            "FILE",
+            "Replays a tape from nothing loaded, and then counts; with neither scripts nor --tape",
+        ),
+        scripts(alloc),
+    ]?)
+}
+
 /// The command `streetsim`.
 pub(crate) fn streetsim<'a>(alloc: Global) -> Result<Command<'a>, AllocError> {
+    let arguments = arguments(alloc)?;
     Command::new(alloc, "streetsim")
         .about(
             "A traffic simulator. Without scripts it serves standard input: one command a line, one reply a line, all of JSON",
         )
         .bin_name("streetsim")?
-        .arg(option(
-            alloc,
-            "workers",
-            "N",
-            "Workers that share the links, 1 to 64; the replies are the same for every number. More than one pays from some 50000 vehicles on [default: 1]",
-        ))?
-        .arg(option(
-            alloc,
-            "calls",
-            "N",
-            "Calls that there is a place for, 1 to 1000000; later ones are answered by Full [default: 65536]",
-        ))?
-        .arg(option(
-            alloc,
-            "tape",
-            "FILE",
-            "Writes all calls to a tape at the end, in the order in which they were served",
-        ))?
-        .arg(option(
-            alloc,
-            "replay",
-            "FILE",
-            "Replays a tape from nothing loaded, and then counts; with neither scripts nor --tape",
-        ))?
-        .arg(scripts(alloc))
+        .args(arguments)
 }

@@ -1,12 +1,13 @@
 //! From the words of the command line to options.
-ghost use Rattle.std.specs.Prelude.{◌≤◌, ◌≡◌, IfOk, IfSome, IsNone, vec_len};
+ghost use Rattle.std.specs.Prelude.{◌≤◌, ◌≡◌, [], IfOk, IfSome, IsNone, codes, map, option_map, unwrap_or, vec_len};
+ghost use Rattle.clap.specs.Words.{found_of, matched_of, raw_values};
 ghost use Rattle.street_options.specs.Words.{IsInRange, StandsTogether};
 
 use crate::command::streetsim;
 use crate::words::{Options, WordsFault};
 use clap::error::ErrorKind;
 use clap::{ArgMatches, Command};
-use std::alloc::Global;
+use std::alloc::{AllocError, Global};
 
 /// The most workers, and how many there are where the words do not say.
 const MOST_WORKERS: u64 = 64;
@@ -46,13 +47,26 @@ fn number(
     let Some(word) = matches.get_str(name) else {
         return Ok(default);
     };
-    if let Some(number) = number_of(word, most) {
-        return Ok(number);
+    match number_of(word, most) {
+        Some(number) => Ok(number),
+        None => Err(bad_number(alloc, command, name, word, most)),
     }
-    let text = format!(in alloc;
+}
+
+/// The fault of a word that is no number from 1 to `most`.
+fn bad_number(
+    alloc: Global,
+    command: &mut Command<'_>,
+    name: &str,
+    word: &str,
+    most: u64,
+) -> WordsFault {
+    match format!(in alloc;
         "invalid value '{word}' for '--{name} <N>': it is not a number from 1 to {most}"
-    )?;
-    Err(bad_words(command, ErrorKind::ValueValidation, text.as_str()))
+    ) {
+        Ok(text) => bad_words(command, ErrorKind::ValueValidation, text.as_str()),
+        Err(_) => WordsFault::Starved,
+    }
 }
 
 /// The fault that tells what is wrong with the words.
@@ -73,32 +87,59 @@ pub fn options<'a>(alloc: Global, words: &'a [String]) -> Result<Options<'a>, Wo
     ensures ranges { IfOk result IsInRange }
     ensures together { IfOk result StandsTogether }
 {
-    let mut command = streetsim(alloc)?;
-    let matches = command.try_get_matches_from_mut(words)?;
-    let workers = number(
-        alloc,
-        &mut command,
-        &matches,
-        "workers",
-        WORKERS,
-        MOST_WORKERS,
-    )?;
-    let calls = number(alloc, &mut command, &matches, "calls", CALLS, MOST_CALLS)?;
-    let mut scripts = Vec::new(alloc);
-    if let Some(names) = matches.get_strs("script") {
-        scripts.extend_from_slice(names)?;
+    match streetsim(alloc) {
+        Ok(mut command) => asked(alloc, &mut command, words),
+        Err(_) => Err(WordsFault::Starved),
     }
+}
+
+/// The options that words ask this command for.
+fn asked<'a>(
+    alloc: Global,
+    command: &mut Command<'a>,
+    words: &'a [String],
+) -> Result<Options<'a>, WordsFault>
+    ensures ranges { IfOk result IsInRange }
+    ensures together { IfOk result StandsTogether }
+{
+    let matches = command.try_get_matches_from_mut(words)?;
+    matched(alloc, command, &matches)
+}
+
+/// The options that the parser's matches say.
+fn matched<'a>(
+    alloc: Global,
+    command: &mut Command<'a>,
+    matches: &ArgMatches<'a>,
+) -> Result<Options<'a>, WordsFault>
+    ensures ranges { IfOk result IsInRange }
+    ensures together { IfOk result StandsTogether }
+{
+    let workers = number(alloc, command, matches, "workers", WORKERS, MOST_WORKERS)?;
+    let calls = number(alloc, command, matches, "calls", CALLS, MOST_CALLS)?;
     let found = Options {
         workers: workers as u32,
         calls,
         tape: matches.get_str("tape"),
         replay: matches.get_str("replay"),
-        scripts,
+        scripts: named_scripts(alloc, matches)?,
     };
     match misfit(&found) {
-        Some((kind, text)) => Err(bad_words(&mut command, kind, text)),
+        Some((kind, text)) => Err(bad_words(command, kind, text)),
         None => Ok(found),
     }
+}
+
+/// The scripts that the words name, in order.
+fn named_scripts<'a>(alloc: Global, matches: &ArgMatches<'a>) -> Result<Vec<&'a str>, AllocError>
+    ensures { IfOk result (λ v. map (λ s. s.now) v.items
+        ≡ unwrap_or (option_map raw_values (matched_of (found_of matches.now) (codes "script"))) []) }
+{
+    let mut scripts = Vec::new(alloc);
+    if let Some(names) = matches.get_strs("script") {
+        scripts.extend_from_slice(names)?;
+    }
+    Ok(scripts)
 }
 
 /// What is wrong with these options together, if anything is.
