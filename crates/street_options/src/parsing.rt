@@ -47,26 +47,13 @@ fn number(
     let Some(word) = matches.get_str(name) else {
         return Ok(default);
     };
-    match number_of(word, most) {
-        Some(number) => Ok(number),
-        None => Err(bad_number(alloc, command, name, word, most)),
+    if let Some(number) = number_of(word, most) {
+        return Ok(number);
     }
-}
-
-/// The fault of a word that is no number from 1 to `most`.
-fn bad_number(
-    alloc: Global,
-    command: &mut Command<'_>,
-    name: &str,
-    word: &str,
-    most: u64,
-) -> WordsFault {
-    match format!(in alloc;
+    let text = format!(in alloc;
         "invalid value '{word}' for '--{name} <N>': it is not a number from 1 to {most}"
-    ) {
-        Ok(text) => bad_words(command, ErrorKind::ValueValidation, text.as_str()),
-        Err(_) => WordsFault::Starved,
-    }
+    )?;
+    Err(bad_words(command, ErrorKind::ValueValidation, text.as_str()))
 }
 
 /// The fault that tells what is wrong with the words.
