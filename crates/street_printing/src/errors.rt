@@ -4,7 +4,8 @@ ghost use Rattle.std.specs.Prelude.{◌≡◌, IfOk};
 ghost use Rattle.serde_json.specs.View.{view};
 ghost use Rattle.street_printing.specs.Printing.{line_of, error_data};
 
-use serde_json::{Value, json};
+use crate::members::{Member, object_value};
+use serde_json::Value;
 use std::alloc::{AllocError, Global};
 use street_base::Starved;
 
@@ -12,7 +13,13 @@ use street_base::Starved;
 pub(crate) fn error_value(alloc: Global, number: u64, name: &str) -> Result<Value, AllocError>
     ensures { IfOk result (λ v. view v ≡ error_data number name.now) }
 {
-    json!(in alloc; {"error": number, "name": name})
+    object_value(
+        alloc,
+        &[
+            ("error", Member::Number(number)),
+            ("name", Member::Text(name)),
+        ],
+    )
 }
 
 /// The line of an error of this number and name that has no place: one JSON object, and LF.

@@ -5,8 +5,10 @@
 
 mod errors;
 mod lists;
+mod members;
 mod replies;
 
 pub use errors::error_text;
 pub use lists::{Printed, list_value};
+pub use members::{Member, object_value};
 pub use replies::reply_text;

@@ -8,7 +8,7 @@ ghost use Rattle.street_base.specs.declared.reply.Reply.TheVariants.{Loaded, Sho
 ghost use Rattle.street_base.specs.declared.reply.Whereabouts.TheVariants.{Cell, Buffer, Waiting};
 
 use crate::errors::error_value;
-use crate::lists::{Printed, list_value};
+use crate::members::{Member, object_value};
 use serde_json::{Value, json};
 use std::alloc::{AllocError, Global};
 use street_base::{
@@ -17,24 +17,39 @@ use street_base::{
 };
 
 /// An error in a part of a load.
-fn bad_network(
+fn bad_network<'a>(
     alloc: Global,
     at: u64,
     number: u64,
-    name: &str,
-    part: &str,
+    name: &'a str,
+    part: &'a str,
 ) -> Result<Value, AllocError>
     ensures { IfOk result (λ v. view v
         ≡ object (number_at (codes "at") at (error_at number name.now (text_at (codes "part") part.now no_members)))) }
 {
-    json!(in alloc; {"at": at, "error": number, "name": name, "part": part})
+    object_value(
+        alloc,
+        &[
+            ("at", Member::Number(at)),
+            ("error", Member::Number(number)),
+            ("name", Member::Text(name)),
+            ("part", Member::Text(part)),
+        ],
+    )
 }
 
 /// An error at a place.
 fn at_place(alloc: Global, at: u64, number: u64, name: &str) -> Result<Value, AllocError>
     ensures { IfOk result (λ v. view v ≡ object (number_at (codes "at") at (error_at number name.now no_members))) }
 {
-    json!(in alloc; {"at": at, "error": number, "name": name})
+    object_value(
+        alloc,
+        &[
+            ("at", Member::Number(at)),
+            ("error", Member::Number(number)),
+            ("name", Member::Text(name)),
+        ],
+    )
 }
 
 fn refused(alloc: Global, refusal: Refusal) -> Result<Value, AllocError>
@@ -60,8 +75,18 @@ fn in_cell(
 ) -> Result<Value, AllocError>
     ensures { IfOk result (λ v. view v ≡ vehicle_data car (Cell link lane cell speed plan.now)) }
 {
-    let plan = list_value(alloc, plan)?;
-    json!(in alloc; {"car": car, "cell": cell, "lane": lane, "link": link, "plan": plan, "speed": speed, "state": "cell"})
+    object_value(
+        alloc,
+        &[
+            ("car", Member::Number(car)),
+            ("cell", Member::Number(cell)),
+            ("lane", Member::Number(lane)),
+            ("link", Member::Number(link)),
+            ("plan", Member::Numbers(plan)),
+            ("speed", Member::Number(speed)),
+            ("state", Member::Text("cell")),
+        ],
+    )
 }
 
 fn in_buffer(
@@ -75,8 +100,18 @@ fn in_buffer(
 ) -> Result<Value, AllocError>
     ensures { IfOk result (λ v. view v ≡ vehicle_data car (Buffer link lane ready speed plan.now)) }
 {
-    let plan = list_value(alloc, plan)?;
-    json!(in alloc; {"car": car, "lane": lane, "link": link, "plan": plan, "ready": ready, "speed": speed, "state": "buffer"})
+    object_value(
+        alloc,
+        &[
+            ("car", Member::Number(car)),
+            ("lane", Member::Number(lane)),
+            ("link", Member::Number(link)),
+            ("plan", Member::Numbers(plan)),
+            ("ready", Member::Number(ready)),
+            ("speed", Member::Number(speed)),
+            ("state", Member::Text("buffer")),
+        ],
+    )
 }
 
 fn waiting(
@@ -89,14 +124,30 @@ fn waiting(
 ) -> Result<Value, AllocError>
     ensures { IfOk result (λ v. view v ≡ vehicle_data car (Waiting link lane depart plan.now)) }
 {
-    let plan = list_value(alloc, plan)?;
-    json!(in alloc; {"car": car, "depart": depart, "lane": lane, "link": link, "plan": plan, "state": "waiting"})
+    object_value(
+        alloc,
+        &[
+            ("car", Member::Number(car)),
+            ("depart", Member::Number(depart)),
+            ("lane", Member::Number(lane)),
+            ("link", Member::Number(link)),
+            ("plan", Member::Numbers(plan)),
+            ("state", Member::Text("waiting")),
+        ],
+    )
 }
 
 fn ended(alloc: Global, car: u64, state: &str, step: u64) -> Result<Value, AllocError>
     ensures { IfOk result (λ v. view v ≡ ended_data car state.now step) }
 {
-    json!(in alloc; {"car": car, "state": state, "step": step})
+    object_value(
+        alloc,
+        &[
+            ("car", Member::Number(car)),
+            ("state", Member::Text(state)),
+            ("step", Member::Number(step)),
+        ],
+    )
 }
 
 fn vehicle(alloc: Global, car: u64, whereabouts: &Whereabouts) -> Result<Value, AllocError>
@@ -131,9 +182,13 @@ fn vehicle(alloc: Global, car: u64, whereabouts: &Whereabouts) -> Result<Value, 
 fn rows(alloc: Global, now: &RunningRow, rows: &Listing<MeterRow>) -> Result<Value, AllocError>
     ensures { IfOk result (λ v. view v ≡ reply_data (Rows now.now rows.now)) }
 {
-    let now = now.to_value(alloc)?;
-    let rows = list_value(alloc, rows.as_slice())?;
-    json!(in alloc; {"now": now, "rows": rows})
+    object_value(
+        alloc,
+        &[
+            ("now", Member::Running(now)),
+            ("rows", Member::Rows(rows.as_slice())),
+        ],
+    )
 }
 
 fn lane(
@@ -145,11 +200,15 @@ fn lane(
 ) -> Result<Value, AllocError>
     ensures { IfOk result (λ v. view v ≡ reply_data (Lane buffer.now cells.now closed.now waiting.now)) }
 {
-    let buffer = list_value(alloc, buffer.as_slice())?;
-    let cells = list_value(alloc, cells.as_slice())?;
-    let closed = list_value(alloc, closed.as_slice())?;
-    let waiting = list_value(alloc, waiting.as_slice())?;
-    json!(in alloc; {"buffer": buffer, "cells": cells, "closed": closed, "waiting": waiting})
+    object_value(
+        alloc,
+        &[
+            ("buffer", Member::Buffer(buffer.as_slice())),
+            ("cells", Member::Cells(cells.as_slice())),
+            ("closed", Member::Stretches(closed.as_slice())),
+            ("waiting", Member::Waiting(waiting.as_slice())),
+        ],
+    )
 }
 
 fn census(
@@ -164,34 +223,50 @@ fn census(
 ) -> Result<Value, AllocError>
     ensures { IfOk result (λ v. view v ≡ reply_data (Census admitted arrived buffers cells clock taken waiting)) }
 {
-    json!(in alloc; {
-        "admitted": admitted,
-        "arrived": arrived,
-        "buffers": buffers,
-        "cells": cells,
-        "clock": clock,
-        "taken": taken,
-        "waiting": waiting,
-    })
+    object_value(
+        alloc,
+        &[
+            ("admitted", Member::Number(admitted)),
+            ("arrived", Member::Number(arrived)),
+            ("buffers", Member::Number(buffers)),
+            ("cells", Member::Number(cells)),
+            ("clock", Member::Number(clock)),
+            ("taken", Member::Number(taken)),
+            ("waiting", Member::Number(waiting)),
+        ],
+    )
 }
 
 /// An object of one number.
 fn one_number(alloc: Global, name: &str, number: u64) -> Result<Value, AllocError>
     ensures { IfOk result (λ v. view v ≡ object (number_at name.now number no_members)) }
 {
-    json!(in alloc; {name: number})
+    object_value(alloc, &[(name, Member::Number(number))])
 }
 
 fn loaded(alloc: Global, links: u64, nodes: u64, turns: u64) -> Result<Value, AllocError>
     ensures { IfOk result (λ v. view v ≡ reply_data (Loaded links nodes turns)) }
 {
-    json!(in alloc; {"links": links, "nodes": nodes, "turns": turns})
+    object_value(
+        alloc,
+        &[
+            ("links", Member::Number(links)),
+            ("nodes", Member::Number(nodes)),
+            ("turns", Member::Number(turns)),
+        ],
+    )
 }
 
 fn short(alloc: Global, clock: u64, short: u64) -> Result<Value, AllocError>
     ensures { IfOk result (λ v. view v ≡ reply_data (Short clock short)) }
 {
-    json!(in alloc; {"clock": clock, "short": short})
+    object_value(
+        alloc,
+        &[
+            ("clock", Member::Number(clock)),
+            ("short", Member::Number(short)),
+        ],
+    )
 }
 
 fn starved(alloc: Global) -> Result<Value, AllocError>

@@ -1,0 +1,82 @@
+//! The objects of a reply or a command.
+//! Source: this profile.
+ghost use Rattle.std.specs.Prelude.{◌≡◌, IfOk};
+ghost use Rattle.serde_json.specs.View.{view};
+ghost use Rattle.street_printing.specs.Members.{member_data, object_of};
+
+use crate::lists::{Printed, list_value};
+use serde_json::{Map, Value, json, put};
+use std::alloc::{AllocError, Global};
+use street_base::{
+    BufferEntry, CellEntry, LinkSpec, MeterRow, NodeSpec, PhaseSpec, RunningRow, Stretch, TurnSpec,
+    WaitingEntry,
+};
+
+/// What stands under a key of an object.
+#[derive(Clone, Copy)]
+pub enum Member<'a> {
+    /// A number.
+    Number(u64),
+    /// A text.
+    Text(&'a str),
+    /// A list of numbers.
+    Numbers(&'a [u64]),
+    /// The running row of a meter.
+    Running(&'a RunningRow),
+    /// The rows of a meter.
+    Rows(&'a [MeterRow]),
+    /// Who is in a buffer.
+    Buffer(&'a [BufferEntry]),
+    /// Who is in the cells of a lane.
+    Cells(&'a [CellEntry]),
+    /// Stretches of a lane.
+    Stretches(&'a [Stretch]),
+    /// Who waits for a lane.
+    Waiting(&'a [WaitingEntry]),
+    /// Nodes of a network.
+    Nodes(&'a [NodeSpec]),
+    /// Links of a network.
+    Links(&'a [LinkSpec]),
+    /// Turns of a network.
+    Turns(&'a [TurnSpec]),
+    /// Phases of a signal.
+    Phases(&'a [PhaseSpec]),
+}
+
+impl Member<'_> {
+    /// Its JSON value.
+    fn to_value(&self, alloc: Global) -> Result<Value, AllocError>
+        ensures { IfOk result (λ v. view v ≡ member_data self.now) }
+    {
+        match self {
+            Member::Number(number) => Ok(Value::from(*number)),
+            Member::Text(text) => json!(in alloc; *text),
+            Member::Numbers(list) => list_value(alloc, list),
+            Member::Running(row) => row.to_value(alloc),
+            Member::Rows(list) => list_value(alloc, list),
+            Member::Buffer(list) => list_value(alloc, list),
+            Member::Cells(list) => list_value(alloc, list),
+            Member::Stretches(list) => list_value(alloc, list),
+            Member::Waiting(list) => list_value(alloc, list),
+            Member::Nodes(list) => list_value(alloc, list),
+            Member::Links(list) => list_value(alloc, list),
+            Member::Turns(list) => list_value(alloc, list),
+            Member::Phases(list) => list_value(alloc, list),
+        }
+    }
+}
+
+/// The object of these members, each under its key.
+///
+/// # Errors
+///
+/// `AllocError` where there was no memory for it.
+pub fn object_value(alloc: Global, members: &[(&str, Member<'_>)]) -> Result<Value, AllocError>
+    ensures { IfOk result (λ v. view v ≡ object_of members.now) }
+{
+    let mut found = Map::new(alloc);
+    for (key, member) in members {
+        put(&mut found, alloc, key, member.to_value(alloc)?)?;
+    }
+    Ok(Value::Object(found))
+}
