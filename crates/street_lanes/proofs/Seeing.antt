@@ -21,7 +21,7 @@ use Rattle.street_base.specs.Departure.{is_before}
 use Rattle.street_base.specs.Shown.{put_in_order, in_order}
 use Rattle.street_base.specs.Machine.{told_cell, seen_in_cells, seen_in_buffer, seen_waiting, seen_in}
 use Rattle.street_gap.specs.declared.closures.Stretch.{Stretch}
-use Rattle.street_yard.specs.Yard.{Yard, list_at, car_of, IsWhole}
+use Rattle.street_yard.specs.Yard.{Yard, Kept, entry_at, list_at, car_of, IsWhole}
 use Rattle.street_yard.specs.Listed.{cell_at, vehicle_with, key_at, cells_at, IsFalling}
 use Rattle.street_yard.proofs.Callers.{cell_is}
 use Rattle.street_yard.proofs.Placed.{key_at-split, cells-read}
@@ -36,6 +36,16 @@ use Rattle.street_lanes.specs.Finding.{told_in_cell, told_in_buffer, told_waitin
 use Rattle.street_lanes.proofs.Without.{counted, at-least, cell-counted, in_order-sum}
 use Rattle.street_lanes.proofs.Taking.{none-there}
 use Rattle.street_lanes.proofs.Access.{in-sites, stands-in}
+
+-- ---- a key that is sought
+
+-- has a car
+pub sought-there : (y : Yard) (list number key : ℕ) → IsSought y list number (Some key) → IsSome (entry_at y key)
+sought-there y list number key found = there (entry_at y key) found.1
+  where
+    there : (o : Option Kept) → IsSomeAnd (option_map (λ (e : Kept). e.car) o) (λ (c : Car). c.number ≡ number) → IsSome o
+    there None bad = absurd bad
+    there (Some e) here = refl
 
 -- ---- the first of a number
 
