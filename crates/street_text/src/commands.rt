@@ -6,35 +6,42 @@ ghost use Rattle.street_base.specs.declared.command.Command.TheVariants.{Load, E
 ghost use Rattle.street_reading.specs.Reading.{longest_line, reading};
 ghost use Rattle.street_text.specs.CommandTexts.{stretch_data_of, car_data_of, command_data, text_of};
 
-use serde_json::{Value, json};
+use serde_json::Value;
 use std::alloc::{AllocError, Global};
 use street_base::{Command, NetSpec, PhaseSpec, Starved};
-use street_printing::list_value;
+use street_printing::{Member, object_value};
 
 fn load_value(alloc: Global, net: &NetSpec) -> Result<Value, AllocError>
     ensures { IfOk result (λ v. view v ≡ command_data (Load net.now)) }
 {
-    let links = list_value(alloc, net.links.as_slice())?;
-    let nodes = list_value(alloc, net.nodes.as_slice())?;
-    let turns = list_value(alloc, net.turns.as_slice())?;
-    json!(in alloc; {
-        "change": net.change,
-        "cmd": "load",
-        "dawdle": net.dawdle,
-        "links": links,
-        "nodes": nodes,
-        "seed": net.seed,
-        "start": net.start,
-        "turns": turns,
-        "zone": net.zone
-    })
+    object_value(
+        alloc,
+        &[
+            ("change", Member::Number(net.change)),
+            ("cmd", Member::Text("load")),
+            ("dawdle", Member::Number(net.dawdle)),
+            ("links", Member::Links(net.links.as_slice())),
+            ("nodes", Member::Nodes(net.nodes.as_slice())),
+            ("seed", Member::Number(net.seed)),
+            ("start", Member::Number(net.start)),
+            ("turns", Member::Turns(net.turns.as_slice())),
+            ("zone", Member::Number(net.zone)),
+        ],
+    )
 }
 
 fn enter_value(alloc: Global, plan: &[u64], lane: u64, depart: u64) -> Result<Value, AllocError>
     ensures { IfOk result (λ v. view v ≡ command_data (Enter plan.now lane depart)) }
 {
-    let plan = list_value(alloc, plan)?;
-    json!(in alloc; {"cmd": "enter", "depart": depart, "lane": lane, "plan": plan})
+    object_value(
+        alloc,
+        &[
+            ("cmd", Member::Text("enter")),
+            ("depart", Member::Number(depart)),
+            ("lane", Member::Number(lane)),
+            ("plan", Member::Numbers(plan)),
+        ],
+    )
 }
 
 fn signal_value(
@@ -45,8 +52,15 @@ fn signal_value(
 ) -> Result<Value, AllocError>
     ensures { IfOk result (λ v. view v ≡ command_data (Signal node offset phases.now)) }
 {
-    let phases = list_value(alloc, phases)?;
-    json!(in alloc; {"cmd": "signal", "node": node, "offset": offset, "phases": phases})
+    object_value(
+        alloc,
+        &[
+            ("cmd", Member::Text("signal")),
+            ("node", Member::Number(node)),
+            ("offset", Member::Number(offset)),
+            ("phases", Member::Phases(phases)),
+        ],
+    )
 }
 
 /// Cells of a lane, from the first to the last.
@@ -60,20 +74,38 @@ fn stretch_value(
 ) -> Result<Value, AllocError>
     ensures { IfOk result (λ v. view v ≡ stretch_data_of name.now link lane first last) }
 {
-    json!(in alloc; {"cmd": name, "first": first, "lane": lane, "last": last, "link": link})
+    object_value(
+        alloc,
+        &[
+            ("cmd", Member::Text(name)),
+            ("first", Member::Number(first)),
+            ("lane", Member::Number(lane)),
+            ("last", Member::Number(last)),
+            ("link", Member::Number(link)),
+        ],
+    )
 }
 
 fn advance_value(alloc: Global, steps: u64) -> Result<Value, AllocError>
     ensures { IfOk result (λ v. view v ≡ command_data (Advance steps)) }
 {
-    json!(in alloc; {"cmd": "advance", "steps": steps})
+    object_value(
+        alloc,
+        &[
+            ("cmd", Member::Text("advance")),
+            ("steps", Member::Number(steps)),
+        ],
+    )
 }
 
 /// What is asked of one vehicle.
 fn car_value(alloc: Global, name: &str, car: u64) -> Result<Value, AllocError>
     ensures { IfOk result (λ v. view v ≡ car_data_of name.now car) }
 {
-    json!(in alloc; {"car": car, "cmd": name})
+    object_value(
+        alloc,
+        &[("car", Member::Number(car)), ("cmd", Member::Text(name))],
+    )
 }
 
 fn place_meter_value(
@@ -85,25 +117,47 @@ fn place_meter_value(
 ) -> Result<Value, AllocError>
     ensures { IfOk result (λ v. view v ≡ command_data (PlaceMeter link lane cell period)) }
 {
-    json!(in alloc; {"cell": cell, "cmd": "meter", "lane": lane, "link": link, "period": period})
+    object_value(
+        alloc,
+        &[
+            ("cell", Member::Number(cell)),
+            ("cmd", Member::Text("meter")),
+            ("lane", Member::Number(lane)),
+            ("link", Member::Number(link)),
+            ("period", Member::Number(period)),
+        ],
+    )
 }
 
 fn read_meter_value(alloc: Global, meter: u64) -> Result<Value, AllocError>
     ensures { IfOk result (λ v. view v ≡ command_data (ReadMeter meter)) }
 {
-    json!(in alloc; {"cmd": "read", "meter": meter})
+    object_value(
+        alloc,
+        &[
+            ("cmd", Member::Text("read")),
+            ("meter", Member::Number(meter)),
+        ],
+    )
 }
 
 fn lane_value(alloc: Global, link: u64, lane: u64) -> Result<Value, AllocError>
     ensures { IfOk result (λ v. view v ≡ command_data (Lane link lane)) }
 {
-    json!(in alloc; {"cmd": "lane", "lane": lane, "link": link})
+    object_value(
+        alloc,
+        &[
+            ("cmd", Member::Text("lane")),
+            ("lane", Member::Number(lane)),
+            ("link", Member::Number(link)),
+        ],
+    )
 }
 
 fn count_value(alloc: Global) -> Result<Value, AllocError>
     ensures { IfOk result (λ v. view v ≡ command_data Count) }
 {
-    json!(in alloc; {"cmd": "count"})
+    object_value(alloc, &[("cmd", Member::Text("count"))])
 }
 
 /// The JSON value of a command.
