@@ -1,10 +1,10 @@
 -- Lanes with nobody on them, and lanes with more room.
-use Rattle.std.proofs.Common.{◌≡◌, ℕ, zero, suc, ◌*◌, ◌^◌, ◌<◌, false, List, [], ◌∷◌, length, map, replicate, get_or, Option, Some, None, refl, sym, ap, subst, ◌∙◌, inl, inr, arith}
+use Rattle.std.proofs.Common.{◌≡◌, ℕ, zero, suc, ◌+◌, ◌*◌, ◌^◌, ◌<◌, false, List, [], ◌∷◌, ◌++◌, length, map, take, replicate, get_or, Option, Some, None, refl, sym, ap, subst, ◌∙◌, inl, inr, arith}
 use Rattle.std.specs.Prelude.{slice_get, filter_map}
 use Rattle.std.specs.List.{range_with_len}
 use Rattle.std.specs.Option.{option_map, option_and_then}
 use Rattle.std.proofs.lemmas.Bool.{cases_lt}
-use Rattle.std.proofs.lemmas.List.{get_or-map, get_or-replicate, get_or_past, length-map, length-replicate}
+use Rattle.std.proofs.lemmas.List.{get_or-map, get_or-replicate, get_or_past, length-map, length-replicate, map-append, take_more}
 use Rattle.std.proofs.lemmas.List.FromFn.{fill_by_all}
 use Rattle.street_base.specs.declared.net.NetSpec.{NetSpec}
 use Rattle.street_base.specs.declared.car.Car.{Car}
@@ -45,6 +45,14 @@ no_id = record { link = 0; lane = 0 }
 pub own-link : (net : NetSpec) (own : List LaneId) (k : ℕ) (id : LaneId) → AllLanes net (map place_of own) → k < length own → id ≡ get_or own k id → id.link < length net.links
 own-link net own k id all h is =
     (all k (place_of id) (get-some (map place_of own) k (place_of id) (rw length-map h) ∙ ap Some (get_or-map place_of own k id (place_of id) h ∙ ap place_of (sym is)))).0
+
+-- one more of them has its site
+pub one-more-site : (net : NetSpec) (own : List LaneId) (k : ℕ) (id : LaneId) (cells : ℕ) (sites more : List Site) → AreSites net (take k own) sites → k < length own → id ≡ get_or own k id → cells ≡ (link_at net id.link).length → more ≡ sites ++ record { at = id; length = cells } ∷ [] → AreSites net (take (k + 1) own) more
+one-more-site net own k id cells sites more are h is cells_are more_is =
+    rw (take_more own k id h, ← is, more_is) (record {
+      at = map-append (λ (s : Site). s.at) sites (record { at = id; length = cells } ∷ []) ∙ ap (λ l. l ++ id ∷ []) are.at;
+      length = map-append (λ (s : Site). s.length) sites (record { at = id; length = cells } ∷ []) ∙ (λ i. are.length i ++ cells_are i ∷ []) ∙ sym (map-append (λ (at : LaneId). (link_at net at.link).length) (take k own) (id ∷ []));
+    })
 
 nothing-at : {A : Type 0} (n k : ℕ) → ◌≡◌ {A = List A} (get_or (replicate n []) k []) []
 nothing-at {A} n k = elim (cases_lt k n) as (λ _. ◌≡◌ {A = List A} (get_or (replicate n []) k []) []) [
