@@ -1,5 +1,5 @@
 -- Kept bits and draws.
-use Rattle.std.proofs.Common.{◌≡◌, ℕ, zero, suc, ◌+◌, ◌-◌, ◌*◌, ◌/◌, ◌%◌, ◌^◌, ◌<◌, ◌≤◌, Bool, true, false, List, refl, sym, ap, ap₂, ◌∙◌, inl, inr, arith}
+use Rattle.std.proofs.Common.{◌≡◌, ℕ, zero, suc, ◌+◌, ◌-◌, ◌*◌, ◌/◌, ◌%◌, ◌^◌, ◌<◌, ◌≤◌, Bool, true, false, List, refl, sym, ap, ap₂, ◌∙◌, inl, inr, Fits, w64, arith}
 use Rattle.std.specs.Prelude.{IsTrue, ◌↔◌, nat_lt, nat_le, ◌==◌, if◌then◌else◌}
 use Rattle.std.proofs.lemmas.Bool.{eq-eqb, ne_eqb, lt-ltb, le-ltb, false≢true}
 use Rattle.std.proofs.lemmas.Bool.Decides.{leb_tells}
@@ -210,3 +210,13 @@ joined-four m lane slow g h1 h2 h3 h4 a b c d even small p q r s =
     let three = joined (m + m) m lane slow g h2 h3 _ c (omega (arith, even)) two (r (omega (arith, small, at2))) in
     let at3 : h3.word_pos ≡ g.word_pos + (m + m + m) = ap (λ (x : ChaCha). x.word_pos) three.moved in
     joined (m + m + m) m lane slow g h3 h4 _ d (omega (arith, even)) three (s (omega (arith, small, at3)))
+
+-- ---- numbers of four bits, side by side
+
+module _ (a b c d : ℕ) (ha : a < 16) (hb : b < 16) (hc : c < 16) (hd : d < 16) where
+  pub four-below : a + b * 16 + c * 256 + d * 4096 < 65536
+  four-below = omega arith
+
+  -- each number on the way fits
+  pub four-fit : Fits w64 (b * 16) × Fits w64 (a + b * 16) × Fits w64 (c * 256) × Fits w64 (a + b * 16 + c * 256) × Fits w64 (d * 4096) × Fits w64 (a + b * 16 + c * 256 + d * 4096)
+  four-fit = (omega arith, omega arith, omega arith, omega arith, omega arith, omega arith)
