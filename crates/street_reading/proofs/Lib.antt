@@ -1,2 +1,3 @@
 pub mod ListEntries
 pub mod Texts
+pub mod Loads

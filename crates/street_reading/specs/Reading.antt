@@ -14,6 +14,7 @@ use Rattle.street_base.specs.declared.command.PhaseSpec.{PhaseSpec}
 use Rattle.street_base.specs.declared.net.NodeSpec.{NodeSpec}
 use Rattle.street_base.specs.declared.net.LinkSpec.{LinkSpec}
 use Rattle.street_base.specs.declared.net.TurnSpec.{TurnSpec}
+use Rattle.street_reading.specs.declared.commands.NetNumbers.{NetNumbers}
 use Rattle.street_reading.specs.declared.fault.LineFault.{LineFault}
 use Rattle.street_reading.specs.declared.fault.LineFault.TheVariants.{LineTooLong, NotJson, BadCommand, Starved}
 
@@ -96,6 +97,16 @@ abbrev pub ◌with◌ : {A B : Type 0} → Option (A → B) → Option A → Opt
 None with x = None
 (Some f) with x = option_map f x
 
+-- the numbers of a network
+unfoldable pub numbers_in : Data → Option NetNumbers
+numbers_in d =
+    Some (λ zone dawdle change seed start. record { zone = zone; dawdle = dawdle; change = change; seed = seed; start = start })
+    with number_field (codes "zone") d
+    with number_field (codes "dawdle") d
+    with number_field (codes "change") d
+    with number_field (codes "seed") d
+    with number_or_zero (codes "start") d
+
 unfoldable pub load_in : Data → Option Command
 load_in d =
     Some (λ nodes links turns zone dawdle change seed start. Load (record {
@@ -173,12 +184,17 @@ lane_in d =
     with number_field (codes "link") d
     with number_field (codes "lane") d
 
+-- the names of what observes, and how those commands are read
+abbrev pub observing_names : List (List ℕ × (Data → Option Command))
+observing_names =
+    (codes "meter", place_meter_in) ∷ (codes "read", read_meter_in) ∷ (codes "vehicle", vehicle_in) ∷ (codes "lane", lane_in)
+    ∷ (codes "count", λ d. Some Count) ∷ []
+
 -- each name that `cmd` may have, and how that command is read
 abbrev pub names : List (List ℕ × (Data → Option Command))
 names =
     (codes "load", load_in) ∷ (codes "signal", signal_in) ∷ (codes "enter", enter_in) ∷ (codes "advance", advance_in)
-    ∷ (codes "close", close_in) ∷ (codes "reopen", reopen_in) ∷ (codes "takeout", take_out_in) ∷ (codes "meter", place_meter_in)
-    ∷ (codes "read", read_meter_in) ∷ (codes "vehicle", vehicle_in) ∷ (codes "lane", lane_in) ∷ (codes "count", λ d. Some Count) ∷ []
+    ∷ (codes "close", close_in) ∷ (codes "reopen", reopen_in) ∷ (codes "takeout", take_out_in) ∷ observing_names
 
 -- the command of the first entry with this name
 abbrev pub named_in : List (List ℕ × (Data → Option Command)) → List ℕ → Data → Option Command

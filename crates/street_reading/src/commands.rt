@@ -3,7 +3,7 @@
 ghost use Rattle.std.specs.Prelude.{◌≡◌, ◌⊎◌};
 ghost use Rattle.serde_json.specs.Errors.{IsMemory};
 ghost use Rattle.serde_json.specs.View.{view};
-ghost use Rattle.street_reading.specs.Reading.{load_in, signal_in, enter_in, advance_in, close_in, reopen_in, take_out_in, place_meter_in, read_meter_in, vehicle_in, lane_in, command_in, or_fault, reading, value_of, Gives, GivesValue};
+ghost use Rattle.street_reading.specs.Reading.{numbers_in, load_in, signal_in, enter_in, advance_in, close_in, reopen_in, take_out_in, place_meter_in, read_meter_in, vehicle_in, lane_in, observing_names, named_in, named, command_in, or_fault, reading, value_of, Gives, GivesValue};
 
 use crate::entries::{field_of, number_or_zero};
 use crate::fault::LineFault;
@@ -14,27 +14,50 @@ use street_base::{Command, NetSpec};
 /// The most bytes that a line may have, its LF not counted.
 pub const LONGEST_LINE: usize = 1_048_576;
 
-#[tactic(auto, unfolding(crate::specs::Reading::load_in))]
+/// The numbers of a network that is loaded.
+#[derive(Clone, Copy)]
+struct NetNumbers {
+    zone: u64,
+    dawdle: u64,
+    change: u64,
+    seed: u64,
+    start: u64,
+}
+
+#[tactic(auto, unfolding(crate::specs::Reading::numbers_in))]
+fn numbers(alloc: Global, value: &Value) -> Result<NetNumbers, LineFault>
+    ensures { Gives result (or_fault LineFault.BadCommand (numbers_in (view value.now))) }
+{
+    let zone = field_of(alloc, value, "zone")?;
+    let dawdle = field_of(alloc, value, "dawdle")?;
+    let change = field_of(alloc, value, "change")?;
+    let seed = field_of(alloc, value, "seed")?;
+    let start = number_or_zero(value, "start")?;
+    Ok(NetNumbers {
+        zone,
+        dawdle,
+        change,
+        seed,
+        start,
+    })
+}
+
 fn load(alloc: Global, value: &Value) -> Result<Command, LineFault>
     ensures { Gives result (or_fault LineFault.BadCommand (load_in (view value.now))) }
 {
     let nodes = field_of(alloc, value, "nodes")?;
     let links = field_of(alloc, value, "links")?;
     let turns = field_of(alloc, value, "turns")?;
-    let zone = field_of(alloc, value, "zone")?;
-    let dawdle = field_of(alloc, value, "dawdle")?;
-    let change = field_of(alloc, value, "change")?;
-    let seed = field_of(alloc, value, "seed")?;
-    let start = number_or_zero(value, "start")?;
+    let numbers = numbers(alloc, value)?;
     Ok(Command::Load(NetSpec {
         nodes,
         links,
         turns,
-        zone,
-        dawdle,
-        change,
-        seed,
-        start,
+        zone: numbers.zone,
+        dawdle: numbers.dawdle,
+        change: numbers.change,
+        seed: numbers.seed,
+        start: numbers.start,
     }))
 }
 
@@ -151,19 +174,25 @@ fn lane(alloc: Global, value: &Value) -> Result<Command, LineFault>
     Ok(Command::Lane { link, lane })
 }
 
-/// The command that a JSON value says.
-///
-/// # Errors
-///
-/// `BadCommand` where it says none; `Starved` where there was no memory for its lists.
-#[tactic(auto, unfolding(crate::specs::Reading::named, crate::specs::Reading::command_in))]
-pub fn command_of(alloc: Global, value: &Value) -> Result<Command, LineFault>
-    ensures { Gives result (or_fault LineFault.BadCommand (command_in (view value.now))) }
+/// The command of a name that observes: by a meter, a vehicle, a lane, or a count of all.
+fn observing(alloc: Global, name: &str, value: &Value) -> Result<Command, LineFault>
+    ensures { Gives result (or_fault LineFault.BadCommand (named_in observing_names name.now (view value.now))) }
 {
-    let name = value
-        .get("cmd")
-        .and_then(Value::as_str)
-        .ok_or(LineFault::BadCommand)?;
+    match name {
+        "meter" => place_meter(alloc, value),
+        "read" => read_meter(alloc, value),
+        "vehicle" => vehicle(alloc, value),
+        "lane" => lane(alloc, value),
+        "count" => Ok(Command::Count),
+        _ => Err(LineFault::BadCommand),
+    }
+}
+
+/// The command of a name.
+#[tactic(auto, unfolding(crate::specs::Reading::named))]
+fn named(alloc: Global, name: &str, value: &Value) -> Result<Command, LineFault>
+    ensures { Gives result (or_fault LineFault.BadCommand (named name.now (view value.now))) }
+{
     match name {
         "load" => load(alloc, value),
         "signal" => signal(alloc, value),
@@ -172,13 +201,24 @@ pub fn command_of(alloc: Global, value: &Value) -> Result<Command, LineFault>
         "close" => close(alloc, value),
         "reopen" => reopen(alloc, value),
         "takeout" => take_out(alloc, value),
-        "meter" => place_meter(alloc, value),
-        "read" => read_meter(alloc, value),
-        "vehicle" => vehicle(alloc, value),
-        "lane" => lane(alloc, value),
-        "count" => Ok(Command::Count),
-        _ => Err(LineFault::BadCommand),
+        _ => observing(alloc, name, value),
     }
+}
+
+/// The command that a JSON value says.
+///
+/// # Errors
+///
+/// `BadCommand` where it says none; `Starved` where there was no memory for its lists.
+#[tactic(auto, unfolding(crate::specs::Reading::command_in))]
+pub fn command_of(alloc: Global, value: &Value) -> Result<Command, LineFault>
+    ensures { Gives result (or_fault LineFault.BadCommand (command_in (view value.now))) }
+{
+    let name = value
+        .get("cmd")
+        .and_then(Value::as_str)
+        .ok_or(LineFault::BadCommand)?;
+    named(alloc, name, value)
 }
 
 /// The fault of a text that was not read: only want of memory says nothing of the text.
