@@ -4,6 +4,7 @@ ghost use Rattle.std.specs.Prelude.{◌≡◌, IfOk};
 ghost use Rattle.serde_json.specs.View.{view};
 ghost use Rattle.street_printing.specs.Printing.{line_of, error_data};
 
+use crate::lines::line_text;
 use crate::members::{Member, object_value};
 use serde_json::Value;
 use std::alloc::{AllocError, Global};
@@ -30,7 +31,5 @@ pub(crate) fn error_value(alloc: Global, number: u64, name: &str) -> Result<Valu
 pub fn error_text(alloc: Global, number: u64, name: &str) -> Result<Vec<u8>, Starved>
     ensures { IfOk result (λ text. text.items ≡ line_of (error_data number name.now)) }
 {
-    let mut text = error_value(alloc, number, name)?.to_vec(alloc)?;
-    text.push(b'\n')?;
-    Ok(text)
+    line_text(alloc, &error_value(alloc, number, name)?)
 }

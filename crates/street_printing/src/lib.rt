@@ -4,6 +4,7 @@
 #![tactic(auto)]
 
 mod errors;
+mod lines;
 mod lists;
 mod members;
 mod replies;

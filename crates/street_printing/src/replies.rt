@@ -8,6 +8,7 @@ ghost use Rattle.street_base.specs.declared.reply.Reply.TheVariants.{Loaded, Sho
 ghost use Rattle.street_base.specs.declared.reply.Whereabouts.TheVariants.{Cell, Buffer, Waiting};
 
 use crate::errors::error_value;
+use crate::lines::line_text;
 use crate::members::{Member, object_value};
 use serde_json::{Value, json};
 use std::alloc::{AllocError, Global};
@@ -320,7 +321,5 @@ fn reply_value(alloc: Global, reply: &Reply) -> Result<Value, AllocError>
 pub fn reply_text(alloc: Global, reply: &Reply) -> Result<Vec<u8>, Starved>
     ensures { IfOk result (λ text. text.items ≡ reply_line reply.now) }
 {
-    let mut text = reply_value(alloc, reply)?.to_vec(alloc)?;
-    text.push(b'\n')?;
-    Ok(text)
+    line_text(alloc, &reply_value(alloc, reply)?)
 }
