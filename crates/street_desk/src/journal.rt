@@ -22,9 +22,14 @@ pub struct Entry {
 }
 
 /// The calls of a desk, in the order in which they had the turn.
-#[derive(Drop)]
 pub struct Journal {
     entries: Vec<Entry>,
+}
+
+impl Drop for Journal {
+    fn drop(self) {
+        let Journal { entries: _ } = self;
+    }
 }
 
 impl Model for Journal {

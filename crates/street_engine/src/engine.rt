@@ -11,12 +11,22 @@ use street_tile::Gate;
 use street_traffic::Streets;
 
 /// Serves commands over one network, or over nothing loaded. The gate is called by the workers of each step.
-#[derive(Drop)]
 pub struct Engine<G: Gate + Sync + Drop> {
     alloc: Global,
     workers: u32,
     gate: G,
     streets: Option<Streets>,
+}
+
+impl<G: Gate + Sync + Drop> Drop for Engine<G> {
+    fn drop(self) {
+        let Engine {
+            alloc: _,
+            workers: _,
+            gate: _,
+            streets: _,
+        } = self;
+    }
 }
 
 impl<G: Gate + Sync + Drop> Model for Engine<G> {

@@ -20,11 +20,16 @@ pub struct Stretch {
 }
 
 /// The closed cells of a lane, told as its closed stretches, each as long as possible, in rising order.
-#[derive(Drop)]
 pub struct Closures {
     alloc: Global,
     /// The stretches, if there are any. They are elsewhere, so that a step reads no more than this of a lane without them.
     kept: Option<Box<Kept>>,
+}
+
+impl Drop for Closures {
+    fn drop(self) {
+        let Closures { alloc: _, kept: _ } = self;
+    }
 }
 
 // There is one for each lane, and most lanes have no closed cell. Four of these fit a line of memory.

@@ -21,9 +21,14 @@ use street_net::{LaneId, Network};
 use street_node::SignalPlan;
 
 /// The detectors of a lane.
-#[derive(Drop)]
 pub struct Gauges {
     kind: Kind,
+}
+
+impl Drop for Gauges {
+    fn drop(self) {
+        let Gauges { kind: _ } = self;
+    }
 }
 
 // Each step reads one for each lane, and nearly no lane has detectors: four of these fit a line of memory.

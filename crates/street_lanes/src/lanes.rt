@@ -43,7 +43,6 @@ pub struct LaneSizes {
 }
 
 /// The lanes of a tile, by number from 0 on, with all vehicles on them.
-#[derive(Drop)]
 pub struct Lanes {
     pub(crate) sites: Vec<Site>,
     pub(crate) yard: Yard,
@@ -51,6 +50,18 @@ pub struct Lanes {
     pub(crate) dice: Dice,
     // How many cars the yard has places for: so many draws are kept.
     capacity: usize,
+}
+
+impl Drop for Lanes {
+    fn drop(self) {
+        let Lanes {
+            sites: _,
+            yard: _,
+            closures: _,
+            dice: _,
+            capacity: _,
+        } = self;
+    }
 }
 
 impl Model for Lanes {

@@ -21,10 +21,15 @@ use street_ends::{Counted, RunFault, Tally};
 use street_engine::{Engine, Unwatched};
 
 /// An engine as a service, with the runtime whose threads its workers run on.
-#[derive(Drop)]
 pub struct EngineSession<'a, R: Threads + Sync> {
     rt: &'a R,
     engine: Engine<Unwatched>,
+}
+
+impl<'a, R: Threads + Sync> Drop for EngineSession<'a, R> {
+    fn drop(self) {
+        let EngineSession { rt: _, engine: _ } = self;
+    }
 }
 
 impl<'a, R: Threads + Sync> Model for EngineSession<'a, R> {
@@ -47,7 +52,7 @@ impl<'a, R: Threads + Sync> EngineSession<'a, R> {
     pub fn into_engine(self) -> Engine<Unwatched>
         ensures { result ≡ self.entry }
     {
-        let EngineSession { engine, .. } = self;
+        let EngineSession { rt: _, engine } = self;
         engine
     }
 }

@@ -35,13 +35,24 @@ pub struct Rows {
 }
 
 /// What a cell's detector has noted, summed by periods: the running one and the last 32 full ones.
-#[derive(Drop)]
 pub struct Meter {
     place: Place,
     period: u32,
     start: Step,
     running: RunningRow,
     rows: HeapCircularBuffer<MeterRow>,
+}
+
+impl Drop for Meter {
+    fn drop(self) {
+        let Meter {
+            place: _,
+            period: _,
+            start: _,
+            running: _,
+            rows: _,
+        } = self;
+    }
 }
 
 impl Model for Meter {

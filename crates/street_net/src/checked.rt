@@ -18,7 +18,6 @@ use std::marker::Model;
 use street_base::{CellNo, LaneNo, LinkIx, Listing, NetSpec, NodeIx, Speed, Turn};
 
 /// A network without faults, with constant-time look-ups of identifiers. Contracts see what it was loaded from.
-#[derive(Drop)]
 pub struct Network {
     spec: NetSpec,
     node_ids: IndexSet<u64>,
@@ -26,6 +25,19 @@ pub struct Network {
     briefs: Vec<Brief>,
     in_lanes: Vec<Vec<LaneId>>,
     turns: TurnTable,
+}
+
+impl Drop for Network {
+    fn drop(self) {
+        let Network {
+            spec: _,
+            node_ids: _,
+            link_ids: _,
+            briefs: _,
+            in_lanes: _,
+            turns: _,
+        } = self;
+    }
 }
 
 impl Model for Network {

@@ -19,11 +19,20 @@ use street_base::{GreenSpec, LaneNo, LinkIx, NodeIx, PhaseSpec, Step, Turn};
 use street_net::Network;
 
 /// The signal plan of a node: phases one after another, again and again.
-#[derive(Drop)]
 pub struct SignalPlan {
     offset: Step,
     cycle: Step,
     phases: Vec<KeptPhase>,
+}
+
+impl Drop for SignalPlan {
+    fn drop(self) {
+        let SignalPlan {
+            offset: _,
+            cycle: _,
+            phases: _,
+        } = self;
+    }
 }
 
 impl Model for SignalPlan {

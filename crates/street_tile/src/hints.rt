@@ -8,9 +8,16 @@ use street_base::{CarNo, LinkIx, Starved};
 
 /// For each number given so far the link on which its vehicle was last put. A vehicle is sought there first; whether it is
 /// there is asked of the lanes.
-#[derive(Drop)]
 pub struct Hints {
     links: Vec<LinkIx>,
+}
+
+impl Drop for Hints {
+    fn drop(self) {
+        let Hints {
+            links: _,
+        } = self;
+    }
 }
 
 impl Model for Hints {

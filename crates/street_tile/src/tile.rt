@@ -25,7 +25,6 @@ use street_net::Network;
 use street_node::SignalPlan;
 
 /// A block of nodes with all lanes of the links that run to them, and the vehicles there.
-#[derive(Drop)]
 pub struct Tile {
     pub(crate) low: usize,
     pub(crate) high: usize,
@@ -41,6 +40,26 @@ pub struct Tile {
     /// Whether a detector was ever placed in the tile. While none was, nothing is noted.
     pub(crate) has_meters: bool,
     pub(crate) gauges: Vec<Gauges>,
+}
+
+impl Drop for Tile {
+    fn drop(self) {
+        let Tile {
+            low: _,
+            high: _,
+            links: _,
+            own: _,
+            numbers: _,
+            clock: _,
+            signals: _,
+            mouths: _,
+            handed: _,
+            coming: _,
+            arrived: _,
+            has_meters: _,
+            gauges: _,
+        } = self;
+    }
 }
 
 impl Model for Tile {

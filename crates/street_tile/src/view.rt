@@ -9,9 +9,16 @@ use street_base::{LaneNo, LinkIx, Starved};
 use street_net::{LaneId, Network};
 
 /// For each lane of a network whether its cell 0 is empty and not closed, two entries a link. Contracts see the list.
-#[derive(Drop)]
 pub struct View {
     mouths: Vec<bool>,
+}
+
+impl Drop for View {
+    fn drop(self) {
+        let View {
+            mouths: _,
+        } = self;
+    }
 }
 
 impl Model for View {

@@ -32,7 +32,6 @@ use street_node::SignalPlan;
 use street_tile::{Gate, Hints, Tile, View, step_all};
 
 /// A loaded network, its clock, its tiles, how each vehicle ended, on which link it was last put, and where each detector is.
-#[derive(Drop)]
 pub struct Streets {
     network: Network,
     clock: Step,
@@ -41,6 +40,20 @@ pub struct Streets {
     ends: Ends,
     hints: Hints,
     sites: Vec<Site>,
+}
+
+impl Drop for Streets {
+    fn drop(self) {
+        let Streets {
+            network: _,
+            clock: _,
+            tiles: _,
+            view: _,
+            ends: _,
+            hints: _,
+            sites: _,
+        } = self;
+    }
 }
 
 impl Model for Streets {

@@ -74,7 +74,6 @@ fn make_room(places: &mut Slab<Place>, spare: &mut Vec<u32>, key: usize) -> Resu
 ///
 /// The slab keeps the places, each with its key; a place that a car has left is used again. All of a car but its plan and its
 /// position in that lies in `hots` under the same key, and nowhere else.
-#[derive(Drop)]
 pub struct Yard {
     places: Slab<Place>,
     hots: Hots,
@@ -83,6 +82,18 @@ pub struct Yard {
     // Every car that there ever was had a key below this.
     reached: usize,
     ends: Listed,
+}
+
+impl Drop for Yard {
+    fn drop(self) {
+        let Yard {
+            places: _,
+            hots: _,
+            spare: _,
+            reached: _,
+            ends: _,
+        } = self;
+    }
 }
 
 impl Model for Yard {
