@@ -4,17 +4,9 @@
 //! The status is 1 where anything is answered otherwise than it should be.
 #![tactic(auto)]
 
-mod callers;
-mod desks;
-mod scripts;
-mod tapes;
-
 ghost use Rattle.std.specs.Prelude.{◌++◌, ℕ, List, IfOk, Decides};
-ghost use Rattle.street_clients.specs.Replies.{Agrees, IsRetold};
+ghost use Rattle.street_pair.specs.Replies.{Agrees, IsRetold};
 
-use crate::callers::serve_both;
-use crate::scripts::serve_scripts;
-use crate::tapes::{Told, retell, text_of};
 use std::alloc::{AllocError, Global};
 use std::fs::File;
 use std::io;
@@ -22,6 +14,7 @@ use std::process::ExitCode;
 use std::rt::Files;
 use std::sync::Wait;
 use std::thread::Threads;
+use street_pair::{Told, retell, serve_both, serve_scripts, text_of};
 
 /// Two links, 10 and 20, one behind the other, and a vehicle.
 const LOAD_AND_ENTER: &str =

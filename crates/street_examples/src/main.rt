@@ -5,14 +5,13 @@
 //! and the replies of a session. The status is 1 where a session is answered otherwise.
 #![tactic(auto)]
 
-mod document;
-mod folder;
-mod session;
+mod answering;
 
-use session::Session;
+use answering::answers;
 use std::process::ExitCode;
 use std::thread::Threads;
 use std::{env, fs, io};
+use street_transcript::{Session, document, folder, same_lines};
 
 fn main(rt: HostRuntime) -> ExitCode {
     let agree = match named_sessions(&rt) {
@@ -63,9 +62,9 @@ fn first_difference<R: Threads + Sync + AllocGlobal>(
     session: &Session,
 ) -> io::Result<Option<Difference>> {
     for workers in WORKERS {
-        let answers = session::answers(rt, rt.alloc(), workers, session.lines.as_slice())?;
-        if answers != session.replies {
-            let same = session::same_lines(answers.as_slice(), session.replies.as_slice());
+        let answered = answers(rt, rt.alloc(), workers, session.lines.as_slice())?;
+        if answered != session.replies {
+            let same = same_lines(answered.as_slice(), session.replies.as_slice());
             return Ok(Some(Difference { workers, same }));
         }
     }

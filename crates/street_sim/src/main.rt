@@ -3,23 +3,17 @@
 //! All calls go through a desk, which keeps a journal of them; the journal can be kept as a tape, and a tape replayed.
 #![tactic(auto)]
 
-mod clients;
-mod fault;
-mod outputs;
-mod replaying;
-#[cfg(test)]
-mod tests;
-
 ghost use Rattle.street_options.specs.Words.{IsInRange};
 
-use fault::Fault;
 use std::fs::File;
 use std::process::ExitCode;
 use std::rt::Files;
 use std::sync::Wait;
 use std::thread::Threads;
 use std::{env, io};
+use street_fault::Fault;
 use street_options::{Options, WordsFault, options};
+use street_runs::{STANDARD_OUTPUT, replay_tape, serve_input, serve_scripts};
 
 fn main(rt: HostRuntime) -> ExitCode {
     match program_words(&rt) {
@@ -40,7 +34,7 @@ fn run<R: Threads + Wait + Sync + Input + Print + Eprint + AllocGlobal + Files<F
         },
         Err(WordsFault::Help(help)) => match help.print(rt) {
             Ok(()) => ExitCode::SUCCESS,
-            Err(_) => tell(rt, Fault::Write(outputs::STANDARD_OUTPUT)),
+            Err(_) => tell(rt, Fault::Write(STANDARD_OUTPUT)),
         },
         Err(WordsFault::Bad(error)) => {
             let status = tell(rt, Fault::BadArguments);
@@ -65,9 +59,9 @@ fn serve<'a, R: Threads + Wait + Sync + Input + Print + AllocGlobal + Files<File
     requires { IsInRange options.now }
 {
     match options.replay {
-        Some(tape) => replaying::replay_tape(rt, options.workers, tape),
-        None if options.scripts.is_empty() => clients::serve_input(rt, options),
-        None => clients::serve_scripts(rt, options),
+        Some(tape) => replay_tape(rt, options.workers, tape),
+        None if options.scripts.is_empty() => serve_input(rt, options),
+        None => serve_scripts(rt, options),
     }
 }
 

@@ -1,0 +1,79 @@
+//! The program's files and standard output.
+//! Source: this profile.
+ghost use Rattle.std.specs.Prelude.{◌≡◌};
+
+use std::alloc::Global;
+use std::fs::File;
+use std::io;
+use std::io::Write;
+use std::rt::Files;
+use street_desk::{Desk, Journal, Pass};
+use street_engine::Unwatched;
+use street_fault::Fault;
+use street_line::Counted;
+use street_tape::write_tape;
+
+/// The name of standard input in faults.
+pub const STANDARD_INPUT: &str = "standard input";
+
+/// The name of standard output in faults.
+pub const STANDARD_OUTPUT: &str = "standard output";
+
+/// Writes a text to standard output, and passes it on.
+pub fn print_text<W: Write>(writer: &mut Counted<W>, text: &[u8]) -> Result<(), Fault<'static>> {
+    if street_ends::write_text(writer, text).is_err() || street_ends::flush_out(writer).is_err() {
+        return Err(Fault::Write(STANDARD_OUTPUT));
+    }
+    Ok(())
+}
+
+/// Ends the desk and writes its journal to the tape that is asked for, if one is. A desk that was left within a turn is told
+/// as a tape that could not be written.
+pub fn keep_tape<'a, R: Files<File = File>>(
+    rt: &R,
+    alloc: Global,
+    desk: Desk<Unwatched>,
+    pass: Pass<Unwatched>,
+    name: Option<&'a str>,
+) -> Result<(), Fault<'a>>
+    requires { pass.desk ≡ desk }
+{
+    let Some(name) = name else {
+        return Ok(());
+    };
+    match desk.finish(pass) {
+        Ok((_engine, journal)) => write_journal(rt, alloc, &journal, name),
+        Err(_torn) => Err(Fault::Write(name)),
+    }
+}
+
+/// Writes a journal as a tape.
+fn write_journal<'a, R: Files<File = File>>(
+    rt: &R,
+    alloc: Global,
+    journal: &Journal,
+    name: &'a str,
+) -> Result<(), Fault<'a>> {
+    let file = match File::create(rt, name) {
+        Ok(file) => file,
+        Err(error) => return Err(of_file(&error, Fault::Write(name))),
+    };
+    let mut writer = Counted::new(file);
+    match write_tape(alloc, journal, &mut writer) {
+        Ok(_bytes) => Ok(()),
+        Err(fault) => Err(Fault::of_run(fault.kind, name, name)),
+    }
+}
+
+/// Opens a file to be read.
+pub fn open_file<'a, R: Files<File = File>>(rt: &R, name: &'a str) -> Result<File, Fault<'a>> {
+    File::open(rt, name).map_err(|error| of_file(&error, Fault::Read(name)))
+}
+
+/// The fault of a file that could not be opened, which want of memory may be the reason of.
+fn of_file<'a>(error: &io::Error, otherwise: Fault<'a>) -> Fault<'a> {
+    match error.kind() {
+        io::ErrorKind::OutOfMemory => Fault::OutOfMemory,
+        _ => otherwise,
+    }
+}

@@ -1,0 +1,39 @@
+//! A tape, replayed.
+//! Source: this profile.
+ghost use Rattle.std.specs.Prelude.{◌≤◌};
+
+use crate::outputs::{STANDARD_OUTPUT, open_file, print_text};
+use std::fs::File;
+use std::io;
+use std::rt::Files;
+use std::thread::Threads;
+use street_base::Command;
+use street_engine::{Engine, Unwatched};
+use street_fault::Fault;
+use street_line::{Counted, reply_text};
+use street_replay::replay;
+
+/// Replays a tape from nothing loaded, writes its replies in the tape's order, and then what a count answers.
+///
+/// # Errors
+///
+/// That of the replay, else that of standard output. The replies till then are written, without the count.
+pub fn replay_tape<'a, R: Threads + Sync + Print + AllocGlobal + Files<File = File>>(
+    rt: &R,
+    workers: u32,
+    name: &'a str,
+) -> Result<(), Fault<'a>>
+    requires { (1 ≤ workers) × (workers ≤ 64) }
+{
+    let alloc = rt.alloc();
+    let mut reader = Counted::new(open_file(rt, name)?);
+    let mut writer = Counted::new(io::writer(rt));
+    let mut engine = Engine::new(alloc, workers, Unwatched);
+    match replay(rt, alloc, &mut reader, &mut engine, &mut writer) {
+        Ok(_tally) => {}
+        Err(fault) => return Err(Fault::of_tape(fault, name, STANDARD_OUTPUT)),
+    }
+    let (reply, _outcome) = engine.apply(rt, &Command::Count);
+    let text = reply_text(alloc, &reply)?;
+    print_text(&mut writer, text.as_slice())
+}
