@@ -23,7 +23,5 @@ pub mod Placing
 mod Ticking
 mod Cutting
 mod Making
-pub mod Stepping
 mod Writing
-mod Hinting
 pub mod Seeking

@@ -39,7 +39,7 @@ impl HandOver {
     }
 
     /// The lane that the vehicle enters.
-    pub(crate) fn to(&self) -> LaneId
+    pub fn to(&self) -> LaneId
         ensures { place_of result ≡ self.now.to }
     {
         self.to

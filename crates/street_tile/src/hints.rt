@@ -14,9 +14,7 @@ pub struct Hints {
 
 impl Drop for Hints {
     fn drop(self) {
-        let Hints {
-            links: _,
-        } = self;
+        let Hints { links: _ } = self;
     }
 }
 
@@ -77,7 +75,7 @@ impl Hints {
     }
 
     /// The vehicle of a hand-over is put on the link that it enters. Takes no memory.
-    pub(crate) fn follow(&mut self, hand_over: &HandOver)
+    pub fn follow(&mut self, hand_over: &HandOver)
         ensures { self.new ≡ record self.old { links = slice_set self.old.links hand_over.now.vehicle.number hand_over.now.to.link } }
     {
         self.put(hand_over.number(), hand_over.to().link);

@@ -1,8 +1,8 @@
 //! Tiles: blocks of nodes with all lanes of the links that run to them, stepped by workers in phases.
 //!
 //! Each phase of a tile reads and writes its own lanes alone, so the tiles of a network run a phase side by side. Between
-//! the phases the calling thread publishes which lanes are open ([`View`]), and moves vehicles from the tile that let them
-//! go to the tile that owns their next lane ([`HandOver`]).
+//! the phases the thread that calls for a step (`street_step`) publishes which lanes are open ([`View`]), and moves vehicles
+//! from the tile that let them go to the tile that owns their next lane ([`HandOver`]).
 #![tactic(auto)]
 
 mod coming;
@@ -17,7 +17,6 @@ mod lanes;
 mod meters;
 mod release;
 mod show;
-mod step;
 mod tile;
 mod view;
 
@@ -25,6 +24,5 @@ pub use finding::TileSizes;
 pub use gate::Gate;
 pub use hand_over::HandOver;
 pub use hints::Hints;
-pub use step::step_all;
 pub use tile::Tile;
 pub use view::View;

@@ -179,14 +179,14 @@ impl Tile {
     }
 
     /// How many hand-overs wait to be moved.
-    pub(crate) fn hand_overs(&self) -> usize
+    pub fn hand_overs(&self) -> usize
         ensures { result ≡ length self.now.handed }
     {
         self.handed.len()
     }
 
     /// Takes the last hand-over.
-    pub(crate) fn next_hand_over(&mut self) -> Option<HandOver>
+    pub fn next_hand_over(&mut self) -> Option<HandOver>
         ensures tile { self.new ≡ record self.old { handed = self.new.handed } }
         ensures rest { self.old.handed ≡ self.new.handed ++ option_to_list result }
         ensures none { result ≡ None → self.old.handed ≡ [] }
@@ -195,7 +195,7 @@ impl Tile {
     }
 
     /// Takes in a hand-over to one of the tile's lanes.
-    pub(crate) fn bring(&mut self, net: &Network, hand_over: HandOver)
+    pub fn bring(&mut self, net: &Network, hand_over: HandOver)
         requires tile { IsTileOf net.now self.old }
         requires lane { IsLane net.now hand_over.to }
         requires own { is_own net.now self.old.low self.old.high hand_over.to ≡ true }

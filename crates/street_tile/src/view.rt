@@ -15,9 +15,7 @@ pub struct View {
 
 impl Drop for View {
     fn drop(self) {
-        let View {
-            mouths: _,
-        } = self;
+        let View { mouths: _ } = self;
     }
 }
 

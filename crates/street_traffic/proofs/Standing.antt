@@ -35,7 +35,7 @@ use Rattle.street_net.specs.Tables.{place_of}
 use Rattle.street_lanes.specs.Lanes.{IsLane}
 use Rattle.street_tile.specs.Commands.{at_place, without, planned}
 use Rattle.street_tile.specs.Metering.{MetersStand, AllMetersStand, detectors_on}
-use Rattle.street_tile.proofs.Stepping.{tiles-same}
+use Rattle.street_step.proofs.Stepping.{tiles-same}
 use Rattle.street_traffic.specs.declared.sites.Site.{Site}
 use Rattle.street_traffic.specs.Sites.{AreSites}
 use Rattle.street_traffic.specs.Streets.{StreetsView, IsTrafficOf, IsKept, StandsFor, Goes}

@@ -10,7 +10,7 @@ use Rattle.street_tile.specs.Tiles.{Part, AreTiles, AllStand, StandsFor, SameTil
 use Rattle.street_tile.specs.Commands.{DoesIf, KeepsAll}
 use Rattle.street_tile.specs.Metering.{MetersStand}
 use Rattle.street_tile.proofs.Keeping.{tile-none}
-use Rattle.street_tile.proofs.Stepping.{tiles-same}
+use Rattle.street_step.proofs.Stepping.{tiles-same}
 use Rattle.street_traffic.specs.Together.{AllDoIf, AllKeep}
 use Rattle.street_traffic.proofs.Siting.{same-meters}
 

@@ -29,7 +29,8 @@ use street_base::{
 };
 use street_net::{LaneId, NetFault, Network};
 use street_node::SignalPlan;
-use street_tile::{Gate, Hints, Tile, View, step_all};
+use street_step::step_all;
+use street_tile::{Gate, Hints, Tile, View};
 
 /// A loaded network, its clock, its tiles, how each vehicle ended, on which link it was last put, and where each detector is.
 pub struct Streets {

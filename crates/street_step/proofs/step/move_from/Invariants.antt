@@ -4,7 +4,7 @@ use Rattle.street_tile.specs.Halves.{Entry}
 use Rattle.street_tile.specs.Tiles.{Part}
 use Rattle.street_tile.specs.Moves.{Awaits, IsMoved}
 use Rattle.street_tile.specs.Hinted.{KeepsHints}
-use Rattle.street_tile.proofs.step.move_from.Given as goal
+use Rattle.street_step.proofs.step.move_from.Given as goal
 
 abbrev pub invariant-loop-k : goal.invariant-loop-k
 invariant-loop-k l = record {

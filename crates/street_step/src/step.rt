@@ -15,13 +15,10 @@ ghost use Rattle.street_tile.specs.Phases.{Changes, Moves, Releases, Enters, Tic
 ghost use Rattle.street_tile.specs.Moves.{Awaits, IsMoved, all_handed, received};
 ghost use Rattle.street_tile.specs.Hinted.{KeepsHints};
 
-use crate::gate::Gate;
-use crate::hints::Hints;
-use crate::tile::Tile;
-use crate::view::View;
 use std::thread;
 use std::thread::Threads;
 use street_net::{LaneId, Network};
+use street_tile::{Gate, Hints, Tile, View};
 
 /// Phase 0 of all tiles.
 fn all_lanes<R: Threads + Sync, G: Gate + Sync>(rt: &R, net: &Network, tiles: &mut [Tile], gate: &G)

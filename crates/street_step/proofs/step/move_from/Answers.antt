@@ -3,10 +3,10 @@ use Rattle.std.proofs.lemmas.List.{take_all, drop_all, get_or_default}
 use Rattle.street_tile.specs.Halves.{Entry}
 use Rattle.street_tile.specs.Tiles.{Part}
 use Rattle.street_tile.specs.Moves.{IsMoved}
-use Rattle.street_tile.proofs.Stepping.{tiles-same}
+use Rattle.street_step.proofs.Stepping.{tiles-same}
 use Rattle.street_tile.proofs.Moving.{moved-start, moved-same, moved-lanes, moved-left, moved-awaits, moves-step}
-use Rattle.street_tile.proofs.Hinting.{hints-none, hints-then}
-use Rattle.street_tile.proofs.step.move_from.Goals as goal
+use Rattle.street_step.proofs.Hinting.{hints-none, hints-then}
+use Rattle.street_step.proofs.step.move_from.Goals as goal
 
 moved-all : (xs ys : List Part) (i n : ℕ) (d : Part) (es : List Entry) → length (get_or xs i d).handed ≤ n → IsMoved i (get_or xs i d).handed es xs ys → IsMoved i (take n (get_or xs i d).handed) (drop n (get_or xs i d).handed ++ es) xs ys
 moved-all xs ys i n d es all m = rw (take_all n (get_or xs i d).handed all, drop_all n (get_or xs i d).handed all) m

@@ -1,9 +1,9 @@
 use Rattle.std.proofs.Common.{take, arith}
 use Rattle.street_tile.specs.Moves.{all_handed}
-use Rattle.street_tile.proofs.Stepping.{tiles-same}
+use Rattle.street_step.proofs.Stepping.{tiles-same}
 use Rattle.street_tile.proofs.Moving.{up-to-start, up-to-same, up-to-lanes, up-to-awaits, up-to-next, up-to-all}
-use Rattle.street_tile.proofs.Hinting.{hints-none, hints-then}
-use Rattle.street_tile.proofs.step.move_all.Goals as goal
+use Rattle.street_step.proofs.Hinting.{hints-none, hints-then}
+use Rattle.street_step.proofs.step.move_all.Goals as goal
 
 pub loop-i-init : goal.loop-i-init
 loop-i-init c = record { moved = up-to-start c.args.tiles.now c.requires.nobody; hints = hints-none c.args.hints.now }

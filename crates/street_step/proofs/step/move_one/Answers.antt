@@ -10,9 +10,9 @@ use Rattle.street_tile.specs.Halves.{Entry, entry_in}
 use Rattle.street_tile.specs.Tiles.{Part, AreTiles, is_own}
 use Rattle.street_tile.specs.Moves.{Awaits}
 use Rattle.street_tile.proofs.Rows.{in-row}
-use Rattle.street_tile.proofs.Stepping.{tiles-same}
+use Rattle.street_step.proofs.Stepping.{tiles-same}
 use Rattle.street_tile.proofs.Moving.{popped-at, popped-same, last-holds, moves-one}
-use Rattle.street_tile.proofs.step.move_one.Goals as goal
+use Rattle.street_step.proofs.step.move_one.Goals as goal
 
 tiles-popped : (net : NetSpec) (xs : List Part) (i : ℕ) (y d : Part) → i < length xs → y ≡ record (get_or xs i d) { handed = y.handed } → AreTiles net xs → AreTiles net (set xs i y)
 tiles-popped net xs i y d h is tiles = tiles-same net xs (set xs i y) (length-set xs i y) (popped-same xs i y d h is) tiles

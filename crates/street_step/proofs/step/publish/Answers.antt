@@ -5,7 +5,7 @@ use Rattle.street_base.specs.Network.{is_place}
 use Rattle.street_tile.specs.Tiles.{Part, IsTileOf, mouth}
 use Rattle.street_tile.proofs.Rows.{in-row, roads-of}
 use Rattle.street_tile.proofs.Publishing.{published-start, published-next, published-all}
-use Rattle.street_tile.proofs.step.publish.Goals as goal
+use Rattle.street_step.proofs.step.publish.Goals as goal
 
 pub loop-i-init : goal.loop-i-init
 loop-i-init c = published-start c.args.net.now c.args.tiles.now c.args.view.now c.requires.view

@@ -5,7 +5,7 @@ use Rattle.street_net.specs.Tables.{place_of}
 use Rattle.street_tile.specs.Tiles.{Part}
 use Rattle.street_tile.proofs.Rows.{share-of, roads-of, one-tile}
 use Rattle.street_tile.proofs.Tiling.{all-own}
-use Rattle.street_tile.proofs.step.owner.Goals as goal
+use Rattle.street_step.proofs.step.owner.Goals as goal
 
 module _ (c : goal.After-position-node) where
   nodes : length c.as_slice-nodes.result.now ≡ length c.args.net.now.nodes
