@@ -1,5 +1,5 @@
-//! Tests of the parts of a step, with values known beforehand: networks, the arena, gaps, draws, motion, buffers, signals,
-//! detectors, the lanes of a tile, and a whole tile.
+//! Tests of the parts of a step, with values known beforehand: networks, the arena, gaps, draws, motion, buffers, signals, and
+//! the rows of detectors.
 //!
 //! They stand in a crate of their own since a crate is proved once more for the tests that it has.
 #![tactic(auto)]
@@ -11,10 +11,6 @@ mod draws;
 #[cfg(test)]
 mod gaps;
 #[cfg(test)]
-mod gauges;
-#[cfg(test)]
-mod lanes;
-#[cfg(test)]
 mod meters;
 #[cfg(test)]
 mod motion;
@@ -22,7 +18,5 @@ mod motion;
 mod networks;
 #[cfg(test)]
 mod signals;
-#[cfg(test)]
-mod tiles;
 #[cfg(test)]
 mod yards;

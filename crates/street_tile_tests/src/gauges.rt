@@ -4,7 +4,7 @@ ghost use Rattle.std.specs.List.{All};
 ghost use Rattle.street_base.specs.Limits.{last_clock};
 ghost use Rattle.street_meter.specs.Meter.{next_step};
 
-use crate::lanes::{car, one_lane};
+use crate::lanes::{one_lane, place};
 use std::alloc::Global;
 use std::process::Abort;
 use std::test::Fail;
@@ -24,10 +24,7 @@ fn at() -> LaneId {
 /// The lane with a vehicle in cell 0.
 fn occupied_lane(rt: &(impl Abort + AllocGlobal)) -> Result<Lanes, Fail> {
     let mut lanes = one_lane(rt.alloc())?;
-    let car = car(rt.alloc(), 0, 0)?;
-    lanes.reserve(1)?;
-    assert!(rt; lanes.len() == 1);
-    lanes.place(0, car);
+    place(rt, &mut lanes)?;
     Ok(lanes)
 }
 
@@ -41,13 +38,18 @@ fn two_detectors(alloc: Global) -> Result<Gauges, Starved>
     Ok(gauges)
 }
 
+/// What they note of a step of such lanes.
+fn noted_of(rt: &(impl Abort + AllocGlobal), lanes: &Lanes) -> Result<Gauges, Fail> {
+    assert!(rt; lanes.len() == 1);
+    let mut gauges = two_detectors(rt.alloc())?;
+    gauges.note(lanes, 0);
+    Ok(gauges)
+}
+
 /// What they note of a step.
 fn noted(rt: &(impl Abort + AllocGlobal)) -> Result<Gauges, Fail> {
     let lanes = occupied_lane(rt)?;
-    assert!(rt; lanes.len() == 1);
-    let mut gauges = two_detectors(rt.alloc())?;
-    gauges.note(&lanes, 0);
-    Ok(gauges)
+    noted_of(rt, &lanes)
 }
 
 /// The start, steps, passes, speeds and occupied steps of the running period, if these are rows.
@@ -71,23 +73,45 @@ fn oldest(reply: &Option<Reply>) -> Option<[u64; 4]> {
     }
 }
 
-#[test]
-fn occupied_cells_are_noted(rt: HostRuntime) -> Result<(), Fail> {
-    let gauges = noted(&rt)?;
-    let first = gauges.rows(rt.alloc(), 0)?;
-    assert_eq!(rt; running(&first), Some([8, 0, 0, 0, 0]));
-    assert_eq!(rt; oldest(&first), Some([7, 0, 0, 1]));
-    let second = gauges.rows(rt.alloc(), 1)?;
-    assert_eq!(rt; running(&second), Some([7, 1, 0, 0, 0]));
-    assert_eq!(rt; oldest(&second), None);
-    assert_eq!(rt; running(&gauges.rows(rt.alloc(), 2)?), None);
+/// The running and the oldest full period that a detector's reply tells.
+fn told(
+    alloc: Global,
+    gauges: &Gauges,
+    number: usize,
+) -> Result<(Option<[u64; 5]>, Option<[u64; 4]>), Starved> {
+    let reply = gauges.rows(alloc, number)?;
+    Ok((running(&reply), oldest(&reply)))
+}
+
+/// What the two detectors tell, where there is no third.
+fn check_rows(rt: &(impl Abort + AllocGlobal), gauges: &Gauges) -> Result<(), Fail> {
+    let rows = [
+        (Some([8, 0, 0, 0, 0]), Some([7, 0, 0, 1])),
+        (Some([7, 1, 0, 0, 0]), None),
+        (None, None),
+    ];
+    for (number, wanted) in rows.iter().enumerate() {
+        assert_eq!(rt; told(rt.alloc(), gauges, number)?, *wanted);
+    }
     Ok(())
 }
 
 #[test]
+fn occupied_cells_are_noted(rt: HostRuntime) -> Result<(), Fail> {
+    let gauges = noted(&rt)?;
+    check_rows(&rt, &gauges)
+}
+
+/// The numbers of two detectors, placed one after the other.
+fn numbers_of_two(alloc: Global) -> Result<(usize, usize), Starved> {
+    let mut gauges = Gauges::new(alloc, 5);
+    let first = gauges.place(alloc, at(), 4, 1, 0)?;
+    let second = gauges.place(alloc, at(), 4, 1, 0)?;
+    Ok((first, second))
+}
+
+#[test]
 fn numbers_count_up(rt: HostRuntime) -> Result<(), Fail> {
-    let mut gauges = Gauges::new(rt.alloc(), 5);
-    assert_eq!(rt; gauges.place(rt.alloc(), at(), 4, 1, 0)?, 0);
-    assert_eq!(rt; gauges.place(rt.alloc(), at(), 4, 1, 0)?, 1);
+    assert_eq!(rt; numbers_of_two(rt.alloc())?, (0, 1));
     Ok(())
 }
