@@ -1,56 +1,29 @@
 //! Releases with values known beforehand.
 
-ghost use Rattle.std.specs.Prelude.{◌≡◌, ◌≤◌, length, IfOk};
+ghost use Rattle.std.specs.Prelude.{◌≡◌, ◌≤◌, ◌∷◌, [], length, IfOk};
 ghost use Rattle.street_base.specs.Limits.{most_plan};
-ghost use Rattle.street_buffer.specs.Buffers.{AreIn, HaveShortPlans};
+ghost use Rattle.street_buffer.specs.Buffers.{AreIn, AreOf, HaveShortPlans};
 
+use crate::nets;
+use crate::nets::{link, node, turn};
 use std::alloc::{AllocError, Global};
 use std::process::Abort;
 use std::test::Fail;
-use street_base::{
-    Car, CarNo, LinkIx, LinkSpec, Listing, NetSpec, NodeSpec, Plan, Speed, Step, TurnSpec,
-};
+use street_base::{Car, CarNo, LinkIx, LinkSpec, Plan, Speed, Step};
 use street_buffer::{Buffers, Released};
 use street_net::Network;
 use street_yard::{ListId, Yard};
 
-/// Nodes 1 to 4, with buffers of 2; link 10 from 1 and link 20 from 2 run to 3, and turn into link 30 from there to 4.
-fn two_into_one(alloc: Global, limit: u64) -> Result<NetSpec, AllocError> {
-    let node = |id: u64| NodeSpec {
-        id,
-        residence: 1,
-        capacity: 2,
-    };
-    let link = |id: u64, from: u64, to: u64, length: u64, limit: u64| LinkSpec {
-        id,
-        from,
-        to,
-        lanes: 1,
-        length,
+/// Nodes 1 to 4, with buffers of 2; link 10 from 1 and link 20 from 2 run to 3, and turn into link 30 from there to 4, whose
+/// limit is given.
+fn two_into_one(alloc: Global, limit: u64) -> Result<Network, Fail> {
+    let nodes = [node(1), node(2), node(3), node(4)];
+    let last = LinkSpec {
         limit,
+        ..link(30, 3, 4, 10)
     };
-    let turn = |link: u64| TurnSpec {
-        link,
-        lane: 0,
-        next: 30,
-        next_lane: 0,
-    };
-    let nodes = Vec::from_slice(alloc, &[node(1), node(2), node(3), node(4)])?;
-    let links = [
-        link(10, 1, 3, 10, 5),
-        link(20, 2, 3, 6, 5),
-        link(30, 3, 4, 10, limit),
-    ];
-    Ok(NetSpec {
-        nodes: Listing::from_vec(nodes),
-        links: Listing::from_vec(Vec::from_slice(alloc, &links)?),
-        turns: Listing::from_vec(Vec::from_slice(alloc, &[turn(10), turn(20)])?),
-        zone: 0,
-        dawdle: 0,
-        change: 0,
-        seed: 0,
-        start: 0,
-    })
+    let links = [link(10, 1, 3, 10), link(20, 2, 3, 6), last];
+    nets::network(alloc, &nodes, &links, &[turn(10, 30), turn(20, 30)])
 }
 
 /// A vehicle that waits in the buffer of a lane: 0 is that of link 10, and 1 that of link 20.
@@ -165,13 +138,72 @@ fn told(
 }
 
 /// What a release did.
-#[derive(Debug, PartialEq, Eq, Drop)]
+#[derive(Drop)]
 struct Outcome {
     went: Vec<Went>,
     /// Whether the mouth of link 30 is open after it.
     is_open: bool,
     /// Whether the buffer of link 10 had room before it, and has after it.
     has_room: (bool, bool),
+}
+
+/// A release in this step from buffers of two lanes, into which those who wait come first.
+fn release_from(
+    rt: &(impl Abort + AllocGlobal),
+    network: &Network,
+    buffers: &Buffers,
+    yard: &mut Yard,
+    waiting: &[Waiting],
+    step: Step,
+    is_open: bool,
+) -> Result<Outcome, Fail>
+    requires links { length network.now.links ≡ 3 }
+    requires lanes { length buffers.now.lists ≡ 2 }
+    requires of { AreOf network.now buffers.now }
+    requires lists { AreIn yard.old buffers.now }
+    requires plans { HaveShortPlans yard.old }
+{
+    fill(rt, buffers, yard, waiting)?;
+    let had_room = buffers.has_room(yard, 0);
+    let mut mouths = [is_open; 6];
+    let mut released = Vec::with_capacity(rt.alloc(), 2)?;
+    buffers.release(network, yard, step, &mut mouths, &mut released);
+    let went = told(rt, yard, &released)?;
+    Ok(Outcome {
+        went,
+        is_open: mouths[4],
+        has_room: (had_room, buffers.has_room(yard, 0)),
+    })
+}
+
+/// The buffers of node 3, empty, in a yard of two lists.
+fn buffers_of(rt: &(impl Abort + AllocGlobal), network: &Network) -> Result<Buffers, Fail>
+    ensures lists { IfOk result (λ buffers. buffers.lists ≡ 0 ∷ 1 ∷ []) }
+    ensures of { IfOk result (AreOf network.now) }
+{
+    let Some(node) = network.node_of(3) else {
+        return Err(Fail::from("node 3 is there"));
+    };
+    assert_eq!(rt; network.in_lanes(node).len(), 2);
+    let lists = Vec::from_slice(rt.alloc(), &[ListId(0), ListId(1)])?;
+    Ok(Buffers::new(network, node, lists))
+}
+
+/// A release in this step from these buffers, which are empty at first.
+fn release_at(
+    rt: &(impl Abort + AllocGlobal),
+    network: &Network,
+    buffers: &Buffers,
+    waiting: &[Waiting],
+    step: Step,
+    is_open: bool,
+) -> Result<Outcome, Fail>
+    requires links { length network.now.links ≡ 3 }
+    requires lists { buffers.now.lists ≡ 0 ∷ 1 ∷ [] }
+    requires of { AreOf network.now buffers.now }
+{
+    let mut yard = Yard::new(rt.alloc(), 2)?;
+    release_from(rt, network, buffers, &mut yard, waiting, step, is_open)
 }
 
 /// A release at node 3 in this step.
@@ -182,37 +214,26 @@ fn release(
     step: Step,
     is_open: bool,
 ) -> Result<Outcome, Fail> {
-    let alloc = rt.alloc();
-    let Some(node) = network.node_of(3) else {
-        return Err(Fail::from("node 3 is there"));
-    };
-    assert_eq!(rt; network.in_lanes(node).len(), 2);
     assert_eq!(rt; network.spec().links.as_slice().len(), 3);
-    let buffers = Buffers::new(
-        network,
-        node,
-        Vec::from_slice(alloc, &[ListId(0), ListId(1)])?,
-    );
-    let mut yard = Yard::new(alloc, 2)?;
-    fill(rt, &buffers, &mut yard, waiting)?;
-    let had_room = buffers.has_room(&yard, 0);
-    let mut mouths = [is_open; 6];
-    let mut released = Vec::with_capacity(alloc, 2)?;
-    buffers.release(network, &mut yard, step, &mut mouths, &mut released);
-    Ok(Outcome {
-        went: told(rt, &yard, &released)?,
-        is_open: mouths[4],
-        has_room: (had_room, buffers.has_room(&yard, 0)),
-    })
+    let buffers = buffers_of(rt, network)?;
+    release_at(rt, network, &buffers, waiting, step, is_open)
 }
 
-/// What a release does where all who go are these, and the buffer of link 10 has room.
-fn with_room(alloc: Global, went: &[Went], is_open: bool) -> Result<Outcome, AllocError> {
-    Ok(Outcome {
-        went: Vec::from_slice(alloc, went)?,
-        is_open,
-        has_room: (true, true),
-    })
+/// In this step these went, and the mouth of link 30 is now open or not; whether the buffer of link 10 had room, and has.
+fn check_outcome(
+    rt: &impl Abort,
+    outcome: &Outcome,
+    step: Step,
+    went: &[Went],
+    is_open: bool,
+    has_room: (bool, bool),
+) {
+    assert_eq!(rt; outcome.went.as_slice(), went, "in step {step}");
+    assert_eq!(rt;
+        (outcome.is_open, outcome.has_room),
+        (is_open, has_room),
+        "in step {step}"
+    );
 }
 
 const FIRST: Went = Went {
@@ -229,9 +250,23 @@ const SECOND: Went = Went {
     at: 1,
 };
 
-#[test]
-fn lanes_go_in_order(rt: HostRuntime) -> Result<(), Fail> {
-    let network = Network::build(rt.alloc(), &two_into_one(rt.alloc(), 5)?)?;
+/// In this step those go, and the mouth of link 30 is then open or not; the buffer of link 10 has room before and after.
+fn check_release(
+    rt: &(impl Abort + AllocGlobal),
+    network: &Network,
+    waiting: &[Waiting],
+    step: Step,
+    was_open: bool,
+    went: &[Went],
+    is_open: bool,
+) -> Result<(), Fail> {
+    let outcome = release(rt, network, waiting, step, was_open)?;
+    check_outcome(rt, &outcome, step, went, is_open, (true, true));
+    Ok(())
+}
+
+/// Releases where both wait, and where only the second does.
+fn check_order(rt: &(impl Abort + AllocGlobal), network: &Network) -> Result<(), Fail> {
     let cases = [
         (3, true, [].as_slice(), true),
         (4, true, [SECOND].as_slice(), false),
@@ -239,31 +274,28 @@ fn lanes_go_in_order(rt: HostRuntime) -> Result<(), Fail> {
         (6, true, [FIRST].as_slice(), false),
     ];
     for (step, was_open, went, is_open) in cases {
-        assert_eq!(rt;
-            release(&rt, &network, &[EARLY, LATE], step, was_open)?,
-            with_room(rt.alloc(), went, is_open)?,
-            "in step {step}"
-        );
+        check_release(rt, network, &[EARLY, LATE], step, was_open, went, is_open)?;
     }
-    assert_eq!(rt;
-        release(&rt, &network, &[EARLY], 7, true)?,
-        with_room(rt.alloc(), &[SECOND], false)?
-    );
+    check_release(rt, network, &[EARLY], 7, true, &[SECOND], false)
+}
+
+#[test]
+fn lanes_go_in_order(rt: HostRuntime) -> Result<(), Fail> {
+    let network = two_into_one(rt.alloc(), 5)?;
+    check_order(&rt, &network)
+}
+
+/// A full buffer lets its first go, and then has room.
+fn check_queue(rt: &(impl Abort + AllocGlobal), network: &Network) -> Result<(), Fail> {
+    let third = Waiting { number: 2, ..LATE };
+    let slower = Went { speed: 2, ..FIRST };
+    let outcome = release(rt, network, &[LATE, third], 5, true)?;
+    check_outcome(rt, &outcome, 5, &[slower], false, (false, true));
     Ok(())
 }
 
 #[test]
 fn buffers_are_queues(rt: HostRuntime) -> Result<(), Fail> {
-    let network = Network::build(rt.alloc(), &two_into_one(rt.alloc(), 2)?)?;
-    let third = Waiting { number: 2, ..LATE };
-    let slower = Went { speed: 2, ..FIRST };
-    assert_eq!(rt;
-        release(&rt, &network, &[LATE, third], 5, true)?,
-        Outcome {
-            went: Vec::from_slice(rt.alloc(), &[slower])?,
-            is_open: false,
-            has_room: (false, true),
-        }
-    );
-    Ok(())
+    let network = two_into_one(rt.alloc(), 2)?;
+    check_queue(&rt, &network)
 }

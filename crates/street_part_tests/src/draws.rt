@@ -1,10 +1,14 @@
 //! Draws that other implementations of ChaCha20 gave.
 
+use std::process::Abort;
 use std::test::Fail;
+use street_base::Starved;
 use street_draw::{Dice, draw};
 
-/// Draws of a seed, a vehicle and a place.
-const KNOWN: [(u64, u32, u32, u16); 17] = [
+/// A seed, a vehicle and a place, and their draw.
+type Known = (u64, u32, u32, u16);
+
+const KNOWN: [Known; 17] = [
     (0, 0, 0, 679),
     (0, 0, 1, 563),
     (0, 0, 2, 896),
@@ -26,58 +30,77 @@ const KNOWN: [(u64, u32, u32, u16); 17] = [
 
 #[test]
 fn draws_are_the_known_ones(rt: HostRuntime) {
-    for (seed, car, place, want) in KNOWN {
-        assert_eq!(rt;
-            draw(seed, car, u64::from(place)),
-            want,
-            "seed {seed}, car {car}, place {place}"
-        );
+    for known in KNOWN {
+        let (seed, car, place, want) = known;
+        assert_eq!(rt; draw(seed, car, u64::from(place)), want, "at {known:?}");
     }
 }
 
-/// With odds at a known draw the answer is no and just above it yes, wherever it is kept or put aside and however often it is
-/// asked.
+/// What the dice answer at a place, where the draws are kept.
+fn answer(dice: &mut Dice, at: usize, car: u32, place: u32) -> bool {
+    if place % 2 == 0 {
+        dice.may_change(at, place / 2, car)
+    } else {
+        dice.dawdles(at, place / 2, car)
+    }
+}
+
+/// The dice answer so, wherever it is kept or put aside and however often it is asked.
+fn check_answers(rt: &impl Abort, dice: &mut Dice, known: Known, wanted: bool) {
+    let (_, car, place, _) = known;
+    for at in [0, 1, 0, 2] {
+        assert_eq!(rt; answer(dice, at, car, place), wanted, "at {known:?}");
+        dice.put_aside(at);
+    }
+}
+
+/// With odds at a known draw the answer is no.
+fn check_at_draw(rt: &(impl Abort + AllocGlobal), known: Known) -> Result<(), Starved> {
+    let (seed, _, _, want) = known;
+    let mut dice = Dice::new(rt.alloc(), seed, want, want, 1)?;
+    check_answers(rt, &mut dice, known, false);
+    Ok(())
+}
+
+/// With odds just above a known draw the answer is yes.
+fn check_above(rt: &(impl Abort + AllocGlobal), known: Known) -> Result<(), Starved> {
+    let (seed, _, _, want) = known;
+    let more = want.saturating_add(1);
+    let mut dice = Dice::new(rt.alloc(), seed, more, more, 0)?;
+    dice.reserve(2)?;
+    check_answers(rt, &mut dice, known, true);
+    Ok(())
+}
+
 #[test]
 fn dice_answer_by_the_known_draws(rt: HostRuntime) -> Result<(), Fail> {
-    for (seed, car, place, want) in KNOWN {
-        let more = want.saturating_add(1);
-        let mut at_draw = Dice::new(rt.alloc(), seed, want, want, 1)?;
-        let mut above = Dice::new(rt.alloc(), seed, more, more, 0)?;
-        above.reserve(2)?;
-        for at in [0, 1, 0, 2] {
-            let (no, yes) = if place % 2 == 0 {
-                (
-                    at_draw.may_change(at, place / 2, car),
-                    above.may_change(at, place / 2, car),
-                )
-            } else {
-                (
-                    at_draw.dawdles(at, place / 2, car),
-                    above.dawdles(at, place / 2, car),
-                )
-            };
-            assert!(rt; !no && yes, "car {car}, place {place}");
-            at_draw.put_aside(at);
-            above.put_aside(at);
-        }
+    for known in KNOWN {
+        check_at_draw(&rt, known)?;
+        check_above(&rt, known)?;
     }
     Ok(())
 }
 
-/// Whom odds of 0 ask for never dawdles and never changes, whom odds of 1,000 ask for always does.
-#[test]
-fn odds_of_none_and_all(rt: HostRuntime) -> Result<(), Fail> {
-    let mut never = Dice::new(rt.alloc(), 7, 0, 0, 4)?;
-    let mut always = Dice::new(rt.alloc(), 7, 1000, 1000, 4)?;
+/// The dice answer so in a hundred steps.
+fn check_sure(rt: &impl Abort, dice: &mut Dice, wanted: bool) {
     for step in 0..100u32 {
-        assert!(rt;
-            !never.dawdles(0, step, 3) && !never.may_change(0, step, 3),
-            "at {step}"
-        );
-        assert!(rt;
-            always.dawdles(0, step, 3) && always.may_change(0, step, 3),
-            "at {step}"
-        );
+        let answers = (dice.dawdles(0, step, 3), dice.may_change(0, step, 3));
+        assert_eq!(rt; answers, (wanted, wanted), "at {step}");
     }
+}
+
+/// Whom odds of 0 ask for never dawdles and never changes.
+#[test]
+fn odds_of_none(rt: HostRuntime) -> Result<(), Fail> {
+    let mut dice = Dice::new(rt.alloc(), 7, 0, 0, 4)?;
+    check_sure(&rt, &mut dice, false);
+    Ok(())
+}
+
+/// Whom odds of 1,000 ask for always does both.
+#[test]
+fn odds_of_all(rt: HostRuntime) -> Result<(), Fail> {
+    let mut dice = Dice::new(rt.alloc(), 7, 1000, 1000, 4)?;
+    check_sure(&rt, &mut dice, true);
     Ok(())
 }

@@ -1,5 +1,4 @@
-//! Tests of the parts of a step, with values known beforehand: networks, the arena, gaps, draws, motion, buffers, signals, and
-//! the rows of detectors.
+//! Tests of the parts of a step, with values known beforehand: motion, buffers, draws, and the rows of detectors.
 //!
 //! They stand in a crate of their own since a crate is proved once more for the tests that it has.
 #![tactic(auto)]
@@ -9,14 +8,8 @@ mod buffers;
 #[cfg(test)]
 mod draws;
 #[cfg(test)]
-mod gaps;
-#[cfg(test)]
 mod meters;
 #[cfg(test)]
 mod motion;
 #[cfg(test)]
-mod networks;
-#[cfg(test)]
-mod signals;
-#[cfg(test)]
-mod yards;
+mod nets;

@@ -7,42 +7,20 @@ ghost use Rattle.street_yard.specs.Yard.{list_at};
 ghost use Rattle.street_yard.specs.Listed.{cell_at, AllAbove, IsLane};
 ghost use Rattle.street_gap.specs.Closed.{IsWithin};
 
-use std::alloc::{AllocError, Global};
+use crate::nets;
+use crate::nets::{link, node};
+use std::alloc::Global;
 use std::process::Abort;
 use std::test::Fail;
-use street_base::{
-    Car, CarNo, CellNo, LinkIx, LinkSpec, Listing, NetSpec, NodeSpec, Plan, Speed, Starved,
-};
+use street_base::{Car, CarNo, CellNo, LinkIx, Plan, Speed, Starved};
 use street_gap::Closures;
 use street_net::Network;
 use street_rule::{Dice, Leaver, Road, RoadLane, Watch, motion_pass};
 use street_yard::{Key, ListId, Yard};
 
 /// Two nodes and a link of 40 cells between them, whose limit is 5.
-fn one_link(alloc: Global) -> Result<NetSpec, AllocError> {
-    let node = |id: u64| NodeSpec {
-        id,
-        residence: 1,
-        capacity: 1,
-    };
-    let link = LinkSpec {
-        id: 10,
-        from: 1,
-        to: 2,
-        lanes: 1,
-        length: 40,
-        limit: 5,
-    };
-    Ok(NetSpec {
-        nodes: Listing::from_vec(Vec::from_slice(alloc, &[node(1), node(2)])?),
-        links: Listing::from_vec(Vec::from_slice(alloc, &[link])?),
-        turns: Listing::from_vec(Vec::new(alloc)),
-        zone: 0,
-        dawdle: 0,
-        change: 0,
-        seed: 0,
-        start: 0,
-    })
+fn one_link(alloc: Global) -> Result<Network, Fail> {
+    nets::network(alloc, &[node(1), node(2)], &[link(10, 1, 2, 40)], &[])
 }
 
 /// A vehicle stands here with this speed.
@@ -115,8 +93,11 @@ fn add(rt: &(impl Abort + AllocGlobal), yard: &mut Yard, number: CarNo, standing
     }
 }
 
+/// The keys of three vehicles, the front first.
+type Keys = (Key, Key, Key);
+
 /// A yard in which list 0 is a lane of three vehicles, and their keys.
-fn stand(rt: &(impl Abort + AllocGlobal), cars: Three) -> (Yard, (Key, Key, Key))
+fn stand(rt: &(impl Abort + AllocGlobal), cars: Three) -> (Yard, Keys)
     ensures list { 0 < length result.0.lists }
     ensures lane { IsLane result.0 0 40 }
 {
@@ -173,6 +154,42 @@ fn drive<'a>(
     motion_pass(yard, &road, 0, 7, exit, dice, watches)
 }
 
+/// The lane of list 0 after its motion.
+fn moved_lane(
+    rt: &impl Abort,
+    network: &Network,
+    closures: &Closures,
+    yard: &mut Yard,
+    keys: Keys,
+    dice: &mut Dice,
+    scene: Scene,
+) -> Moved
+    requires list { 0 < length yard.old.lists }
+    requires lane { IsLane yard.old 0 40 }
+    requires closed { IsWithin closures.now 40 }
+{
+    assert!(rt; scene.watch < 40);
+    let mut watches = [Watch {
+        cell: scene.watch,
+        passes: 0,
+        speeds: 0,
+    }];
+    let leaver = drive(rt, network, closures, yard, scene.exit, dice, &mut watches);
+    let (front, middle, back) = keys;
+    let left = match leaver {
+        Some(leaver) => {
+            assert_eq!(rt; leaver.key, front);
+            Some(leaver.speed)
+        }
+        None => None,
+    };
+    Moved {
+        cars: [seen(yard, front), seen(yard, middle), seen(yard, back)],
+        left,
+        noted: (watches[0].passes, watches[0].speeds),
+    }
+}
+
 /// The lane after its motion.
 fn move_once(
     rt: &(impl Abort + AllocGlobal),
@@ -183,97 +200,85 @@ fn move_once(
 ) -> Moved
     requires { IsWithin closures.now 40 }
 {
-    assert!(rt; scene.watch < 40);
-    let mut watches = [Watch {
-        cell: scene.watch,
-        passes: 0,
-        speeds: 0,
-    }];
-    let (mut yard, (front, middle, back)) = stand(rt, scene.cars);
-    let left = drive(
-        rt,
-        network,
-        closures,
-        &mut yard,
-        scene.exit,
-        dice,
-        &mut watches,
-    );
-    if let Some(leaver) = &left {
-        assert_eq!(rt; leaver.key, front);
-    }
-    Moved {
-        cars: [seen(&yard, front), seen(&yard, middle), seen(&yard, back)],
-        left: left.map(|leaver| leaver.speed),
-        noted: (watches[0].passes, watches[0].speeds),
-    }
+    let (mut yard, keys) = stand(rt, scene.cars);
+    moved_lane(rt, network, closures, &mut yard, keys, dice, scene)
+}
+
+/// The lane moves so where these cells are closed and nobody dawdles.
+fn check_moved(
+    rt: &(impl Abort + AllocGlobal),
+    network: &Network,
+    first: CellNo,
+    last: CellNo,
+    scene: Scene,
+    wanted: Moved,
+) -> Result<(), Fail> {
+    let closures = closed(rt, first, last)?;
+    let mut dice = Dice::new(rt.alloc(), 0, 0, 0, 3)?;
+    assert_eq!(rt; move_once(rt, network, &closures, &mut dice, scene), wanted);
+    Ok(())
 }
 
 fn at(cell: CellNo, speed: Speed) -> Standing {
     Standing { cell, speed }
 }
 
-#[test]
-fn vehicles_move_by_the_old_cells(rt: HostRuntime) -> Result<(), Fail> {
-    let mut dice = Dice::new(rt.alloc(), 0, 0, 0, 3)?;
-    let far = closed(&rt, 39, 39)?;
-    let near = closed(&rt, 12, 13)?;
-    let network = Network::build(rt.alloc(), &one_link(rt.alloc())?)?;
+/// With a closed stretch far away, and with one ahead of the first vehicle.
+fn check_old_cells(rt: &(impl Abort + AllocGlobal), network: &Network) -> Result<(), Fail> {
     let apart = Scene {
         cars: (at(10, 4), at(3, 2), at(0, 3)),
         exit: true,
         watch: 10,
     };
-    assert_eq!(rt;
-        move_once(&rt, &network, &far, &mut dice, apart),
-        Moved {
-            cars: [Some((15, 5)), Some((6, 3)), Some((2, 2))],
-            left: None,
-            noted: (1, 5),
-        }
-    );
+    let free = Moved {
+        cars: [Some((15, 5)), Some((6, 3)), Some((2, 2))],
+        left: None,
+        noted: (1, 5),
+    };
+    check_moved(rt, network, 39, 39, apart, free)?;
     let before_a_stretch = Scene { watch: 5, ..apart };
-    assert_eq!(rt;
-        move_once(&rt, &network, &near, &mut dice, before_a_stretch),
-        Moved {
-            cars: [Some((11, 1)), Some((6, 3)), Some((2, 2))],
-            left: None,
-            noted: (1, 3),
-        }
-    );
-    Ok(())
+    let braked = Moved {
+        cars: [Some((11, 1)), Some((6, 3)), Some((2, 2))],
+        left: None,
+        noted: (1, 3),
+    };
+    check_moved(rt, network, 12, 13, before_a_stretch, braked)
 }
 
 #[test]
-fn an_open_exit_is_left_by(rt: HostRuntime) -> Result<(), Fail> {
-    let mut dice = Dice::new(rt.alloc(), 0, 0, 0, 3)?;
-    let behind = closed(&rt, 5, 6)?;
-    let network = Network::build(rt.alloc(), &one_link(rt.alloc())?)?;
+fn vehicles_move_by_the_old_cells(rt: HostRuntime) -> Result<(), Fail> {
+    let network = one_link(rt.alloc())?;
+    check_old_cells(&rt, &network)
+}
+
+/// With a shut exit and with an open one, behind a closed stretch.
+fn check_exit(rt: &(impl Abort + AllocGlobal), network: &Network) -> Result<(), Fail> {
     let shut = Scene {
         cars: (at(38, 4), at(30, 5), at(29, 0)),
         exit: false,
         watch: 38,
     };
-    assert_eq!(rt;
-        move_once(&rt, &network, &behind, &mut dice, shut),
-        Moved {
-            cars: [Some((39, 1)), Some((35, 5)), Some((29, 0))],
-            left: None,
-            noted: (1, 1),
-        }
-    );
+    let kept = Moved {
+        cars: [Some((39, 1)), Some((35, 5)), Some((29, 0))],
+        left: None,
+        noted: (1, 1),
+    };
+    check_moved(rt, network, 5, 6, shut, kept)?;
     let open = Scene {
         exit: true,
         watch: 39,
         ..shut
     };
-    assert_eq!(rt;
-        move_once(&rt, &network, &behind, &mut dice, open),
-        Moved {
-            cars: [None, Some((35, 5)), Some((29, 0))],
-            left: Some(5),
-            noted: (1, 5),
-        }
-    );
-    Ok(())
+    let left = Moved {
+        cars: [None, Some((35, 5)), Some((29, 0))],
+        left: Some(5),
+        noted: (1, 5),
+    };
+    check_moved(rt, network, 5, 6, open, left)
+}
+
+#[test]
+fn an_open_exit_is_left_by(rt: HostRuntime) -> Result<(), Fail> {
+    let network = one_link(rt.alloc())?;
+    check_exit(&rt, &network)
 }

@@ -1,11 +1,11 @@
 //! Loads with and without a fault, look-ups, and plans.
 
+use crate::nets;
+use crate::nets::{link, node, turn};
 use std::alloc::{AllocError, Global};
 use std::process::Abort;
 use std::test::Fail;
-use street_base::{
-    LaneNo, LinkIx, LinkSpec, Listing, NetSpec, NodeSpec, Part, Plan, Speed, TurnSpec,
-};
+use street_base::{LaneNo, LinkIx, LinkSpec, NetSpec, NodeSpec, Part, Plan, Speed, TurnSpec};
 use street_net::{NetFault, Network, PlanFault};
 
 /// A load of two nodes, two links and two turns.
@@ -107,18 +107,19 @@ impl Small {
     }
 
     fn load(&self, alloc: Global) -> Result<NetSpec, AllocError> {
-        let nodes = Vec::from_slice(alloc, &[self.nodes.0, self.nodes.1])?;
-        let links = Vec::from_slice(alloc, &[self.links.0, self.links.1])?;
-        let turns = Vec::from_slice(alloc, &[self.turns.0, self.turns.1])?;
+        let load = nets::load(
+            alloc,
+            &[self.nodes.0, self.nodes.1],
+            &[self.links.0, self.links.1],
+            &[self.turns.0, self.turns.1],
+        )?;
         Ok(NetSpec {
-            nodes: Listing::from_vec(nodes),
-            links: Listing::from_vec(links),
-            turns: Listing::from_vec(turns),
             zone: self.zone,
             dawdle: self.dawdle,
             change: self.change,
             seed: u64::MAX,
             start: self.start,
+            ..load
         })
     }
 }
@@ -174,18 +175,14 @@ fn finds_first_bad_turns(rt: HostRuntime) -> Result<(), Fail> {
         from: 9,
         ..GOOD.links.1
     };
-    assert_eq!(rt;
-        first_fault(rt.alloc(), Small::with_second_link(apart))?,
-        (Part::Turns, 0)
-    );
-    assert_eq!(rt;
-        first_fault(rt.alloc(), Small::with_second_turn(40, 0))?,
-        (Part::Turns, 1)
-    );
-    assert_eq!(rt;
-        first_fault(rt.alloc(), Small::with_second_turn(30, 1))?,
-        (Part::Turns, 1)
-    );
+    let bad = [
+        (Small::with_second_link(apart), 0),
+        (Small::with_second_turn(40, 0), 1),
+        (Small::with_second_turn(30, 1), 1),
+    ];
+    for (load, at) in bad {
+        assert_eq!(rt; first_fault(rt.alloc(), load)?, (Part::Turns, at));
+    }
     Ok(())
 }
 
@@ -215,12 +212,21 @@ fn finds_first_bad_values(rt: HostRuntime) -> Result<(), Fail> {
     Ok(())
 }
 
+/// The positions of node 9 and of link 40, if both are there.
+fn positions(net: &Network) -> Option<(usize, usize)> {
+    let (node, link) = (net.node_of(9)?, net.link_of(40)?);
+    Some((node.position(), link.position()))
+}
+
+/// What is found in that good network.
+fn check_look_ups(rt: &impl Abort, net: &Network) {
+    assert_eq!(rt; (net.spec().seed, positions(net)), (u64::MAX, Some((1, 1))));
+}
+
 #[test]
 fn looks_up(rt: HostRuntime) -> Result<(), Fail> {
     let net = good(rt.alloc())?;
-    assert_eq!(rt; net.spec().seed, u64::MAX);
-    assert_eq!(rt; net.node_of(9).map(|node| node.position()), Some(1));
-    assert_eq!(rt; net.link_of(40).map(|link| link.position()), Some(1));
+    check_look_ups(&rt, &net);
     Ok(())
 }
 
@@ -260,7 +266,8 @@ fn told(outcome: Result<Plan, PlanFault>) -> Answer {
 
 /// That good network.
 fn good(alloc: Global) -> Result<Network, Fail> {
-    Ok(Network::build(alloc, &GOOD.load(alloc)?)?)
+    let load = GOOD.load(alloc)?;
+    Ok(Network::build(alloc, &load)?)
 }
 
 /// A plan that begins in this lane is answered so.
@@ -274,51 +281,31 @@ fn check_answer(
     assert_eq!(rt; told(net.check_plan(rt.alloc(), plan, lane)), wanted);
 }
 
-#[test]
-fn plans(rt: HostRuntime) -> Result<(), Fail> {
-    let net = good(rt.alloc())?;
-    check_answer(&rt, &net, &[40], 1, Answer::From(1));
-    check_answer(&rt, &net, &[], 1, Answer::Bad(0));
-    check_answer(&rt, &net, &[40, 40], 1, Answer::Bad(1));
-    check_answer(&rt, &net, &[40], 2, Answer::NoLane);
-    Ok(())
-}
-
-fn link(id: u64, from: u64, to: u64, length: u64) -> LinkSpec {
-    LinkSpec {
-        id,
-        from,
-        to,
-        lanes: 1,
-        length,
-        limit: 5,
+/// What is answered to plans on that good network.
+fn check_plans(rt: &(impl Abort + AllocGlobal), net: &Network) {
+    let plans: [(&[u64], u64, Answer); 4] = [
+        (&[40], 1, Answer::From(1)),
+        (&[], 1, Answer::Bad(0)),
+        (&[40, 40], 1, Answer::Bad(1)),
+        (&[40], 2, Answer::NoLane),
+    ];
+    for (plan, lane, wanted) in plans {
+        check_answer(rt, net, plan, lane, wanted);
     }
 }
 
+#[test]
+fn plans(rt: HostRuntime) -> Result<(), Fail> {
+    let net = good(rt.alloc())?;
+    check_plans(&rt, &net);
+    Ok(())
+}
+
 /// Nodes 1 to 4; links 10 and 20 run to node 3, and link 30 from there to node 4; both turn into it.
-fn two_into_one(alloc: Global) -> Result<NetSpec, AllocError> {
-    let node = |id: u64| NodeSpec {
-        id,
-        residence: 1,
-        capacity: 2,
-    };
-    let turn = |link: u64| TurnSpec {
-        link,
-        lane: 0,
-        next: 30,
-        next_lane: 0,
-    };
+fn two_into_one(alloc: Global) -> Result<Network, Fail> {
+    let nodes = [node(1), node(2), node(3), node(4)];
     let links = [link(10, 1, 3, 10), link(20, 2, 3, 6), link(30, 3, 4, 10)];
-    Ok(NetSpec {
-        nodes: Listing::from_vec(Vec::from_slice(alloc, &[node(1), node(2), node(3), node(4)])?),
-        links: Listing::from_vec(Vec::from_slice(alloc, &links)?),
-        turns: Listing::from_vec(Vec::from_slice(alloc, &[turn(20), turn(10)])?),
-        zone: 0,
-        dawdle: 0,
-        change: 0,
-        seed: 0,
-        start: 0,
-    })
+    nets::network(alloc, &nodes, &links, &[turn(20, 30), turn(10, 30)])
 }
 
 /// The turn from a lane to a next link, each by its position.
@@ -358,48 +345,38 @@ fn end_of(net: &Network, link: u64) -> Option<(usize, Speed)> {
     Some((net.end_of(link).position(), net.limit_of(link)))
 }
 
-#[test]
-fn lanes_and_turns_are_found(rt: HostRuntime) -> Result<(), Fail> {
-    let net = Network::build(rt.alloc(), &two_into_one(rt.alloc())?)?;
+/// The turns of that network.
+fn check_turns(rt: &impl Abort, net: &Network) {
     for (link, lane, next, wanted) in TURNS {
-        assert_eq!(rt; turn_from(&net, link, lane, next), wanted);
+        let serves = net.serves(LinkIx::new(link), lane, LinkIx::new(next));
         assert_eq!(rt;
-            net.serves(LinkIx::new(link), lane, LinkIx::new(next)),
-            wanted.is_some()
+            (turn_from(net, link, lane, next), serves),
+            (wanted, wanted.is_some())
         );
     }
+}
+
+/// The lanes of that network.
+fn check_lanes(rt: &impl Abort, net: &Network) {
     for (node, at, wanted) in LANES {
-        assert_eq!(rt; lane_to(&net, node, at), wanted);
+        assert_eq!(rt; lane_to(net, node, at), wanted);
     }
-    assert_eq!(rt; end_of(&net, 30), Some((3, 5)));
+    assert_eq!(rt; end_of(net, 30), Some((3, 5)));
+}
+
+#[test]
+fn lanes_and_turns_are_found(rt: HostRuntime) -> Result<(), Fail> {
+    let net = two_into_one(rt.alloc())?;
+    check_turns(&rt, &net);
+    check_lanes(&rt, &net);
     Ok(())
 }
 
 /// Nodes 1, 2 and 3; link 10 from 1 to 2, and link 20 from there to 3; lane 0 of the first turns into the second.
-fn one_after_another(alloc: Global) -> Result<Network, NetFault> {
-    let node = |id: u64| NodeSpec {
-        id,
-        residence: 1,
-        capacity: 2,
-    };
-    let turn = TurnSpec {
-        link: 10,
-        lane: 0,
-        next: 20,
-        next_lane: 0,
-    };
+fn one_after_another(alloc: Global) -> Result<Network, Fail> {
+    let nodes = [node(1), node(2), node(3)];
     let links = [link(10, 1, 2, 10), link(20, 2, 3, 10)];
-    let load = NetSpec {
-        nodes: Listing::from_vec(Vec::from_slice(alloc, &[node(1), node(2), node(3)])?),
-        links: Listing::from_vec(Vec::from_slice(alloc, &links)?),
-        turns: Listing::from_vec(Vec::from_slice(alloc, &[turn])?),
-        zone: 0,
-        dawdle: 0,
-        change: 0,
-        seed: 0,
-        start: 0,
-    };
-    Network::build(alloc, &load)
+    nets::network(alloc, &nodes, &links, &[turn(10, 20)])
 }
 
 /// The positions of the links of a good plan of two links.
@@ -413,23 +390,41 @@ fn two_of(alloc: Global, net: &Network, plan: &[u64]) -> Option<(usize, usize)> 
     }
 }
 
+/// What is answered to a good plan of two links.
+fn check_two(rt: &(impl Abort + AllocGlobal), net: &Network) {
+    let refused = net.plan_refusal(&[10, 20], 0).is_some();
+    assert_eq!(rt;
+        (refused, two_of(rt.alloc(), net, &[10, 20])),
+        (false, Some((0, 1)))
+    );
+}
+
 #[test]
 fn plans_of_two_links(rt: HostRuntime) -> Result<(), Fail> {
     let net = one_after_another(rt.alloc())?;
-    assert!(rt; net.plan_refusal(&[10, 20], 0).is_none());
-    assert_eq!(rt; two_of(rt.alloc(), &net, &[10, 20]), Some((0, 1)));
+    check_two(&rt, &net);
     Ok(())
+}
+
+/// What is answered to plans on these two links.
+fn check_refusals(rt: &(impl Abort + AllocGlobal), net: &Network) {
+    let plans: [(&[u64], u64, Answer); 6] = [
+        (&[20], 0, Answer::From(1)),
+        (&[], 1, Answer::Bad(0)),
+        (&[30], 0, Answer::Bad(0)),
+        (&[10, 10], 1, Answer::Bad(1)),
+        (&[20, 10, 30], 0, Answer::Bad(1)),
+        (&[10, 20], 1, Answer::NoLane),
+    ];
+    for (plan, lane, wanted) in plans {
+        check_answer(rt, net, plan, lane, wanted);
+    }
 }
 
 #[test]
 fn refuses_plans(rt: HostRuntime) -> Result<(), Fail> {
     let net = one_after_another(rt.alloc())?;
-    check_answer(&rt, &net, &[20], 0, Answer::From(1));
-    check_answer(&rt, &net, &[], 1, Answer::Bad(0));
-    check_answer(&rt, &net, &[30], 0, Answer::Bad(0));
-    check_answer(&rt, &net, &[10, 10], 1, Answer::Bad(1));
-    check_answer(&rt, &net, &[20, 10, 30], 0, Answer::Bad(1));
-    check_answer(&rt, &net, &[10, 20], 1, Answer::NoLane);
+    check_refusals(&rt, &net);
     Ok(())
 }
 
@@ -441,12 +436,17 @@ fn length_of(alloc: Global, net: &Network, plan: &[u64]) -> Option<usize> {
     }
 }
 
+/// A plan of 1,025 links is bad, and without its last link good.
+fn check_long_plan(rt: &(impl Abort + AllocGlobal), net: &Network) -> Result<(), Fail> {
+    let plan = vec![in rt.alloc(); 30; 1_025]?;
+    let most = &plan.as_slice()[..1_024];
+    assert_eq!(rt; length_of(rt.alloc(), net, most), Some(1_024));
+    check_answer(rt, net, plan.as_slice(), 0, Answer::Bad(1_024));
+    Ok(())
+}
+
 #[test]
 fn plans_have_at_most_1_024_links(rt: HostRuntime) -> Result<(), Fail> {
-    let plan = vec![in rt.alloc(); 30; 1_025]?;
     let net = good(rt.alloc())?;
-    let most = &plan.as_slice()[..1_024];
-    assert_eq!(rt; length_of(rt.alloc(), &net, most), Some(1_024));
-    check_answer(&rt, &net, plan.as_slice(), 0, Answer::Bad(1_024));
-    Ok(())
+    check_long_plan(&rt, &net)
 }

@@ -1,0 +1,228 @@
+//! Closures with values known beforehand.
+
+ghost use Rattle.std.specs.Prelude.{◌≡◌, ◌<◌, length};
+
+use std::alloc::Global;
+use std::process::Abort;
+use std::test::Fail;
+use street_base::{Car, CellNo, Listing, Starved};
+use street_gap::{Closures, Stretch, gap_ahead, gap_back, gap_beside};
+use street_yard::{Key, ListId, Yard};
+
+#[test]
+fn nothing_is_closed_at_first(rt: HostRuntime) {
+    let closures = Closures::new(rt.alloc());
+    assert_eq!(rt; (closures.is_empty(), closures.count_closed()), (true, 0));
+}
+
+/// Closes cells 3 to 8 in two parts.
+fn close_in_two_parts(closures: &mut Closures) -> Result<(), Starved> {
+    closures.close(3, 5)?;
+    closures.close(6, 8)
+}
+
+/// These stretches are closed.
+fn check_stretches(rt: &impl Abort, closures: &Closures, wanted: &[Stretch]) {
+    assert!(rt; closures.is_empty() == wanted.is_empty());
+    assert_eq!(rt; closures.stretches(), wanted);
+}
+
+#[test]
+fn closes_stretches(rt: HostRuntime) -> Result<(), Fail> {
+    let mut closures = Closures::new(rt.alloc());
+    close_in_two_parts(&mut closures)?;
+    check_stretches(&rt, &closures, &[Stretch { first: 3, last: 8 }]);
+    Ok(())
+}
+
+/// Opens cell 5 of cells 3 to 8.
+fn close_and_open(closures: &mut Closures) -> Result<(), Starved> {
+    close_in_two_parts(closures)?;
+    closures.reopen(5, 5)
+}
+
+/// What is looked up where cells 3, 4, 6, 7 and 8 are closed.
+fn check_look_ups(rt: &impl Abort, closures: &Closures) {
+    let entrances = [
+        closures.entrance_after(0),
+        closures.entrance_after(3),
+        closures.entrance_after(8),
+    ];
+    assert_eq!(rt; entrances, [Some(3), Some(6), None]);
+    assert!(rt; closures.is_closed(4));
+    assert!(rt; !closures.is_closed(5));
+}
+
+#[test]
+fn opens_stretches(rt: HostRuntime) -> Result<(), Fail> {
+    let mut closures = Closures::new(rt.alloc());
+    close_and_open(&mut closures)?;
+    let open = [Stretch { first: 3, last: 4 }, Stretch { first: 6, last: 8 }];
+    check_stretches(&rt, &closures, &open);
+    check_look_ups(&rt, &closures);
+    Ok(())
+}
+
+/// Closes four stretches that are apart, and opens cells 1 to 24.
+fn close_and_cut(closures: &mut Closures) -> Result<(), Starved> {
+    closures.close(10, 12)?;
+    closures.close(0, 1)?;
+    closures.close(20, 29)?;
+    closures.close(5, 6)?;
+    closures.reopen(1, 24)
+}
+
+#[test]
+fn cuts_several(rt: HostRuntime) -> Result<(), Fail> {
+    let mut closures = Closures::new(rt.alloc());
+    close_and_cut(&mut closures)?;
+    let ends = [
+        Stretch { first: 0, last: 0 },
+        Stretch {
+            first: 25,
+            last: 29,
+        },
+    ];
+    check_stretches(&rt, &closures, &ends);
+    Ok(())
+}
+
+/// Those two stretches are joined to one.
+fn cut_and_join(closures: &mut Closures) -> Result<(), Starved> {
+    close_and_cut(closures)?;
+    closures.close(1, 40)
+}
+
+#[test]
+fn joins_several(rt: HostRuntime) -> Result<(), Fail> {
+    let mut closures = Closures::new(rt.alloc());
+    cut_and_join(&mut closures)?;
+    check_stretches(&rt, &closures, &[Stretch { first: 0, last: 40 }]);
+    closures.reopen(0, 40)?;
+    check_stretches(&rt, &closures, &[]);
+    Ok(())
+}
+
+/// Closes a stretch of three cells and one of a single cell.
+fn close_four_cells(closures: &mut Closures) -> Result<(), Starved> {
+    closures.close(2, 4)?;
+    closures.close(7, 7)
+}
+
+#[test]
+fn counts_closed_cells(rt: HostRuntime) -> Result<(), Fail> {
+    let mut closures = Closures::new(rt.alloc());
+    close_four_cells(&mut closures)?;
+    assert_eq!(rt; closures.count_closed(), 4);
+    Ok(())
+}
+
+/// A car of no plan comes last on list 0.
+fn put(alloc: Global, yard: &mut Yard, number: u32, cell: CellNo) -> Result<Key, Starved>
+    requires { 0 < length yard.old.lists }
+    ensures { length yard.new.lists ≡ length yard.old.lists }
+{
+    let plan = Box::new(alloc, Listing::from_vec(Vec::new(alloc)))?;
+    yard.reserve(1)?;
+    let key = yard.admit_reserved(Car {
+        plan,
+        number,
+        cell,
+        step: 0,
+        at: 0,
+        speed: 0,
+    });
+    yard.push_back(ListId(0), key);
+    Ok(key)
+}
+
+/// Two cars come on list 0, in cell 9 and in cell 2.
+fn put_two(alloc: Global, yard: &mut Yard) -> Result<(Key, Key), Starved>
+    requires { 0 < length yard.old.lists }
+    ensures { length yard.new.lists ≡ length yard.old.lists }
+{
+    let front = put(alloc, yard, 0, 9)?;
+    let back = put(alloc, yard, 1, 2)?;
+    Ok((front, back))
+}
+
+/// The gap ahead of a car, if it is on a list.
+fn ahead_of(yard: &Yard, closures: &Closures, key: Key) -> Option<Option<CellNo>> {
+    yard.list_of(key)?;
+    Some(gap_ahead(yard, closures, key))
+}
+
+/// The gaps ahead from three cells beside the list of a car, the last of them above it.
+fn beside(yard: &Yard, closures: &Closures, front: Key) -> Option<[Option<CellNo>; 3]> {
+    let list = yard.list_of(front)?;
+    Some([
+        gap_beside(yard, closures, list, Some(front), 3),
+        gap_beside(yard, closures, list, Some(front), 6),
+        gap_beside(yard, closures, list, None, 12),
+    ])
+}
+
+/// The gaps behind three cells of list 0, on which both cars are: one above all cars, and one behind each of the two.
+fn behind_each(yard: &Yard, front: Key, back: Key) -> Option<[Option<CellNo>; 3]>
+    requires { 0 < length yard.now.lists }
+{
+    let (list, same) = (yard.list_of(front)?, yard.list_of(back)?);
+    if list.0 != 0 || same.0 != 0 {
+        return None;
+    }
+    Some([
+        gap_back(yard, list, None, 12),
+        gap_back(yard, list, Some(front), 7),
+        gap_back(yard, same, Some(back), 1),
+    ])
+}
+
+/// What is seen of a car in cell 9 and one in cell 2 where no cell is closed.
+fn check_neighbours(rt: &(impl Abort + AllocGlobal), yard: &Yard, front: Key, back: Key)
+    requires { 0 < length yard.now.lists }
+{
+    let open = Closures::new(rt.alloc());
+    let ahead = ahead_of(yard, &open, back);
+    assert_eq!(rt;
+        (ahead, behind_each(yard, front, back)),
+        (Some(Some(6)), Some([Some(2), Some(4), None]))
+    );
+}
+
+/// What is seen of them where these cells are closed.
+fn check_ahead(rt: &impl Abort, yard: &Yard, closed: &Closures, front: Key, back: Key) {
+    let ahead = (ahead_of(yard, closed, front), ahead_of(yard, closed, back));
+    assert_eq!(rt;
+        (ahead, beside(yard, closed, front)),
+        ((Some(None), Some(Some(2))), Some([Some(1), Some(2), None]))
+    );
+}
+
+/// What is seen of them where cells 5 and 6 are closed.
+fn check_entrances(
+    rt: &(impl Abort + AllocGlobal),
+    yard: &Yard,
+    front: Key,
+    back: Key,
+) -> Result<(), Starved> {
+    let mut closed = Closures::new(rt.alloc());
+    closed.close(5, 6)?;
+    check_ahead(rt, yard, &closed, front, back);
+    Ok(())
+}
+
+#[test]
+fn sees_neighbours(rt: HostRuntime) -> Result<(), Fail> {
+    let mut yard = Yard::new(rt.alloc(), 1)?;
+    let (front, back) = put_two(rt.alloc(), &mut yard)?;
+    check_neighbours(&rt, &yard, front, back);
+    Ok(())
+}
+
+#[test]
+fn sees_entrances(rt: HostRuntime) -> Result<(), Fail> {
+    let mut yard = Yard::new(rt.alloc(), 1)?;
+    let (front, back) = put_two(rt.alloc(), &mut yard)?;
+    check_entrances(&rt, &yard, front, back)?;
+    Ok(())
+}
