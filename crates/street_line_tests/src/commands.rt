@@ -16,10 +16,18 @@ fn check_text(rt: &(impl Abort + AllocGlobal), command: &Command, want: &str) ->
     Ok(())
 }
 
+/// The commands have these texts.
+fn check_texts(rt: &(impl Abort + AllocGlobal), texts: &[(Command, &str)]) -> Result<(), Fail> {
+    for (command, want) in texts {
+        check_text(rt, command, want)?;
+    }
+    Ok(())
+}
+
 #[test]
 fn prints_each_command_of_numbers(rt: HostRuntime) -> Result<(), Fail> {
     let (link, lane, first, last) = (10, 1, 3, 7);
-    for (command, want) in [
+    let texts = [
         (
             Command::Advance { steps: 5 },
             "{\"cmd\":\"advance\",\"steps\":5}",
@@ -68,14 +76,12 @@ fn prints_each_command_of_numbers(rt: HostRuntime) -> Result<(), Fail> {
             "{\"cmd\":\"lane\",\"lane\":1,\"link\":10}",
         ),
         (Command::Count, "{\"cmd\":\"count\"}"),
-    ] {
-        check_text(&rt, &command, want)?;
-    }
-    Ok(())
+    ];
+    check_texts(&rt, &texts)
 }
 
 #[test]
-fn prints_each_command_of_lists(rt: HostRuntime) -> Result<(), Fail> {
+fn prints_an_entry(rt: HostRuntime) -> Result<(), Fail> {
     let enter = Command::Enter {
         plan: listing(rt.alloc(), &[10, 20])?,
         lane: 0,
@@ -85,36 +91,46 @@ fn prints_each_command_of_lists(rt: HostRuntime) -> Result<(), Fail> {
         &rt,
         &enter,
         "{\"cmd\":\"enter\",\"depart\":3,\"lane\":0,\"plan\":[10,20]}",
-    )?;
+    )
+}
+
+/// A phase that lasts so long, with these greens.
+fn phase(alloc: Global, duration: u64, greens: &[GreenSpec]) -> Result<PhaseSpec, Fail> {
+    Ok(PhaseSpec {
+        duration,
+        greens: listing(alloc, greens)?,
+    })
+}
+
+/// A phase of two greens, and one of none.
+fn phases(alloc: Global) -> Result<Vec<PhaseSpec>, Fail> {
     let green = GreenSpec {
         link: 10,
         lane: 0,
         next: 20,
     };
-    let mut phases = Vec::new(rt.alloc());
-    phases.push(PhaseSpec {
-        duration: 8,
-        greens: listing(rt.alloc(), &[green, GreenSpec { lane: 1, ..green }])?,
-    })?;
-    phases.push(PhaseSpec {
-        duration: 2,
-        greens: listing(rt.alloc(), &[])?,
-    })?;
+    let mut phases = Vec::new(alloc);
+    phases.push(phase(alloc, 8, &[green, GreenSpec { lane: 1, ..green }])?)?;
+    phases.push(phase(alloc, 2, &[])?)?;
+    Ok(phases)
+}
+
+#[test]
+fn prints_a_signal(rt: HostRuntime) -> Result<(), Fail> {
     let signal = Command::Signal {
         node: 2,
         offset: 6,
-        phases: Listing::from_vec(phases),
+        phases: Listing::from_vec(phases(rt.alloc())?),
     };
     check_text(
         &rt,
         &signal,
         "{\"cmd\":\"signal\",\"node\":2,\"offset\":6,\"phases\":[[8,[[10,0,20],[10,1,20]]],[2,[]]]}",
-    )?;
-    Ok(())
+    )
 }
 
-#[test]
-fn prints_a_load(rt: HostRuntime) -> Result<(), Fail> {
+/// A load of two nodes, a link and a turn.
+fn load(alloc: Global) -> Result<NetSpec, Fail> {
     let node = NodeSpec {
         id: 1,
         residence: 3,
@@ -134,20 +150,27 @@ fn prints_a_load(rt: HostRuntime) -> Result<(), Fail> {
         next: 20,
         next_lane: 1,
     };
-    let load = Command::Load(NetSpec {
-        nodes: listing(rt.alloc(), &[node, NodeSpec { id: 2, ..node }])?,
-        links: listing(rt.alloc(), &[link])?,
-        turns: listing(rt.alloc(), &[turn])?,
+    let nodes = listing(alloc, &[node, NodeSpec { id: 2, ..node }])?;
+    let links = listing(alloc, &[link])?;
+    let turns = listing(alloc, &[turn])?;
+    Ok(NetSpec {
+        nodes,
+        links,
+        turns,
         zone: 6,
         dawdle: 200,
         change: 500,
         seed: 42,
         start: 0,
-    });
+    })
+}
+
+#[test]
+fn prints_a_load(rt: HostRuntime) -> Result<(), Fail> {
+    let load = Command::Load(load(rt.alloc())?);
     check_text(
         &rt,
         &load,
         "{\"change\":500,\"cmd\":\"load\",\"dawdle\":200,\"links\":[[10,1,2,1,9,5]],\"nodes\":[[1,3,2],[2,3,2]],\"seed\":42,\"start\":0,\"turns\":[[10,0,20,1]],\"zone\":6}",
-    )?;
-    Ok(())
+    )
 }

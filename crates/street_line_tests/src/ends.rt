@@ -5,6 +5,7 @@ use std::io;
 use std::io::{Read, Write};
 use std::process::Abort;
 use std::test::Fail;
+use street_base::Starved;
 use street_ends::{Counted, FaultKind, PartialLine, Tally, flush_out, write_reply, write_text};
 
 /// Takes bytes while there is room, three at most at a time, and then fails or takes none.
@@ -104,44 +105,54 @@ fn replies_go_out_in_parts(rt: HostRuntime) {
     check_sent(&rt, 0, false, 1, 0, 1);
 }
 
-#[test]
-fn replies_are_counted(rt: HostRuntime) -> Result<(), Fail> {
+/// The counts of a tally.
+fn counts(tally: &Tally) -> (u128, u128, u128, u128) {
+    (tally.lines, tally.calls, tally.replies, tally.bytes)
+}
+
+/// Two replies to a writer that takes eight bytes.
+fn write_two(rt: &impl Abort, writer: &mut Counted<SlowWriter>) {
     let mut tally = Tally {
         lines: 2,
         calls: 1,
         replies: 1,
         bytes: 5,
     };
+    let first = write_reply(writer, b"{\"a\":1}", &mut tally);
+    assert_eq!(rt; (first, counts(&tally)), (Ok(()), (2, 1, 2, 12)));
+    let second = write_reply(writer, b"{\"a\":1}", &mut tally);
+    assert_eq!(rt;
+        (second, counts(&tally)),
+        (Err(FaultKind::Write), (2, 1, 2, 13))
+    );
+}
+
+#[test]
+fn replies_are_counted(rt: HostRuntime) -> Result<(), Fail> {
     let mut writer = Counted::new(SlowWriter {
         taken: Vec::new(rt.alloc()),
         room: 8,
         fails: true,
     });
-    assert_eq!(rt; write_reply(&mut writer, b"{\"a\":1}", &mut tally), Ok(()));
-    assert_eq!(rt;
-        (tally.lines, tally.calls, tally.replies, tally.bytes),
-        (2, 1, 2, 12)
-    );
-    assert_eq!(rt;
-        write_reply(&mut writer, b"{\"a\":1}", &mut tally),
-        Err(FaultKind::Write)
-    );
-    assert_eq!(rt;
-        (tally.lines, tally.calls, tally.replies, tally.bytes),
-        (2, 1, 2, 13)
-    );
-    assert_eq!(rt; flush_out(&mut writer), Err(FaultKind::Write));
-    assert_eq!(rt; writer.failures(), 2);
+    write_two(&rt, &mut writer);
+    let flushed = flush_out(&mut writer);
+    assert_eq!(rt; (flushed, writer.failures()), (Err(FaultKind::Write), 2));
     Ok(())
+}
+
+/// How many bytes a read of at most two gave.
+fn read_two(reader: &mut Counted<&[u8]>) -> Result<usize, &'static str> {
+    let mut buffer = [0u8; 2];
+    reader.read(&mut buffer).or(Err("a fault"))
 }
 
 #[test]
 fn reads_are_counted(rt: HostRuntime) -> Result<(), Fail> {
     let mut reader = Counted::new(b"abc".as_slice());
-    let mut buffer = [0u8; 2];
-    assert_eq!(rt; reader.read(&mut buffer).or(Err("a fault"))?, 2);
-    assert_eq!(rt; reader.read(&mut buffer).or(Err("a fault"))?, 1);
-    assert_eq!(rt; reader.read(&mut buffer).or(Err("a fault"))?, 0);
+    let first = read_two(&mut reader)?;
+    let second = read_two(&mut reader)?;
+    let third = read_two(&mut reader)?;
+    assert_eq!(rt; (first, second, third), (2, 1, 0));
     assert_eq!(rt;
         (reader.calls(), reader.failures(), reader.empty_writes()),
         (3, 0, 0)
@@ -149,18 +160,27 @@ fn reads_are_counted(rt: HostRuntime) -> Result<(), Fail> {
     Ok(())
 }
 
+/// All these bytes come.
+fn push_all(part: &mut PartialLine, bytes: &[u8]) -> Result<(), Starved> {
+    for byte in bytes {
+        part.push(*byte)?;
+    }
+    Ok(())
+}
+
+/// The bytes that are kept, and whether they are blank.
+fn check_part(rt: &impl Abort, part: &PartialLine, bytes: &[u8], is_blank: bool) {
+    assert_eq!(rt; (part.as_slice(), part.is_blank()), (bytes, is_blank));
+}
+
 #[test]
 fn one_byte_more_is_kept(rt: HostRuntime) -> Result<(), Fail> {
     let mut part = PartialLine::new(rt.alloc(), 3);
-    for byte in b" \t\r\r\r" {
-        part.push(*byte)?;
-    }
-    assert!(rt; part.is_blank());
-    assert_eq!(rt; part.as_slice(), b" \t\r\r".as_slice());
+    push_all(&mut part, b" \t\r\r\r")?;
+    check_part(&rt, &part, b" \t\r\r", true);
     part.push(b'x')?;
     assert!(rt; !part.is_blank());
     part.clear();
-    assert!(rt; part.is_blank());
-    assert!(rt; part.as_slice().is_empty());
+    check_part(&rt, &part, b"", true);
     Ok(())
 }

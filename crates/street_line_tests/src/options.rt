@@ -3,7 +3,7 @@
 use std::alloc::{AllocError, Global};
 use std::process::Abort;
 use std::test::Fail;
-use street_options::{WordsFault, options};
+use street_options::{Options, WordsFault, options};
 
 /// The program's name and these words.
 fn words_of(alloc: Global, words: &[&str]) -> Result<Vec<String>, AllocError> {
@@ -15,73 +15,93 @@ fn words_of(alloc: Global, words: &[&str]) -> Result<Vec<String>, AllocError> {
     Ok(all)
 }
 
-#[test]
-fn defaults(rt: HostRuntime) -> Result<(), Fail> {
-    let words = words_of(rt.alloc(), &[])?;
+/// The numbers of options, the files of their tape and of their replay, and their scripts.
+type Wanted<'a> = (
+    (u32, u64),
+    (Option<&'a str>, Option<&'a str>),
+    &'a [&'a str],
+);
+
+/// The options are these.
+fn check_found(rt: &impl Abort, found: &Options<'_>, wanted: Wanted<'_>) {
+    let (numbers, files, scripts) = wanted;
+    assert_eq!(rt; (found.workers, found.calls), numbers);
+    assert_eq!(rt; (found.tape, found.replay), files);
+    assert_eq!(rt; found.scripts.as_slice(), scripts);
+}
+
+/// The words mean these options.
+fn check_good(
+    rt: &(impl Abort + AllocGlobal),
+    words: &[&str],
+    wanted: Wanted<'_>,
+) -> Result<(), Fail> {
+    let words = words_of(rt.alloc(), words)?;
     let found = options(rt.alloc(), words.as_slice())?;
-    assert_eq!(rt; (found.workers, found.calls), (1, 65_536));
-    assert!(rt; found.tape.is_none() && found.replay.is_none() && found.scripts.is_empty());
+    check_found(rt, &found, wanted);
     Ok(())
 }
 
 #[test]
+fn defaults(rt: HostRuntime) -> Result<(), Fail> {
+    check_good(&rt, &[], ((1, 65_536), (None, None), &[]))
+}
+
+#[test]
 fn all_at_once(rt: HostRuntime) -> Result<(), Fail> {
-    let words = words_of(
-        rt.alloc(),
-        &[
-            "a.jsonl",
-            "--workers",
-            "64",
-            "--calls=1000000",
-            "--tape",
-            "run.tape",
-            "b.jsonl",
-            "--",
-            "--c",
-        ],
-    )?;
-    let found = options(rt.alloc(), words.as_slice())?;
-    assert_eq!(rt; (found.workers, found.calls), (64, 1_000_000));
-    assert!(rt; found.tape == Some("run.tape") && found.replay.is_none());
-    assert_eq!(rt;
-        found.scripts.as_slice(),
-        ["a.jsonl", "b.jsonl", "--c"].as_slice()
-    );
-    Ok(())
+    let words = [
+        "a.jsonl",
+        "--workers",
+        "64",
+        "--calls=1000000",
+        "--tape",
+        "run.tape",
+        "b.jsonl",
+        "--",
+        "--c",
+    ];
+    let scripts = ["a.jsonl", "b.jsonl", "--c"];
+    check_good(
+        &rt,
+        &words,
+        ((64, 1_000_000), (Some("run.tape"), None), &scripts),
+    )
 }
 
 /// A replay stands beside the numbers.
 #[test]
 fn replays(rt: HostRuntime) -> Result<(), Fail> {
-    let words = words_of(
-        rt.alloc(),
-        &["--replay", "run.tape", "--workers", "2", "--calls", "1"],
-    )?;
-    let found = options(rt.alloc(), words.as_slice())?;
-    assert_eq!(rt; (found.workers, found.calls), (2, 1));
-    assert!(rt;
-        found.replay == Some("run.tape") && found.tape.is_none() && found.scripts.is_empty()
-    );
-    Ok(())
+    let words = ["--replay", "run.tape", "--workers", "2", "--calls", "1"];
+    check_good(&rt, &words, ((2, 1), (None, Some("run.tape")), &[]))
 }
 
 /// What is told of words that are no options, after the word `bad` or `help`.
+fn told_of(alloc: Global, outcome: Result<Options<'_>, WordsFault>) -> Result<String, AllocError> {
+    match outcome {
+        Ok(_found) => Ok(String::new(alloc)),
+        Err(WordsFault::Bad(error)) => format!(in alloc; "bad {error}"),
+        Err(WordsFault::Help(help)) => format!(in alloc; "help {help}"),
+        Err(WordsFault::Starved) => String::from_str(alloc, "starved"),
+    }
+}
+
+/// What is told of these words.
 fn told(alloc: Global, words: &[&str]) -> Result<String, Fail> {
     let all = words_of(alloc, words)?;
-    match options(alloc, all.as_slice()) {
-        Ok(_found) => Ok(String::new(alloc)),
-        Err(WordsFault::Bad(error)) => Ok(format!(in alloc; "bad {error}")?),
-        Err(WordsFault::Help(help)) => Ok(format!(in alloc; "help {help}")?),
-        Err(WordsFault::Starved) => Ok(String::from_str(alloc, "starved")?),
-    }
+    Ok(told_of(alloc, options(alloc, all.as_slice()))?)
+}
+
+/// The text tells that words are bad, and what is.
+fn check_told(rt: &impl Abort, text: &str, what: &str) {
+    assert!(rt; text.starts_with("bad "), "{text}");
+    assert!(rt; text.contains(what), "no {what} in {text}");
+    assert!(rt; text.contains("--help"), "{text}");
 }
 
 /// These words are bad, and the text says what is.
 fn check_bad(rt: &(impl Abort + AllocGlobal), words: &[&str], what: &str) -> Result<(), Fail> {
     let text = told(rt.alloc(), words)?;
-    assert!(rt; text.as_str().starts_with("bad "), "{text}");
-    assert!(rt; text.as_str().contains(what), "no {what} in {text}");
-    assert!(rt; text.as_str().contains("--help"), "{text}");
+    check_told(rt, text.as_str(), what);
     Ok(())
 }
 
@@ -109,14 +129,38 @@ fn other_words_are_bad(rt: HostRuntime) -> Result<(), Fail> {
     Ok(())
 }
 
+/// How many scripts the words name.
+fn count_of(alloc: Global, words: &[&str]) -> Result<usize, Fail> {
+    let words = words_of(alloc, words)?;
+    let found = options(alloc, words.as_slice())?;
+    Ok(found.scripts.len())
+}
+
+#[test]
+fn many_scripts(rt: HostRuntime) -> Result<(), Fail> {
+    let scripts = vec![in rt.alloc(); "a.jsonl"; 1_024]?;
+    assert_eq!(rt; count_of(rt.alloc(), scripts.as_slice())?, 1_024);
+    Ok(())
+}
+
 #[test]
 fn too_many_scripts(rt: HostRuntime) -> Result<(), Fail> {
-    let scripts = vec![in rt.alloc(); "a.jsonl"; 1_024]?;
-    let words = words_of(rt.alloc(), scripts.as_slice())?;
-    let found = options(rt.alloc(), words.as_slice())?;
-    assert_eq!(rt; found.scripts.len(), 1_024);
     let scripts = vec![in rt.alloc(); "a.jsonl"; 1_025]?;
     check_bad(&rt, scripts.as_slice(), "1024")
+}
+
+/// The text is the help, and names each option.
+fn check_help(rt: &impl Abort, text: &str) {
+    assert!(rt; text.starts_with("help "), "{text}");
+    for name in [
+        "--workers <N>",
+        "--calls <N>",
+        "--tape <FILE>",
+        "--replay <FILE>",
+        "[SCRIPT]...",
+    ] {
+        assert!(rt; text.contains(name), "no {name} in {text}");
+    }
 }
 
 #[test]
@@ -124,16 +168,7 @@ fn help_is_told(rt: HostRuntime) -> Result<(), Fail> {
     let cases: [&[&str]; 3] = [&["--help"], &["-h"], &["--workers", "3", "--help"]];
     for words in cases {
         let text = told(rt.alloc(), words)?;
-        assert!(rt; text.as_str().starts_with("help "), "{text}");
-        for name in [
-            "--workers <N>",
-            "--calls <N>",
-            "--tape <FILE>",
-            "--replay <FILE>",
-            "[SCRIPT]...",
-        ] {
-            assert!(rt; text.as_str().contains(name), "no {name} in {text}");
-        }
+        check_help(&rt, text.as_str());
     }
     Ok(())
 }

@@ -14,8 +14,8 @@ fn listing<T: Copy>(alloc: Global, entries: &[T]) -> Result<Listing<T>, Fail> {
 }
 
 /// The line of the reply is `want` and LF.
-fn check_text(rt: &(impl Abort + AllocGlobal), reply: Reply, want: &str) -> Result<(), Fail> {
-    let text = reply_text(rt.alloc(), &reply)?;
+fn check_text(rt: &(impl Abort + AllocGlobal), reply: &Reply, want: &str) -> Result<(), Fail> {
+    let text = reply_text(rt.alloc(), reply)?;
     assert_eq!(rt;
         text.as_slice().strip_suffix(b"\n".as_slice()),
         Some(want.as_bytes()),
@@ -30,11 +30,11 @@ fn check_vehicle(
     whereabouts: Whereabouts,
     want: &str,
 ) -> Result<(), Fail> {
-    check_text(rt, Reply::Vehicle { car, whereabouts }, want)
+    check_text(rt, &Reply::Vehicle { car, whereabouts }, want)
 }
 
 #[test]
-fn prints_each_place_of_a_vehicle(rt: HostRuntime) -> Result<(), Fail> {
+fn prints_a_vehicle_in_a_cell(rt: HostRuntime) -> Result<(), Fail> {
     let cell = Whereabouts::Cell {
         link: 20,
         lane: 1,
@@ -47,7 +47,11 @@ fn prints_each_place_of_a_vehicle(rt: HostRuntime) -> Result<(), Fail> {
         3,
         cell,
         r#"{"car":3,"cell":9,"lane":1,"link":20,"plan":[20,30],"speed":4,"state":"cell"}"#,
-    )?;
+    )
+}
+
+#[test]
+fn prints_a_vehicle_in_a_buffer(rt: HostRuntime) -> Result<(), Fail> {
     let buffer = Whereabouts::Buffer {
         link: 10,
         lane: 0,
@@ -60,7 +64,11 @@ fn prints_each_place_of_a_vehicle(rt: HostRuntime) -> Result<(), Fail> {
         0,
         buffer,
         r#"{"car":0,"lane":0,"link":10,"plan":[10,20],"ready":5,"speed":4,"state":"buffer"}"#,
-    )?;
+    )
+}
+
+#[test]
+fn prints_a_vehicle_that_waits(rt: HostRuntime) -> Result<(), Fail> {
     let waiting = Whereabouts::Waiting {
         link: 20,
         lane: 0,
@@ -94,9 +102,17 @@ fn prints_each_end_of_a_vehicle(rt: HostRuntime) -> Result<(), Fail> {
     Ok(())
 }
 
+/// The replies have these lines.
+fn check_texts(rt: &(impl Abort + AllocGlobal), texts: &[(Reply, &str)]) -> Result<(), Fail> {
+    for (reply, want) in texts {
+        check_text(rt, reply, want)?;
+    }
+    Ok(())
+}
+
 #[test]
 fn prints_each_reply_of_numbers(rt: HostRuntime) -> Result<(), Fail> {
-    for (reply, want) in [
+    let texts = [
         (
             Reply::Loaded {
                 links: 2,
@@ -131,17 +147,22 @@ fn prints_each_reply_of_numbers(rt: HostRuntime) -> Result<(), Fail> {
             r#"{"admitted":21,"arrived":6,"buffers":5,"cells":4,"clock":100,"taken":3,"waiting":3}"#,
         ),
         (Reply::Starved, r#"{"starved":true}"#),
-    ] {
-        check_text(&rt, reply, want)?;
-    }
-    Ok(())
+    ];
+    check_texts(&rt, &texts)
 }
 
-fn rows(alloc: Global, now: RunningRow, rows: &[MeterRow]) -> Result<Reply, Fail> {
-    Ok(Reply::Rows {
+/// The rows of a detector have this line.
+fn check_rows(
+    rt: &(impl Abort + AllocGlobal),
+    now: RunningRow,
+    rows: &[MeterRow],
+    want: &str,
+) -> Result<(), Fail> {
+    let rows = Reply::Rows {
         now,
-        rows: listing(alloc, rows)?,
-    })
+        rows: listing(rt.alloc(), rows)?,
+    };
+    check_text(rt, &rows, want)
 }
 
 #[test]
@@ -165,16 +186,13 @@ fn prints_the_rows_of_a_detector(rt: HostRuntime) -> Result<(), Fail> {
         speeds: 3,
         occupied: 0,
     };
-    check_text(
+    check_rows(
         &rt,
-        rows(rt.alloc(), now, &[first, second])?,
+        now,
+        &[first, second],
         r#"{"now":[4,1,0,0,2],"rows":[[0,5,17,1],[2,1,3,0]]}"#,
     )?;
-    check_text(
-        &rt,
-        rows(rt.alloc(), now, &[])?,
-        r#"{"now":[4,1,0,0,2],"rows":[]}"#,
-    )
+    check_rows(&rt, now, &[], r#"{"now":[4,1,0,0,2],"rows":[]}"#)
 }
 
 fn lane(
@@ -184,11 +202,15 @@ fn lane(
     closed: &[Stretch],
     waiting: &[WaitingEntry],
 ) -> Result<Reply, Fail> {
+    let buffer = listing(alloc, buffer)?;
+    let cells = listing(alloc, cells)?;
+    let closed = listing(alloc, closed)?;
+    let waiting = listing(alloc, waiting)?;
     Ok(Reply::Lane {
-        buffer: listing(alloc, buffer)?,
-        cells: listing(alloc, cells)?,
-        closed: listing(alloc, closed)?,
-        waiting: listing(alloc, waiting)?,
+        buffer,
+        cells,
+        closed,
+        waiting,
     })
 }
 
@@ -220,13 +242,17 @@ fn prints_a_lane(rt: HostRuntime) -> Result<(), Fail> {
     )?;
     check_text(
         &rt,
-        full,
+        &full,
         r#"{"buffer":[[3,5,12]],"cells":[[0,15,5],[2,1,0]],"closed":[[4,6],[9,9]],"waiting":[[7,30]]}"#,
-    )?;
+    )
+}
+
+#[test]
+fn prints_an_empty_lane(rt: HostRuntime) -> Result<(), Fail> {
     let empty = lane(rt.alloc(), &[], &[], &[], &[])?;
     check_text(
         &rt,
-        empty,
+        &empty,
         r#"{"buffer":[],"cells":[],"closed":[],"waiting":[]}"#,
     )
 }
@@ -286,7 +312,7 @@ fn prints_each_refusal(rt: HostRuntime) -> Result<(), Fail> {
         (Refusal::BadCount, r#"{"error":14,"name":"BadCount"}"#),
         (Refusal::ClockEnd, r#"{"error":15,"name":"ClockEnd"}"#),
     ] {
-        check_text(&rt, Reply::Refused(refusal), want)?;
+        check_text(&rt, &Reply::Refused(refusal), want)?;
     }
     Ok(())
 }

@@ -3,7 +3,7 @@
 use std::alloc::{AllocError, Global};
 use std::process::Abort;
 use std::test::Fail;
-use street_base::{Command, GreenSpec, LinkSpec, NodeSpec, TurnSpec};
+use street_base::{Command, GreenSpec, LinkSpec, NetSpec, NodeSpec, PhaseSpec, TurnSpec};
 use street_reading::{LineFault, read_command};
 
 /// The name of a command.
@@ -30,6 +30,22 @@ fn kind(alloc: Global, line: &[u8]) -> &'static str {
         Ok(command) => name(&command),
         Err(fault) => fault.name(),
     }
+}
+
+/// The bytes read as this command or fault.
+fn check_kind(rt: &(impl Abort + AllocGlobal), line: &[u8], want: &str) {
+    assert_eq!(rt; kind(rt.alloc(), line), want, "at {line:?}");
+}
+
+/// The text reads as this command or fault.
+fn check_text(rt: &(impl Abort + AllocGlobal), line: &str, want: &str) {
+    assert_eq!(rt; kind(rt.alloc(), line.as_bytes()), want, "at {line}");
+}
+
+/// The bytes, of which there are many, read as this command or fault.
+fn check_long(rt: &(impl Abort + AllocGlobal), line: &[u8], want: &str) {
+    let count = line.len();
+    assert_eq!(rt; kind(rt.alloc(), line), want, "at {count} bytes");
 }
 
 /// Numbers as they may be written, and what a line with them is.
@@ -60,7 +76,7 @@ static NUMBERS: [(&str, &str); 20] = [
 fn numbers_are_digits_alone(rt: HostRuntime) -> Result<(), Fail> {
     for (number, want) in &NUMBERS {
         let line = format!(in rt.alloc(); "{{\"cmd\":\"advance\",\"steps\":{number}}}")?;
-        assert_eq!(rt; kind(rt.alloc(), line.as_bytes()), *want, "at {number}");
+        check_text(&rt, line.as_str(), want);
     }
     Ok(())
 }
@@ -136,7 +152,7 @@ static ODD_LINES: [(&[u8], &str); 40] = [
 #[test]
 fn odd_lines(rt: HostRuntime) {
     for (line, want) in &ODD_LINES {
-        assert_eq!(rt; kind(rt.alloc(), line), *want, "at {line:?}");
+        check_kind(&rt, line, want);
     }
 }
 
@@ -153,20 +169,26 @@ fn nested(alloc: Global, lists: usize) -> Result<Vec<u8>, AllocError> {
 fn nesting_is_read_to_127_levels(rt: HostRuntime) -> Result<(), Fail> {
     for (lists, want) in [(126, "advance"), (127, "NotJson"), (1000, "NotJson")] {
         let line = nested(rt.alloc(), lists)?;
-        assert_eq!(rt; kind(rt.alloc(), line.as_slice()), want, "at {lists}");
+        check_long(&rt, line.as_slice(), want);
     }
     Ok(())
+}
+
+/// An advance behind so many spaces.
+fn spaced(alloc: Global, spaces: usize) -> Result<Vec<u8>, AllocError> {
+    let mut line = vec![in alloc; b' '; spaces]?;
+    line.extend_from_slice(b"{\"cmd\":\"advance\",\"steps\":5}")?;
+    Ok(line)
 }
 
 #[test]
 fn a_line_has_at_most_1048576_bytes(rt: HostRuntime) -> Result<(), Fail> {
     for (spaces, want) in [(1_048_549, "advance"), (1_048_550, "LineTooLong")] {
-        let mut line = vec![in rt.alloc(); b' '; spaces]?;
-        line.extend_from_slice(b"{\"cmd\":\"advance\",\"steps\":5}")?;
-        assert_eq!(rt; kind(rt.alloc(), line.as_slice()), want, "at {spaces}");
+        let line = spaced(rt.alloc(), spaces)?;
+        check_long(&rt, line.as_slice(), want);
     }
     let blank = vec![in rt.alloc(); b' '; 3_000_000]?;
-    assert_eq!(rt; kind(rt.alloc(), blank.as_slice()), "LineTooLong");
+    check_long(&rt, blank.as_slice(), "LineTooLong");
     Ok(())
 }
 
@@ -179,11 +201,8 @@ struct Load {
     values: [u64; 5],
 }
 
-/// What the load of a line has.
-fn load_of(alloc: Global, line: &[u8]) -> Option<Load> {
-    let Ok(Command::Load(net)) = read_command(alloc, line) else {
-        return None;
-    };
+/// What a load has, where none of its lists is empty.
+fn seen(net: &NetSpec) -> Option<Load> {
     let (nodes, links, turns) = (
         net.nodes.as_slice(),
         net.links.as_slice(),
@@ -195,6 +214,14 @@ fn load_of(alloc: Global, line: &[u8]) -> Option<Load> {
         turns: (turns.len(), *turns.last()?),
         values: [net.zone, net.dawdle, net.change, net.seed, net.start],
     })
+}
+
+/// What the load of a line has.
+fn load_of(alloc: Global, line: &[u8]) -> Option<Load> {
+    match read_command(alloc, line) {
+        Ok(Command::Load(net)) => seen(&net),
+        _ => None,
+    }
 }
 
 #[test]
@@ -213,18 +240,27 @@ fn reads_the_fields_of_a_load(rt: HostRuntime) {
     assert_eq!(rt; (links, link.id, link.from, link.to), (1, 10, 1, 4));
     assert_eq!(rt; (link.lanes, link.length, link.limit), (2, 7, 5));
     let (turns, turn) = load.turns;
-    assert_eq!(rt; (turns, turn.link, turn.lane), (1, 10, 1));
-    assert_eq!(rt; (turn.next, turn.next_lane), (10, 0));
+    assert_eq!(rt;
+        (turns, turn.link, turn.lane, turn.next, turn.next_lane),
+        (1, 10, 1, 10, 0)
+    );
     assert_eq!(rt; load.values, [8, 9, 11, u64::MAX, 12]);
+}
+
+/// The links of a plan of two.
+fn two_links(plan: &[u64]) -> Option<[u64; 2]> {
+    match plan {
+        [first, second] => Some([*first, *second]),
+        _ => None,
+    }
 }
 
 /// The links of the plan of an entry, its lane and its departure.
 fn enter_of(alloc: Global, line: &[u8]) -> Option<([u64; 2], u64, u64)> {
     match read_command(alloc, line) {
-        Ok(Command::Enter { plan, lane, depart }) => match plan.as_slice() {
-            [first, second] => Some(([*first, *second], lane, depart)),
-            _ => None,
-        },
+        Ok(Command::Enter { plan, lane, depart }) => {
+            Some((two_links(plan.as_slice())?, lane, depart))
+        }
         _ => None,
     }
 }
@@ -235,34 +271,38 @@ fn reads_the_fields_of_an_enter(rt: HostRuntime) {
     assert_eq!(rt; enter_of(rt.alloc(), line), Some(([20, 10], 1, 3)));
 }
 
-/// The name of the command of a line, and its numbers, up to four of them, in the order of its fields.
-fn numbers_of(alloc: Global, line: &[u8]) -> Option<(&'static str, [u64; 4])> {
-    let Ok(command) = read_command(alloc, line) else {
-        return None;
-    };
-    let numbers = match &command {
+/// The numbers of a command, up to four of them, in the order of its fields.
+fn numbers(command: &Command) -> Option<[u64; 4]> {
+    match command {
         Command::CloseLane {
             link,
             lane,
             first,
             last,
-        } => [*link, *lane, *first, *last],
+        } => Some([*link, *lane, *first, *last]),
         Command::ReopenLane {
             link,
             lane,
             first,
             last,
-        } => [*link, *lane, *first, *last],
+        } => Some([*link, *lane, *first, *last]),
         Command::PlaceMeter {
             link,
             lane,
             cell,
             period,
-        } => [*link, *lane, *cell, *period],
-        Command::Lane { link, lane } => [*link, *lane, 0, 0],
-        _ => return None,
-    };
-    Some((name(&command), numbers))
+        } => Some([*link, *lane, *cell, *period]),
+        Command::Lane { link, lane } => Some([*link, *lane, 0, 0]),
+        _ => None,
+    }
+}
+
+/// The name of the command of a line, and its numbers.
+fn numbers_of(alloc: Global, line: &[u8]) -> Option<(&'static str, [u64; 4])> {
+    match read_command(alloc, line) {
+        Ok(command) => Some((name(&command), numbers(&command)?)),
+        Err(_) => None,
+    }
 }
 
 /// Lines of these commands, what they are, and their numbers.
@@ -301,25 +341,31 @@ fn reads_the_numbers_of_each_other_command(rt: HostRuntime) {
 /// first.
 type TwoPhases = ((u64, u64), (u64, u64), (usize, usize), GreenSpec);
 
-/// The signal of a line.
-fn signal_of(alloc: Global, line: &[u8]) -> Option<TwoPhases> {
-    let Ok(
-        Command::Signal {
-            node,
-            offset,
-            phases,
-        },
-    ) = read_command(alloc, line)
-    else {
-        return None;
-    };
-    let [first, second] = phases.as_slice() else {
+/// The durations of two phases, how many greens they have, and the last green of the first.
+fn two_phases(phases: &[PhaseSpec]) -> Option<((u64, u64), (usize, usize), GreenSpec)> {
+    let [first, second] = phases else {
         return None;
     };
     let (greens, rest) = (first.greens.as_slice(), second.greens.as_slice());
     let durations = (first.duration, second.duration);
-    let counts = (greens.len(), rest.len());
-    Some(((node, offset), durations, counts, *greens.last()?))
+    Some((durations, (greens.len(), rest.len()), *greens.last()?))
+}
+
+/// The signal of a line.
+fn signal_of(alloc: Global, line: &[u8]) -> Option<TwoPhases> {
+    match read_command(alloc, line) {
+        Ok(
+            Command::Signal {
+                node,
+                offset,
+                phases,
+            },
+        ) => {
+            let (durations, counts, green) = two_phases(phases.as_slice())?;
+            Some(((node, offset), durations, counts, green))
+        }
+        _ => None,
+    }
 }
 
 #[test]
@@ -329,9 +375,7 @@ fn reads_the_phases_of_a_signal(rt: HostRuntime) {
     let Some((names, durations, counts, green)) = signal_of(rt.alloc(), line) else {
         panic!(&rt; "no signal of two phases")
     };
-    assert_eq!(rt; names, (2, 6));
-    assert_eq!(rt; durations, (8, 2));
-    assert_eq!(rt; counts, (2, 0));
+    assert_eq!(rt; (names, durations, counts), ((2, 6), (8, 2), (2, 0)));
     assert_eq!(rt; (green.link, green.lane, green.next), (11, 1, 21));
 }
 
@@ -382,7 +426,7 @@ static NAMED_LINES: [(&[u8], &str); 16] = [
 #[test]
 fn each_command_has_its_name_and_all_its_fields(rt: HostRuntime) {
     for (line, want) in &NAMED_LINES {
-        assert_eq!(rt; kind(rt.alloc(), line), *want, "at {line:?}");
+        check_kind(&rt, line, want);
     }
 }
 
@@ -406,7 +450,7 @@ fn start_may_be_absent_but_no_other_field(rt: HostRuntime) -> Result<(), Fail> {
         let line = format!(in rt.alloc();
             "{{\"cmd\":\"load\",\"nodes\":[[1,1,2]],\"links\":[],\"turns\":[],\"zone\":0,\"dawdle\":0,\"change\":0,{rest}}}"
         )?;
-        assert_eq!(rt; kind(rt.alloc(), line.as_bytes()), *want, "at {rest}");
+        check_text(&rt, line.as_str(), want);
     }
     Ok(())
 }
@@ -434,7 +478,6 @@ fn faults_have_numbers_and_names(rt: HostRuntime) {
         (LineFault::BadCommand, Some(21), "BadCommand"),
         (LineFault::Starved, None, "Starved"),
     ] {
-        assert_eq!(rt; fault.number(), number);
-        assert_eq!(rt; fault.name(), name);
+        assert_eq!(rt; (fault.number(), fault.name()), (number, name));
     }
 }

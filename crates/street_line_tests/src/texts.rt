@@ -4,6 +4,14 @@ use std::process::Abort;
 use std::test::Fail;
 use street_text::{LineFault, command_text, error_text, fault_text, read_command};
 
+/// The line is a command, whose text is this.
+fn check_printed(rt: &(impl Abort + AllocGlobal), line: &str, want: &str) -> Result<(), Fail> {
+    let command = read_command(rt.alloc(), line.as_bytes())?;
+    let text = command_text(rt.alloc(), &command)?;
+    assert_eq!(rt; text.as_slice(), want.as_bytes());
+    Ok(())
+}
+
 #[test]
 fn a_line_prints_with_its_keys_in_order(rt: HostRuntime) -> Result<(), Fail> {
     for (line, want) in [
@@ -17,13 +25,16 @@ fn a_line_prints_with_its_keys_in_order(rt: HostRuntime) -> Result<(), Fail> {
         ),
         ("{\"x\":[1],\"cmd\":\"count\"}", "{\"cmd\":\"count\"}"),
     ] {
-        let command = read_command(rt.alloc(), line.as_bytes())?;
-        let text = command_text(rt.alloc(), &command)?;
-        assert_eq!(rt; text.as_slice(), want.as_bytes());
-        let again = read_command(rt.alloc(), text.as_slice())?;
-        let text = command_text(rt.alloc(), &again)?;
-        assert_eq!(rt; text.as_slice(), want.as_bytes());
+        check_printed(&rt, line, want)?;
+        check_printed(&rt, want, want)?;
     }
+    Ok(())
+}
+
+/// The fault is answered so.
+fn check_fault(rt: &(impl Abort + AllocGlobal), fault: LineFault, want: &str) -> Result<(), Fail> {
+    let text = fault_text(rt.alloc(), fault)?;
+    assert_eq!(rt; text.as_slice(), want.as_bytes());
     Ok(())
 }
 
@@ -40,9 +51,13 @@ fn prints_each_fault_of_a_line(rt: HostRuntime) -> Result<(), Fail> {
             "{\"error\":21,\"name\":\"BadCommand\"}\n",
         ),
     ] {
-        let text = fault_text(rt.alloc(), fault)?;
-        assert_eq!(rt; text.as_slice(), want.as_bytes());
+        check_fault(&rt, fault, want)?;
     }
+    Ok(())
+}
+
+#[test]
+fn prints_an_error(rt: HostRuntime) -> Result<(), Fail> {
     let full = error_text(rt.alloc(), 23, "Full")?;
     assert_eq!(rt;
         full.as_slice(),
