@@ -1,4 +1,4 @@
-//! Closures with values known beforehand.
+//! Closures and gaps, with values known beforehand.
 
 ghost use Rattle.std.specs.Prelude.{◌≡◌, ◌<◌, length};
 
@@ -35,7 +35,7 @@ fn closes_stretches(rt: HostRuntime) -> Result<(), Fail> {
     Ok(())
 }
 
-/// Opens cell 5 of cells 3 to 8.
+/// Closes cells 3 to 8, and opens cell 5.
 fn close_and_open(closures: &mut Closures) -> Result<(), Starved> {
     close_in_two_parts(closures)?;
     closures.reopen(5, 5)
@@ -57,8 +57,8 @@ fn check_look_ups(rt: &impl Abort, closures: &Closures) {
 fn opens_stretches(rt: HostRuntime) -> Result<(), Fail> {
     let mut closures = Closures::new(rt.alloc());
     close_and_open(&mut closures)?;
-    let open = [Stretch { first: 3, last: 4 }, Stretch { first: 6, last: 8 }];
-    check_stretches(&rt, &closures, &open);
+    let closed = [Stretch { first: 3, last: 4 }, Stretch { first: 6, last: 8 }];
+    check_stretches(&rt, &closures, &closed);
     check_look_ups(&rt, &closures);
     Ok(())
 }
@@ -87,7 +87,7 @@ fn cuts_several(rt: HostRuntime) -> Result<(), Fail> {
     Ok(())
 }
 
-/// Those two stretches are joined to one.
+/// Does that, and closes cells 1 to 40, so that the two stretches that are left are joined.
 fn cut_and_join(closures: &mut Closures) -> Result<(), Starved> {
     close_and_cut(closures)?;
     closures.close(1, 40)
