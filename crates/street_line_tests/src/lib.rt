@@ -1,18 +1,9 @@
-//! Tests of lines: what a line reads as, the texts of replies, faults and commands, ends that count and fail, and the words of
-//! the command line.
+//! Tests of lines: what a line reads as, and ends that count and fail.
 //!
 //! They stand in a crate of their own since a crate is proved once more for the tests that it has.
 #![tactic(auto)]
 
 #[cfg(test)]
-mod commands;
-#[cfg(test)]
 mod ends;
 #[cfg(test)]
-mod options;
-#[cfg(test)]
-mod printing;
-#[cfg(test)]
 mod reading;
-#[cfg(test)]
-mod texts;

@@ -1,13 +1,19 @@
 //! The texts of commands as lines, and of what answers a faulty line.
 
+use std::alloc::Global;
 use std::process::Abort;
 use std::test::Fail;
 use street_text::{LineFault, command_text, error_text, fault_text, read_command};
 
+/// The text of the command that a line is.
+fn printed(alloc: Global, line: &str) -> Result<Vec<u8>, Fail> {
+    let command = read_command(alloc, line.as_bytes())?;
+    Ok(command_text(alloc, &command)?)
+}
+
 /// The line is a command, whose text is this.
 fn check_printed(rt: &(impl Abort + AllocGlobal), line: &str, want: &str) -> Result<(), Fail> {
-    let command = read_command(rt.alloc(), line.as_bytes())?;
-    let text = command_text(rt.alloc(), &command)?;
+    let text = printed(rt.alloc(), line)?;
     assert_eq!(rt; text.as_slice(), want.as_bytes());
     Ok(())
 }

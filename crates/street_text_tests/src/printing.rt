@@ -257,9 +257,17 @@ fn prints_an_empty_lane(rt: HostRuntime) -> Result<(), Fail> {
     )
 }
 
+/// The refusals have these lines.
+fn check_refusals(rt: &(impl Abort + AllocGlobal), texts: &[(Refusal, &str)]) -> Result<(), Fail> {
+    for (refusal, want) in texts {
+        check_text(rt, &Reply::Refused(*refusal), want)?;
+    }
+    Ok(())
+}
+
 #[test]
 fn prints_each_refusal(rt: HostRuntime) -> Result<(), Fail> {
-    for (refusal, want) in [
+    let texts = [
         (Refusal::NotLoaded, r#"{"error":1,"name":"NotLoaded"}"#),
         (
             Refusal::AlreadyLoaded,
@@ -311,8 +319,6 @@ fn prints_each_refusal(rt: HostRuntime) -> Result<(), Fail> {
         (Refusal::TooMany, r#"{"error":13,"name":"TooMany"}"#),
         (Refusal::BadCount, r#"{"error":14,"name":"BadCount"}"#),
         (Refusal::ClockEnd, r#"{"error":15,"name":"ClockEnd"}"#),
-    ] {
-        check_text(&rt, &Reply::Refused(refusal), want)?;
-    }
-    Ok(())
+    ];
+    check_refusals(&rt, &texts)
 }
