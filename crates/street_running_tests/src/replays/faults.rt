@@ -1,7 +1,7 @@
 //! Each read and each write fails in turn.
 
 use crate::ends::{Given, Taking};
-use crate::replays::running::{replayed, replayed_from};
+use crate::replays::running::{Ran, replayed, replayed_from};
 use std::process::Abort;
 use std::test::Fail;
 use std::thread::Threads;
@@ -34,16 +34,21 @@ fn run_fault(kind: FaultKind, lines: u128, calls: u128, replies: u128, bytes: us
     })
 }
 
-/// The tape is replayed into so much room.
-fn check_write(rt: &(impl Threads + Abort + AllocGlobal + Sync), whole: &[u8], room: usize) {
-    let writer = Taking::new(rt.alloc(), 5, room, room % 2 == 0);
-    let ran = replayed(rt, rt.alloc(), REFUSED.as_bytes(), 30, writer, 100);
+/// So many first bytes of the replies were taken, and then a write failed.
+fn check_taken(rt: &impl Abort, ran: &Ran, whole: &[u8], room: usize) {
     let want = match room < REFUSAL.len() {
         true => run_fault(FaultKind::Write, 2, 1, 0, room),
         false => run_fault(FaultKind::Write, 3, 2, 1, room),
     };
     assert_eq!(rt; ran.fault, Some(want), "at {room}");
     assert_eq!(rt; Some(ran.taken.as_slice()), whole.get(..room), "at {room}");
+}
+
+/// The tape is replayed into so much room.
+fn check_write(rt: &(impl Threads + Abort + AllocGlobal + Sync), whole: &[u8], room: usize) {
+    let writer = Taking::new(rt.alloc(), 5, room, room % 2 == 0);
+    let ran = replayed(rt, rt.alloc(), REFUSED.as_bytes(), 30, writer, 100);
+    check_taken(rt, &ran, whole, room);
 }
 
 #[test]

@@ -117,23 +117,26 @@ static OUTCOMES_OUTPUT: &str = concat!(
     "\n",
 );
 
+/// All calls were replayed, and their replies are written and flushed.
+fn check_outcomes(rt: &impl Abort, ran: &Ran) {
+    assert_eq!(rt; ran.fault, None);
+    assert_eq!(rt; ran.taken.as_slice(), OUTCOMES_OUTPUT.as_bytes());
+    assert_eq!(rt; ran.flushed, OUTCOMES_OUTPUT.len());
+    let want = Tally {
+        lines: 9,
+        calls: 8,
+        replies: 8,
+        bytes: OUTCOMES_OUTPUT.len() as u128,
+    };
+    assert_eq!(rt; ran.tally, Some(want));
+}
+
 #[test]
 fn each_outcome_is_replayed(rt: HostRuntime) {
     let alloc = rt.alloc();
     let tape = OUTCOMES.as_bytes();
     let ran = replayed(&rt, alloc, tape, 4096, Taking::all(alloc), 100);
-    assert_eq!(rt; ran.fault, None);
-    assert_eq!(rt; ran.taken.as_slice(), OUTCOMES_OUTPUT.as_bytes());
-    assert_eq!(rt; ran.flushed, OUTCOMES_OUTPUT.len());
-    assert_eq!(rt;
-        ran.tally,
-        Some(Tally {
-            lines: 9,
-            calls: 8,
-            replies: 8,
-            bytes: OUTCOMES_OUTPUT.len() as u128,
-        })
-    );
+    check_outcomes(&rt, &ran);
 }
 
 /// First lines that are not those of a tape.
@@ -159,20 +162,20 @@ fn fault_of<R: Threads + Sync>(
     (ran.fault, ran.taken.len())
 }
 
+/// This text, read in such pieces, is no tape, and nothing is written.
+fn check_no_tape(rt: &(impl Threads + Abort + AllocGlobal + Sync), text: &str, piece: usize) {
+    assert_eq!(rt;
+        fault_of(rt, rt.alloc(), text.as_bytes(), piece),
+        (Some(TapeFault::NotTape), 0),
+        "at {text}"
+    );
+}
+
 #[test]
 fn what_is_no_tape_is_told(rt: HostRuntime) {
-    let wanted = (Some(TapeFault::NotTape), 0);
     for text in &NO_TAPES {
-        assert_eq!(rt;
-            fault_of(&rt, rt.alloc(), text.as_bytes(), 1),
-            wanted,
-            "at {text}"
-        );
-        assert_eq!(rt;
-            fault_of(&rt, rt.alloc(), text.as_bytes(), 4096),
-            wanted,
-            "at {text}"
-        );
+        check_no_tape(&rt, text, 1);
+        check_no_tape(&rt, text, 4096);
     }
 }
 

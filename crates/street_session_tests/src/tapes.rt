@@ -120,27 +120,28 @@ fn taped_in(alloc: Global, journal: &Journal, room: usize) -> (Option<RunFault>,
     (fault, writer.end.taken)
 }
 
+/// So many first bytes of the tape were taken, and then a write failed.
+fn check_room(rt: &impl Abort, fault: Option<RunFault>, taken: &[u8], room: usize) {
+    let tally = Tally {
+        lines: 0,
+        calls: 0,
+        replies: 0,
+        bytes: room as u128,
+    };
+    let wanted = RunFault {
+        kind: FaultKind::Write,
+        tally,
+    };
+    assert_eq!(rt; fault, Some(wanted), "at {room}");
+    assert_eq!(rt; Some(taken), TAPE.as_bytes().get(..room), "at {room}");
+}
+
 #[test]
 fn a_fault_leaves_the_first_bytes(rt: HostRuntime) {
     let journal = journal_of(&rt);
     for room in [0, 1, 10, 11, 12, 200, TAPE.len() - 1, TAPE.len()] {
         let (fault, taken) = taped_in(rt.alloc(), &journal, room);
-        let tally = Tally {
-            lines: 0,
-            calls: 0,
-            replies: 0,
-            bytes: room as u128,
-        };
-        let wanted = RunFault {
-            kind: FaultKind::Write,
-            tally,
-        };
-        assert_eq!(rt; fault, Some(wanted), "at {room}");
-        assert_eq!(rt;
-            Some(taken.as_slice()),
-            TAPE.as_bytes().get(..room),
-            "at {room}"
-        );
+        check_room(&rt, fault, taken.as_slice(), room);
     }
 }
 

@@ -52,24 +52,29 @@ fn one_call_of<R: Threads + Wait + Abort + AllocGlobal + Sync>(
     (tally, writer.end, journal.len())
 }
 
+/// What is written to the lines of `one_call`.
+static ONE_CALL_OUTPUT: &[u8] =
+    b"{\"error\":1,\"name\":\"NotLoaded\"}\n{\"error\":23,\"name\":\"Full\"}\n{\"error\":21,\"name\":\"BadCommand\"}\n";
+
+/// This was written, and so it was counted.
+fn check_one_call(rt: &impl Abort, tally: Option<Tally>, written: &[u8]) {
+    assert_eq!(rt; written, ONE_CALL_OUTPUT);
+    let want = Tally {
+        lines: 3,
+        calls: 2,
+        replies: 3,
+        bytes: ONE_CALL_OUTPUT.len() as u128,
+    };
+    assert_eq!(rt; tally, Some(want));
+}
+
 /// A desk of one call: the second command is told that no place is left, a faulty line is told its fault all the same, and
 /// the journal has the first.
 #[test]
 fn one_call(rt: HostRuntime) {
-    let want =
-        b"{\"error\":1,\"name\":\"NotLoaded\"}\n{\"error\":23,\"name\":\"Full\"}\n{\"error\":21,\"name\":\"BadCommand\"}\n";
     let lines = b"{\"cmd\":\"count\"}\n{\"cmd\":\"count\"}\n[]\n";
     let (tally, written, entries) = one_call_of(&rt, lines);
-    assert_eq!(rt; written.as_slice(), want.as_slice());
-    assert_eq!(rt;
-        tally,
-        Some(Tally {
-            lines: 3,
-            calls: 2,
-            replies: 3,
-            bytes: want.len() as u128,
-        })
-    );
+    check_one_call(&rt, tally, written.as_slice());
     assert_eq!(rt; entries, 1);
 }
 
@@ -119,23 +124,41 @@ fn check_full<R: Threads + Wait + Abort + Sync>(
     }
 }
 
-/// Two passes and a note: who hears of a call and makes one knows of both, and a third finds no place.
-#[test]
-fn a_note_is_heard(rt: HostRuntime) {
-    let (desk, mut first) = desk_of_two(&rt);
-    let Ok(mut second) = desk.split(&mut first) else {
-        panic!(&rt; "no second pass")
-    };
-    check_count(&rt, &desk, &mut first);
-    tell(&rt, &desk, &mut first, &mut second);
-    check_count(&rt, &desk, &mut second);
-    assert_eq!(rt; desk.served(&mut second), 2);
-    check_full(&rt, &desk, &mut first);
-    let journal = journal_of(&rt, desk, first);
+/// Who hears of a call and makes one knows of both, and a third finds no place.
+fn check_note<R: Threads + Wait + Abort + Sync>(
+    rt: &R,
+    desk: &Desk<Unwatched>,
+    first: &mut Pass<Unwatched>,
+    second: &mut Pass<Unwatched>,
+)
+    requires { (first.old.desk ≡ desk.now) × (second.old.desk ≡ desk.now) }
+    ensures { first.new.desk ≡ desk.now }
+{
+    check_count(rt, desk, first);
+    tell(rt, desk, first, second);
+    check_count(rt, desk, second);
+    assert_eq!(rt; desk.served(second), 2);
+    check_full(rt, desk, first);
+}
+
+/// The journal has a call of each session.
+fn check_journal(rt: &impl Abort, journal: &Journal) {
     assert_eq!(rt; journal.len(), 2);
     let sessions = [
         journal.entry(0).map(|entry| entry.session),
         journal.entry(1).map(|entry| entry.session),
     ];
     assert_eq!(rt; sessions, [Some(0), Some(1)]);
+}
+
+/// Two passes and a note.
+#[test]
+fn a_note_is_heard(rt: HostRuntime) {
+    let (desk, mut first) = desk_of_two(&rt);
+    let Ok(mut second) = desk.split(&mut first) else {
+        panic!(&rt; "no second pass")
+    };
+    check_note(&rt, &desk, &mut first, &mut second);
+    let journal = journal_of(&rt, desk, first);
+    check_journal(&rt, &journal);
 }

@@ -1,0 +1,13 @@
+//! Tests of runs over ends in memory that fail when they are told to: lines, replays, and the texts of the faults of the program.
+//!
+//! They stand in a crate of their own since a crate is proved once more for the tests that it has.
+#![tactic(auto)]
+
+#[cfg(test)]
+mod ends;
+#[cfg(test)]
+mod faults;
+#[cfg(test)]
+mod lines;
+#[cfg(test)]
+mod replays;
