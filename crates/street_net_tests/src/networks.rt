@@ -107,20 +107,18 @@ impl Small {
     }
 
     fn load(&self, alloc: Global) -> Result<NetSpec, AllocError> {
-        let load = nets::load(
+        let mut load = nets::load(
             alloc,
             &[self.nodes.0, self.nodes.1],
             &[self.links.0, self.links.1],
             &[self.turns.0, self.turns.1],
         )?;
-        Ok(NetSpec {
-            zone: self.zone,
-            dawdle: self.dawdle,
-            change: self.change,
-            seed: u64::MAX,
-            start: self.start,
-            ..load
-        })
+        load.zone = self.zone;
+        load.dawdle = self.dawdle;
+        load.change = self.change;
+        load.seed = u64::MAX;
+        load.start = self.start;
+        Ok(load)
     }
 }
 
