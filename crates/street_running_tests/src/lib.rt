@@ -1,4 +1,4 @@
-//! Tests of runs over ends in memory that fail when they are told to: lines, replays, and the texts of the faults of the program.
+//! Tests of lines that an engine serves, over ends in memory that fail when they are told to.
 //!
 //! They stand in a crate of their own since a crate is proved once more for the tests that it has.
 #![tactic(auto)]
@@ -6,8 +6,4 @@
 #[cfg(test)]
 mod ends;
 #[cfg(test)]
-mod faults;
-#[cfg(test)]
 mod lines;
-#[cfg(test)]
-mod replays;

@@ -39,6 +39,18 @@ fn given<'a>(case: &Case, text: &'a [u8], reads_left: usize) -> Given<'a> {
     }
 }
 
+/// The run counted so, and the service had the calls.
+fn check_tally(rt: &impl Abort, ran: &Ran, name: &str, at: usize, tally: Tally) {
+    assert_eq!(rt; ran.tally, tally, "{name} at {at}");
+    assert_eq!(rt; ran.commands, tally.calls, "{name} at {at}");
+}
+
+/// Exactly these bytes were taken.
+fn check_taken(rt: &impl Abort, ran: &Ran, name: &str, at: usize, taken: &[u8]) {
+    assert_eq!(rt; ran.taken.as_slice(), taken, "{name} at {at}");
+    assert_eq!(rt; ran.tally.bytes, taken.len() as u128, "{name} at {at}");
+}
+
 /// The run ended so, and exactly these bytes were taken.
 fn check(
     rt: &impl Abort,
@@ -50,10 +62,8 @@ fn check(
     taken: &[u8],
 ) {
     assert_eq!(rt; ran.kind, kind, "{name} at {at}");
-    assert_eq!(rt; ran.tally, tally, "{name} at {at}");
-    assert_eq!(rt; ran.commands, tally.calls, "{name} at {at}");
-    assert_eq!(rt; ran.taken.as_slice(), taken, "{name} at {at}");
-    assert_eq!(rt; ran.tally.bytes, taken.len() as u128, "{name} at {at}");
+    check_tally(rt, ran, name, at, tally);
+    check_taken(rt, ran, name, at, taken);
 }
 
 /// The tally after so many lines of a case.
@@ -185,16 +195,23 @@ fn each_write_fails_in_turn(rt: HostRuntime) -> Result<(), Fail> {
 
 static NOT_JSON: &[u8] = b"{\"error\":20,\"name\":\"NotJson\"}\n";
 
-/// The first so many bytes are served: the lines that ended, and a last one with no line end.
-fn check_cut(rt: &(impl Threads + Abort + AllocGlobal + Sync), bytes: usize) -> Result<(), Fail> {
+/// What is wanted where the text ends after so many bytes: the lines, the calls, and what is written after the replies to
+/// those. The lines that ended are served, and a last one with no line end.
+fn wanted_at(bytes: usize) -> (usize, usize, &'static [u8]) {
     let text = ARRIVES.get(..bytes).unwrap_or(ARRIVES);
     let ended = lines_in(text);
     let begun = ended.saturating_add(1);
-    let (lines, calls, rest) = match (text.last(), ARRIVES.get(bytes)) {
-        (None | Some(b'\n'), _) => (ended, ended, b"".as_slice()),
-        (_, Some(b'\n')) => (begun, begun, b"".as_slice()),
+    match (text.last(), ARRIVES.get(bytes)) {
+        (None | Some(b'\n'), _) => (ended, ended, b""),
+        (_, Some(b'\n')) => (begun, begun, b""),
         _ => (begun, ended, NOT_JSON),
-    };
+    }
+}
+
+/// The first so many bytes are served.
+fn check_cut(rt: &(impl Threads + Abort + AllocGlobal + Sync), bytes: usize) -> Result<(), Fail> {
+    let text = ARRIVES.get(..bytes).unwrap_or(ARRIVES);
+    let (lines, calls, rest) = wanted_at(bytes);
     let mut want = Vec::from_slice(rt.alloc(), first_lines(ARRIVES_OUTPUT, calls))?;
     want.extend_from_slice(rest)?;
     let (kind, tally, taken) = run_whole(rt, rt.alloc(), text, Taking::all(rt.alloc()));
