@@ -3,7 +3,7 @@ use Rattle.street_base.proofs.rows.Unfolded.{machine_computed}
 use Rattle.std.proofs.Common.{◌≡◌, [], ◌∷◌, refl, sym, arith}
 use Rattle.std.specs.Prelude.{Option, Some, None}
 use Rattle.std.proofs.lemmas.Option.{none-some}
-use Rattle.street_base.specs.declared.command.Command.TheVariants.{Load, Enter, Advance, TakeOut, Vehicle as AskVehicle, Count}
+use Rattle.street_base.specs.declared.command.Command.TheVariants.{Load, Enter, Advance, TakeOut, ReadMeter, Vehicle as AskVehicle, Count}
 use Rattle.street_base.specs.declared.refusal.Refusal.TheVariants.{BadCount}
 use Rattle.street_base.specs.declared.reply.Reply.TheVariants.{Starved as StarvedReply, Short as ShortReply}
 use Rattle.street_base.specs.declared.reply.End.{End}
@@ -50,18 +50,19 @@ pub may_starve : Allows now (Advance 1) Starved × Allows now (Enter (10 ∷ [])
 unfolding machine_computed
 may_starve = ((omega arith, refl), tt, tt, tt)
 
-pub never_starve : (Allows now Count Starved → ⊥) × (Allows now (TakeOut 0) Starved → ⊥) × (Allows now (Advance 0) Starved → ⊥)
-never_starve = (λ may. may, λ may. may, λ may. (let some = may.0 in absurd (omega arith)))
-
--- what is refused does not starve, but a load with a fault
-pub refused_not_starved : (Allows now (Enter [] 0 0) Starved → ⊥) × (Allows now (Enter (10 ∷ []) 1 0) Starved → ⊥) × (Allows now (AskVehicle 0) Starved → ⊥) × (Allows now (Load two_links) Starved → ⊥) × (Allows now (Advance 10001) Starved → ⊥)
-unfolding machine_computed
-refused_not_starved = (λ may. may, λ may. may, λ may. may.0, λ may. may, λ may. none-some BadCount (sym may.1))
-
--- a vehicle asked for takes memory for its plan, unless it has ended
+-- one vehicle was admitted, and may have ended
 abbrev one_of : Option End → State
 one_of end = Some (record (loaded two_links) { ends = end ∷ [] })
 
+pub never_starve : (Allows now Count Starved → ⊥) × (Allows (one_of None) (TakeOut 0) Starved → ⊥) × (Allows now (Advance 0) Starved → ⊥)
+never_starve = (λ may. may, λ may. may, λ may. (let some = may.0 in absurd (omega arith)))
+
+-- what is refused does not starve, but a load with a fault
+pub refused_not_starved : (Allows now (Enter [] 0 0) Starved → ⊥) × (Allows now (Enter (10 ∷ []) 1 0) Starved → ⊥) × (Allows now (AskVehicle 0) Starved → ⊥) × (Allows now (ReadMeter 0) Starved → ⊥) × (Allows now (Load two_links) Starved → ⊥) × (Allows now (Advance 10001) Starved → ⊥)
+unfolding machine_computed
+refused_not_starved = (λ may. may, λ may. may, λ may. may.0, λ may. may, λ may. may, λ may. none-some BadCount (sym may.1))
+
+-- a vehicle asked for takes memory for its plan, unless it has ended
 pub asked_for : Allows (one_of None) (AskVehicle 0) Starved × (Allows (one_of (Some (Arrived 4))) (AskVehicle 0) Starved → ⊥)
 unfolding machine_computed
 asked_for = ((tt, refl), λ may. none-some (Arrived 4) (sym may.1))
