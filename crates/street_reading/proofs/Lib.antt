@@ -1,3 +1,2 @@
 pub mod ListEntries
 pub mod Texts
-pub mod Loads

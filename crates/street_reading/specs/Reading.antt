@@ -109,24 +109,20 @@ numbers_in d =
 
 unfoldable pub load_in : Data → Option Command
 load_in d =
-    Some (λ nodes links turns zone dawdle change seed start. Load (record {
+    Some (λ nodes links turns numbers. Load (record {
       nodes = nodes;
       links = links;
       turns = turns;
-      zone = zone;
-      dawdle = dawdle;
-      change = change;
-      seed = seed;
-      start = start;
+      zone = numbers.zone;
+      dawdle = numbers.dawdle;
+      change = numbers.change;
+      seed = numbers.seed;
+      start = numbers.start;
     }))
     with field (list_in node_in) (codes "nodes") d
     with field (list_in link_in) (codes "links") d
     with field (list_in turn_in) (codes "turns") d
-    with number_field (codes "zone") d
-    with number_field (codes "dawdle") d
-    with number_field (codes "change") d
-    with number_field (codes "seed") d
-    with number_or_zero (codes "start") d
+    with numbers_in d
 
 unfoldable pub enter_in : Data → Option Command
 enter_in d =

@@ -42,6 +42,7 @@ fn numbers(alloc: Global, value: &Value) -> Result<NetNumbers, LineFault>
     })
 }
 
+#[tactic(auto, unfolding(crate::specs::Reading::load_in))]
 fn load(alloc: Global, value: &Value) -> Result<Command, LineFault>
     ensures { Gives result (or_fault LineFault.BadCommand (load_in (view value.now))) }
 {

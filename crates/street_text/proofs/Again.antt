@@ -12,7 +12,7 @@ use Rattle.street_base.specs.declared.net.LinkSpec.{LinkSpec}
 use Rattle.street_base.specs.declared.net.TurnSpec.{TurnSpec}
 use Rattle.street_text.specs.CommandTexts.{command_data}
 use Rattle.street_printing.specs.Printing.{items_from, number_data, node_data, link_data, turn_data, green_data, phase_data}
-use Rattle.street_reading.specs.Reading.{entries_of, number_in, row_in, node_in, link_in, turn_in, green_in, phase_in, command_in, named, load_in, signal_in, enter_in, advance_in, close_in, reopen_in, take_out_in, place_meter_in, read_meter_in, vehicle_in, lane_in}
+use Rattle.street_reading.specs.Reading.{entries_of, number_in, row_in, node_in, link_in, turn_in, green_in, phase_in, command_in, named, load_in, numbers_in, signal_in, enter_in, advance_in, close_in, reopen_in, take_out_in, place_meter_in, read_meter_in, vehicle_in, lane_in}
 use Rattle.street_text.specs.Fits.{IsWord, NodeFits, LinkFits, TurnFits, GreenFits, PhaseFits, Fits}
 use Rattle.street_text.proofs.Plain.{IsPlain, AreItemsPlain}
 
@@ -43,7 +43,7 @@ unfolding phase_in
 phase_again p = rw (list_again green_in green_data green_again p.greens) refl
 
 pub command_again : (c : Command) → command_in (command_data c) ≡ Some c
-unfolding command_in named load_in signal_in enter_in advance_in close_in reopen_in take_out_in place_meter_in read_meter_in vehicle_in lane_in
+unfolding command_in named load_in numbers_in signal_in enter_in advance_in close_in reopen_in take_out_in place_meter_in read_meter_in vehicle_in lane_in
 command_again (Load net) =
     rw (list_again node_in node_data node_again net.nodes, list_again link_in link_data link_again net.links, list_again turn_in turn_data turn_again net.turns) refl
 command_again (Enter plan lane depart) = rw (list_again number_in number_data (λ n. refl) plan) refl
