@@ -14,7 +14,7 @@ use std::process::ExitCode;
 use std::rt::Files;
 use std::sync::Wait;
 use std::thread::Threads;
-use street_pair::{Told, retell, serve_both, serve_scripts, text_of};
+use street_pair::{Told, retell, serve_both, serve_both_scripts, text_of};
 
 /// Two links, 10 and 20, one behind the other, and a vehicle.
 const LOAD_AND_ENTER: &str =
@@ -107,7 +107,7 @@ fn compare<R: Threads + Sync + Print + AllocGlobal>(
 fn two_scripts<R: Threads + Wait + Sync + Print + AllocGlobal + Files<File = File>>(
     rt: &R,
 ) -> io::Result<bool> {
-    let told = serve_scripts(rt, rt.alloc(), 8, "planner.jsonl", "counter.jsonl");
+    let told = serve_both_scripts(rt, rt.alloc(), 8, "planner.jsonl", "counter.jsonl");
     let told = told.ok_or(not_served())?;
     Ok(told.first.as_slice() == PLANNED && compare(rt, "two scripts", &told)?)
 }
@@ -117,7 +117,7 @@ fn three_places<R: Threads + Wait + Sync + Print + AllocGlobal + Files<File = Fi
     rt: &R,
 ) -> io::Result<bool> {
     let alloc = rt.alloc();
-    let told = serve_scripts(rt, alloc, 3, "counts.jsonl", "counts.jsonl");
+    let told = serve_both_scripts(rt, alloc, 3, "counts.jsonl", "counts.jsonl");
     let told = told.ok_or(not_served())?;
     let replies = retell(rt, alloc, &told.tape, COUNT)
         .ok()

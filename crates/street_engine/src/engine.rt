@@ -2,7 +2,7 @@
 ghost use Rattle.std.specs.Prelude.{◌≡◌, ◌≤◌, IfOk, OnErr, None};
 ghost use Rattle.street_engine.specs.Refines.{StandsFor, Serves, ServesAll};
 
-use crate::commands::serve;
+use crate::commands;
 use std::alloc::{AllocError, Global};
 use std::marker::Model;
 use std::thread::Threads;
@@ -60,7 +60,7 @@ impl<G: Gate + Sync + Drop> Engine<G> {
     pub fn apply<R: Threads + Sync>(&mut self, rt: &R, command: &Command) -> (Reply, Outcome)
         ensures { Serves self.old command.now result.0 result.1 self.new }
     {
-        serve(
+        commands::apply(
             rt,
             &self.gate,
             self.alloc,

@@ -1,7 +1,7 @@
 -- What two clients of a desk are told, and the tape of their calls.
 -- Source: this profile.
 use Rattle.std.specs.Prelude.{◌≡◌, ℕ, ◌≤◌, List, [], ◌++◌, length, Some, IfSome}
-use Rattle.street_pair.specs.declared.desks.Answers.{Answers}
+use Rattle.street_pair.specs.declared.desks.Caller.{Caller}
 use Rattle.street_pair.specs.declared.tapes.Told.{Told}
 use Rattle.street_desk.specs.declared.journal.Entry.{Entry}
 use Rattle.street_desk.specs.History.{BeginsWith, IsHistory}
@@ -17,12 +17,12 @@ pub record IsNew (desk : DeskView) (session : ℕ) (pass : PassView) : Type 0 wh
   pub none : pass.seen ≡ []
 
 -- the replies, if there are any, are the whole output of lines of which these are the first
-abbrev pub Replied : PassView → List (List ℕ) → Answers → Type 0
+abbrev pub Replied : PassView → List (List ℕ) → Caller → Type 0
 Replied before firsts answers =
     IfSome answers.replies (λ replies. (more : List (List ℕ)) × Goes DeskServes before (firsts ++ more) replies.items answers.pass)
 
 -- what both were replied, and the tape of a history of at least so many calls, which begins with what each has seen
-pub record Tells (sessions calls : ℕ) (one two : Answers) (told : Told) : Type 0 where
+pub record Tells (sessions calls : ℕ) (one two : Caller) (told : Told) : Type 0 where
   pub history : List Entry
   pub is_history : IsHistory sessions history
   pub long : calls ≤ length history

@@ -13,10 +13,10 @@ use street_ends::Counted;
 use street_engine::{Engine, Unwatched};
 use street_tape::write_tape;
 
-/// What a client of a desk was answered.
+/// A caller of a desk, once it was answered.
 #[derive(Drop)]
-pub struct Answers {
-    /// The pass that it called with.
+pub struct Caller {
+    /// The pass that it has then.
     pub pass: Pass<Unwatched>,
     /// The lines of reply. Nothing where it was not answered to the end.
     pub replies: Option<Vec<u8>>,
@@ -77,23 +77,23 @@ fn tape_of(alloc: Global, desk: Desk<Unwatched>, pass: Pass<Unwatched>) -> Optio
     }
 }
 
-/// Ends a desk: what two of its clients were answered, and the tape. Nothing where one was not answered to the end or is
+/// Ends a desk: what two of its callers were answered, and the tape. Nothing where one was not answered to the end or is
 /// not told of so many calls, the desk is torn, or memory was refused.
-pub fn tell(
+pub fn end_desk(
     alloc: Global,
     desk: Desk<Unwatched>,
     calls: u64,
-    one: Answers,
-    two: Answers,
+    one: Caller,
+    two: Caller,
 ) -> Option<Told>
     requires { (one.pass.desk ≡ desk) × (two.pass.desk ≡ desk) }
     ensures { IfSome result (λ told. Tells desk.sessions calls one two told) }
 {
-    let Answers {
+    let Caller {
         pass: mut first_pass,
         replies: first,
     } = one;
-    let Answers {
+    let Caller {
         pass: mut second_pass,
         replies: second,
     } = two;

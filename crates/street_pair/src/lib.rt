@@ -9,5 +9,5 @@ mod scripts;
 mod tapes;
 
 pub use callers::serve_both;
-pub use scripts::serve_scripts;
+pub use scripts::serve_both_scripts;
 pub use tapes::{Told, retell, text_of};

@@ -4,7 +4,7 @@ ghost use Rattle.street_pair.specs.Told.{AreTold, Replied};
 ghost use Rattle.street_desk.specs.Passes.{DeskView};
 ghost use Rattle.street_session.specs.Scripts.{IsRun};
 
-use crate::desks::{Answers, desk_of_two, tell};
+use crate::desks::{Caller, desk_of_two, end_desk};
 use crate::tapes::Told;
 use std::alloc::Global;
 use std::fs::File;
@@ -16,7 +16,7 @@ use street_engine::Unwatched;
 use street_session::{DeskSession, Script, run_scripts};
 
 /// What a script was answered, once it has ended.
-fn answers_of<R: Threads + Wait + Sync>(script: Script<'_, R>) -> Answers
+fn caller_of<R: Threads + Wait + Sync>(script: Script<'_, R>) -> Caller
     ensures pass { result.pass ≡ script.entry.session }
     ensures replies { MatchOption script.entry.fault
         (result.replies ≡ Some script.entry.replies)
@@ -28,7 +28,7 @@ fn answers_of<R: Threads + Wait + Sync>(script: Script<'_, R>) -> Answers
         fault,
         ..
     } = script;
-    Answers {
+    Caller {
         pass: session.into_pass(),
         replies: fault.is_none().then_some(replies),
     }
@@ -61,7 +61,7 @@ fn answer_both<'a, R: Threads + Wait + Sync + Files<File = File>>(
     desk: &'a Desk<Unwatched>,
     one: (Pass<Unwatched>, &str),
     two: (Pass<Unwatched>, &str),
-) -> Option<(Answers, Answers)>
+) -> Option<(Caller, Caller)>
     requires { (one.0.desk ≡ desk.now) × (two.0.desk ≡ desk.now) }
     ensures desk { IfSome result (λ r. (r.0.pass.desk ≡ desk.now) × (r.1.pass.desk ≡ desk.now)) }
     ensures replied { IfSome result (λ r. Replied one.entry.0 [] r.0 × Replied two.entry.0 [] r.1) }
@@ -69,12 +69,12 @@ fn answer_both<'a, R: Threads + Wait + Sync + Files<File = File>>(
     let one = Script::open(rt, alloc, one.1, DeskSession::new(rt, desk, one.0));
     let two = Script::open(rt, alloc, two.1, DeskSession::new(rt, desk, two.0));
     let (one, two) = run_two(rt, alloc, one, two)?;
-    Some((answers_of(one), answers_of(two)))
+    Some((caller_of(one), caller_of(two)))
 }
 
 /// Serves two scripts at once, which have a call for each place of their desk. Nothing where memory was refused, a file could
 /// not be read, or they are not told of all calls.
-pub fn serve_scripts<R: Threads + Wait + Sync + Files<File = File>>(
+pub fn serve_both_scripts<R: Threads + Wait + Sync + Files<File = File>>(
     rt: &R,
     alloc: Global,
     calls: u64,
@@ -86,5 +86,5 @@ pub fn serve_scripts<R: Threads + Wait + Sync + Files<File = File>>(
 {
     let (desk, one, two) = desk_of_two(alloc, calls)?;
     let (one, two) = answer_both(rt, alloc, &desk, (one, first), (two, second))?;
-    tell(alloc, desk, calls, one, two)
+    end_desk(alloc, desk, calls, one, two)
 }

@@ -28,7 +28,7 @@ fn run<R: Threads + Wait + Sync + Input + Print + Eprint + AllocGlobal + Files<F
     words: &[String],
 ) -> ExitCode {
     match options(rt.alloc(), words) {
-        Ok(options) => match serve(rt, &options) {
+        Ok(options) => match carry_out(rt, &options) {
             Ok(()) => ExitCode::SUCCESS,
             Err(fault) => tell(rt, fault),
         },
@@ -51,8 +51,8 @@ fn tell(rt: &impl Eprint, fault: Fault<'_>) -> ExitCode {
     ExitCode::from(fault.status())
 }
 
-/// Replays a tape, or serves scripts or standard input.
-fn serve<'a, R: Threads + Wait + Sync + Input + Print + AllocGlobal + Files<File = File>>(
+/// Does what the words ask for: replays a tape, or serves scripts or standard input.
+fn carry_out<'a, R: Threads + Wait + Sync + Input + Print + AllocGlobal + Files<File = File>>(
     rt: &R,
     options: &Options<'a>,
 ) -> Result<(), Fault<'a>>

@@ -1,14 +1,9 @@
-//! Tests of tapes: those of the journals of desks, what their lines read as, their replays over ends in memory that fail when
-//! they are told to, and the texts of the faults of the program.
+//! Tests of tapes: those of the journals of desks, what their lines read as, and the texts of the faults of the program.
 //!
 //! They stand in a crate of their own since a crate is proved once more for the tests that it has.
 #![tactic(auto)]
 
 #[cfg(test)]
-mod ends;
-#[cfg(test)]
 mod faults;
-#[cfg(test)]
-mod replays;
 #[cfg(test)]
 mod tapes;

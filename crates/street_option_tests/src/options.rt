@@ -22,12 +22,14 @@ type Wanted<'a> = (
     &'a [&'a str],
 );
 
-/// The options are these.
-fn check_found(rt: &impl Abort, found: &Options<'_>, wanted: Wanted<'_>) {
-    let (numbers, files, scripts) = wanted;
-    assert_eq!(rt; (found.workers, found.calls), numbers);
-    assert_eq!(rt; (found.tape, found.replay), files);
-    assert_eq!(rt; found.scripts.as_slice(), scripts);
+/// Whether the options are these.
+fn is_found(found: &Options<'_>, wanted: Wanted<'_>) -> bool {
+    let ((workers, calls), (tape, replay), scripts) = wanted;
+    found.workers == workers
+        && found.calls == calls
+        && found.tape == tape
+        && found.replay == replay
+        && found.scripts.as_slice() == scripts
 }
 
 /// The words mean these options.
@@ -38,7 +40,7 @@ fn check_good(
 ) -> Result<(), Fail> {
     let words = words_of(rt.alloc(), words)?;
     let found = options(rt.alloc(), words.as_slice())?;
-    check_found(rt, &found, wanted);
+    assert!(rt; is_found(&found, wanted), "other options are found");
     Ok(())
 }
 

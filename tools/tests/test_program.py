@@ -1,0 +1,225 @@
+"""The program's words: standard input, scripts, tapes and replays, what it says on standard error, and its status.
+
+What is wanted is told by crates/street_examples/data (LINES.md, stored sessions with their replies) and docs/help.txt.
+"""
+import json
+import shutil
+import subprocess
+import unittest
+from pathlib import Path
+
+from support import PROGRAM, TOOLS, Case, needs_simulator
+
+TOP = TOOLS.parent
+DATA = TOP / "crates/street_examples/data"
+PLANNER = DATA / "clients/planner.jsonl"
+COUNTER = DATA / "clients/counter.jsonl"
+ONE_VEHICLE = (DATA / "examples/one-vehicle.out").read_text()
+FULL = '{"error":23,"name":"Full"}\n'
+NOT_LOADED = '{"error":1,"name":"NotLoaded"}\n'
+AFTER_ONE_VEHICLE = '{"admitted":1,"arrived":1,"buffers":0,"cells":0,"clock":5,"taken":0,"waiting":0}\n'
+
+
+def tape_in_lines():
+    """The tape of examples/one-vehicle.jsonl, as LINES.md has it."""
+    text = (DATA / "LINES.md").read_text()
+    return '{"tape":1}\n' + text.split('```\n{"tape":1}\n')[1].split("```")[0]
+
+
+def calls_of(tape, session):
+    """The commands of a session on a tape, in order."""
+    entries = [json.loads(line) for line in tape.splitlines()[1:]]
+    return [entry["command"] for entry in entries if entry["session"] == session]
+
+
+def commands_of(script):
+    """The commands of a script, with a load's start, which may be left out."""
+    commands = [json.loads(line) for line in script.read_text().splitlines()]
+    return [{**command, "start": 0} if command["cmd"] == "load" else command for command in commands]
+
+
+@needs_simulator
+class ProgramCase(Case):
+    """A test that runs the program in a folder of its own."""
+
+    def ends(self, words, text="", status=0, error=""):
+        """What the program writes to standard output; its status and its standard error are these."""
+        done = subprocess.run(
+            [PROGRAM, *map(str, words)], input=text, capture_output=True, text=True, timeout=60, cwd=self.folder, check=False
+        )
+        self.assertEqual((done.returncode, done.stderr), (status, error))
+        return done.stdout
+
+    def is_refused(self, words, *parts):
+        """The words are bad: nothing is written to standard output, and standard error names what is bad."""
+        done = subprocess.run(
+            [PROGRAM, *map(str, words)], input=PLANNER.read_text(), capture_output=True, text=True, timeout=60, cwd=self.folder, check=False
+        )
+        self.assertEqual((done.returncode, done.stdout), (2, ""))
+        self.assertTrue(done.stderr.startswith("streetsim: bad arguments"), done.stderr)
+        for part in parts:
+            self.assertIn(part, done.stderr)
+
+
+class Input(ProgramCase):
+    def test_each_example_for_each_number_of_workers(self):
+        for session in sorted((DATA / "examples").glob("*.jsonl")):
+            for workers in (1, 2, 3, 64):
+                with self.subTest(session=session.stem, workers=workers):
+                    told = self.ends(["--workers", workers], session.read_text())
+                    self.assertEqual(told, session.with_suffix(".out").read_text())
+
+    def test_no_input_gives_no_reply(self):
+        self.assertEqual(self.ends([]), "")
+
+    def test_a_call_without_a_place_is_full_and_changes_nothing(self):
+        lines = PLANNER.read_text() + '{"cmd":"enter","plan":[10],"lane":0,"depart":0}\n{"cmd":"count"}\n'
+        told = self.ends(["--calls", 4, "--tape", "run.tape"], lines)
+        self.assertEqual(told, ONE_VEHICLE + FULL + FULL)
+        self.assertEqual((self.folder / "run.tape").read_text(), tape_in_lines())
+
+
+class Scripts(ProgramCase):
+    def test_replies_come_in_the_order_of_the_words(self):
+        planner, queue = PLANNER, DATA / "examples/queue.jsonl"
+        alone = self.ends([planner])
+        self.assertEqual(alone, ONE_VEHICLE)
+        for workers in (1, 3):
+            told = self.ends(["--workers", workers, planner, COUNTER]).splitlines(keepends=True)
+            self.assertEqual("".join(told[:4]), ONE_VEHICLE)
+            self.assertEqual(len(told), 8)
+            told = self.ends(["--workers", workers, COUNTER, planner]).splitlines(keepends=True)
+            self.assertEqual("".join(told[4:]), ONE_VEHICLE)
+        self.assertEqual(self.ends([queue]), queue.with_suffix(".out").read_text())
+
+    def test_the_tape_has_each_scripts_calls_in_their_order(self):
+        told = self.ends(["--tape", "run.tape", PLANNER, COUNTER]).splitlines(keepends=True)
+        tape = (self.folder / "run.tape").read_text()
+        self.assertEqual(tape.splitlines()[0], '{"tape":1}')
+        self.assertEqual(len(tape.splitlines()), 9)
+        self.assertEqual(calls_of(tape, 0), commands_of(PLANNER))
+        self.assertEqual(calls_of(tape, 1), commands_of(COUNTER))
+        for line in tape.splitlines()[1:]:
+            entry = json.loads(line)
+            self.assertEqual(list(entry), ["command", "outcome", "session"])
+            self.assertEqual(entry["outcome"], "whole")
+            self.assertEqual(json.dumps(entry, sort_keys=True, separators=(",", ":")), line)
+        self.replays_to(tape, {0: told[:4], 1: told[4:]}, AFTER_ONE_VEHICLE)
+
+    def replays_to(self, tape, told, count):
+        """A replay gives each session the replies that it was told, in the tape's order, and then the count."""
+        wanted = "".join(told[json.loads(line)["session"]].pop(0) for line in tape.splitlines()[1:])
+        self.assertEqual(self.ends(["--replay", "run.tape"]), wanted + count)
+
+    def test_a_script_that_is_not_there_is_told_and_the_others_are_printed(self):
+        told = self.ends([PLANNER, "none.jsonl"], status=1, error="streetsim: cannot read none.jsonl\n")
+        self.assertEqual(told, ONE_VEHICLE)
+        told = self.ends(["--tape", "run.tape", PLANNER, "none.jsonl"], status=1, error="streetsim: cannot read none.jsonl\n")
+        self.assertEqual(told, ONE_VEHICLE)
+        self.assertEqual((self.folder / "run.tape").read_text(), tape_in_lines())
+
+    def test_a_tape_that_cannot_be_made_is_told_after_the_replies(self):
+        told = self.ends(["--tape", "none/run.tape", PLANNER], status=1, error="streetsim: cannot write none/run.tape\n")
+        self.assertEqual(told, ONE_VEHICLE)
+
+    def test_many_scripts_share_one_network(self):
+        load = self.write("load.jsonl", PLANNER.read_text().splitlines(keepends=True)[0])
+        told = self.ends(["--tape", "run.tape", load, *[COUNTER] * 7]).splitlines(keepends=True)
+        empty = '{"admitted":0,"arrived":0,"buffers":0,"cells":0,"clock":0,"taken":0,"waiting":0}\n'
+        self.assertEqual(told[0], ONE_VEHICLE.splitlines(keepends=True)[0])
+        self.assertEqual(len(told), 29)
+        for script in range(7):
+            answered = told[1 + 4 * script : 5 + 4 * script]
+            before = answered.count(NOT_LOADED)
+            self.assertEqual(answered, [NOT_LOADED] * before + [empty] * (4 - before))
+        tape = (self.folder / "run.tape").read_text()
+        self.replays_to(tape, {0: told[:1], **{n: told[4 * n - 3 : 4 * n + 1] for n in range(1, 8)}}, empty)
+
+
+class Tapes(ProgramCase):
+    def test_the_tape_of_the_first_example(self):
+        for words, text in ([[], PLANNER.read_text()], [[PLANNER], ""]):
+            self.assertEqual(self.ends(["--tape", "run.tape", *words], text), ONE_VEHICLE)
+            self.assertEqual((self.folder / "run.tape").read_text(), tape_in_lines())
+
+    def test_a_replay_prints_the_replies_and_then_a_count(self):
+        tape = self.write("run.tape", tape_in_lines())
+        for workers in (1, 2, 64):
+            self.assertEqual(self.ends(["--workers", workers, "--replay", tape]), ONE_VEHICLE + AFTER_ONE_VEHICLE)
+
+    def test_faulty_and_blank_lines_are_on_no_tape(self):
+        self.ends(["--tape", "run.tape"], "\nadvance\n{}\n" + PLANNER.read_text() + " \n")
+        self.assertEqual((self.folder / "run.tape").read_text(), tape_in_lines())
+
+    def test_entries_that_starved_or_stopped_short_are_told_so(self):
+        first, load, enter, _advance, vehicle = tape_in_lines().splitlines()
+        starved = enter.replace('"whole"', '"starved"')
+        short = '{"command":{"cmd":"advance","steps":5},"outcome":2,"session":0}'
+        tape = self.write("run.tape", "\n".join([first, load, starved, enter, short, vehicle]))
+        told = self.ends(["--replay", tape])
+        # It departs in step 0, and comes to cell 1 in step 1.
+        self.assertEqual(
+            told,
+            '{"links":2,"nodes":3,"turns":1}\n{"starved":true}\n{"car":0}\n{"clock":2,"short":2}\n'
+            '{"car":0,"cell":1,"lane":0,"link":10,"plan":[10],"speed":1,"state":"cell"}\n'
+            '{"admitted":1,"arrived":0,"buffers":0,"cells":1,"clock":2,"taken":0,"waiting":0}\n',
+        )
+
+    def test_no_tape_does_nothing(self):
+        entries = "".join(tape_in_lines().splitlines(keepends=True)[1:])
+        for text in ("", "\n", "[1]\n", "{}\n", '{"tape":2}\n' + entries, entries):
+            with self.subTest(first=text[:12]):
+                tape = self.write("run.tape", text)
+                told = self.ends(["--replay", tape], status=1, error="streetsim: bad tape at line 1\n")
+                self.assertEqual(told, "")
+
+    def test_a_bad_line_ends_a_replay_after_the_calls_before_it(self):
+        lines = tape_in_lines().splitlines(keepends=True)
+        for bad in ("\n", lines[3][:20] + "\n", lines[2].replace('"whole"', "1"), lines[3].replace('"whole"', "5")):
+            with self.subTest(bad=bad):
+                tape = self.write("run.tape", "".join([*lines[:3], bad, *lines[4:]]))
+                told = self.ends(["--replay", tape], status=1, error="streetsim: bad tape at line 4\n")
+                self.assertEqual(told, "".join(ONE_VEHICLE.splitlines(keepends=True)[:2]))
+
+    def test_a_tape_that_is_not_there(self):
+        self.assertEqual(self.ends(["--replay", "none.tape"], status=1, error="streetsim: cannot read none.tape\n"), "")
+
+
+class Words(ProgramCase):
+    def test_help_is_the_one_in_docs(self):
+        wanted = (TOP / "docs/help.txt").read_text()
+        self.assertEqual(self.ends(["--help"]), wanted)
+        self.assertEqual(self.ends(["-h"]), wanted)
+
+    def test_bad_words(self):
+        for words, what in (
+            (["--fast"], "--fast"),
+            (["--workers", 0], "0"),
+            (["--workers", 65], "65"),
+            (["--workers", "two"], "two"),
+            (["--workers", 1, "--workers", 2], "--workers"),
+            (["--workers"], "--workers"),
+            (["--calls", 0], "0"),
+            (["--calls", 1_000_001], "1000001"),
+            (["--tape"], "--tape"),
+            (["--replay", "run.tape", PLANNER], "--replay"),
+            (["--replay", "run.tape", "--tape", "other.tape"], "--replay"),
+            ([PLANNER] * 1_025, ""),
+        ):
+            with self.subTest(words=words[:4]):
+                self.is_refused(words, what, "--help")
+        self.assertEqual(list(self.folder.iterdir()), [])
+
+
+class Script(Case):
+    def test_help_is_told_where_nothing_is_built(self):
+        shutil.copy(TOP / "streetsim", self.folder)
+        shutil.copytree(TOP / "docs", self.folder / "docs")
+        (self.folder / "crates").mkdir()
+        (self.folder / "crates.txt").write_text("")
+        done = subprocess.run([self.folder / "streetsim", "--help"], capture_output=True, text=True, timeout=60, check=False)
+        self.assertEqual((done.returncode, done.stdout, done.stderr), (0, (TOP / "docs/help.txt").read_text(), ""))
+
+
+if __name__ == "__main__":
+    unittest.main()
