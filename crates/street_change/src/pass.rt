@@ -1,4 +1,6 @@
 //! The lane pass: first who goes is marked, then the marked ones go.
+//!
+//! Source: Rickert, Nagel, Schreckenberg and Latour 1996: all decide by where the others stood before.
 ghost use Rattle.std.specs.Prelude.{◌≡◌, ℕ, ◌<◌, ◌≤◌, ◌-◌, length, Some, None, false, IsSome};
 ghost use Rattle.street_base.specs.LaneChange.{changes};
 ghost use Rattle.street_change.specs.Road.{lane_of, length_of, track_of, lists_of, IsRoad};

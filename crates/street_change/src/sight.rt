@@ -1,6 +1,6 @@
 //! What a driver sees on both lanes, and whether they wish to change and have room for it.
 //!
-//! Rule by Rickert, Nagel, Schreckenberg and Latour 1996, with this profile's turn zone and closed cells.
+//! Source: Rickert, Nagel, Schreckenberg and Latour 1996, with this profile's turn zone and closed cells.
 ghost use Rattle.std.specs.Prelude.{◌≡◌, ℕ, ◌<◌, ◌≤◌, ◌+◌, ◌-◌, nat_lt, Bool, List, Option, length, [], Some, option_map, false};
 ghost use Rattle.street_base.specs.LaneChange.{Weave};
 ghost use Rattle.street_base.specs.Vehicle.{Vehicle};

@@ -1,4 +1,6 @@
 //! The dice of a network, with what was drawn lately kept.
+//!
+//! Source: this profile, which says which word of a vehicle's stream is which draw.
 
 ghost use Rattle.std.specs.Prelude.{◌≡◌, ℕ, ◌+◌, ◌-◌, ◌*◌, ◌/◌, ◌%◌, ◌^◌, ◌<◌, ◌==◌, ◌++◌, nat_lt, replicate, IfOk, IsTrue, ◌↔◌};
 ghost use Rattle.street_base.specs.Draw.{key_of_seed, lane_draw, dawdle_draw};

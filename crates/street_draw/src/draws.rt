@@ -1,6 +1,6 @@
 //! Draws, as words of the cipher say them.
 //!
-//! Source: this profile. The cipher is ChaCha of 20 rounds by Bernstein 2008.
+//! Source: this profile. The cipher is that of RFC 8439, as `rand_chacha` keys it.
 
 ghost use Rattle.std.specs.Prelude.{◌≡◌, ◌*◌, ◌/◌, ◌^◌, ◌<◌};
 ghost use Rattle.street_base.specs.Draw.{draw, key_of_seed};

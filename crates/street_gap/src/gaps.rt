@@ -1,6 +1,6 @@
 //! The gaps that a driver sees, from the neighbours on the list and the closed cells.
 //!
-//! Rule by Nagel and Schreckenberg 1992 ahead, by Rickert, Nagel, Schreckenberg and Latour 1996 beside and behind; closed cells
+//! Source: Nagel and Schreckenberg 1992 ahead, Rickert, Nagel, Schreckenberg and Latour 1996 beside and behind; closed cells
 //! are this profile.
 ghost use Rattle.std.specs.Option.{option_map};
 ghost use Rattle.std.specs.Prelude.{◌≡◌, ℕ, ◌-◌, ◌<◌, length, Some, None, IsSome};

@@ -1,4 +1,6 @@
 //! The detectors of a lane that has some.
+//!
+//! Source: detectors are this profile.
 ghost use Rattle.std.specs.Prelude.{◌≡◌, ◌<◌, ◌≤◌, length, List, [], map, option_map, slice_get, IfOk, OnOk, OnErr};
 ghost use Rattle.std.specs.List.{All};
 ghost use Rattle.std.specs.Option.{option_copied};

@@ -1,4 +1,6 @@
 //! Where the vehicle of a number is on one lane.
+//!
+//! Source: this profile.
 ghost use Rattle.std.specs.Prelude.{◌≡◌, ℕ, ◌<◌, ◌≤◌, length, None, IsSome, IfOk};
 ghost use Rattle.street_base.specs.Network.{link_at};
 ghost use Rattle.street_base.specs.Vehicle.{vehicle_of, remaining_plan};

@@ -1,4 +1,6 @@
 //! The checked network.
+//!
+//! Source: this profile.
 ghost use Rattle.std.specs.Prelude.{◌≡◌, ◌<◌, None, Some, length, map, option_map, slice_get, IfOk, IfErr, IfSome, OnOk};
 ghost use Rattle.street_base.specs.Network.{Place, link_at, link_of, node_of, end_node, turn, serves};
 ghost use Rattle.street_base.specs.Faults.{network_fault};

@@ -1,4 +1,6 @@
 //! The parts of a load, each read once.
+//!
+//! Source: this profile.
 ghost use Rattle.std.specs.Prelude.{◌≡◌, None, IfOk, IfErr, OnOk};
 ghost use Rattle.street_base.specs.Faults.{in_part, nodes_fault, links_fault, turns_fault, values_fault};
 ghost use Rattle.street_base.specs.declared.refusal.Part.TheVariants.{Nodes, Links, Turns, Values};

@@ -1,6 +1,6 @@
 //! How one vehicle drives on: what stops it, its gap and its new speed.
 //!
-//! Rule by Nagel and Schreckenberg 1992; exits and closed cells are this profile.
+//! Source: Nagel and Schreckenberg 1992; exits and closed cells are this profile.
 
 ghost use Rattle.std.specs.Prelude.{◌≡◌, ◌+◌, ◌<◌, ◌≤◌, ℕ, IsSome, Option, [], false};
 ghost use Rattle.std.specs.Option.{ForSome};

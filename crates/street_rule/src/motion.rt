@@ -1,6 +1,6 @@
 //! The motion of one lane over its list.
 //!
-//! Rule by Nagel and Schreckenberg 1992; exits, closed cells and detectors are this profile.
+//! Source: Nagel and Schreckenberg 1992; exits, closed cells and detectors are this profile.
 
 ghost use Rattle.std.specs.Prelude.{◌≡◌, ℕ, ◌+◌, ◌<◌, ◌≤◌, length, Bool, false, [], IsSome, IsSomeAnd, Some, None, option_map};
 ghost use Rattle.std.specs.List.{All};

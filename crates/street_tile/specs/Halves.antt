@@ -1,5 +1,6 @@
 -- The release phase in two halves: fronts are let go, and who was let go is placed.
 -- Between them a vehicle is in no lane: it is handed over.
+-- Source: releases are this profile.
 use Rattle.std.specs.Prelude.{List, map, filter, drop, Bool, false, Option, Some, None, option_map, option_and_then, nat_le, slice_get, if◌then◌else◌}
 use Rattle.std.specs.Option.{option_map_or}
 use Rattle.street_base.specs.declared.net.NetSpec.{NetSpec}

@@ -1,4 +1,5 @@
 -- The phases of a tile: each speaks of the whole machine, whatever state the tile stood for.
+-- Source: the phases and their order are this profile.
 use Rattle.std.specs.Prelude.{◌≡◌, ◌+◌, ◌≤◌, List, map, filter_map, Bool, Option}
 use Rattle.street_base.specs.declared.net.NetSpec.{NetSpec}
 use Rattle.street_base.specs.Vehicle.{Vehicle}

@@ -1,4 +1,5 @@
 -- The order of a tile's walk over its buffers, against the choice by entrance.
+-- Source: releases are this profile.
 use Rattle.std.specs.Prelude.{◌≡◌, ℕ, ◌≤◌, List, Bool, true, Some, find, sum_by, slice_get}
 use Rattle.street_base.specs.declared.net.NetSpec.{NetSpec}
 use Rattle.street_base.specs.Network.{Place, is_place, places}

@@ -1,4 +1,6 @@
 //! Tiles of a network, with nobody on them.
+//!
+//! Source: this profile.
 ghost use Rattle.std.specs.Prelude.{◌≡◌, ℕ, ◌+◌, ◌*◌, ◌/◌, ◌<◌, ◌≤◌, ◌++◌, [], length, map, replicate, min, vec_capacity, None, IfOk, OnOk};
 ghost use Rattle.std.specs.List.{All, range_with_len};
 ghost use Rattle.street_base.specs.Machine.{loaded};

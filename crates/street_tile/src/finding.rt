@@ -1,4 +1,6 @@
 //! Commands that name a vehicle, and how many vehicles there are.
+//!
+//! Source: this profile.
 ghost use Rattle.std.specs.Prelude.{◌≡◌, ◌<◌, length, count_by, is_some, None, true, IfOk, IfSome};
 ghost use Rattle.street_base.specs.State.{Traffic, lane_at};
 ghost use Rattle.street_base.specs.Census.{in_lane};

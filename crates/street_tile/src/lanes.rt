@@ -1,4 +1,6 @@
 //! Lane changes and motion on a tile's own lanes.
+//!
+//! Source: the order of the phases is this profile.
 ghost use Rattle.std.specs.Prelude.{◌≡◌, ℕ, ◌+◌, ◌*◌, ◌<◌, ◌≤◌, length, map, ◌++◌, filter_map, true, IsTrue, ◌↔◌, vec_len, vec_capacity, slice_get, Some};
 ghost use Rattle.street_base.specs.Limits.{last_clock};
 ghost use Rattle.street_base.specs.Network.{Place, link_at};

@@ -1,4 +1,6 @@
 //! A tile and its phases.
+//!
+//! Source: the order of the phases is this profile.
 ghost use Rattle.std.specs.Prelude.{◌≡◌, ℕ, ◌+◌, ◌*◌, ◌<◌, ◌≤◌, length, List, [], ◌∷◌, ◌++◌, Some, None, option_to_list, map, slice_get, true, false, IsTrue, ◌↔◌, OnOk, OnErr};
 ghost use Rattle.std.specs.List.{list_any};
 ghost use Rattle.street_base.specs.Limits.{last_clock};

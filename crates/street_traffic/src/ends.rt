@@ -1,4 +1,6 @@
 //! How vehicles ended.
+//!
+//! Source: this profile.
 ghost use Rattle.std.specs.Prelude.{◌≡◌, ℕ, ◌+◌, ◌<◌, ◌≤◌, ◌++◌, ◌∷◌, [], length, Some, None, slice_get, slice_set, slice_index_or, OnOk};
 ghost use Rattle.std.specs.List.{count_by};
 ghost use Rattle.street_base.specs.declared.reply.End.TheVariants.{Arrived, Taken};

@@ -1,6 +1,8 @@
 //! Commands that name a vehicle, and the count of all.
 //!
 //! A vehicle is on one lane of one tile. First the lanes of the link are asked on which it was last put, then all tiles.
+//!
+//! Source: this profile.
 ghost use Rattle.std.specs.Prelude.{◌≡◌, ◌<◌, ◌≤◌, length, slice_index_or, true, false, ℕ, IsSome, IfOk};
 ghost use Rattle.std.specs.List.{All};
 ghost use Rattle.street_base.specs.Limits.{most_vehicles};

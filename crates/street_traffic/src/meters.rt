@@ -1,4 +1,6 @@
 //! Detectors: each is on a lane of one tile.
+//!
+//! Source: this profile.
 ghost use Rattle.std.specs.Prelude.{◌≡◌, ◌<◌, ◌≤◌, length, option_map, slice_get, IfOk, OnOk, OnErr};
 ghost use Rattle.std.specs.List.{All};
 ghost use Rattle.street_base.specs.Effects.{metered};

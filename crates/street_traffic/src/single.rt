@@ -1,4 +1,6 @@
 //! Commands that name a node or a lane: one tile does them, the others stay as they are.
+//!
+//! Source: this profile.
 ghost use Rattle.std.specs.Prelude.{◌≡◌, ◌<◌, ◌≤◌, length, true, false, IfOk, OnOk, OnErr};
 ghost use Rattle.std.specs.List.{All};
 ghost use Rattle.street_base.specs.Network.{link_at};
