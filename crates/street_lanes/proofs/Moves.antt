@@ -20,7 +20,7 @@ use Rattle.street_yard.proofs.Placed.{IsLane-agree, cells-agree}
 use Rattle.street_lanes.specs.declared.lanes.Site.{Site}
 use Rattle.street_lanes.specs.Views.{LaneView, IsLaneOf, waiting_of, queued_of, AreInOrder, without_front}
 use Rattle.street_lanes.specs.Lanes.{Lanes, GoesIf, GoesAt}
-use Rattle.street_lanes.specs.Lists.{cells_list, buffer_list, waiting_list, cars_on, HasShortPlan, AreShort, SameList, Joins, Enters, LetsGo, Departs}
+use Rattle.street_lanes.specs.Lists.{cells_list, buffer_list, waiting_list, cars_on, HasShortPlan, AreShort, SameList, Joins, ComesIn, LetsGo, Departs}
 use Rattle.street_lanes.specs.declared.lanes.Lanes.TheInside.{Inside}
 use Rattle.street_lanes.specs.Inside.{length_at, closed_at, lane_in, view_of, seen, IsSound, IsLaidOut}
 use Rattle.street_lanes.proofs.Access.{in-sites, in-closures}
@@ -175,18 +175,18 @@ module _ (y new : Yard) (closures : List (List Stretch)) (sites : List Site) (od
     empty : vehicle_at (cells_at y (cells_list n) count) 0 ≡ None
     empty = free-empty (cells_at y (cells_list n) count) (closed_marks closed count) 0 free
 
-    module _ (car : Car) (enters : Enters (cells_list n) car y new) where
+    module _ (car : Car) (enters : ComesIn (cells_list n) car y new) where
       enter_buffer : SameList y new (buffer_list n)
       enter_buffer = enters.touches.others (buffer_list n) ((λ e. (three-apart n).0 (sym e)), tt)
 
       enter_waiting : SameList y new (waiting_list n)
       enter_waiting = enters.touches.others (waiting_list n) ((λ e. (three-apart n).1 (sym e)), tt)
 
-      pub enter-sound : IsLaidOut new closures sites
-      enter-sound = frame-sound y new closures sites odds n (cells_list n ∷ []) sound within (with-cells n, tt) enters.touches (enters.cells count (sound.some n within) (sound.falls n within) empty).0
+      pub come_in-sound : IsLaidOut new closures sites
+      come_in-sound = frame-sound y new closures sites odds n (cells_list n ∷ []) sound within (with-cells n, tt) enters.touches (enters.cells count (sound.some n within) (sound.falls n within) empty).0
 
-      pub enter-goes : GoesIf n (λ s. is_free s.track 0 ≡ true) (λ s. record s { track = with_entry (Some (vehicle_of car)) s.track }) (view_of y closures sites odds) (view_of new closures sites odds)
-      enter-goes = frame-if y new closures sites odds n (cells_list n ∷ []) sound within (with-cells n, tt) enters.touches (λ s. is_free s.track 0 ≡ true) (λ s. record s { track = with_entry (Some (vehicle_of car)) s.track }) (λ s st is_free_s. record {
+      pub come_in-goes : GoesIf n (λ s. is_free s.track 0 ≡ true) (λ s. record s { track = with_entry (Some (vehicle_of car)) s.track }) (view_of y closures sites odds) (view_of new closures sites odds)
+      come_in-goes = frame-if y new closures sites odds n (cells_list n ∷ []) sound within (with-cells n, tt) enters.touches (λ s. is_free s.track 0 ≡ true) (λ s. record s { track = with_entry (Some (vehicle_of car)) s.track }) (λ s st is_free_s. record {
         track = come-cells (vehicle_of car) (cells_at new (cells_list n) count) (enters.cells count (sound.some n within) (sound.falls n within) empty).1 s.track st.track;
         queue = same-queue enter_buffer ∙ st.queue;
         waiting = same-waiting enter_waiting ∙ st.waiting;

@@ -210,7 +210,7 @@ impl Lanes {
         if !entering::is_open(&self.yard, cells_list(lane), &self.closures[lane]) {
             return;
         }
-        entering::enter(&mut self.yard, cells_list(lane), car);
+        entering::come_in(&mut self.yard, cells_list(lane), car);
     }
 
     /// The first who waits on a lane, by depart, then by number, stands in cell 0 if that is free and the depart is not past

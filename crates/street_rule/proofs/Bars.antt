@@ -16,7 +16,7 @@ use Rattle.street_gap.specs.Closed.{closed_marks, entrance_after}
 use Rattle.street_gap.proofs.Marks.{closed_marks-length}
 use Rattle.street_yard.specs.Yard.{Yard, car_of}
 use Rattle.street_rule.specs.declared.course.Course.{Course}
-use Rattle.street_rule.specs.declared.course.Advance.{Advance}
+use Rattle.street_rule.specs.declared.course.Reckoned.{Reckoned}
 use Rattle.street_rule.specs.Course.{nearest, gap_to, bar_of, nearer, Reckons}
 use Rattle.street_rule.proofs.Steps.{low_of}
 
@@ -77,26 +77,26 @@ slowed : (limit gap speed wish one : ℕ) (slow : Bool) → wish ≡ speed_after
 slowed limit gap speed wish one true w o = omega arith
 slowed limit gap speed wish one false w o = omega arith
 
--- what the code reckons by the bar is the advance of the rule
-pub reckons : (course : Course) (odds : Odds) (closed : List Stretch) (y : Yard) (key bar : ℕ) (ahead : Option ℕ) (advance : Advance) (obstacle number wish one : ℕ) (slow : Bool)
+-- what the code reckons by the bar is what the rule reckons
+pub reckons : (course : Course) (odds : Odds) (closed : List Stretch) (y : Yard) (key bar : ℕ) (ahead : Option ℕ) (reckoned : Reckoned) (obstacle number wish one : ℕ) (slow : Bool)
     → course.limit ≤ 16 → ((c : Car) → car_of y key ≡ Some c → (c.cell < course.count) × (c.cell < bar)) → bar ≡ bar_of course.count course.is_open ahead
-    → option_map (λ (c : Car). c.cell) (car_of y key) ≡ Some advance.cell → option_map (λ (c : Car). c.speed) (car_of y key) ≡ Some advance.speed → option_map (λ (c : Car). c.number) (car_of y key) ≡ Some number
-    → obstacle ≡ nearer bar (entrance_after (closed_marks closed course.count) advance.cell) → wish ≡ speed_after course.limit (obstacle - advance.cell - 1) false advance.speed
-    → slow ≡ nat_lt (dawdle_draw odds.seed number course.step) odds.dawdle → one ≡ from_bool slow → advance.new_speed ≡ wish - one → Reckons course odds closed y key ahead advance
-reckons course odds closed y key bar ahead advance obstacle number wish one slow low below bar_is cell_is speed_is number_is obstacle_is wish_is slow_is one_is new_is =
-    let entrance = entrance_after (closed_marks closed course.count) advance.cell in
-    let found = map-some (λ (c : Car). c.cell) (car_of y key) advance.cell cell_is in
+    → option_map (λ (c : Car). c.cell) (car_of y key) ≡ Some reckoned.cell → option_map (λ (c : Car). c.speed) (car_of y key) ≡ Some reckoned.speed → option_map (λ (c : Car). c.number) (car_of y key) ≡ Some number
+    → obstacle ≡ nearer bar (entrance_after (closed_marks closed course.count) reckoned.cell) → wish ≡ speed_after course.limit (obstacle - reckoned.cell - 1) false reckoned.speed
+    → slow ≡ nat_lt (dawdle_draw odds.seed number course.step) odds.dawdle → one ≡ from_bool slow → reckoned.new_speed ≡ wish - one → Reckons course odds closed y key ahead reckoned
+reckons course odds closed y key bar ahead reckoned obstacle number wish one slow low below bar_is cell_is speed_is number_is obstacle_is wish_is slow_is one_is new_is =
+    let entrance = entrance_after (closed_marks closed course.count) reckoned.cell in
+    let found = map-some (λ (c : Car). c.cell) (car_of y key) reckoned.cell cell_is in
     let car = found.0 in
     let is = found.1 in
-    let cell : car.cell ≡ advance.cell = found.2 in
-    let speed : car.speed ≡ advance.speed = field-is (λ (c : Car). c.speed) (car_of y key) car advance.speed is speed_is in
+    let cell : car.cell ≡ reckoned.cell = found.2 in
+    let speed : car.speed ≡ reckoned.speed = field-is (λ (c : Car). c.speed) (car_of y key) car reckoned.speed is speed_is in
     let named : car.number ≡ number = field-is (λ (c : Car). c.number) (car_of y key) car number is number_is in
     let under = (below car is).0 in
-    let inside : advance.cell < course.count = omega arith in
-    let new : advance.new_speed ≡ speed_after course.limit (gap_to (nearest ahead entrance) advance.cell course.count course.is_open) (nat_lt (dawdle_draw odds.seed number course.step) odds.dawdle) advance.speed =
+    let inside : reckoned.cell < course.count = omega arith in
+    let new : reckoned.new_speed ≡ speed_after course.limit (gap_to (nearest ahead entrance) reckoned.cell course.count course.is_open) (nat_lt (dawdle_draw odds.seed number course.step) odds.dawdle) reckoned.speed =
     new_is
-    ∙ slowed course.limit (obstacle - advance.cell - 1) advance.speed wish one slow wish_is one_is
-    ∙ ap (λ o. speed_after course.limit (o - advance.cell - 1) slow advance.speed) (obstacle_is ∙ ap (λ b. nearer b entrance) bar_is)
-    ∙ bar-speed ahead entrance course.limit course.count advance.cell course.is_open slow advance.speed low inside (λ e there. entrance-inside closed course.count advance.cell e there)
-    ∙ ap (λ s. speed_after course.limit (gap_to (nearest ahead entrance) advance.cell course.count course.is_open) s advance.speed) slow_is in
+    ∙ slowed course.limit (obstacle - reckoned.cell - 1) reckoned.speed wish one slow wish_is one_is
+    ∙ ap (λ o. speed_after course.limit (o - reckoned.cell - 1) slow reckoned.speed) (obstacle_is ∙ ap (λ b. nearer b entrance) bar_is)
+    ∙ bar-speed ahead entrance course.limit course.count reckoned.cell course.is_open slow reckoned.speed low inside (λ e there. entrance-inside closed course.count reckoned.cell e there)
+    ∙ ap (λ s. speed_after course.limit (gap_to (nearest ahead entrance) reckoned.cell course.count course.is_open) s reckoned.speed) slow_is in
     record { car = car; is = is; cell = sym cell; speed = sym speed; new_speed = rw (cell, speed, named) new }

@@ -18,7 +18,7 @@ use Rattle.street_yard.specs.Yard.{Yard, IsBehind}
 use Rattle.street_yard.specs.Listed.{vehicle_with, cells_at, IsLane}
 use Rattle.street_yard.proofs.Callers.{left}
 use Rattle.street_rule.specs.declared.course.Course.{Course}
-use Rattle.street_rule.specs.declared.course.Advance.{Advance}
+use Rattle.street_rule.specs.declared.course.Reckoned.{Reckoned}
 use Rattle.street_rule.specs.declared.motion.Leaver.{Leaver}
 use Rattle.street_rule.specs.declared.watch.Watch.{Watch}
 use Rattle.street_rule.specs.Course.{nearest, gap_to, Reckons}
@@ -63,7 +63,7 @@ watches-step g f h ws now after is then each = then ∙ ap (map g) is ∙ map-ma
 
 module _ (course : Course) (odds then : Odds) (closed : List Stretch) (first y : Yard) (key : ℕ) (ahead cursor away fast : Option ℕ) (lane : IsLane first course.list.0 course.count) (cur : cursor ≡ Some key)
     (w : IsPass (drive_with course.limit (always course.is_open) then course.step) (closed_marks closed course.count) first y course.list.0 course.count ahead cursor away fast)
-    (a : Advance) (r : Reckons course odds closed y key ahead a) (same : odds ≡ then) (x : ℕ) (is : x ≡ a.new_speed) (u : Yard) (d : Drives y u key a.new_speed (a.cell + x)) (next : Option ℕ) (behind : IsBehind y key next) where
+    (a : Reckoned) (r : Reckons course odds closed y key ahead a) (same : odds ≡ then) (x : ℕ) (is : x ≡ a.new_speed) (u : Yard) (d : Drives y u key a.new_speed (a.cell + x)) (next : Option ℕ) (behind : IsBehind y key next) where
   place_is : a.cell + x ≡ r.car.cell + a.new_speed
   place_is = (let c = r.cell in omega arith)
 

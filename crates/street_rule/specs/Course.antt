@@ -10,7 +10,7 @@ use Rattle.street_gap.specs.declared.closures.Stretch.{Stretch}
 use Rattle.street_gap.specs.Closed.{closed_marks, entrance_after}
 use Rattle.street_yard.specs.Yard.{Yard, car_of}
 use Rattle.street_rule.specs.declared.course.Course.{Course}
-use Rattle.street_rule.specs.declared.course.Advance.{Advance}
+use Rattle.street_rule.specs.declared.course.Reckoned.{Reckoned}
 
 -- the lesser, where both are there
 abbrev pub nearest : Option ℕ → Option ℕ → Option ℕ
@@ -35,10 +35,10 @@ abbrev pub nearer : ℕ → Option ℕ → ℕ
 nearer bar None = bar
 nearer bar (Some e) = min bar e
 
--- the advance of the car that a key has
-pub record Reckons (course : Course) (odds : Odds) (closed : List Stretch) (y : Yard) (key : ℕ) (ahead : Option ℕ) (advance : Advance) : Type 0 where
+-- what is reckoned of the car that a key has
+pub record Reckons (course : Course) (odds : Odds) (closed : List Stretch) (y : Yard) (key : ℕ) (ahead : Option ℕ) (reckoned : Reckoned) : Type 0 where
   pub car : Car
   pub is : car_of y key ≡ Some car
-  pub cell : advance.cell ≡ car.cell
-  pub speed : advance.speed ≡ car.speed
-  pub new_speed : advance.new_speed ≡ speed_after course.limit (gap_to (nearest ahead (entrance_after (closed_marks closed course.count) car.cell)) car.cell course.count course.is_open) (nat_lt (dawdle_draw odds.seed car.number course.step) odds.dawdle) car.speed
+  pub cell : reckoned.cell ≡ car.cell
+  pub speed : reckoned.speed ≡ car.speed
+  pub new_speed : reckoned.new_speed ≡ speed_after course.limit (gap_to (nearest ahead (entrance_after (closed_marks closed course.count) car.cell)) car.cell course.count course.is_open) (nat_lt (dawdle_draw odds.seed car.number course.step) odds.dawdle) car.speed

@@ -33,7 +33,7 @@ pub(crate) struct Course {
 
 /// A vehicle's cell and speed as they are, and its speed from now on.
 #[derive(Clone, Copy)]
-pub(crate) struct Advance {
+pub(crate) struct Reckoned {
     pub(crate) cell: CellNo,
     pub(crate) speed: Speed,
     pub(crate) new_speed: Speed,
@@ -86,13 +86,13 @@ pub(crate) fn reckon(
     course: Course,
     closures: &Closures,
     dice: &mut Dice,
-) -> Advance
+) -> Reckoned
     requires limit { course.limit ≤ 16 }
     requires closed { IsWithin closures.now course.count }
     requires told { course.has_closed ≡ false → closures.now ≡ [] }
     requires car { IsSome (entry_at yard.now key.0) }
     requires below { ForSome (car_of yard.now key.0) (λ c. (c.cell < course.count) × (c.cell < bar)) }
-    ensures advance { (ahead : Option ℕ) → bar ≡ bar_of course.count course.is_open ahead → Reckons course dice.old closures.now yard.now key.0 ahead result }
+    ensures reckoned { (ahead : Option ℕ) → bar ≡ bar_of course.count course.is_open ahead → Reckons course dice.old closures.now yard.now key.0 ahead result }
     ensures dice { dice.new ≡ dice.old }
 {
     let cell = yard.cell(key);
@@ -101,7 +101,7 @@ pub(crate) fn reckon(
     let wish = wished_speed(speed, course.limit, obstacle - cell - 1);
     let slow = dice.dawdles(key.index(), course.step, yard.number(key));
     let new_speed = wish.saturating_sub(CellNo::from(slow)) as Speed;
-    Advance {
+    Reckoned {
         cell,
         speed,
         new_speed,

@@ -14,7 +14,7 @@ ghost use Rattle.street_yard.specs.Listed.{cells_at, IsLane};
 ghost use Rattle.street_rule.specs.Pass.{drive_with, IsExit, HasMoved, Moves, Drives, Leaves};
 ghost use Rattle.street_rule.specs.Watching.{IsReady};
 
-use crate::course::{Advance, Course, end_of, reckon};
+use crate::course::{Course, Reckoned, end_of, reckon};
 use crate::watch::{Watch, note};
 use street_base::{CellNo, LaneNo, Speed, Step};
 use street_change::{Road, RoadLane};
@@ -32,13 +32,13 @@ pub struct Leaver {
 }
 
 /// Writes a car's new speed, and its new cell.
-fn drive_car(yard: &mut Yard, key: Key, advance: Advance, place: CellNo)
+fn drive_car(yard: &mut Yard, key: Key, reckoned: Reckoned, place: CellNo)
     requires on { IsSome (place_of yard.old key.0) }
-    requires car { IsSomeAnd (car_of yard.old key.0) (λ c. (c.cell ≡ advance.cell) × (c.speed ≡ advance.speed)) }
-    requires place { place ≡ advance.cell + advance.new_speed }
-    ensures { Drives yard.old yard.new key.0 advance.new_speed place }
+    requires car { IsSomeAnd (car_of yard.old key.0) (λ c. (c.cell ≡ reckoned.cell) × (c.speed ≡ reckoned.speed)) }
+    requires place { place ≡ reckoned.cell + reckoned.new_speed }
+    ensures { Drives yard.old yard.new key.0 reckoned.new_speed place }
 {
-    yard.drive(key, place, advance.new_speed);
+    yard.drive(key, place, reckoned.new_speed);
     yard.whole();
 }
 
@@ -81,19 +81,19 @@ pub(crate) fn drive_all(
     let mut bar = end_of(course);
     let mut cursor = yard.list_front(course.list);
     while let Some(key) = cursor {
-        let advance = reckon(yard, key, bar, course, closures, dice);
-        let place = advance.cell + CellNo::from(advance.new_speed);
+        let reckoned = reckon(yard, key, bar, course, closures, dice);
+        let place = reckoned.cell + CellNo::from(reckoned.new_speed);
         cursor = yard.behind(key);
-        drive_car(yard, key, advance, place);
-        note(watches, advance.cell, place, advance.new_speed);
+        drive_car(yard, key, reckoned, place);
+        note(watches, reckoned.cell, place, reckoned.new_speed);
         if place >= course.count {
             leave(yard, course.list, key);
             leaver = Some(Leaver {
                 key,
-                speed: advance.new_speed,
+                speed: reckoned.new_speed,
             });
         }
-        bar = advance.cell;
+        bar = reckoned.cell;
     }
     leaver
 }

@@ -18,11 +18,11 @@ loop-cursor-init c = record {
   watches = sym (watches-start _ _ _ c.args.course.count c.args.watches.now c.requires.watches);
 }
 
-pub reckon-advance-requires-clause-car : goal.reckon-advance-requires-clause-car
-reckon-advance-requires-clause-car c = on_has_entry c.loop-cursor.yard c.in-Some.key.0 c.args.course.list.0 (IsPass-on _ _ _ _ _ _ _ _ _ _ _ c.requires.lane (cursor-key _ _ c.in-Some.is) c.loop-cursor.invariant.pass)
+pub reckon-reckoned-requires-clause-car : goal.reckon-reckoned-requires-clause-car
+reckon-reckoned-requires-clause-car c = on_has_entry c.loop-cursor.yard c.in-Some.key.0 c.args.course.list.0 (IsPass-on _ _ _ _ _ _ _ _ _ _ _ c.requires.lane (cursor-key _ _ c.in-Some.is) c.loop-cursor.invariant.pass)
 
-pub reckon-advance-requires-clause-below : goal.reckon-advance-requires-clause-below
-reckon-advance-requires-clause-below c = λ car is.
+pub reckon-reckoned-requires-clause-below : goal.reckon-reckoned-requires-clause-below
+reckon-reckoned-requires-clause-below c = λ car is.
     let pass = c.loop-cursor.invariant.pass in
     let cur = cursor-key _ _ c.in-Some.is in
     let inside = IsPass-inside _ _ _ _ _ _ _ _ _ _ _ c.requires.lane cur pass car is in
@@ -32,8 +32,8 @@ reckon-advance-requires-clause-below c = λ car is.
 
 pub overflow_add-place : goal.overflow_add-place
 overflow_add-place c =
-    let inside : (c.reckon-advance.ensures.advance c.loop-cursor.invariant.ahead c.loop-cursor.invariant.bar).car.cell < c.args.course.count = IsPass-inside _ _ _ _ _ _ _ _ _ _ _ c.requires.lane (cursor-key _ _ c.in-Some.is) c.loop-cursor.invariant.pass _ (c.reckon-advance.ensures.advance c.loop-cursor.invariant.ahead c.loop-cursor.invariant.bar).is in
-    omega (arith, inside, (c.reckon-advance.ensures.advance c.loop-cursor.invariant.ahead c.loop-cursor.invariant.bar).cell, c.requires.short, c.from.ensures)
+    let inside : (c.reckon-reckoned.ensures.reckoned c.loop-cursor.invariant.ahead c.loop-cursor.invariant.bar).car.cell < c.args.course.count = IsPass-inside _ _ _ _ _ _ _ _ _ _ _ c.requires.lane (cursor-key _ _ c.in-Some.is) c.loop-cursor.invariant.pass _ (c.reckon-reckoned.ensures.reckoned c.loop-cursor.invariant.ahead c.loop-cursor.invariant.bar).is in
+    omega (arith, inside, (c.reckon-reckoned.ensures.reckoned c.loop-cursor.invariant.ahead c.loop-cursor.invariant.bar).cell, c.requires.short, c.from.ensures)
 
 pub note-requires : goal.note-requires
 note-requires c = watches-room (drive_with c.args.course.limit (always c.args.course.is_open) c.args.dice.now c.args.course.step) (cells_at c.args.yard.now c.args.course.list.0 c.args.course.count) (closed_marks c.args.closures.now c.args.course.count) c.args.course.count c.args.watches.now c.requires.watches (low_of c.loop-cursor.invariant.ahead c.args.course.count) _ (omega arith) c.requires.short c.loop-cursor.invariant.watches
@@ -49,32 +49,32 @@ leave-requires c = c.drive_car.ensures.place ∙ IsPass-on _ _ _ _ _ _ _ _ _ _ _
 
 pub loop-cursor-smaller : goal.loop-cursor-smaller
 loop-cursor-smaller c = (turn-stays c.args.course _ c.args.dice.now c.args.closures.now c.args.yard.now c.loop-cursor.yard c.in-Some.key.0 _ _ _ _ c.requires.lane (cursor-key _ _ c.in-Some.is) c.loop-cursor.invariant.pass
-    c.reckon-advance.result (c.reckon-advance.ensures.advance c.loop-cursor.invariant.ahead c.loop-cursor.invariant.bar) c.loop-cursor.invariant.dice c.from.result c.from.ensures c.drive_car.new.yard c.drive_car.ensures _ c.behind-cursor.ensures c.if-place-course.false).1
+    c.reckon-reckoned.result (c.reckon-reckoned.ensures.reckoned c.loop-cursor.invariant.ahead c.loop-cursor.invariant.bar) c.loop-cursor.invariant.dice c.from.result c.from.ensures c.drive_car.new.yard c.drive_car.ensures _ c.behind-cursor.ensures c.if-place-course.false).1
 
 pub loop-cursor-preserved : goal.loop-cursor-preserved
 loop-cursor-preserved c = record {
-  ahead = Some c.reckon-advance.result.cell;
+  ahead = Some c.reckon-reckoned.result.cell;
   bar = refl;
   pass = (turn-stays c.args.course _ c.args.dice.now c.args.closures.now c.args.yard.now c.loop-cursor.yard c.in-Some.key.0 _ _ _ _ c.requires.lane (cursor-key _ _ c.in-Some.is) c.loop-cursor.invariant.pass
-      c.reckon-advance.result (c.reckon-advance.ensures.advance c.loop-cursor.invariant.ahead c.loop-cursor.invariant.bar) c.loop-cursor.invariant.dice c.from.result c.from.ensures c.drive_car.new.yard c.drive_car.ensures _ c.behind-cursor.ensures c.if-place-course.false).0;
-  dice = c.reckon-advance.ensures.dice ∙ c.loop-cursor.invariant.dice;
+      c.reckon-reckoned.result (c.reckon-reckoned.ensures.reckoned c.loop-cursor.invariant.ahead c.loop-cursor.invariant.bar) c.loop-cursor.invariant.dice c.from.result c.from.ensures c.drive_car.new.yard c.drive_car.ensures _ c.behind-cursor.ensures c.if-place-course.false).0;
+  dice = c.reckon-reckoned.ensures.dice ∙ c.loop-cursor.invariant.dice;
   watches = turn-watches c.args.course _ c.args.dice.now c.args.closures.now c.args.yard.now c.loop-cursor.yard c.in-Some.key.0 _ _ _ _ c.requires.lane (cursor-key _ _ c.in-Some.is) c.loop-cursor.invariant.pass
-      c.reckon-advance.result (c.reckon-advance.ensures.advance c.loop-cursor.invariant.ahead c.loop-cursor.invariant.bar) c.loop-cursor.invariant.dice c.from.result c.from.ensures c.drive_car.new.yard c.drive_car.ensures _ c.behind-cursor.ensures c.args.watches.now _ _ c.loop-cursor.invariant.watches c.note.ensures;
+      c.reckon-reckoned.result (c.reckon-reckoned.ensures.reckoned c.loop-cursor.invariant.ahead c.loop-cursor.invariant.bar) c.loop-cursor.invariant.dice c.from.result c.from.ensures c.drive_car.new.yard c.drive_car.ensures _ c.behind-cursor.ensures c.args.watches.now _ _ c.loop-cursor.invariant.watches c.note.ensures;
 }
 
 pub loop-cursor-smaller-then-place-course : goal.loop-cursor-smaller-then-place-course
 loop-cursor-smaller-then-place-course c = (turn-leaves c.args.course _ c.args.dice.now c.args.closures.now c.args.yard.now c.loop-cursor.yard c.in-Some.key.0 _ _ _ _ c.requires.lane (cursor-key _ _ c.in-Some.is) c.loop-cursor.invariant.pass
-    c.reckon-advance.result (c.reckon-advance.ensures.advance c.loop-cursor.invariant.ahead c.loop-cursor.invariant.bar) c.loop-cursor.invariant.dice c.from.result c.from.ensures c.drive_car.new.yard c.drive_car.ensures _ c.behind-cursor.ensures c.leave.new.yard c.leave.ensures c.requires.list c.if-place-course.true).1
+    c.reckon-reckoned.result (c.reckon-reckoned.ensures.reckoned c.loop-cursor.invariant.ahead c.loop-cursor.invariant.bar) c.loop-cursor.invariant.dice c.from.result c.from.ensures c.drive_car.new.yard c.drive_car.ensures _ c.behind-cursor.ensures c.leave.new.yard c.leave.ensures c.requires.list c.if-place-course.true).1
 
 pub loop-cursor-preserved-then-place-course : goal.loop-cursor-preserved-then-place-course
 loop-cursor-preserved-then-place-course c = record {
-  ahead = Some c.reckon-advance.result.cell;
+  ahead = Some c.reckon-reckoned.result.cell;
   bar = refl;
   pass = (turn-leaves c.args.course _ c.args.dice.now c.args.closures.now c.args.yard.now c.loop-cursor.yard c.in-Some.key.0 _ _ _ _ c.requires.lane (cursor-key _ _ c.in-Some.is) c.loop-cursor.invariant.pass
-      c.reckon-advance.result (c.reckon-advance.ensures.advance c.loop-cursor.invariant.ahead c.loop-cursor.invariant.bar) c.loop-cursor.invariant.dice c.from.result c.from.ensures c.drive_car.new.yard c.drive_car.ensures _ c.behind-cursor.ensures c.leave.new.yard c.leave.ensures c.requires.list c.if-place-course.true).0;
-  dice = c.reckon-advance.ensures.dice ∙ c.loop-cursor.invariant.dice;
+      c.reckon-reckoned.result (c.reckon-reckoned.ensures.reckoned c.loop-cursor.invariant.ahead c.loop-cursor.invariant.bar) c.loop-cursor.invariant.dice c.from.result c.from.ensures c.drive_car.new.yard c.drive_car.ensures _ c.behind-cursor.ensures c.leave.new.yard c.leave.ensures c.requires.list c.if-place-course.true).0;
+  dice = c.reckon-reckoned.ensures.dice ∙ c.loop-cursor.invariant.dice;
   watches = turn-watches c.args.course _ c.args.dice.now c.args.closures.now c.args.yard.now c.loop-cursor.yard c.in-Some.key.0 _ _ _ _ c.requires.lane (cursor-key _ _ c.in-Some.is) c.loop-cursor.invariant.pass
-      c.reckon-advance.result (c.reckon-advance.ensures.advance c.loop-cursor.invariant.ahead c.loop-cursor.invariant.bar) c.loop-cursor.invariant.dice c.from.result c.from.ensures c.drive_car.new.yard c.drive_car.ensures _ c.behind-cursor.ensures c.args.watches.now _ _ c.loop-cursor.invariant.watches c.note.ensures;
+      c.reckon-reckoned.result (c.reckon-reckoned.ensures.reckoned c.loop-cursor.invariant.ahead c.loop-cursor.invariant.bar) c.loop-cursor.invariant.dice c.from.result c.from.ensures c.drive_car.new.yard c.drive_car.ensures _ c.behind-cursor.ensures c.args.watches.now _ _ c.loop-cursor.invariant.watches c.note.ensures;
 }
 
 pub returns-clause-moved : goal.returns-clause-moved
