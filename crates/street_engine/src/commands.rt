@@ -17,7 +17,7 @@ use street_tile::Gate;
 use street_traffic::Streets;
 
 /// One command, and what it answers. Steps are made by so many workers, 1 to 64.
-pub(crate) fn serve<R: Threads + Sync, G: Gate + Sync>(
+pub(crate) fn apply<R: Threads + Sync, G: Gate + Sync>(
     rt: &R,
     gate: &G,
     alloc: Global,

@@ -1,8 +1,10 @@
 //! The engine.
+//!
+//! Source: this profile.
 ghost use Rattle.std.specs.Prelude.{◌≡◌, ◌≤◌, IfOk, OnErr, None};
 ghost use Rattle.street_engine.specs.Refines.{StandsFor, Serves, ServesAll};
 
-use crate::commands::serve;
+use crate::commands::apply;
 use std::alloc::{AllocError, Global};
 use std::marker::Model;
 use std::thread::Threads;
@@ -60,7 +62,7 @@ impl<G: Gate + Sync + Drop> Engine<G> {
     pub fn apply<R: Threads + Sync>(&mut self, rt: &R, command: &Command) -> (Reply, Outcome)
         ensures { Serves self.old command.now result.0 result.1 self.new }
     {
-        serve(
+        apply(
             rt,
             &self.gate,
             self.alloc,

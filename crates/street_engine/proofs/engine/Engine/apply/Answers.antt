@@ -3,4 +3,4 @@ use Rattle.street_engine.specs.Refines.{View, Serves}
 use Rattle.street_engine.proofs.engine.Engine.apply.Goals as goal
 
 pub returns : goal.returns
-returns g c = subst (λ (x : View). Serves x c.args.command.now c.serve.result.0 c.serve.result.1 c.serve.new.state) c.self.view_is c.serve.ensures
+returns g c = subst (λ (x : View). Serves x c.args.command.now c.apply.result.0 c.apply.result.1 c.apply.new.state) c.self.view_is c.apply.ensures
