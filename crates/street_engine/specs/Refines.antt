@@ -1,4 +1,5 @@
 -- What an engine stands for, and what it owes at each command.
+-- Source: this profile.
 use Rattle.std.specs.Prelude.{List, Option, Some, None}
 use Rattle.street_base.specs.declared.command.Command.{Command}
 use Rattle.street_base.specs.declared.reply.Reply.{Reply}
