@@ -2,6 +2,8 @@
 //!
 //! The table has one word, twice the number of finished calls and one more during a turn, and one slot, in which the engine
 //! lies with its journal while nobody has the turn.
+//!
+//! Source: this profile.
 
 use crate::journal::{Entry, Recorder};
 use atomic_table::{Join, Play, Split, TableRule};

@@ -1,4 +1,6 @@
 //! The engine.
+//!
+//! Source: this profile.
 ghost use Rattle.std.specs.Prelude.{◌≡◌, ◌≤◌, IfOk, OnErr, None};
 ghost use Rattle.street_engine.specs.Refines.{StandsFor, Serves, ServesAll};
 

@@ -1,4 +1,5 @@
 //! The command, as the parser knows it.
+//! Source: this profile.
 
 use clap::{Arg, ArgAction, Command};
 use std::alloc::{AllocError, Global};
@@ -28,7 +29,7 @@ fn arguments<'a>(alloc: Global) -> Result<Vec<Arg<'a>>, AllocError> {
             alloc,
             "workers",
             "N",
-            "Workers that share the links, 1 to 64; the replies are the same for every number. More than one pays from some 50000 vehicles on [default: 1]",
+            "Threads that share each step, 1 to 64; the replies are the same for every number. More than one pays on grids of some 100000 vehicles [default: 1]",
         ),
         option(
             alloc,

@@ -1,4 +1,5 @@
 //! What the words of the command line come to.
+//! Source: this profile.
 ghost use Rattle.std.specs.Prelude.{◌≡◌};
 ghost use Rattle.street_options.specs.Words.{ToldOf};
 ghost use Rattle.street_options.specs.declared.words.WordsFault.TheVariants.{Starved};
@@ -10,7 +11,7 @@ use thiserror::Error;
 /// What the words ask for. Files are named as in the words.
 #[derive(Debug, PartialEq, Eq, Drop)]
 pub struct Options<'a> {
-    /// How many workers share the links, 1 to 64.
+    /// How many threads share each step, 1 to 64.
     pub workers: u32,
     /// How many calls there is a place for, 1 to 1,000,000.
     pub calls: u64,
