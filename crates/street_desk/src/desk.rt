@@ -1,4 +1,5 @@
 //! The desk and its calls.
+//!
 //! Source: this profile.
 ghost use Rattle.std.specs.Prelude.{◌≡◌, ◌+◌, ◌*◌, ◌/◌, ◌%◌, ◌^◌, ◌<◌, ◌≤◌, [], ◌∷◌, ◌++◌, length, true, false, Some, None, MatchBool, MatchResult, IfOk, IfErr, IsOk};
 ghost use Rattle.street_base.specs.declared.reply.Outcome.{Outcome};

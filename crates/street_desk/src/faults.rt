@@ -1,4 +1,5 @@
 //! Why a call at the desk was not served.
+//!
 //! Source: this profile.
 
 use street_base::Command;

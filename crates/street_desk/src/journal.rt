@@ -1,4 +1,5 @@
 //! The journal, and the engine that writes it.
+//!
 //! Source: this profile.
 ghost use Rattle.std.specs.Prelude.{◌≡◌, ◌<◌, [], ◌∷◌, ◌++◌, length, IfOk, None, slice_get, option_copied};
 ghost use Rattle.street_base.specs.Outcomes.{Allows, reply_to};

@@ -1,4 +1,5 @@
 //! Laws of histories.
+//!
 //! Source: this profile.
 ghost use Rattle.std.specs.Prelude.{List, None, map};
 ghost use Rattle.street_base.specs.Run.{Runs};

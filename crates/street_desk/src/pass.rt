@@ -1,4 +1,5 @@
 //! What a caller holds: a pass, and notes of what a pass has seen.
+//!
 //! Source: this profile.
 
 use crate::journal::Recorder;

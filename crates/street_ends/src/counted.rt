@@ -1,4 +1,5 @@
 //! Readers and writers that count their calls.
+//!
 //! Source: this profile. Counts stop at the greatest `u64`.
 ghost use Rattle.std.specs.Prelude.{◌≡◌, ◌==◌, OnOk, OnErr, IfOk, if◌then◌else◌};
 ghost use Rattle.std.specs.Io.KnownBytes.{Keeps, ReadConsumes, WriteAppends};

@@ -1,4 +1,5 @@
 //! A line as far as it was read.
+//!
 //! Source: this profile. A line of spaces, tabs and CR alone is blank, however long it is.
 ghost use Rattle.std.specs.Prelude.{◌≡◌, List, ℕ, [], ◌∷◌, ◌++◌, OnOk};
 ghost use Rattle.street_ends.specs.Lines.{is_space, is_blank, kept, IsPart};

@@ -1,4 +1,5 @@
 //! What a run counts, and how it may fail.
+//!
 //! Source: this profile.
 ghost use Rattle.std.specs.Prelude.{◌≡◌};
 ghost use Rattle.street_ends.specs.declared.tally.FaultKind.{FaultKind};

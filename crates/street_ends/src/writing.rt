@@ -1,4 +1,5 @@
 //! Bytes that go out in parts.
+//!
 //! Source: this profile. A write that takes no bytes is a fault.
 ghost use Rattle.std.specs.Prelude.{◌≡◌, ◌<◌, ◌+◌, ◌^◌, OnOk, OnErr, IfErr, length, take};
 ghost use Rattle.std.specs.Io.KnownBytes.{Appends, Keeps};

@@ -1,4 +1,5 @@
 //! What the program tells where it does not end as it should.
+//!
 //! Source: this profile.
 ghost use Rattle.std.specs.Prelude.{◌≡◌};
 ghost use Rattle.street_fault.specs.Faults.{fault_of_run, fault_of_tape, status_of};

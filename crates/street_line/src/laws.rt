@@ -1,4 +1,5 @@
 //! Laws of lines.
+//!
 //! Source: this profile.
 ghost use Rattle.std.specs.Prelude.{ℕ, List, None};
 ghost use Rattle.street_base.specs.Census.{IsSoundState};

@@ -1,4 +1,5 @@
 //! A text of lines, served one after another.
+//!
 //! Source: this profile. Each reply is written, and passed on, before the next read.
 ghost use Rattle.std.specs.Prelude.{◌≡◌, ◌+◌, ◌^◌, ◌<◌, ℕ, List, [], ◌∷◌, IfOk, OnOk, OnErr, IfErr, if◌then◌else◌, length};
 ghost use Rattle.std.specs.Io.KnownBytes.{Appends, Consumes, IsAtEnd};

@@ -1,4 +1,5 @@
 //! The line that answers a command.
+//!
 //! Source: this profile.
 ghost use Rattle.std.specs.Prelude.{◌≡◌, IfOk};
 ghost use Rattle.street_line.specs.Running.{served_line};

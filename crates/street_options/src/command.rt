@@ -1,4 +1,5 @@
 //! The command, as the parser knows it.
+//!
 //! Source: this profile.
 
 use clap::{Arg, ArgAction, Command};

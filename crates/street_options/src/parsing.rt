@@ -1,4 +1,5 @@
 //! From the words of the command line to options.
+//!
 //! Source: this profile.
 ghost use Rattle.std.specs.Prelude.{◌≤◌, ◌≡◌, [], IfOk, IfSome, IsNone, codes, map, option_map, unwrap_or, vec_len};
 ghost use Rattle.clap.specs.Words.{found_of, matched_of, raw_values};

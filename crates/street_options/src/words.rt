@@ -1,4 +1,5 @@
 //! What the words of the command line come to.
+//!
 //! Source: this profile.
 ghost use Rattle.std.specs.Prelude.{◌≡◌};
 ghost use Rattle.street_options.specs.Words.{ToldOf};

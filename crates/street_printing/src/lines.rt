@@ -1,4 +1,5 @@
 //! The line of a JSON value.
+//!
 //! Source: this profile.
 ghost use Rattle.std.specs.Prelude.{◌≡◌, IfOk, false};
 ghost use Rattle.serde_json.specs.View.{view};

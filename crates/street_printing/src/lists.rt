@@ -1,4 +1,5 @@
 //! The lists of a reply or a command: numbers, and rows of numbers.
+//!
 //! Source: this profile.
 ghost use Rattle.std.specs.Prelude.{◌≡◌, IfOk};
 ghost use Rattle.serde_json.specs.Data.{Data, array};

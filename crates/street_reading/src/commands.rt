@@ -1,4 +1,5 @@
 //! From the bytes of a line to a command: one small function for each command.
+//!
 //! Source: this profile.
 ghost use Rattle.std.specs.Prelude.{◌≡◌, ◌⊎◌};
 ghost use Rattle.serde_json.specs.Errors.{IsMemory};

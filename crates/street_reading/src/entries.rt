@@ -1,4 +1,5 @@
 //! From a JSON value to the numbers, rows and lists that stand in it.
+//!
 //! Source: this profile.
 ghost use Rattle.std.specs.Prelude.{◌≡◌, Option};
 ghost use Rattle.serde_json.specs.Data.{Data};

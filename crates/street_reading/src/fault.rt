@@ -1,4 +1,5 @@
 //! Faults of a line.
+//!
 //! Source: this profile.
 ghost use Rattle.std.specs.Prelude.{◌≡◌};
 ghost use Rattle.street_reading.specs.Faults.{number_of, name_of};

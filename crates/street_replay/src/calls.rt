@@ -1,4 +1,5 @@
 //! One call of a tape, applied as it went at the desk.
+//!
 //! Source: this profile.
 ghost use Rattle.std.specs.Prelude.{◌≡◌, ℕ, Option, IfOk, IfErr, MatchBool, None, nat_le, ◌&&◌, ◌+◌};
 ghost use Rattle.street_base.specs.declared.command.Command.TheVariants.{Advance};

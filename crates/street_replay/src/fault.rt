@@ -1,4 +1,5 @@
 //! Faults of a replay.
+//!
 //! Source: this profile.
 
 use street_ends::RunFault;

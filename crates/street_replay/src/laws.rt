@@ -1,4 +1,5 @@
 //! The tape of a desk's journal replays to the replies of its calls.
+//!
 //! Source: this profile.
 ghost use Rattle.std.specs.Prelude.{◌≡◌, ◌++◌, ℕ, All, List, [], Option, None, Some, map};
 ghost use Rattle.street_base.specs.Run.{Runs};

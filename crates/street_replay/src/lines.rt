@@ -1,4 +1,5 @@
 //! One line of a tape.
+//!
 //! Source: this profile. Each reply is written before the next line is taken up.
 ghost use Rattle.std.specs.Prelude.{◌≡◌, ◌<◌, ◌+◌, ◌^◌, ℕ, List, [], ◌∷◌, ◌++◌, Option, Ok, IfOk, OnOk, IfErr, true, length};
 ghost use Rattle.street_base.specs.State.{State};

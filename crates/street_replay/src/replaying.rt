@@ -1,4 +1,5 @@
 //! A tape, replayed line by line.
+//!
 //! Source: this profile. Replies are passed on before the next read.
 ghost use Rattle.std.specs.Prelude.{◌≡◌, ◌+◌, ◌^◌, ◌<◌, ℕ, List, [], ◌∷◌, None, Some, Option, IfOk, OnOk, IfErr, length};
 ghost use Rattle.std.specs.Io.KnownBytes.{Appends, Consumes, IsAtEnd};

@@ -1,4 +1,5 @@
 //! Why a replay goes no further.
+//!
 //! Source: this profile.
 ghost use Rattle.std.specs.Prelude.{◌≡◌};
 ghost use Rattle.street_ends.specs.declared.tally.FaultKind.TheVariants as kinds;

@@ -1,4 +1,5 @@
 //! Clients of one desk: standard input, or scripts.
+//!
 //! Source: this profile.
 ghost use Rattle.std.specs.Prelude.{◌≡◌, ◌<◌, All, IfOk, length, vec_len};
 ghost use Rattle.street_desk.specs.Passes.{DeskView};

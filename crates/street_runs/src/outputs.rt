@@ -1,4 +1,5 @@
 //! The program's files and standard output.
+//!
 //! Source: this profile.
 ghost use Rattle.std.specs.Prelude.{◌≡◌};
 

@@ -1,4 +1,5 @@
 //! A tape, replayed.
+//!
 //! Source: this profile.
 ghost use Rattle.std.specs.Prelude.{◌≤◌};
 

@@ -1,4 +1,5 @@
 //! Lines served through a desk.
+//!
 //! Source: this profile.
 ghost use Rattle.std.specs.Prelude.{◌≡◌, ℕ, List, IfOk, IfErr};
 ghost use Rattle.std.specs.Io.KnownBytes.{Appends, Consumes, IsAtEnd};

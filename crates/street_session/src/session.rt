@@ -1,4 +1,5 @@
 //! A desk and one caller's pass serve commands.
+//!
 //! Source: this profile.
 ghost use Rattle.std.specs.Prelude.{◌≡◌};
 ghost use Rattle.street_session.specs.Sessions.{DeskServes};

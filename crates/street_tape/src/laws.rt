@@ -1,4 +1,5 @@
 //! A tape says the journal that it was written of.
+//!
 //! Source: this profile.
 ghost use Rattle.std.specs.Prelude.{◌≡◌, All, List, Some};
 ghost use Rattle.street_desk.specs.declared.journal.Entry.{Entry};

@@ -1,4 +1,5 @@
 //! From a line of a tape to what it says.
+//!
 //! Source: this profile.
 ghost use Rattle.std.specs.Prelude.{◌≡◌, ◌⊎◌};
 ghost use Rattle.serde_json.specs.Errors.{IsMemory};

@@ -1,4 +1,5 @@
 //! From a call to the line of a tape.
+//!
 //! Source: this profile.
 ghost use Rattle.std.specs.Prelude.{◌≡◌, IfOk, false};
 ghost use Rattle.serde_json.specs.View.{view};

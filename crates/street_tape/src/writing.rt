@@ -1,4 +1,5 @@
 //! The tape of a journal.
+//!
 //! Source: this profile.
 ghost use Rattle.std.specs.Prelude.{◌≡◌, ◌≤◌, ◌+◌, ◌-◌, ◌^◌, OnOk, IfOk, IfErr, length, take};
 ghost use Rattle.std.specs.Io.KnownBytes.{Appends};

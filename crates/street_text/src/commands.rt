@@ -1,4 +1,5 @@
 //! From a command to its text.
+//!
 //! Source: this profile.
 ghost use Rattle.std.specs.Prelude.{◌≡◌, ◌≤◌, IfOk, Ok, length};
 ghost use Rattle.serde_json.specs.View.{view};

@@ -1,4 +1,5 @@
 //! The line that answers a faulty line.
+//!
 //! Source: this profile.
 ghost use Rattle.std.specs.Prelude.{◌≡◌, IfOk, Some};
 ghost use Rattle.street_text.specs.FaultLines.{fault_line};

@@ -1,4 +1,5 @@
 //! Each command is read from its own text.
+//!
 //! Source: this profile.
 ghost use Rattle.std.specs.Prelude.{◌≡◌, ◌≤◌, Ok, length};
 ghost use Rattle.street_base.specs.declared.command.Command.{Command};
