@@ -19,9 +19,6 @@ use street_draw::Dice;
 use street_gap::Closures;
 use street_yard::{Key, Yard};
 
-#[cfg(test)]
-mod tests;
-
 /// The gap where nothing is in sight.
 const FAR: CellNo = 16;
 
