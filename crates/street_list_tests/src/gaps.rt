@@ -12,7 +12,7 @@ use street_yard::{Key, ListId, Yard};
 #[test]
 fn nothing_is_closed_at_first(rt: HostRuntime) {
     let closures = Closures::new(rt.alloc());
-    assert_eq!(rt; (closures.is_empty(), closures.count_closed()), (true, 0));
+    assert!(rt; closures.is_empty() && closures.count_closed() == 0);
 }
 
 /// Closes cells 3 to 8 in two parts.
@@ -24,7 +24,7 @@ fn close_in_two_parts(closures: &mut Closures) -> Result<(), Starved> {
 /// These stretches are closed.
 fn check_stretches(rt: &impl Abort, closures: &Closures, wanted: &[Stretch]) {
     assert!(rt; closures.is_empty() == wanted.is_empty());
-    assert_eq!(rt; closures.stretches(), wanted);
+    assert!(rt; closures.stretches() == wanted);
 }
 
 #[test]
@@ -43,14 +43,10 @@ fn close_and_open(closures: &mut Closures) -> Result<(), Starved> {
 
 /// What is looked up where cells 3, 4, 6, 7 and 8 are closed.
 fn check_look_ups(rt: &impl Abort, closures: &Closures) {
-    let entrances = [
-        closures.entrance_after(0),
-        closures.entrance_after(3),
-        closures.entrance_after(8),
-    ];
-    assert_eq!(rt; entrances, [Some(3), Some(6), None]);
-    assert!(rt; closures.is_closed(4));
-    assert!(rt; !closures.is_closed(5));
+    assert!(rt; closures.entrance_after(0) == Some(3));
+    assert!(rt; closures.entrance_after(3) == Some(6));
+    assert!(rt; closures.entrance_after(8).is_none());
+    assert!(rt; closures.is_closed(4) && !closures.is_closed(5));
 }
 
 #[test]
@@ -113,7 +109,7 @@ fn close_four_cells(closures: &mut Closures) -> Result<(), Starved> {
 fn counts_closed_cells(rt: HostRuntime) -> Result<(), Fail> {
     let mut closures = Closures::new(rt.alloc());
     close_four_cells(&mut closures)?;
-    assert_eq!(rt; closures.count_closed(), 4);
+    assert!(rt; closures.count_closed() == 4);
     Ok(())
 }
 
@@ -182,20 +178,15 @@ fn check_neighbours(rt: &(impl Abort + AllocGlobal), yard: &Yard, front: Key, ba
     requires { 0 < length yard.now.lists }
 {
     let open = Closures::new(rt.alloc());
-    let ahead = ahead_of(yard, &open, back);
-    assert_eq!(rt;
-        (ahead, behind_each(yard, front, back)),
-        (Some(Some(6)), Some([Some(2), Some(4), None]))
-    );
+    assert!(rt; ahead_of(yard, &open, back) == Some(Some(6)));
+    assert!(rt; behind_each(yard, front, back) == Some([Some(2), Some(4), None]));
 }
 
 /// What is seen of them where these cells are closed.
 fn check_ahead(rt: &impl Abort, yard: &Yard, closed: &Closures, front: Key, back: Key) {
-    let ahead = (ahead_of(yard, closed, front), ahead_of(yard, closed, back));
-    assert_eq!(rt;
-        (ahead, beside(yard, closed, front)),
-        ((Some(None), Some(Some(2))), Some([Some(1), Some(2), None]))
-    );
+    assert!(rt; ahead_of(yard, closed, front) == Some(None));
+    assert!(rt; ahead_of(yard, closed, back) == Some(Some(2)));
+    assert!(rt; beside(yard, closed, front) == Some([Some(1), Some(2), None]));
 }
 
 /// What is seen of them where cells 5 and 6 are closed.

@@ -67,8 +67,7 @@ fn put(rt: &impl Abort, yard: &mut Yard, list: ListId, at: Key, key: Key)
     requires { list.0 < length yard.old.lists }
     ensures { length yard.new.lists ≡ length yard.old.lists }
 {
-    assert!(rt; yard.is_loose(key));
-    assert_eq!(rt; yard.list_of(at), Some(list));
+    assert!(rt; yard.is_loose(key) && yard.list_of(at) == Some(list));
     yard.insert_behind(list, Some(at), key);
 }
 
@@ -76,8 +75,8 @@ fn put(rt: &impl Abort, yard: &mut Yard, list: ListId, at: Key, key: Key)
 fn cut(rt: &impl Abort, yard: &mut Yard, list: ListId, key: Key)
     ensures { length yard.new.lists ≡ length yard.old.lists }
 {
-    assert_eq!(rt; yard.list_of(key), Some(list));
-    assert_eq!(rt; (yard.unlink(key), yard.is_loose(key)), (list, true));
+    assert!(rt; yard.list_of(key) == Some(list));
+    assert!(rt; yard.unlink(key) == list && yard.is_loose(key));
 }
 
 // A list has these keys first and last, and so many.
@@ -91,14 +90,8 @@ fn is_listed(
 )
     requires { list.0 < length yard.now.lists }
 {
-    assert_eq!(rt;
-        (
-            yard.list_front(list),
-            yard.list_back(list),
-            yard.list_len(list)
-        ),
-        (front, back, len)
-    );
+    assert!(rt; yard.list_front(list) == front && yard.list_back(list) == back);
+    assert!(rt; yard.list_len(list) == len);
 }
 
 // The key stands on the list between these.
@@ -110,8 +103,8 @@ fn is_between(
     key: Key,
     behind: Option<Key>,
 ) {
-    assert_eq!(rt; yard.list_of(key), Some(list));
-    assert_eq!(rt; (yard.ahead(key), yard.behind(key)), (ahead, behind));
+    assert!(rt; yard.list_of(key) == Some(list));
+    assert!(rt; yard.ahead(key) == ahead && yard.behind(key) == behind);
 }
 
 // Three cars come last on the first list, one after another.
@@ -268,9 +261,9 @@ fn is_named(rt: &impl Abort, yard: &Yard, key: Key)
 // The cell and the speed of a loose car, read beside it and in it.
 fn is_driven(rt: &impl Abort, yard: &Yard, key: Key, cell: u32, speed: u8) {
     is_named(rt, yard, key);
-    assert_eq!(rt; (yard.cell(key), yard.speed(key)), (cell, speed));
+    assert!(rt; yard.cell(key) == cell && yard.speed(key) == speed);
     let car = yard.car(key);
-    assert_eq!(rt; (car.cell, car.speed), (cell, speed));
+    assert!(rt; car.cell == cell && car.speed == speed);
 }
 
 // What is written of a car is read, beside it and in it.
@@ -302,16 +295,16 @@ fn write_other_fields(rt: &impl Abort, yard: &mut Yard, key: Key) {
     yard.set_at(key, 1);
     is_named(rt, yard, key);
     let car = yard.car(key);
-    assert_eq!(rt; (car.step, car.at), (30, 1));
+    assert!(rt; car.step == 30 && car.at == 1);
 }
 
 // So is the mark.
 fn set_mark(rt: &impl Abort, yard: &mut Yard, key: Key) {
     is_named(rt, yard, key);
-    let was_marked = yard.is_marked(key);
+    assert!(rt; !yard.is_marked(key));
     yard.mark(key, true);
     is_named(rt, yard, key);
-    assert_eq!(rt; (was_marked, yard.is_marked(key)), (false, true));
+    assert!(rt; yard.is_marked(key));
 }
 
 #[test]
@@ -332,13 +325,10 @@ fn number_of(car: Car) -> u32 {
 fn leave_and_come(rt: &(impl Abort + AllocGlobal), yard: &mut Yard) {
     let a = admit(rt, yard, 7);
     assert!(rt; yard.is_loose(a));
-    assert_eq!(rt; number_of(yard.take(a)), 7);
-    assert_eq!(rt;
-        (yard.is_loose(a), yard.list_of(a), yard.room()),
-        (false, None, 3)
-    );
+    assert!(rt; number_of(yard.take(a)) == 7);
+    assert!(rt; !yard.is_loose(a) && yard.list_of(a).is_none() && yard.room() == 3);
     let b = admit(rt, yard, 8);
-    assert_eq!(rt; b.index(), a.index());
+    assert!(rt; b.index() == a.index());
 }
 
 #[test]

@@ -1,0 +1,2 @@
+-- Worked rows: examples computed on the definitions.
+pub mod Sight
