@@ -1,2 +1,0 @@
--- Worked rows: examples computed on the definitions.
-pub mod Sight
