@@ -20,7 +20,7 @@ use Rattle.street_yard.proofs.Placed.{IsLane-agree, cells-agree}
 use Rattle.street_lanes.specs.declared.lanes.Site.{Site}
 use Rattle.street_lanes.specs.Views.{LaneView, IsLaneOf, waiting_of, queued_of, AreInOrder, without_front}
 use Rattle.street_lanes.specs.Lanes.{Lanes, GoesIf, GoesAt}
-use Rattle.street_lanes.specs.Lists.{cells_list, buffer_list, waiting_list, cars_on, HasShortPlan, AreShort, SameList, Joins, ComesIn, LetsGo, Departs}
+use Rattle.street_lanes.specs.Lists.{cells_list, buffer_list, waiting_list, cars_on, HasShortPlan, AreShort, SameList, Joins, Enters, LetsGo, Departs}
 use Rattle.street_lanes.specs.declared.lanes.Lanes.TheInside.{Inside}
 use Rattle.street_lanes.specs.Inside.{length_at, closed_at, lane_in, view_of, seen, IsSound, IsLaidOut}
 use Rattle.street_lanes.proofs.Access.{in-sites, in-closures}
@@ -175,7 +175,7 @@ module _ (y new : Yard) (closures : List (List Stretch)) (sites : List Site) (od
     empty : vehicle_at (cells_at y (cells_list n) count) 0 ≡ None
     empty = free-empty (cells_at y (cells_list n) count) (closed_marks closed count) 0 free
 
-    module _ (car : Car) (enters : ComesIn (cells_list n) car y new) where
+    module _ (car : Car) (enters : Enters (cells_list n) car y new) where
       enter_buffer : SameList y new (buffer_list n)
       enter_buffer = enters.touches.others (buffer_list n) ((λ e. (three-apart n).0 (sym e)), tt)
 

@@ -84,7 +84,7 @@ pub record Joins (list : ℕ) (car : Car) (old new : Yard) : Type 0 where
   pub order : AreInOrder (map waiting_of (cars_on old list)) → map waiting_of (cars_on new list) ≡ put_in_order (waiting_of car) (map waiting_of (cars_on old list))
 
 -- a car with no place before stands in cell 0 of a list
-pub record ComesIn (list : ℕ) (car : Car) (old new : Yard) : Type 0 where
+pub record Enters (list : ℕ) (car : Car) (old new : Yard) : Type 0 where
   pub touches : Touches (list ∷ []) old new
   pub room : new.room + 1 ≡ old.room
   pub cells : ComesIn (vehicle_of car) list old new

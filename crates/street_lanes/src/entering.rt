@@ -6,7 +6,7 @@ ghost use Rattle.street_base.specs.Lane.{Track, is_free};
 ghost use Rattle.street_gap.specs.Closed.{IsWithin, closed_marks};
 ghost use Rattle.street_yard.specs.Yard.{list_at, car_of, first_or};
 ghost use Rattle.street_yard.specs.Listed.{cells_at, IsLane};
-ghost use Rattle.street_lanes.specs.Lists.{HasShortPlan, ComesIn, Departs};
+ghost use Rattle.street_lanes.specs.Lists.{HasShortPlan, Enters, Departs};
 
 use street_base::Car;
 use street_gap::Closures;
@@ -31,7 +31,7 @@ pub(crate) fn come_in(yard: &mut Yard, cells: ListId, mut car: Car)
     requires list { cells.0 < length yard.old.lists }
     requires room { 1 ≤ yard.old.room }
     requires short { HasShortPlan car }
-    ensures { ComesIn cells.0 car yard.old yard.new }
+    ensures { Enters cells.0 car yard.old yard.new }
 {
     yard.whole();
     car.cell = 0;
