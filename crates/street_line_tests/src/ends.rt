@@ -47,7 +47,7 @@ struct Room {
 
 /// How many bytes were sent where not all were, how often the writer was called, how often it failed and how often it took
 /// none.
-#[derive(Clone, Copy, Debug, PartialEq, Eq)]
+#[derive(Clone, Copy, PartialEq, Eq)]
 struct Sent {
     sent: Option<usize>,
     calls: u64,
@@ -88,12 +88,8 @@ fn check_sent(
         failures,
         empty_writes,
     };
-    assert_eq!(rt; told, want, "at {room}");
-    assert_eq!(rt;
-        Some(taken.as_slice()),
-        b"{\"a\":1}".get(..room),
-        "at {room}"
-    );
+    let holds = told == want && b"{\"a\":1}".get(..room) == Some(taken.as_slice());
+    assert!(rt; holds, "at {room}");
 }
 
 #[test]
@@ -119,12 +115,9 @@ fn write_two(rt: &impl Abort, writer: &mut Counted<SlowWriter>) {
         bytes: 5,
     };
     let first = write_reply(writer, b"{\"a\":1}", &mut tally);
-    assert_eq!(rt; (first, counts(&tally)), (Ok(()), (2, 1, 2, 12)));
+    assert!(rt; first == Ok(()) && counts(&tally) == (2, 1, 2, 12));
     let second = write_reply(writer, b"{\"a\":1}", &mut tally);
-    assert_eq!(rt;
-        (second, counts(&tally)),
-        (Err(FaultKind::Write), (2, 1, 2, 13))
-    );
+    assert!(rt; second == Err(FaultKind::Write) && counts(&tally) == (2, 1, 2, 13));
 }
 
 #[test]
@@ -135,8 +128,8 @@ fn replies_are_counted(rt: HostRuntime) -> Result<(), Fail> {
         fails: true,
     });
     write_two(&rt, &mut writer);
-    let flushed = flush_out(&mut writer);
-    assert_eq!(rt; (flushed, writer.failures()), (Err(FaultKind::Write), 2));
+    assert!(rt; flush_out(&mut writer) == Err(FaultKind::Write));
+    assert!(rt; writer.failures() == 2);
     Ok(())
 }
 
@@ -149,14 +142,11 @@ fn read_two(reader: &mut Counted<&[u8]>) -> Result<usize, &'static str> {
 #[test]
 fn reads_are_counted(rt: HostRuntime) -> Result<(), Fail> {
     let mut reader = Counted::new(b"abc".as_slice());
-    let first = read_two(&mut reader)?;
-    let second = read_two(&mut reader)?;
-    let third = read_two(&mut reader)?;
-    assert_eq!(rt; (first, second, third), (2, 1, 0));
-    assert_eq!(rt;
-        (reader.calls(), reader.failures(), reader.empty_writes()),
-        (3, 0, 0)
-    );
+    for count in [2, 1, 0] {
+        assert!(rt; read_two(&mut reader)? == count);
+    }
+    assert!(rt; reader.calls() == 3);
+    assert!(rt; reader.failures() == 0 && reader.empty_writes() == 0);
     Ok(())
 }
 
@@ -170,7 +160,7 @@ fn push_all(part: &mut PartialLine, bytes: &[u8]) -> Result<(), Starved> {
 
 /// The bytes that are kept, and whether they are blank.
 fn check_part(rt: &impl Abort, part: &PartialLine, bytes: &[u8], is_blank: bool) {
-    assert_eq!(rt; (part.as_slice(), part.is_blank()), (bytes, is_blank));
+    assert!(rt; part.as_slice() == bytes && part.is_blank() == is_blank);
 }
 
 #[test]

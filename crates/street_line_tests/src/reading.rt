@@ -32,20 +32,9 @@ fn kind(alloc: Global, line: &[u8]) -> &'static str {
     }
 }
 
-/// The bytes read as this command or fault.
-fn check_kind(rt: &(impl Abort + AllocGlobal), line: &[u8], want: &str) {
-    assert_eq!(rt; kind(rt.alloc(), line), want, "at {line:?}");
-}
-
-/// The text reads as this command or fault.
-fn check_text(rt: &(impl Abort + AllocGlobal), line: &str, want: &str) {
-    assert_eq!(rt; kind(rt.alloc(), line.as_bytes()), want, "at {line}");
-}
-
-/// The bytes, of which there are many, read as this command or fault.
-fn check_long(rt: &(impl Abort + AllocGlobal), line: &[u8], want: &str) {
-    let count = line.len();
-    assert_eq!(rt; kind(rt.alloc(), line), want, "at {count} bytes");
+/// A line, which this number tells from the others, reads as this command or fault.
+fn check_kind(rt: &(impl Abort + AllocGlobal), number: usize, line: &[u8], want: &str) {
+    assert!(rt; kind(rt.alloc(), line) == want, "no {want} at {number}");
 }
 
 /// Numbers as they may be written, and what a line with them is.
@@ -74,9 +63,9 @@ static NUMBERS: [(&str, &str); 20] = [
 
 #[test]
 fn numbers_are_digits_alone(rt: HostRuntime) -> Result<(), Fail> {
-    for (number, want) in &NUMBERS {
+    for (at, (number, want)) in NUMBERS.iter().enumerate() {
         let line = format!(in rt.alloc(); "{{\"cmd\":\"advance\",\"steps\":{number}}}")?;
-        check_text(&rt, line.as_str(), want);
+        check_kind(&rt, at, line.as_bytes(), want);
     }
     Ok(())
 }
@@ -151,8 +140,8 @@ static ODD_LINES: [(&[u8], &str); 40] = [
 
 #[test]
 fn odd_lines(rt: HostRuntime) {
-    for (line, want) in &ODD_LINES {
-        check_kind(&rt, line, want);
+    for (at, (line, want)) in ODD_LINES.iter().enumerate() {
+        check_kind(&rt, at, line, want);
     }
 }
 
@@ -169,7 +158,7 @@ fn nested(alloc: Global, lists: usize) -> Result<Vec<u8>, AllocError> {
 fn nesting_is_read_to_127_levels(rt: HostRuntime) -> Result<(), Fail> {
     for (lists, want) in [(126, "advance"), (127, "NotJson"), (1000, "NotJson")] {
         let line = nested(rt.alloc(), lists)?;
-        check_long(&rt, line.as_slice(), want);
+        check_kind(&rt, lists, line.as_slice(), want);
     }
     Ok(())
 }
@@ -185,20 +174,43 @@ fn spaced(alloc: Global, spaces: usize) -> Result<Vec<u8>, AllocError> {
 fn a_line_has_at_most_1048576_bytes(rt: HostRuntime) -> Result<(), Fail> {
     for (spaces, want) in [(1_048_549, "advance"), (1_048_550, "LineTooLong")] {
         let line = spaced(rt.alloc(), spaces)?;
-        check_long(&rt, line.as_slice(), want);
+        check_kind(&rt, spaces, line.as_slice(), want);
     }
     let blank = vec![in rt.alloc(); b' '; 3_000_000]?;
-    check_long(&rt, blank.as_slice(), "LineTooLong");
+    check_kind(&rt, blank.len(), blank.as_slice(), "LineTooLong");
     Ok(())
 }
 
-/// What a load has: of each of its lists the length and the last entry, and its values.
+/// What a load has: the lengths of its lists, the numbers of the last entry of each, and its values.
 #[derive(Clone, Copy)]
 struct Load {
-    nodes: (usize, NodeSpec),
-    links: (usize, LinkSpec),
-    turns: (usize, TurnSpec),
+    counts: [usize; 3],
+    node: [u64; 3],
+    link: [u64; 6],
+    turn: [u64; 4],
     values: [u64; 5],
+}
+
+/// The numbers of a node.
+fn node_numbers(node: &NodeSpec) -> [u64; 3] {
+    [node.id, node.residence, node.capacity]
+}
+
+/// The numbers of a link.
+fn link_numbers(link: &LinkSpec) -> [u64; 6] {
+    [
+        link.id,
+        link.from,
+        link.to,
+        link.lanes,
+        link.length,
+        link.limit,
+    ]
+}
+
+/// The numbers of a turn.
+fn turn_numbers(turn: &TurnSpec) -> [u64; 4] {
+    [turn.link, turn.lane, turn.next, turn.next_lane]
 }
 
 /// What a load has, where none of its lists is empty.
@@ -209,9 +221,10 @@ fn seen(net: &NetSpec) -> Option<Load> {
         net.turns.as_slice(),
     );
     Some(Load {
-        nodes: (nodes.len(), *nodes.last()?),
-        links: (links.len(), *links.last()?),
-        turns: (turns.len(), *turns.last()?),
+        counts: [nodes.len(), links.len(), turns.len()],
+        node: node_numbers(nodes.last()?),
+        link: link_numbers(links.last()?),
+        turn: turn_numbers(turns.last()?),
         values: [net.zone, net.dawdle, net.change, net.seed, net.start],
     })
 }
@@ -231,20 +244,11 @@ fn reads_the_fields_of_a_load(rt: HostRuntime) {
     let Some(load) = load_of(rt.alloc(), line) else {
         panic!(&rt; "no load")
     };
-    let (nodes, node) = load.nodes;
-    assert_eq!(rt;
-        (nodes, node.id, node.residence, node.capacity),
-        (2, 4, 5, 6)
-    );
-    let (links, link) = load.links;
-    assert_eq!(rt; (links, link.id, link.from, link.to), (1, 10, 1, 4));
-    assert_eq!(rt; (link.lanes, link.length, link.limit), (2, 7, 5));
-    let (turns, turn) = load.turns;
-    assert_eq!(rt;
-        (turns, turn.link, turn.lane, turn.next, turn.next_lane),
-        (1, 10, 1, 10, 0)
-    );
-    assert_eq!(rt; load.values, [8, 9, 11, u64::MAX, 12]);
+    assert!(rt; load.counts == [2, 1, 1]);
+    assert!(rt; load.node == [4, 5, 6]);
+    assert!(rt; load.link == [10, 1, 4, 2, 7, 5]);
+    assert!(rt; load.turn == [10, 1, 10, 0]);
+    assert!(rt; load.values == [8, 9, 11, u64::MAX, 12]);
 }
 
 /// The links of a plan of two.
@@ -268,7 +272,7 @@ fn enter_of(alloc: Global, line: &[u8]) -> Option<([u64; 2], u64, u64)> {
 #[test]
 fn reads_the_fields_of_an_enter(rt: HostRuntime) {
     let line = b"{\"cmd\":\"enter\",\"depart\":3,\"plan\":[20,10],\"lane\":1}";
-    assert_eq!(rt; enter_of(rt.alloc(), line), Some(([20, 10], 1, 3)));
+    assert!(rt; enter_of(rt.alloc(), line) == Some(([20, 10], 1, 3)));
 }
 
 /// The numbers of a command, up to four of them, in the order of its fields.
@@ -333,7 +337,7 @@ static LINES_WITH_NUMBERS: [(&[u8], &str, [u64; 4]); 4] = [
 fn reads_the_numbers_of_each_other_command(rt: HostRuntime) {
     for (line, name, numbers) in &LINES_WITH_NUMBERS {
         let want = Some((*name, *numbers));
-        assert_eq!(rt; numbers_of(rt.alloc(), line), want, "at {name}");
+        assert!(rt; numbers_of(rt.alloc(), line) == want, "at {name}");
     }
 }
 
@@ -375,8 +379,8 @@ fn reads_the_phases_of_a_signal(rt: HostRuntime) {
     let Some((names, durations, counts, green)) = signal_of(rt.alloc(), line) else {
         panic!(&rt; "no signal of two phases")
     };
-    assert_eq!(rt; (names, durations, counts), ((2, 6), (8, 2), (2, 0)));
-    assert_eq!(rt; (green.link, green.lane, green.next), (11, 1, 21));
+    assert!(rt; names == (2, 6) && durations == (8, 2) && counts == (2, 0));
+    assert!(rt; green.link == 11 && green.lane == 1 && green.next == 21);
 }
 
 /// Lines with names and fields right or wrong, and what they are.
@@ -425,8 +429,8 @@ static NAMED_LINES: [(&[u8], &str); 16] = [
 
 #[test]
 fn each_command_has_its_name_and_all_its_fields(rt: HostRuntime) {
-    for (line, want) in &NAMED_LINES {
-        check_kind(&rt, line, want);
+    for (at, (line, want)) in NAMED_LINES.iter().enumerate() {
+        check_kind(&rt, at, line, want);
     }
 }
 
@@ -446,11 +450,11 @@ static LOAD_ENDS: [(&str, &str); 10] = [
 
 #[test]
 fn start_may_be_absent_but_no_other_field(rt: HostRuntime) -> Result<(), Fail> {
-    for (rest, want) in &LOAD_ENDS {
+    for (at, (rest, want)) in LOAD_ENDS.iter().enumerate() {
         let line = format!(in rt.alloc();
             "{{\"cmd\":\"load\",\"nodes\":[[1,1,2]],\"links\":[],\"turns\":[],\"zone\":0,\"dawdle\":0,\"change\":0,{rest}}}"
         )?;
-        check_text(&rt, line.as_str(), want);
+        check_kind(&rt, at, line.as_bytes(), want);
     }
     Ok(())
 }
@@ -467,7 +471,7 @@ fn start_of(alloc: Global, line: &[u8]) -> Option<u64> {
 fn a_load_without_a_start_starts_at_0(rt: HostRuntime) {
     let line =
         b"{\"cmd\":\"load\",\"nodes\":[],\"links\":[],\"turns\":[],\"zone\":0,\"dawdle\":0,\"change\":0,\"seed\":0}";
-    assert_eq!(rt; start_of(rt.alloc(), line), Some(0));
+    assert!(rt; start_of(rt.alloc(), line) == Some(0));
 }
 
 #[test]
@@ -478,6 +482,9 @@ fn faults_have_numbers_and_names(rt: HostRuntime) {
         (LineFault::BadCommand, Some(21), "BadCommand"),
         (LineFault::Starved, None, "Starved"),
     ] {
-        assert_eq!(rt; (fault.number(), fault.name()), (number, name));
+        assert!(rt;
+            fault.number() == number && fault.name() == name,
+            "at {name}"
+        );
     }
 }

@@ -39,31 +39,23 @@ fn given<'a>(case: &Case, text: &'a [u8], reads_left: usize) -> Given<'a> {
     }
 }
 
-/// The run counted so, and the service had the calls.
-fn check_tally(rt: &impl Abort, ran: &Ran, name: &str, at: usize, tally: Tally) {
-    assert_eq!(rt; ran.tally, tally, "{name} at {at}");
-    assert_eq!(rt; ran.commands, tally.calls, "{name} at {at}");
+/// Whether a run ended and counted so, the service had the calls, and exactly these bytes were taken.
+fn is_ended(ran: &Ran, kind: Option<FaultKind>, tally: Tally, taken: &[u8]) -> bool {
+    ran.kind == kind
+        && ran.tally == tally
+        && ran.commands == tally.calls
+        && ran.taken.as_slice() == taken
+        && ran.tally.bytes == taken.len() as u128
 }
 
-/// Exactly these bytes were taken.
-fn check_taken(rt: &impl Abort, ran: &Ran, name: &str, at: usize, taken: &[u8]) {
-    assert_eq!(rt; ran.taken.as_slice(), taken, "{name} at {at}");
-    assert_eq!(rt; ran.tally.bytes, taken.len() as u128, "{name} at {at}");
+/// Whether so many bytes were flushed, and the reader was called and failed so often.
+fn is_read(ran: &Ran, flushed: usize, reads: u64, failed_reads: u64) -> bool {
+    ran.flushed == flushed && ran.reads == reads && ran.failed_reads == failed_reads
 }
 
-/// The run ended so, and exactly these bytes were taken.
-fn check(
-    rt: &impl Abort,
-    ran: &Ran,
-    name: &str,
-    at: usize,
-    kind: Option<FaultKind>,
-    tally: Tally,
-    taken: &[u8],
-) {
-    assert_eq!(rt; ran.kind, kind, "{name} at {at}");
-    check_tally(rt, ran, name, at, tally);
-    check_taken(rt, ran, name, at, taken);
+/// What is wanted of a run holds.
+fn check(rt: &impl Abort, holds: bool, name: &str, at: usize) {
+    assert!(rt; holds, "{name} at {at}");
 }
 
 /// The tally after so many lines of a case.
@@ -92,14 +84,9 @@ fn check_read(
     let want = first_lines(case.output, lines);
     let tally = tally_after(case, lines, lines, want.len());
     let kind = Some(FaultKind::Read);
-    check(rt, &ran, case.name, reads, kind, tally, want);
-    assert_eq!(rt; ran.flushed, want.len(), "{} at {reads}", case.name);
-    assert_eq!(rt;
-        (ran.reads, ran.failed_reads),
-        ((reads as u64).saturating_add(1), 1),
-        "{} at {reads}",
-        case.name
-    );
+    let all_reads = (reads as u64).saturating_add(1);
+    let holds = is_ended(&ran, kind, tally, want) && is_read(&ran, want.len(), all_reads, 1);
+    check(rt, holds, case.name, reads);
 }
 
 /// No read of a case fails.
@@ -107,22 +94,9 @@ fn check_all_reads(rt: &(impl Threads + Abort + AllocGlobal + Sync), case: &Case
     let writer = Taking::new(rt.alloc(), 4096, 4096, true);
     let reader = given(case, all, case.reads);
     let ran = run(rt, rt.alloc(), reader, writer, case.most_reads);
-    check(
-        rt,
-        &ran,
-        case.name,
-        case.reads,
-        case.kind,
-        case.tally,
-        case.output,
-    );
-    assert_eq!(rt; ran.flushed, case.output.len(), "{}", case.name);
-    assert_eq!(rt;
-        (ran.reads, ran.failed_reads),
-        (case.reads as u64, 0),
-        "{}",
-        case.name
-    );
+    let holds = is_ended(&ran, case.kind, case.tally, case.output)
+        && is_read(&ran, case.output.len(), case.reads as u64, 0);
+    check(rt, holds, case.name, case.reads);
 }
 
 /// Each read of a case fails in turn, and then none.
@@ -158,13 +132,11 @@ fn check_write(
     let replies = lines_in(want);
     let tally = tally_after(case, replies.saturating_add(1), replies, room);
     let kind = Some(FaultKind::Write);
-    check(rt, &ran, case.name, room, kind, tally, want);
-    assert_eq!(rt;
-        (ran.failed_writes, ran.empty_writes),
-        failures,
-        "{} at {room}",
-        case.name
-    );
+    let (failed_writes, empty_writes) = failures;
+    let holds = is_ended(&ran, kind, tally, want)
+        && ran.failed_writes == failed_writes
+        && ran.empty_writes == empty_writes;
+    check(rt, holds, case.name, room);
 }
 
 /// Each write of a case fails in turn, by an error or by taking no byte.
@@ -221,8 +193,8 @@ fn check_cut(rt: &(impl Threads + Abort + AllocGlobal + Sync), bytes: usize) -> 
         replies: lines as u128,
         bytes: want.len() as u128,
     };
-    assert_eq!(rt; (kind, tally), (None, wanted), "at {bytes}");
-    assert_eq!(rt; taken.as_slice(), want.as_slice(), "at {bytes}");
+    let holds = kind.is_none() && tally == wanted && taken.as_slice() == want.as_slice();
+    check(rt, holds, "a cut text", bytes);
     Ok(())
 }
 
@@ -248,11 +220,9 @@ fn a_writer_is_full_in_the_second_reply(rt: HostRuntime) {
         replies: 1,
         bytes: 40,
     };
-    assert_eq!(rt; (kind, tally), (Some(FaultKind::Write), wanted));
-    assert_eq!(rt;
-        taken.as_slice(),
-        b"{\"error\":1,\"name\":\"NotLoaded\"}\n{\"error\":".as_slice()
-    );
+    assert!(rt; kind == Some(FaultKind::Write) && tally == wanted);
+    let want = b"{\"error\":1,\"name\":\"NotLoaded\"}\n{\"error\":";
+    assert!(rt; taken.as_slice() == want.as_slice());
 }
 
 /// Puts so many times a byte behind a text.
@@ -287,7 +257,7 @@ fn deep_and_wide_lines(rt: HostRuntime) -> Result<(), Fail> {
         replies: 3,
         bytes: 94,
     };
-    assert_eq!(rt; (kind, tally), (None, wanted));
-    assert_eq!(rt; taken.as_slice(), want.as_slice());
+    assert!(rt; kind.is_none() && tally == wanted);
+    assert!(rt; taken.as_slice() == want.as_slice());
     Ok(())
 }
