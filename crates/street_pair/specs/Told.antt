@@ -1,7 +1,7 @@
 -- What two clients of a desk are told, and the tape of their calls.
 -- Source: this profile.
 use Rattle.std.specs.Prelude.{◌≡◌, ℕ, ◌≤◌, List, [], ◌++◌, length, Some, IfSome}
-use Rattle.street_pair.specs.declared.desks.Caller.{Caller}
+use Rattle.street_pair.specs.declared.desks.Client.{Client}
 use Rattle.street_pair.specs.declared.tapes.Told.{Told}
 use Rattle.street_desk.specs.declared.journal.Entry.{Entry}
 use Rattle.street_desk.specs.History.{BeginsWith, IsHistory}
@@ -17,20 +17,24 @@ pub record IsNew (desk : DeskView) (session : ℕ) (pass : PassView) : Type 0 wh
   pub none : pass.seen ≡ []
 
 -- the replies, if there are any, are the whole output of lines of which these are the first
-abbrev pub Replied : PassView → List (List ℕ) → Caller → Type 0
-Replied before firsts answers =
-    IfSome answers.replies (λ replies. (more : List (List ℕ)) × Goes DeskServes before (firsts ++ more) replies.items answers.pass)
+abbrev pub Replied : PassView → List (List ℕ) → Client → Type 0
+Replied before firsts client =
+    IfSome client.replies (λ replies. (more : List (List ℕ)) × Goes DeskServes before (firsts ++ more) replies.items client.pass)
 
--- what both were replied, and the tape of a history of at least so many calls, which begins with what each has seen
-pub record Tells (sessions calls : ℕ) (one two : Caller) (told : Told) : Type 0 where
+-- the tape of a history of at least so many calls, which begins with what each of two passes has seen
+pub record IsWhole (sessions calls : ℕ) (one two : PassView) (tape : List ℕ) : Type 0 where
   pub history : List Entry
   pub is_history : IsHistory sessions history
   pub long : calls ≤ length history
-  pub tape : told.tape.items ≡ tape_text history
+  pub text : tape ≡ tape_text history
+  pub first_seen : BeginsWith history one.seen
+  pub second_seen : BeginsWith history two.seen
+
+-- what both were replied, and the tape of their desk
+pub record EndsDesk (sessions calls : ℕ) (one two : Client) (told : Told) : Type 0 where
+  pub tape : IsWhole sessions calls one.pass two.pass told.tape.items
   pub first : one.replies ≡ Some told.first
   pub second : two.replies ≡ Some told.second
-  pub first_seen : BeginsWith history one.pass.seen
-  pub second_seen : BeginsWith history two.pass.seen
 
 -- the replies are the whole output of lines of which these are the first, from the session's first call on; each is the machine's at the place of its call in the history
 pub record IsTold (session : ℕ) (firsts : List (List ℕ)) (replies : List ℕ) (history : List Entry) : Type 0 where

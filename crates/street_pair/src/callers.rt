@@ -5,7 +5,7 @@ ghost use Rattle.street_ends.specs.Lines.{lines_of};
 ghost use Rattle.street_line.specs.Running.{Goes};
 ghost use Rattle.street_session.specs.Sessions.{DeskServes};
 
-use crate::desks::{Caller, desk_of_two, end_desk};
+use crate::desks::{Client, desk_of_two, end_desk};
 use crate::tapes::{Told, text_of};
 use std::alloc::Global;
 use std::sync::Wait;
@@ -81,7 +81,7 @@ fn answer<R: Threads + Wait + Sync>(
     pass: Pass<Unwatched>,
     lines: &str,
     callers: &AtomicU64,
-) -> Caller
+) -> Client
     requires { pass.desk ≡ desk.now }
     ensures desk { result.pass.desk ≡ desk.now }
     ensures replied { Replied pass (lines_of lines.now) result }
@@ -89,7 +89,7 @@ fn answer<R: Threads + Wait + Sync>(
     let met = meet(callers);
     let mut session = DeskSession::new(rt, desk, pass);
     let replies = serve_and_ask(alloc, &mut session, lines);
-    Caller {
+    Client {
         pass: session.into_pass(),
         replies: if met { replies } else { None },
     }
@@ -103,7 +103,7 @@ fn answer_both<R: Threads + Wait + Sync>(
     one: Pass<Unwatched>,
     two: Pass<Unwatched>,
     lines: &str,
-) -> (Caller, Caller)
+) -> (Client, Client)
     requires { (one.desk ≡ desk.now) × (two.desk ≡ desk.now) }
     ensures desk { (result.0.pass.desk ≡ desk.now) × (result.1.pass.desk ≡ desk.now) }
     ensures replied { Replied one (lines_of lines.now) result.0 × Replied two (lines_of lines.now) result.1 }
@@ -112,12 +112,12 @@ fn answer_both<R: Threads + Wait + Sync>(
     let here = &callers;
     join(
         rt,
-        move || -> Caller
+        move || -> Client
             requires { one.desk ≡ desk.now }
             ensures desk { result.pass.desk ≡ desk.entry.now }
             ensures replied { Replied one (lines_of lines.entry.now) result }
         { answer(rt, alloc, desk, one, lines, here) },
-        move || -> Caller
+        move || -> Client
             requires { two.desk ≡ desk.now }
             ensures desk { result.pass.desk ≡ desk.entry.now }
             ensures replied { Replied two (lines_of lines.entry.now) result }

@@ -1,6 +1,7 @@
 //! A desk of two clients, from its passes to its tape.
+//! Source: this profile.
 ghost use Rattle.std.specs.Prelude.{◌≡◌, ◌≤◌, List, IfSome, true};
-ghost use Rattle.street_pair.specs.Told.{IsNew, Tells};
+ghost use Rattle.street_pair.specs.Told.{EndsDesk, IsNew, IsWhole};
 ghost use Rattle.street_desk.specs.declared.journal.Entry.{Entry};
 ghost use Rattle.street_desk.specs.History.{BeginsWith};
 ghost use Rattle.street_desk.specs.Passes.{Finished};
@@ -13,10 +14,10 @@ use street_ends::Counted;
 use street_engine::{Engine, Unwatched};
 use street_tape::write_tape;
 
-/// A caller of a desk, once it was answered.
+/// A client that has called at a desk, and what it was answered.
 #[derive(Drop)]
-pub struct Caller {
-    /// The pass that it has then.
+pub struct Client {
+    /// The pass that it called with.
     pub pass: Pass<Unwatched>,
     /// The lines of reply. Nothing where it was not answered to the end.
     pub replies: Option<Vec<u8>>,
@@ -77,35 +78,48 @@ fn tape_of(alloc: Global, desk: Desk<Unwatched>, pass: Pass<Unwatched>) -> Optio
     }
 }
 
-/// Ends a desk: what two of its callers were answered, and the tape. Nothing where one was not answered to the end or is
+/// The tape of a desk that is ended, of whose calls two passes are told. Nothing where one is not told of so many calls, the
+/// desk is torn, or memory was refused.
+fn whole_tape(
+    alloc: Global,
+    desk: Desk<Unwatched>,
+    calls: u64,
+    mut one: Pass<Unwatched>,
+    mut two: Pass<Unwatched>,
+) -> Option<Vec<u8>>
+    requires { (one.desk ≡ desk) × (two.desk ≡ desk) }
+    ensures { IfSome result (λ tape. IsWhole desk.sessions calls one two tape.items) }
+{
+    if !know_all(&desk, &mut one, &mut two, calls) {
+        return None;
+    }
+    tape_of(alloc, desk, one)
+}
+
+/// Ends a desk: what two of its clients were answered, and the tape. Nothing where one was not answered to the end or is
 /// not told of so many calls, the desk is torn, or memory was refused.
 pub fn end_desk(
     alloc: Global,
     desk: Desk<Unwatched>,
     calls: u64,
-    one: Caller,
-    two: Caller,
+    one: Client,
+    two: Client,
 ) -> Option<Told>
     requires { (one.pass.desk ≡ desk) × (two.pass.desk ≡ desk) }
-    ensures { IfSome result (λ told. Tells desk.sessions calls one two told) }
+    ensures { IfSome result (λ told. EndsDesk desk.sessions calls one two told) }
 {
-    let Caller {
-        pass: mut first_pass,
+    let Client {
+        pass: first_pass,
         replies: first,
     } = one;
-    let Caller {
-        pass: mut second_pass,
+    let Client {
+        pass: second_pass,
         replies: second,
     } = two;
-    let first = first?;
-    let second = second?;
-    if !know_all(&desk, &mut first_pass, &mut second_pass, calls) {
-        return None;
-    }
-    let tape = tape_of(alloc, desk, first_pass)?;
+    let tape = whole_tape(alloc, desk, calls, first_pass, second_pass);
     Some(Told {
-        first,
-        second,
-        tape,
+        first: first?,
+        second: second?,
+        tape: tape?,
     })
 }

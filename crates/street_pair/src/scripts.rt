@@ -4,7 +4,7 @@ ghost use Rattle.street_pair.specs.Told.{AreTold, Replied};
 ghost use Rattle.street_desk.specs.Passes.{DeskView};
 ghost use Rattle.street_session.specs.Scripts.{IsRun};
 
-use crate::desks::{Caller, desk_of_two, end_desk};
+use crate::desks::{Client, desk_of_two, end_desk};
 use crate::tapes::Told;
 use std::alloc::Global;
 use std::fs::File;
@@ -15,8 +15,8 @@ use street_desk::{Desk, Pass};
 use street_engine::Unwatched;
 use street_session::{DeskSession, Script, run_scripts};
 
-/// What a script was answered, once it has ended.
-fn caller_of<R: Threads + Wait + Sync>(script: Script<'_, R>) -> Caller
+/// The client of a script that has ended.
+fn client_of<R: Threads + Wait + Sync>(script: Script<'_, R>) -> Client
     ensures pass { result.pass ≡ script.entry.session }
     ensures replies { MatchOption script.entry.fault
         (result.replies ≡ Some script.entry.replies)
@@ -28,7 +28,7 @@ fn caller_of<R: Threads + Wait + Sync>(script: Script<'_, R>) -> Caller
         fault,
         ..
     } = script;
-    Caller {
+    Client {
         pass: session.into_pass(),
         replies: fault.is_none().then_some(replies),
     }
@@ -45,23 +45,21 @@ fn run_two<'a, R: Threads + Wait + Sync>(
     ensures desk { IfSome result (λ r. (desk : DeskView) → one.entry.session.desk ≡ desk → two.entry.session.desk ≡ desk
         → (r.0.session.desk ≡ desk) × (r.1.session.desk ≡ desk)) }
 {
-    let mut scripts = Vec::with_capacity(alloc, 2).ok()?;
-    scripts.push_reserved(one);
-    scripts.push_reserved(two);
+    let mut scripts = vec![in alloc; one, two].ok()?;
     run_scripts(rt, alloc, &mut scripts);
-    let two = scripts.pop()?;
-    let one = scripts.pop()?;
-    Some((one, two))
+    let two = scripts.pop();
+    let one = scripts.pop();
+    one.zip(two)
 }
 
-/// What each of two scripts was answered at the desk. Nothing where memory was refused.
+/// The clients of two scripts that are served at the desk. Nothing where memory was refused.
 fn answer_both<'a, R: Threads + Wait + Sync + Files<File = File>>(
     rt: &'a R,
     alloc: Global,
     desk: &'a Desk<Unwatched>,
     one: (Pass<Unwatched>, &str),
     two: (Pass<Unwatched>, &str),
-) -> Option<(Caller, Caller)>
+) -> Option<(Client, Client)>
     requires { (one.0.desk ≡ desk.now) × (two.0.desk ≡ desk.now) }
     ensures desk { IfSome result (λ r. (r.0.pass.desk ≡ desk.now) × (r.1.pass.desk ≡ desk.now)) }
     ensures replied { IfSome result (λ r. Replied one.entry.0 [] r.0 × Replied two.entry.0 [] r.1) }
@@ -69,7 +67,7 @@ fn answer_both<'a, R: Threads + Wait + Sync + Files<File = File>>(
     let one = Script::open(rt, alloc, one.1, DeskSession::new(rt, desk, one.0));
     let two = Script::open(rt, alloc, two.1, DeskSession::new(rt, desk, two.0));
     let (one, two) = run_two(rt, alloc, one, two)?;
-    Some((caller_of(one), caller_of(two)))
+    Some((client_of(one), client_of(two)))
 }
 
 /// Serves two scripts at once, which have a call for each place of their desk. Nothing where memory was refused, a file could
