@@ -47,15 +47,13 @@ fn two_rows(full: &[MeterRow]) -> Option<[[u64; 4]; 2]> {
 
 /// The running row, and the rows of those steps by periods of two.
 fn check_sums(rt: &impl Abort, now: RunningRow, full: &[MeterRow]) {
-    assert_eq!(rt;
-        (running(now), two_rows(full)),
-        ([4, 1, 0, 0, 0], Some([[0, 0, 0, 0], [2, 1, 3, 1]]))
-    );
+    assert!(rt; running(now) == [4, 1, 0, 0, 0]);
+    assert!(rt; two_rows(full) == Some([[0, 0, 0, 0], [2, 1, 3, 1]]));
 }
 
 /// What is read of a meter in cell 3 that notes by periods of two.
 fn check_read(rt: &(impl Abort + AllocGlobal), meter: &Meter) -> Result<(), Fail> {
-    assert_eq!(rt; (meter.place().cell, meter.period()), (3, 2));
+    assert!(rt; meter.place().cell == 3 && meter.period() == 2);
     let rows = meter.rows(rt.alloc())?;
     check_sums(rt, rows.running, rows.full.as_slice());
     Ok(())
@@ -80,9 +78,9 @@ fn note_steps(meter: &mut Meter, steps: u32)
 
 /// The running row after 33 steps, and the last 32 rows of one step each.
 fn check_last(rt: &impl Abort, now: RunningRow, full: &[MeterRow]) {
-    assert_eq!(rt; (running(now), full.len()), ([33, 0, 0, 0, 0], 32));
+    assert!(rt; running(now) == [33, 0, 0, 0, 0] && full.len() == 32);
     for (row, step) in full.iter().zip(1..33) {
-        assert_eq!(rt; numbers(row), [step, 0, 0, 0]);
+        assert!(rt; numbers(row) == [step, 0, 0, 0]);
     }
 }
 

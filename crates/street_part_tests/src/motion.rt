@@ -122,7 +122,7 @@ struct Scene {
 
 /// A lane after its motion: where the vehicles stand and their speeds, the speed of the first where it has left, and what
 /// the detector noted: passes and speeds.
-#[derive(Debug, PartialEq, Eq, Clone, Copy)]
+#[derive(PartialEq, Eq, Clone, Copy)]
 struct Moved {
     cars: [Option<(CellNo, Speed)>; 3],
     left: Option<Speed>,
@@ -148,9 +148,9 @@ fn drive<'a>(
         list: ListId(0),
         closures,
     };
-    assert_eq!(rt; network.spec().links.as_slice().len(), 1);
+    assert!(rt; network.spec().links.as_slice().len() == 1);
     let road = Road::new(network, LinkIx::new(0), lane, None);
-    assert_eq!(rt; road.length(), 40);
+    assert!(rt; road.length() == 40);
     motion_pass(yard, &road, 0, 7, exit, dice, watches)
 }
 
@@ -178,7 +178,7 @@ fn moved_lane(
     let (front, middle, back) = keys;
     let left = match leaver {
         Some(leaver) => {
-            assert_eq!(rt; leaver.key, front);
+            assert!(rt; leaver.key == front);
             Some(leaver.speed)
         }
         None => None,
@@ -215,7 +215,7 @@ fn check_moved(
 ) -> Result<(), Fail> {
     let closures = closed(rt, first, last)?;
     let mut dice = Dice::new(rt.alloc(), 0, 0, 0, 3)?;
-    assert_eq!(rt; move_once(rt, network, &closures, &mut dice, scene), wanted);
+    assert!(rt; move_once(rt, network, &closures, &mut dice, scene) == wanted);
     Ok(())
 }
 

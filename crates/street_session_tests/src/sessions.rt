@@ -58,14 +58,14 @@ static ONE_CALL_OUTPUT: &[u8] =
 
 /// This was written, and so it was counted.
 fn check_one_call(rt: &impl Abort, tally: Option<Tally>, written: &[u8]) {
-    assert_eq!(rt; written, ONE_CALL_OUTPUT);
+    assert!(rt; written == ONE_CALL_OUTPUT);
     let want = Tally {
         lines: 3,
         calls: 2,
         replies: 3,
         bytes: ONE_CALL_OUTPUT.len() as u128,
     };
-    assert_eq!(rt; tally, Some(want));
+    assert!(rt; tally == Some(want));
 }
 
 /// A desk of one call: the second command is told that no place is left, a faulty line is told its fault all the same, and
@@ -75,7 +75,7 @@ fn one_call(rt: HostRuntime) {
     let lines = b"{\"cmd\":\"count\"}\n{\"cmd\":\"count\"}\n[]\n";
     let (tally, written, entries) = one_call_of(&rt, lines);
     check_one_call(&rt, tally, written.as_slice());
-    assert_eq!(rt; entries, 1);
+    assert!(rt; entries == 1);
 }
 
 /// Counts before any load.
@@ -120,7 +120,7 @@ fn check_full<R: Threads + Wait + Abort + Sync>(
 {
     match desk.call(rt, pass, Command::Count) {
         Ok(_) => panic!(rt; "a place was left"),
-        Err(full) => assert_eq!(rt; full.served, 2),
+        Err(full) => assert!(rt; full.served == 2),
     }
 }
 
@@ -137,18 +137,15 @@ fn check_note<R: Threads + Wait + Abort + Sync>(
     check_count(rt, desk, first);
     tell(rt, desk, first, second);
     check_count(rt, desk, second);
-    assert_eq!(rt; desk.served(second), 2);
+    assert!(rt; desk.served(second) == 2);
     check_full(rt, desk, first);
 }
 
 /// The journal has a call of each session.
 fn check_journal(rt: &impl Abort, journal: &Journal) {
-    assert_eq!(rt; journal.len(), 2);
-    let sessions = [
-        journal.entry(0).map(|entry| entry.session),
-        journal.entry(1).map(|entry| entry.session),
-    ];
-    assert_eq!(rt; sessions, [Some(0), Some(1)]);
+    assert!(rt; journal.len() == 2);
+    assert!(rt; journal.entry(0).is_some_and(|entry| entry.session == 0));
+    assert!(rt; journal.entry(1).is_some_and(|entry| entry.session == 1));
 }
 
 /// Two passes and a note.

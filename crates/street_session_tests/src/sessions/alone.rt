@@ -69,6 +69,14 @@ fn replies<R: Threads + Wait + Abort + AllocGlobal + Sync>(
     }
 }
 
+/// Whether no fault ended a session, and exactly these bytes were written.
+fn is_written(output: Option<&Vec<u8>>, want: &[u8]) -> bool {
+    match output {
+        Some(output) => output.as_slice() == want,
+        None => false,
+    }
+}
+
 /// A session of these parts is answered by those.
 fn check_session(
     rt: &(impl Threads + Abort + Wait + AllocGlobal + Sync),
@@ -79,11 +87,7 @@ fn check_session(
     let session = text_of(rt.alloc(), parts)?;
     let want = text_of(rt.alloc(), want)?;
     let output = replies(rt, session.as_slice());
-    assert_eq!(rt;
-        output.as_ref().map(|output| output.as_slice()),
-        Some(want.as_slice()),
-        "at {name}"
-    );
+    assert!(rt; is_written(output.as_ref(), want.as_slice()), "at {name}");
     Ok(())
 }
 
