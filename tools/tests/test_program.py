@@ -121,6 +121,9 @@ class Scripts(ProgramCase):
         wanted = "".join(told[json.loads(line)["session"]].pop(0) for line in tape.splitlines()[1:])
         self.assertEqual(self.ends(["--replay", "run.tape"]), wanted + count)
 
+    def test_as_many_scripts_as_may_be(self):
+        self.assertEqual(self.ends([COUNTER] * 1_024), NOT_LOADED * 4 * 1_024)
+
     def test_a_script_that_is_not_there_is_told_and_the_others_are_printed(self):
         told = self.ends([PLANNER, "none.jsonl"], status=1, error="streetsim: cannot read none.jsonl\n")
         self.assertEqual(told, ONE_VEHICLE)
