@@ -305,6 +305,13 @@ class Words(ProgramCase):
                 self.is_refused(words, what, "--help")
         self.assertEqual(list(self.folder.iterdir()), [])
 
+    def test_a_word_that_is_no_utf_8(self):
+        done = subprocess.run([PROGRAM, b"a\xffz"], input=b"", capture_output=True, timeout=60, cwd=self.folder, check=False)
+        self.assertEqual((done.returncode, done.stdout), (2, b""))
+        first, *others = done.stderr.splitlines()
+        self.assertEqual(first, b"streetsim: bad arguments")
+        self.assertNotEqual(others, [], "which word is wrong")
+
 
 class Script(Case):
     def test_help_is_told_where_nothing_is_built(self):
