@@ -4,9 +4,9 @@ What is wanted is told by crates/street_examples/data (LINES.md, stored sessions
 """
 import json
 import shutil
+import socket
 import subprocess
 import unittest
-from pathlib import Path
 
 from support import PROGRAM, TOOLS, Case, needs_simulator
 
@@ -17,6 +17,8 @@ COUNTER = DATA / "clients/counter.jsonl"
 ONE_VEHICLE = (DATA / "examples/one-vehicle.out").read_text()
 FULL = '{"error":23,"name":"Full"}\n'
 NOT_LOADED = '{"error":1,"name":"NotLoaded"}\n'
+NO_VEHICLES = '{"admitted":0,"arrived":0,"buffers":0,"cells":0,"clock":0,"taken":0,"waiting":0}\n'
+ONE_WAITS = '{"admitted":1,"arrived":0,"buffers":0,"cells":0,"clock":0,"taken":0,"waiting":1}\n'
 AFTER_ONE_VEHICLE = '{"admitted":1,"arrived":1,"buffers":0,"cells":0,"clock":5,"taken":0,"waiting":0}\n'
 
 
@@ -106,10 +108,21 @@ class Scripts(ProgramCase):
             self.assertEqual(json.dumps(entry, sort_keys=True, separators=(",", ":")), line)
         self.replays_to(tape, {0: told[:4], 1: told[4:]}, AFTER_ONE_VEHICLE)
 
+    def test_a_count_is_answered_at_its_place_on_the_tape(self):
+        # What a count answers after none of the planner's calls, one, two, three and all four.
+        counts = [NOT_LOADED, NO_VEHICLES, ONE_WAITS, AFTER_ONE_VEHICLE, AFTER_ONE_VEHICLE]
+        told = self.ends(["--tape", "run.tape", COUNTER, PLANNER]).splitlines(keepends=True)
+        sessions = [json.loads(line)["session"] for line in (self.folder / "run.tape").read_text().splitlines()[1:]]
+        wanted = [counts[sessions[:place].count(1)] for place, session in enumerate(sessions) if session == 0]
+        self.assertEqual(told[:4], wanted)
+
     def replays_to(self, tape, told, count):
         """A replay gives each session the replies that it was told, in the tape's order, and then the count."""
         wanted = "".join(told[json.loads(line)["session"]].pop(0) for line in tape.splitlines()[1:])
         self.assertEqual(self.ends(["--replay", "run.tape"]), wanted + count)
+
+    def test_as_many_scripts_as_may_be(self):
+        self.assertEqual(self.ends([COUNTER] * 1_024), NOT_LOADED * 4 * 1_024)
 
     def test_a_script_that_is_not_there_is_told_and_the_others_are_printed(self):
         told = self.ends([PLANNER, "none.jsonl"], status=1, error="streetsim: cannot read none.jsonl\n")
@@ -125,15 +138,14 @@ class Scripts(ProgramCase):
     def test_many_scripts_share_one_network(self):
         load = self.write("load.jsonl", PLANNER.read_text().splitlines(keepends=True)[0])
         told = self.ends(["--tape", "run.tape", load, *[COUNTER] * 7]).splitlines(keepends=True)
-        empty = '{"admitted":0,"arrived":0,"buffers":0,"cells":0,"clock":0,"taken":0,"waiting":0}\n'
         self.assertEqual(told[0], ONE_VEHICLE.splitlines(keepends=True)[0])
         self.assertEqual(len(told), 29)
         for script in range(7):
             answered = told[1 + 4 * script : 5 + 4 * script]
             before = answered.count(NOT_LOADED)
-            self.assertEqual(answered, [NOT_LOADED] * before + [empty] * (4 - before))
+            self.assertEqual(answered, [NOT_LOADED] * before + [NO_VEHICLES] * (4 - before))
         tape = (self.folder / "run.tape").read_text()
-        self.replays_to(tape, {0: told[:1], **{n: told[4 * n - 3 : 4 * n + 1] for n in range(1, 8)}}, empty)
+        self.replays_to(tape, {0: told[:1], **{n: told[4 * n - 3 : 4 * n + 1] for n in range(1, 8)}}, NO_VEHICLES)
 
 
 class Tapes(ProgramCase):
@@ -173,6 +185,23 @@ class Tapes(ProgramCase):
                 told = self.ends(["--replay", tape], status=1, error="streetsim: bad tape at line 1\n")
                 self.assertEqual(told, "")
 
+    def test_a_line_of_a_tape_has_a_greatest_length(self):
+        lines = tape_in_lines().splitlines()
+        for place in (0, 2):
+            long = [*lines[:place], lines[place].ljust(2_097_152), *lines[place + 1 :]]
+            tape = self.write("run.tape", "\n".join(long) + "\n")
+            self.assertEqual(self.ends(["--replay", tape]), ONE_VEHICLE + AFTER_ONE_VEHICLE)
+            long[place] += " "
+            tape = self.write("run.tape", "\n".join(long) + "\n")
+            told = self.ends(["--replay", tape], status=1, error=f"streetsim: bad tape at line {place + 1}\n")
+            self.assertEqual(told, ONE_VEHICLE.splitlines(keepends=True)[0] if place else "")
+
+    def test_a_tape_may_be_written_otherwise(self):
+        entries = [json.loads(line) for line in tape_in_lines().splitlines()]
+        other = [json.dumps({"note": [-1.5], **dict(reversed(entry.items())), "session": 7}) for entry in entries]
+        tape = self.write("run.tape", "\r\n".join(other))
+        self.assertEqual(self.ends(["--replay", tape]), ONE_VEHICLE + AFTER_ONE_VEHICLE)
+
     def test_a_bad_line_ends_a_replay_after_the_calls_before_it(self):
         lines = tape_in_lines().splitlines(keepends=True)
         for bad in ("\n", lines[3][:20] + "\n", lines[2].replace('"whole"', "1"), lines[3].replace('"whole"', "5")):
@@ -183,6 +212,66 @@ class Tapes(ProgramCase):
 
     def test_a_tape_that_is_not_there(self):
         self.assertEqual(self.ends(["--replay", "none.tape"], status=1, error="streetsim: cannot read none.tape\n"), "")
+
+
+@needs_simulator
+class Faults(Case):
+    """Files that cannot be read or written to their end, and which of several faults is told."""
+
+    def opened(self, name, mode):
+        """A file that is closed after the test."""
+        file = open(name, mode)
+        self.addCleanup(file.close)
+        return file
+
+    def fails(self, words, error, stdin=PLANNER, stdout=None):
+        """What the program writes to standard output, if that is no file; it ends with status 1 and this fault."""
+        source = stdin if isinstance(stdin, socket.socket) else self.opened(stdin, "rb")
+        target = subprocess.PIPE if stdout is None else self.opened(stdout, "wb")
+        done = subprocess.run(
+            [PROGRAM, *map(str, words)], stdin=source, stdout=target, stderr=subprocess.PIPE, text=True, timeout=60,
+            cwd=self.folder, check=False
+        )
+        self.assertEqual((done.returncode, done.stderr), (1, f"streetsim: {error}\n"))
+        return done.stdout
+
+    def test_what_was_read_before_a_read_failed_is_answered_and_taped(self):
+        ours, theirs = socket.socketpair()
+        self.addCleanup(theirs.close)
+        # A socket closed with something unread in it: the other side reads what was sent, and then a read fails.
+        theirs.sendall(b"x")
+        ours.sendall(PLANNER.read_bytes() + b'{"cmd":"count"}')
+        ours.close()
+        self.assertEqual(self.fails(["--tape", "run.tape"], "cannot read standard input", theirs), ONE_VEHICLE)
+        self.assertEqual((self.folder / "run.tape").read_text(), tape_in_lines())
+
+    def test_what_opens_and_cannot_be_read(self):
+        self.assertEqual(self.fails([self.folder, PLANNER], f"cannot read {self.folder}"), ONE_VEHICLE)
+        self.assertEqual(self.fails(["--replay", self.folder], f"cannot read {self.folder}"), "")
+
+    def test_a_standard_output_that_takes_nothing(self):
+        tape = self.write("given.tape", tape_in_lines())
+        for words in ([], [PLANNER], ["--replay", tape], ["--help"]):
+            self.fails(words, "cannot write standard output", stdout="/dev/full")
+
+    def test_scripts_are_on_the_tape_also_where_their_replies_cannot_be_written(self):
+        self.fails(["--tape", "run.tape", PLANNER], "cannot write standard output", stdout="/dev/full")
+        self.assertEqual((self.folder / "run.tape").read_text(), tape_in_lines())
+
+    def test_a_tape_that_takes_nothing(self):
+        for words in ([], [PLANNER]):
+            self.assertEqual(self.fails(["--tape", "/dev/full", *words], "cannot write /dev/full"), ONE_VEHICLE)
+
+    def test_the_first_fault_is_told(self):
+        for words, error, full in (
+            (["--tape", "none/run.tape", "none.jsonl", PLANNER, "other.jsonl"], "cannot read none.jsonl", False),
+            (["--tape", "none/run.tape", PLANNER, "other.jsonl", "none.jsonl"], "cannot read other.jsonl", True),
+            (["--tape", "none/run.tape", PLANNER], "cannot write standard output", True),
+            (["--tape", "none/run.tape"], "cannot write standard output", True),
+        ):
+            with self.subTest(words=words):
+                told = self.fails(words, error, stdout="/dev/full" if full else None)
+                self.assertEqual(told, None if full else ONE_VEHICLE)
 
 
 class Words(ProgramCase):
@@ -199,6 +288,12 @@ class Words(ProgramCase):
             (["--workers", "two"], "two"),
             (["--workers", 1, "--workers", 2], "--workers"),
             (["--workers"], "--workers"),
+            (["--workers", -1], "-1"),
+            (["--workers", ""], "--workers"),
+            (["--calls", 5, "--calls", 5], "--calls"),
+            (["--tape", "run.tape", "--tape", "run.tape"], "--tape"),
+            (["--replay"], "--replay"),
+            (["--replay", "run.tape", "--replay", "run.tape"], "--replay"),
             (["--calls", 0], "0"),
             (["--calls", 1_000_001], "1000001"),
             (["--tape"], "--tape"),
@@ -209,6 +304,13 @@ class Words(ProgramCase):
             with self.subTest(words=words[:4]):
                 self.is_refused(words, what, "--help")
         self.assertEqual(list(self.folder.iterdir()), [])
+
+    def test_a_word_that_is_no_utf_8(self):
+        done = subprocess.run([PROGRAM, b"a\xffz"], input=b"", capture_output=True, timeout=60, cwd=self.folder, check=False)
+        self.assertEqual((done.returncode, done.stdout), (2, b""))
+        first, *others = done.stderr.splitlines()
+        self.assertEqual(first, b"streetsim: bad arguments")
+        self.assertNotEqual(others, [], "which word is wrong")
 
 
 class Script(Case):
