@@ -307,10 +307,7 @@ class Words(ProgramCase):
 
     def test_a_word_that_is_no_utf_8(self):
         done = subprocess.run([PROGRAM, b"a\xffz"], input=b"", capture_output=True, timeout=60, cwd=self.folder, check=False)
-        self.assertEqual((done.returncode, done.stdout), (2, b""))
-        first, *others = done.stderr.splitlines()
-        self.assertEqual(first, b"streetsim: bad arguments")
-        self.assertNotEqual(others, [], "which word is wrong")
+        self.assertEqual((done.returncode, done.stdout, done.stderr), (2, b"", b"streetsim: bad arguments\n"))
 
 
 class Script(Case):
