@@ -3,6 +3,7 @@
 What is wanted is told by crates/street_examples/data (LINES.md, stored sessions with their replies) and docs/help.txt.
 """
 import json
+import resource
 import shutil
 import socket
 import subprocess
@@ -122,6 +123,12 @@ class Scripts(ProgramCase):
         self.assertEqual(self.ends(["--replay", "run.tape"]), wanted + count)
 
     def test_as_many_scripts_as_may_be(self):
+        # All scripts are open at once.
+        soft, hard = resource.getrlimit(resource.RLIMIT_NOFILE)
+        if hard != resource.RLIM_INFINITY and hard < 1_100:
+            self.skipTest("too few files may be open here")
+        self.addCleanup(resource.setrlimit, resource.RLIMIT_NOFILE, (soft, hard))
+        resource.setrlimit(resource.RLIMIT_NOFILE, (hard, hard))
         self.assertEqual(self.ends([COUNTER] * 1_024), NOT_LOADED * 4 * 1_024)
 
     def test_a_script_that_is_not_there_is_told_and_the_others_are_printed(self):

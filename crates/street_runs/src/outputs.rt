@@ -1,7 +1,8 @@
 //! The program's files and standard output.
 //!
 //! Source: this profile.
-ghost use Rattle.std.specs.Prelude.{◌≡◌};
+ghost use Rattle.std.specs.Io.KnownBytes.{Appends};
+ghost use Rattle.std.specs.Prelude.{◌≡◌, OnOk};
 
 use std::alloc::Global;
 use std::fs::File;
@@ -21,7 +22,9 @@ pub const STANDARD_INPUT: &str = "standard input";
 pub const STANDARD_OUTPUT: &str = "standard output";
 
 /// Writes a text to standard output, and passes it on.
-pub fn print_text<W: Write>(writer: &mut Counted<W>, text: &[u8]) -> Result<(), Fault<'static>> {
+pub fn print_text<W: Write>(writer: &mut Counted<W>, text: &[u8]) -> Result<(), Fault<'static>>
+    ensures written { OnOk result (Appends (W.contents writer.old.end) (W.contents writer.new.end) text.now) }
+{
     if street_ends::write_text(writer, text).is_err() || street_ends::flush_out(writer).is_err() {
         return Err(Fault::Write(STANDARD_OUTPUT));
     }
