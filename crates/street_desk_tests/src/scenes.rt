@@ -36,5 +36,6 @@ pub(crate) fn enter(alloc: Global, plan: &[u64], depart: u64) -> Result<Command,
         plan: Listing::from_vec(Vec::from_slice(alloc, plan)?),
         lane: 0,
         depart,
+        size: 1,
     })
 }

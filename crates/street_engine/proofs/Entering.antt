@@ -47,30 +47,30 @@ module _ (net : NetSpec) (plan : List ℕ) (good : plan_fault net plan ≡ None)
 
 -- ---- the command
 
-module _ (x : View) (s : StreetsView) (plan : List ℕ) (lane depart : ℕ) (is : x ≡ Some s) where
+module _ (x : View) (s : StreetsView) (plan : List ℕ) (lane depart size : ℕ) (is : x ≡ Some s) where
   many : (m : Traffic) → StreetsStandFor s m → length m.ends ≡ length s.ends
   many m stands = ap length (same-ends s m stands)
 
-  pub too-many : most_vehicles ≤ length s.ends → Serves x (Enter plan lane depart) (Refused TooMany) Whole (Some s)
-  too-many full = streets-refused x s (Enter plan lane depart) is (Some s) refl TooMany (λ m stands. let e = le-leb most_vehicles (length m.ends) (omega (arith, full, many m stands)) in rw e refl)
+  pub too-many : most_vehicles ≤ length s.ends → Serves x (Enter plan lane depart size) (Refused TooMany) Whole (Some s)
+  too-many full = streets-refused x s (Enter plan lane depart size) is (Some s) refl TooMany (λ m stands. let e = le-leb most_vehicles (length m.ends) (omega (arith, full, many m stands)) in rw e refl)
 
-  module _ (few : length s.ends < most_vehicles) (refusal : Option Refusal) (told_is : (m : Traffic) → m.network ≡ s.network → length m.ends < most_vehicles → refusal ≡ enter_refusal plan lane depart m) where
-    told-of : (m : Traffic) → StreetsStandFor s m → refusal ≡ enter_refusal plan lane depart m
+  module _ (few : length s.ends < most_vehicles) (refusal : Option Refusal) (told_is : (m : Traffic) → m.network ≡ s.network → length m.ends < most_vehicles → refusal ≡ enter_refusal plan lane depart size m) where
+    told-of : (m : Traffic) → StreetsStandFor s m → refusal ≡ enter_refusal plan lane depart size m
     told-of m stands = told_is m (same-network s m stands) (omega (arith, few, many m stands))
 
-    pub enter-refused : (q : Refusal) → refusal ≡ Some q → Serves x (Enter plan lane depart) (Refused q) Whole (Some s)
-    enter-refused q e = streets-refused x s (Enter plan lane depart) is (Some s) refl q (λ m stands. sym (told-of m stands) ∙ e)
+    pub enter-refused : (q : Refusal) → refusal ≡ Some q → Serves x (Enter plan lane depart size) (Refused q) Whole (Some s)
+    enter-refused q e = streets-refused x s (Enter plan lane depart size) is (Some s) refl q (λ m stands. sym (told-of m stands) ∙ e)
 
     module _ (none : refusal ≡ None) where
-      accepted : (m : Traffic) → StreetsStandFor s m → enter_refusal plan lane depart m ≡ None
+      accepted : (m : Traffic) → StreetsStandFor s m → enter_refusal plan lane depart size m ≡ None
       accepted m stands = sym (told-of m stands) ∙ none
 
-      pub enter-starving : Serves x (Enter plan lane depart) StarvedReply Starved (Some s)
-      enter-starving = streets-starving x s (Enter plan lane depart) is (Some s) refl (λ m stands. subst MayStarveUnder (sym (accepted m stands)) tt)
+      pub enter-starving : Serves x (Enter plan lane depart size) StarvedReply Starved (Some s)
+      enter-starving = streets-starving x s (Enter plan lane depart size) is (Some s) refl (λ m stands. subst MayStarveUnder (sym (accepted m stands)) tt)
 
-      pub enter-starved : (t : StreetsView) → Goes (λ m. m) s t → Serves x (Enter plan lane depart) StarvedReply Starved (Some t)
-      enter-starved t keeps = streets-starved x s (Enter plan lane depart) is t (λ m stands. subst MayStarveUnder (sym (accepted m stands)) tt) keeps
+      pub enter-starved : (t : StreetsView) → Goes (λ m. m) s t → Serves x (Enter plan lane depart size) StarvedReply Starved (Some t)
+      enter-starved t keeps = streets-starved x s (Enter plan lane depart size) is t (λ m stands. subst MayStarveUnder (sym (accepted m stands)) tt) keeps
 
-      pub enter-done : (t : StreetsView) (car : ℕ) → car ≡ length s.ends → Goes (λ m. entered m plan lane depart) s t → Serves x (Enter plan lane depart) (Entered car) Whole (Some t)
-      enter-done t car number goes = streets-done x s (Enter plan lane depart) is t (Entered car) (λ m. entered m plan lane depart) (λ m. refl) goes
+      pub enter-done : (t : StreetsView) (car : ℕ) → car ≡ length s.ends → Goes (λ m. entered m plan lane depart size) s t → Serves x (Enter plan lane depart size) (Entered car) Whole (Some t)
+      enter-done t car number goes = streets-done x s (Enter plan lane depart size) is t (Entered car) (λ m. entered m plan lane depart size) (λ m. refl) goes
           (λ m stands. (accepted m stands, ap (λ n. Entered n) (number ∙ sym (many m stands))))

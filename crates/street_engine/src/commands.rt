@@ -36,9 +36,12 @@ pub(crate) fn apply<R: Threads + Sync, G: Gate + Sync>(
             offset,
             phases,
         } => signal(alloc, state, *node, *offset, phases.as_slice()),
-        Command::Enter { plan, lane, depart } => {
-            enter(alloc, state, plan.as_slice(), *lane, *depart)
-        }
+        Command::Enter {
+            plan,
+            lane,
+            depart,
+            size,
+        } => enter(alloc, state, plan.as_slice(), *lane, *depart, *size),
         Command::Advance { steps } => advance(rt, gate, state, *steps),
         Command::CloseLane {
             link,

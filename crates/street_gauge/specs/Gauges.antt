@@ -1,7 +1,7 @@
 -- The detectors of a lane, and what they note of a step.
 -- Source: meters that sum what detectors note are this profile; what a detector notes in a step is street_base's Detector.
 use Rattle.std.specs.Prelude.{◌≡◌, ℕ, ◌+◌, ◌<◌, List, [], ◌∷◌, ◌++◌, length, slice_index_or, if◌then◌else◌}
-use Rattle.street_base.specs.Lane.{Cells, is_occupied}
+use Rattle.street_base.specs.Lane.{Cells, is_covered}
 use Rattle.street_base.specs.Network.{Place}
 use Rattle.street_base.specs.State.{Traffic, Triple, Detector, lane_at}
 use Rattle.street_base.specs.Step.{drive_on}
@@ -25,11 +25,11 @@ cleared x = record { cell = x.cell; passes = 0; speeds = 0 }
 abbrev pub watch_of : Traffic → Place → Meter → Watch
 watch_of m p x = watched (drive_on m p) (lane_at m p).track (cleared x)
 
--- 1 if the cell is occupied, else 0
+-- 1 if the cell is covered, else 0
 abbrev pub occupied_at : Cells → ℕ → ℕ
-occupied_at cells cell = if is_occupied cells cell then 1 else 0
+occupied_at cells cell = if is_covered cells cell then 1 else 0
 
--- what a detector notes of a step, by what its watch saw and by who stands where at its end
+-- what a detector notes of a step, by what its watch saw and by who covers what at its end
 abbrev pub triple_of : Cells → Watch → ℕ → Triple
 triple_of cells w cell = record { passes = w.passes; speeds = w.speeds; occupied = occupied_at cells cell }
 

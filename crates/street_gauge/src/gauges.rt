@@ -83,7 +83,7 @@ impl Gauges {
         }
     }
 
-    /// At the end of the step each meter notes what its watch saw of the motion, and whether its cell is occupied. Takes no
+    /// At the end of the step each meter notes what its watch saw of the motion, and whether its cell is covered. Takes no
     /// memory.
     pub fn note(&mut self, own: &Lanes, lane: usize)
         requires lane { lane < length own.now.lanes }

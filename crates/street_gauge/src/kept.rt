@@ -66,18 +66,18 @@ fn clear(watches: &mut [Watch], meters: &[Meter])
     }
 }
 
-/// A meter notes what its watch saw, and whether its cell is occupied now.
+/// A meter notes what its watch saw, and whether its cell is covered now.
 fn note_one(meter: &mut Meter, watch: Watch, own: &Lanes, lane: usize)
     requires lane { lane < length own.now.lanes }
     requires in_time { next_step meter.old < last_clock }
     ensures goes { GoesOn meter.old meter.new }
     ensures notes { (s : LaneState) → LaneStands (lane_of own.now lane) s → Notes s.track.cells watch meter.old meter.new }
 {
-    let occupied = own.is_occupied(lane, meter.place().cell);
-    meter.note(watch.passes, watch.speeds, u32::from(occupied));
+    let covered = own.is_covered(lane, meter.place().cell);
+    meter.note(watch.passes, watch.speeds, u32::from(covered));
 }
 
-/// Each meter notes what its watch saw, and whether its cell is occupied now.
+/// Each meter notes what its watch saw, and whether its cell is covered now.
 fn note_all(meters: &mut [Meter], watches: &[Watch], own: &Lanes, lane: usize)
     requires lane { lane < length own.now.lanes }
     requires even { length watches.now ≡ length meters.old }
@@ -121,7 +121,7 @@ impl Kept {
         own.drive(net, lane, clock, plan, &mut self.watches)
     }
 
-    /// At the end of the step each meter notes what its watch saw of the motion, and whether its cell is occupied. Takes no
+    /// At the end of the step each meter notes what its watch saw of the motion, and whether its cell is covered. Takes no
     /// memory.
     pub(crate) fn note(&mut self, own: &Lanes, lane: usize)
         requires lane { lane < length own.now.lanes }

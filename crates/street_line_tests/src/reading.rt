@@ -259,12 +259,17 @@ fn two_links(plan: &[u64]) -> Option<[u64; 2]> {
     }
 }
 
-/// The links of the plan of an entry, its lane and its departure.
-fn enter_of(alloc: Global, line: &[u8]) -> Option<([u64; 2], u64, u64)> {
+/// The links of the plan of an entry, its lane, its departure and its size.
+fn enter_of(alloc: Global, line: &[u8]) -> Option<([u64; 2], u64, u64, u64)> {
     match read_command(alloc, line) {
-        Ok(Command::Enter { plan, lane, depart }) => {
-            Some((two_links(plan.as_slice())?, lane, depart))
-        }
+        Ok(
+            Command::Enter {
+                plan,
+                lane,
+                depart,
+                size,
+            },
+        ) => Some((two_links(plan.as_slice())?, lane, depart, size)),
         _ => None,
     }
 }
@@ -272,7 +277,20 @@ fn enter_of(alloc: Global, line: &[u8]) -> Option<([u64; 2], u64, u64)> {
 #[test]
 fn reads_the_fields_of_an_enter(rt: HostRuntime) {
     let line = b"{\"cmd\":\"enter\",\"depart\":3,\"plan\":[20,10],\"lane\":1}";
-    assert!(rt; enter_of(rt.alloc(), line) == Some(([20, 10], 1, 3)));
+    assert!(rt; enter_of(rt.alloc(), line) == Some(([20, 10], 1, 3, 1)));
+}
+
+#[test]
+fn reads_the_size_of_an_enter(rt: HostRuntime) {
+    let line = b"{\"cmd\":\"enter\",\"depart\":3,\"plan\":[20,10],\"lane\":1,\"size\":3}";
+    assert!(rt; enter_of(rt.alloc(), line) == Some(([20, 10], 1, 3, 3)));
+}
+
+#[test]
+fn refuses_a_size_that_is_no_number(rt: HostRuntime) {
+    let line = b"{\"cmd\":\"enter\",\"depart\":3,\"plan\":[20,10],\"lane\":1,\"size\":\"x\"}";
+    let read = read_command(rt.alloc(), line);
+    assert!(rt; matches!(read, Err(LineFault::BadCommand)));
 }
 
 /// The numbers of a command, up to four of them, in the order of its fields.

@@ -1,11 +1,13 @@
 //! Closures and gaps, with values known beforehand.
 
-ghost use Rattle.std.specs.Prelude.{◌≡◌, ◌<◌, length};
+ghost use Rattle.std.specs.Prelude.{◌≡◌, ◌<◌, length, true};
+ghost use Rattle.street_base.specs.Faults.{is_within};
+ghost use Rattle.street_base.specs.Limits.{most_size};
 
 use std::alloc::Global;
 use std::process::Abort;
 use std::test::Fail;
-use street_base::{Car, CellNo, Listing, Starved};
+use street_base::{Car, CellNo, Listing, Size, Starved};
 use street_gap::{Closures, Stretch, gap_ahead, gap_back, gap_beside};
 use street_yard::{Key, ListId, Yard};
 
@@ -114,7 +116,13 @@ fn counts_closed_cells(rt: HostRuntime) -> Result<(), Fail> {
 }
 
 /// A car of no plan comes last on list 0.
-fn put(alloc: Global, yard: &mut Yard, number: u32, cell: CellNo) -> Result<Key, Starved>
+fn put(
+    alloc: Global,
+    yard: &mut Yard,
+    number: u32,
+    cell: CellNo,
+    size: Size,
+) -> Result<Key, Starved>
     requires { 0 < length yard.old.lists }
     ensures { length yard.new.lists ≡ length yard.old.lists }
 {
@@ -127,18 +135,19 @@ fn put(alloc: Global, yard: &mut Yard, number: u32, cell: CellNo) -> Result<Key,
         step: 0,
         at: 0,
         speed: 0,
+        size,
     });
     yard.push_back(ListId(0), key);
     Ok(key)
 }
 
-/// Two cars come on list 0, in cell 9 and in cell 2.
-fn put_two(alloc: Global, yard: &mut Yard) -> Result<(Key, Key), Starved>
+/// Two cars come on list 0, with their fronts in cell 9 and in cell 2, the first of this size.
+fn put_two(alloc: Global, yard: &mut Yard, size: Size) -> Result<(Key, Key), Starved>
     requires { 0 < length yard.old.lists }
     ensures { length yard.new.lists ≡ length yard.old.lists }
 {
-    let front = put(alloc, yard, 0, 9)?;
-    let back = put(alloc, yard, 1, 2)?;
+    let front = put(alloc, yard, 0, 9, size)?;
+    let back = put(alloc, yard, 1, 2, size)?;
     Ok((front, back))
 }
 
@@ -202,10 +211,56 @@ fn check_entrances(
     Ok(())
 }
 
+/// A size of so many cells, 1 to 4.
+fn cells(count: u64) -> Size
+    requires { is_within 1 most_size count ≡ true }
+{
+    let Some(size) = Size::new(count) else {
+        unreachable!();
+    };
+    size
+}
+
+/// What is seen of vehicles of two cells, which cover cells 8 and 9, and 1 and 2.
+fn check_pairs(rt: &(impl Abort + AllocGlobal), yard: &Yard, front: Key, back: Key)
+    requires { 0 < length yard.now.lists }
+{
+    let open = Closures::new(rt.alloc());
+    assert!(rt; ahead_of(yard, &open, back) == Some(Some(5)));
+    assert!(rt; beside(yard, &open, front) == Some([Some(4), Some(1), None]));
+    assert!(rt; behind_each(yard, front, back) == Some([Some(2), Some(4), None]));
+}
+
+/// What is seen of vehicles of four cells, which cover cells 6 to 9, and 0 to 2.
+fn check_fours(rt: &(impl Abort + AllocGlobal), yard: &Yard, front: Key, back: Key)
+    requires { 0 < length yard.now.lists }
+{
+    let open = Closures::new(rt.alloc());
+    assert!(rt; ahead_of(yard, &open, back) == Some(Some(3)));
+    assert!(rt; beside(yard, &open, front) == Some([Some(2), Some(0), None]));
+    assert!(rt; behind_each(yard, front, back) == Some([Some(2), Some(4), None]));
+}
+
+#[test]
+fn sees_vehicles_of_two_cells(rt: HostRuntime) -> Result<(), Fail> {
+    let mut yard = Yard::new(rt.alloc(), 1)?;
+    let (front, back) = put_two(rt.alloc(), &mut yard, cells(2))?;
+    check_pairs(&rt, &yard, front, back);
+    Ok(())
+}
+
+#[test]
+fn sees_vehicles_of_four_cells(rt: HostRuntime) -> Result<(), Fail> {
+    let mut yard = Yard::new(rt.alloc(), 1)?;
+    let (front, back) = put_two(rt.alloc(), &mut yard, cells(4))?;
+    check_fours(&rt, &yard, front, back);
+    Ok(())
+}
+
 #[test]
 fn sees_neighbours(rt: HostRuntime) -> Result<(), Fail> {
     let mut yard = Yard::new(rt.alloc(), 1)?;
-    let (front, back) = put_two(rt.alloc(), &mut yard)?;
+    let (front, back) = put_two(rt.alloc(), &mut yard, cells(1))?;
     check_neighbours(&rt, &yard, front, back);
     Ok(())
 }
@@ -213,7 +268,7 @@ fn sees_neighbours(rt: HostRuntime) -> Result<(), Fail> {
 #[test]
 fn sees_entrances(rt: HostRuntime) -> Result<(), Fail> {
     let mut yard = Yard::new(rt.alloc(), 1)?;
-    let (front, back) = put_two(rt.alloc(), &mut yard)?;
+    let (front, back) = put_two(rt.alloc(), &mut yard, cells(1))?;
     check_entrances(&rt, &yard, front, back)?;
     Ok(())
 }

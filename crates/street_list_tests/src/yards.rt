@@ -5,7 +5,7 @@ ghost use Rattle.street_yard.specs.Yard.{entry_at};
 use std::alloc::{AllocError, Global};
 use std::process::Abort;
 use std::test::Fail;
-use street_base::{Car, Listing};
+use street_base::{Car, Listing, Size};
 use street_yard::{Key, ListId, Yard};
 
 const FIRST: ListId = ListId(0);
@@ -14,6 +14,9 @@ const SECOND: ListId = ListId(1);
 
 // A car with this number and a plan of no links.
 fn car(alloc: Global, number: u32) -> Result<Car, AllocError> {
+    let Some(size) = Size::new(1) else {
+        unreachable!();
+    };
     Ok(Car {
         plan: Box::new(alloc, Listing::from_vec(Vec::new(alloc)))?,
         number,
@@ -21,6 +24,7 @@ fn car(alloc: Global, number: u32) -> Result<Car, AllocError> {
         step: 0,
         at: 0,
         speed: 0,
+        size,
     })
 }
 

@@ -1,7 +1,9 @@
 -- What is printed has no float.
-use Rattle.std.proofs.Common.{◌≡◌, ℕ, List, [], ◌∷◌, false, refl}
+use Rattle.std.proofs.Common.{◌≡◌, ℕ, List, [], ◌∷◌, nat_lt, false, refl, inl, inr}
+use Rattle.std.proofs.lemmas.Bool.{cases_Bool}
 use Rattle.serde_json.specs.Data.{Data}
 use Rattle.serde_json.specs.Written.{has_float, items_have_float}
+use Rattle.street_base.specs.declared.reply.CellEntry.{CellEntry}
 use Rattle.street_base.specs.declared.reply.End.TheVariants.{Arrived, Taken}
 use Rattle.street_base.specs.declared.refusal.Refusal.{Refusal}
 use Rattle.street_base.specs.declared.refusal.Refusal.TheVariants.{NotLoaded, AlreadyLoaded, BadNetwork, NoNode, NoLink, NoLane, BadRange, BadPlan, BadSignal, NoVehicle, Gone, NoMeter, TooMany, BadCount, ClockEnd}
@@ -35,10 +37,25 @@ whole_refusal TooMany = refl
 whole_refusal BadCount = refl
 whole_refusal ClockEnd = refl
 
+whole_cell : (e : CellEntry) → has_float (cell_data e) ≡ false
+whole_cell e = elim (cases_Bool (nat_lt 1 e.size)) as (λ _. has_float (cell_data e) ≡ false) [
+  | inl long ↦ rw long refl
+  | inr short ↦ rw short refl
+]
+
 whole_vehicle : (car : ℕ) (w : Whereabouts) → has_float (vehicle_data car w) ≡ false
-whole_vehicle car (Cell link lane cell speed plan) = rw (whole_plan plan) refl
-whole_vehicle car (Buffer link lane ready speed plan) = rw (whole_plan plan) refl
-whole_vehicle car (Waiting link lane depart plan) = rw (whole_plan plan) refl
+whole_vehicle car (Cell link lane cell speed size plan) = elim (cases_Bool (nat_lt 1 size)) as (λ _. has_float (vehicle_data car (Cell link lane cell speed size plan)) ≡ false) [
+  | inl long ↦ rw (long, whole_plan plan) refl
+  | inr short ↦ rw (short, whole_plan plan) refl
+]
+whole_vehicle car (Buffer link lane ready speed size plan) = elim (cases_Bool (nat_lt 1 size)) as (λ _. has_float (vehicle_data car (Buffer link lane ready speed size plan)) ≡ false) [
+  | inl long ↦ rw (long, whole_plan plan) refl
+  | inr short ↦ rw (short, whole_plan plan) refl
+]
+whole_vehicle car (Waiting link lane depart size plan) = elim (cases_Bool (nat_lt 1 size)) as (λ _. has_float (vehicle_data car (Waiting link lane depart size plan)) ≡ false) [
+  | inl long ↦ rw (long, whole_plan plan) refl
+  | inr short ↦ rw (short, whole_plan plan) refl
+]
 whole_vehicle car (Ended (Arrived step)) = refl
 whole_vehicle car (Ended (Taken step)) = refl
 
@@ -54,7 +71,7 @@ whole_reply (Placed meter) = refl
 whole_reply (Rows now rows) = rw (whole_list meter_data (λ r. refl) rows) refl
 whole_reply (Vehicle car whereabouts) = whole_vehicle car whereabouts
 whole_reply (Lane buffer cells closed waiting) =
-    rw (whole_list buffer_data (λ e. refl) buffer, whole_list cell_data (λ e. refl) cells, whole_list stretch_data (λ s. refl) closed, whole_list waiting_data (λ e. refl) waiting) refl
+    rw (whole_list buffer_data (λ e. refl) buffer, whole_list cell_data whole_cell cells, whole_list stretch_data (λ s. refl) closed, whole_list waiting_data (λ e. refl) waiting) refl
 whole_reply (Census admitted arrived buffers cells clock taken waiting) = refl
 whole_reply (Refused refusal) = whole_refusal refusal
 whole_reply Starved = refl

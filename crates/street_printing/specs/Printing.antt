@@ -1,6 +1,6 @@
 -- The lines that answer: a reply, or an error that has no place.
 -- Source: this profile. Keys stand in byte order, and no more is written than the object.
-use Rattle.std.specs.Prelude.{ℕ, List, [], ◌∷◌, ◌++◌, true, codes}
+use Rattle.std.specs.Prelude.{ℕ, List, [], ◌∷◌, ◌++◌, nat_lt, if◌then◌else◌, true, codes}
 use Rattle.serde_json.specs.Data.{Data, boolean, number, unsigned, string, array, object, Items, no_items, item, Members, no_members, member}
 use Rattle.serde_json.specs.Written.{compact_text}
 use Rattle.street_base.specs.declared.reply.BufferEntry.{BufferEntry}
@@ -47,8 +47,9 @@ running_data r = array (numbers (r.start ∷ r.steps ∷ r.passes ∷ r.speeds �
 abbrev pub buffer_data : BufferEntry → Data
 buffer_data e = array (numbers (e.car ∷ e.speed ∷ e.ready ∷ []))
 
+-- the size stands there only where it is more than one cell
 abbrev pub cell_data : CellEntry → Data
-cell_data e = array (numbers (e.car ∷ e.cell ∷ e.speed ∷ []))
+cell_data e = array (numbers (e.car ∷ e.cell ∷ e.speed ∷ (if nat_lt 1 e.size then e.size ∷ [] else [])))
 
 abbrev pub stretch_data : Stretch → Data
 stretch_data s = array (numbers (s.first ∷ s.last ∷ []))
@@ -87,6 +88,10 @@ list_at key one list more = member key (array (items_from one list)) more
 abbrev pub plan_at : List ℕ → Members → Members
 plan_at plan more = list_at (codes "plan") number_data plan more
 
+-- the size of a vehicle, where it is more than one cell
+abbrev pub size_at : ℕ → Members → Members
+size_at size more = if nat_lt 1 size then number_at (codes "size") size more else more
+
 -- ---- objects, their keys in byte order
 
 -- the number and the name of an error
@@ -111,15 +116,15 @@ abbrev pub ended_data : ℕ → List ℕ → ℕ → Data
 ended_data car state step = object (number_at (codes "car") car (text_at (codes "state") state (number_at (codes "step") step no_members)))
 
 abbrev pub vehicle_data : ℕ → Whereabouts → Data
-vehicle_data car (Cell link lane cell speed plan) =
+vehicle_data car (Cell link lane cell speed size plan) =
     object (number_at (codes "car") car (number_at (codes "cell") cell (number_at (codes "lane") lane (number_at (codes "link") link
-    (plan_at plan (number_at (codes "speed") speed (text_at (codes "state") (codes "cell") no_members)))))))
-vehicle_data car (Buffer link lane ready speed plan) =
+    (plan_at plan (size_at size (number_at (codes "speed") speed (text_at (codes "state") (codes "cell") no_members))))))))
+vehicle_data car (Buffer link lane ready speed size plan) =
     object (number_at (codes "car") car (number_at (codes "lane") lane (number_at (codes "link") link (plan_at plan
-    (number_at (codes "ready") ready (number_at (codes "speed") speed (text_at (codes "state") (codes "buffer") no_members)))))))
-vehicle_data car (Waiting link lane depart plan) =
+    (number_at (codes "ready") ready (size_at size (number_at (codes "speed") speed (text_at (codes "state") (codes "buffer") no_members))))))))
+vehicle_data car (Waiting link lane depart size plan) =
     object (number_at (codes "car") car (number_at (codes "depart") depart (number_at (codes "lane") lane (number_at (codes "link") link
-    (plan_at plan (text_at (codes "state") (codes "waiting") no_members))))))
+    (plan_at plan (size_at size (text_at (codes "state") (codes "waiting") no_members)))))))
 vehicle_data car (Ended (Arrived step)) = ended_data car (codes "arrived") step
 vehicle_data car (Ended (Taken step)) = ended_data car (codes "taken") step
 

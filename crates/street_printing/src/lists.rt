@@ -86,7 +86,11 @@ impl Printed for CellEntry {
     ghost prints = { cell_data };
 
     fn to_value(&self, alloc: Global) -> Result<Value, AllocError> {
-        list_value(alloc, &[self.car, self.cell, self.speed])
+        if self.size > 1 {
+            list_value(alloc, &[self.car, self.cell, self.speed, self.size])
+        } else {
+            list_value(alloc, &[self.car, self.cell, self.speed])
+        }
     }
 }
 

@@ -1,9 +1,9 @@
 //! The objects of a reply or a command.
 //!
 //! Source: this profile.
-ghost use Rattle.std.specs.Prelude.{◌≡◌, IfOk};
-ghost use Rattle.serde_json.specs.View.{view};
-ghost use Rattle.street_printing.specs.Members.{member_data, object_of};
+ghost use Rattle.std.specs.Prelude.{◌≡◌, IfOk, OnOk};
+ghost use Rattle.serde_json.specs.View.{view, members_view};
+ghost use Rattle.street_printing.specs.Members.{is_absent, member_data, put_member, object_of};
 
 use crate::lists::{Printed, list_value};
 use serde_json::{Map, Value, json, put};
@@ -42,9 +42,18 @@ pub enum Member<'a> {
     Turns(&'a [TurnSpec]),
     /// Phases of a signal.
     Phases(&'a [PhaseSpec]),
+    /// A number, or nothing: then there is no such key.
+    Optional(Option<u64>),
 }
 
 impl Member<'_> {
+    /// Whether there is no such key.
+    fn is_absent(&self) -> bool
+        ensures { result ≡ is_absent self.now }
+    {
+        matches!(self, Member::Optional(None))
+    }
+
     /// Its JSON value.
     fn to_value(&self, alloc: Global) -> Result<Value, AllocError>
         ensures { IfOk result (λ v. view v ≡ member_data self.now) }
@@ -63,11 +72,29 @@ impl Member<'_> {
             Member::Links(list) => list_value(alloc, list),
             Member::Turns(list) => list_value(alloc, list),
             Member::Phases(list) => list_value(alloc, list),
+            Member::Optional(Some(number)) => Ok(Value::from(*number)),
+            Member::Optional(None) => Ok(Value::Null),
         }
     }
 }
 
-/// The object of these members, each under its key.
+/// Puts a member under its key, if it is not absent.
+fn put_member(
+    found: &mut Map<String, Value>,
+    alloc: Global,
+    key: &str,
+    member: &Member<'_>,
+) -> Result<(), AllocError>
+    ensures { OnOk result (members_view found.new.entries
+        ≡ put_member key.now member.now (members_view found.old.entries)) }
+{
+    if member.is_absent() {
+        return Ok(());
+    }
+    put(found, alloc, key, member.to_value(alloc)?)
+}
+
+/// The object of these members, each that is not absent under its key.
 ///
 /// # Errors
 ///
@@ -77,7 +104,7 @@ pub fn object_value(alloc: Global, members: &[(&str, Member<'_>)]) -> Result<Val
 {
     let mut found = Map::new(alloc);
     for (key, member) in members {
-        put(&mut found, alloc, key, member.to_value(alloc)?)?;
+        put_member(&mut found, alloc, key, member)?;
     }
     Ok(Value::Object(found))
 }

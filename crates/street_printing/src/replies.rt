@@ -1,7 +1,7 @@
 //! From a reply to its line.
 //!
 //! Source: this profile.
-ghost use Rattle.std.specs.Prelude.{◌≡◌, IfOk, codes};
+ghost use Rattle.std.specs.Prelude.{◌≡◌, IfOk, codes, nat_lt, Some, None, if◌then◌else◌};
 ghost use Rattle.serde_json.specs.Data.{object, no_members};
 ghost use Rattle.serde_json.specs.View.{view};
 ghost use Rattle.street_printing.specs.Printing.{number_at, text_at, error_at, refused_data, ended_data, vehicle_data, reply_data, reply_line};
@@ -66,6 +66,13 @@ fn refused(alloc: Global, refusal: Refusal) -> Result<Value, AllocError>
     }
 }
 
+/// The size of a vehicle, where it is more than one cell.
+fn told_size(size: u64) -> Option<u64>
+    ensures { result ≡ (if nat_lt 1 size then Some size else None) }
+{
+    if size > 1 { Some(size) } else { None }
+}
+
 fn in_cell(
     alloc: Global,
     car: u64,
@@ -73,9 +80,10 @@ fn in_cell(
     lane: u64,
     cell: u64,
     speed: u64,
+    size: u64,
     plan: &[u64],
 ) -> Result<Value, AllocError>
-    ensures { IfOk result (λ v. view v ≡ vehicle_data car (Cell link lane cell speed plan.now)) }
+    ensures { IfOk result (λ v. view v ≡ vehicle_data car (Cell link lane cell speed size plan.now)) }
 {
     object_value(
         alloc,
@@ -85,6 +93,7 @@ fn in_cell(
             ("lane", Member::Number(lane)),
             ("link", Member::Number(link)),
             ("plan", Member::Numbers(plan)),
+            ("size", Member::Optional(told_size(size))),
             ("speed", Member::Number(speed)),
             ("state", Member::Text("cell")),
         ],
@@ -98,9 +107,10 @@ fn in_buffer(
     lane: u64,
     ready: u64,
     speed: u64,
+    size: u64,
     plan: &[u64],
 ) -> Result<Value, AllocError>
-    ensures { IfOk result (λ v. view v ≡ vehicle_data car (Buffer link lane ready speed plan.now)) }
+    ensures { IfOk result (λ v. view v ≡ vehicle_data car (Buffer link lane ready speed size plan.now)) }
 {
     object_value(
         alloc,
@@ -110,6 +120,7 @@ fn in_buffer(
             ("link", Member::Number(link)),
             ("plan", Member::Numbers(plan)),
             ("ready", Member::Number(ready)),
+            ("size", Member::Optional(told_size(size))),
             ("speed", Member::Number(speed)),
             ("state", Member::Text("buffer")),
         ],
@@ -122,9 +133,10 @@ fn waiting(
     link: u64,
     lane: u64,
     depart: u64,
+    size: u64,
     plan: &[u64],
 ) -> Result<Value, AllocError>
-    ensures { IfOk result (λ v. view v ≡ vehicle_data car (Waiting link lane depart plan.now)) }
+    ensures { IfOk result (λ v. view v ≡ vehicle_data car (Waiting link lane depart size plan.now)) }
 {
     object_value(
         alloc,
@@ -134,6 +146,7 @@ fn waiting(
             ("lane", Member::Number(lane)),
             ("link", Member::Number(link)),
             ("plan", Member::Numbers(plan)),
+            ("size", Member::Optional(told_size(size))),
             ("state", Member::Text("waiting")),
         ],
     )
@@ -161,21 +174,42 @@ fn vehicle(alloc: Global, car: u64, whereabouts: &Whereabouts) -> Result<Value, 
             lane,
             cell,
             speed,
+            size,
             plan,
-        } => in_cell(alloc, car, *link, *lane, *cell, *speed, plan.as_slice()),
+        } => in_cell(
+            alloc,
+            car,
+            *link,
+            *lane,
+            *cell,
+            *speed,
+            *size,
+            plan.as_slice(),
+        ),
         Whereabouts::Buffer {
             link,
             lane,
             ready,
             speed,
+            size,
             plan,
-        } => in_buffer(alloc, car, *link, *lane, *ready, *speed, plan.as_slice()),
+        } => in_buffer(
+            alloc,
+            car,
+            *link,
+            *lane,
+            *ready,
+            *speed,
+            *size,
+            plan.as_slice(),
+        ),
         Whereabouts::Waiting {
             link,
             lane,
             depart,
+            size,
             plan,
-        } => waiting(alloc, car, *link, *lane, *depart, plan.as_slice()),
+        } => waiting(alloc, car, *link, *lane, *depart, *size, plan.as_slice()),
         Whereabouts::Ended(End::Arrived { step }) => ended(alloc, car, "arrived", *step),
         Whereabouts::Ended(End::Taken { step }) => ended(alloc, car, "taken", *step),
     }

@@ -20,6 +20,6 @@ unfolding value_of
 value_refused line h = refused (is_utf8 line) (read line) (λ e. h (IsUtf8-from_is_utf8 line e))
 
 -- a line whose value is a command
-pub command_read : (line : List ℕ) (d : Data) (c : Command) → length line ≤ longest_line → IsUtf8 line → read line ≡ Some d → command_in d ≡ Some c → reading line ≡ Ok c
+pub command_read : (line : List ℕ) (d : Data) (c : Command) → length line ≤ longest_line → IsUtf8 line → read line ≡ Some d → command_in true d ≡ Some c → reading line ≡ Ok c
 unfolding reading
 command_read line d c short utf8 e is = rw (le-ltb longest_line (length line) short, value_read line d utf8 e, is) refl

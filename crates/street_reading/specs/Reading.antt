@@ -1,6 +1,6 @@
 -- What a line says, by cases on its JSON value.
 -- Source: this profile. A number is written with digits alone; unknown fields are ignored.
-use Rattle.std.specs.Prelude.{◌≡◌, ℕ, ◌==◌, List, [], ◌∷◌, length, nat_lt, if◌then◌else◌, Option, Some, None, option_map, option_and_then, Result, Ok, Err, codes, bytes_eq}
+use Rattle.std.specs.Prelude.{◌≡◌, ℕ, ◌==◌, List, [], ◌∷◌, length, nat_lt, if◌then◌else◌, Bool, true, false, Option, Some, None, option_map, option_and_then, Result, Ok, Err, codes, bytes_eq}
 use Rattle.std.specs.Str.{is_utf8}
 use Rattle.serde_json.specs.Data.{Data, Items, no_items, item}
 use Rattle.serde_json.specs.Read.{read}
@@ -81,13 +81,13 @@ field entry key d = option_and_then entry (get key d)
 abbrev pub number_field : List ℕ → Data → Option ℕ
 number_field key d = field number_in key d
 
-abbrev pub zero_if_none : Option Data → Option ℕ
-zero_if_none None = Some 0
-zero_if_none (Some d) = number_in d
+abbrev pub or_if_none : ℕ → Option Data → Option ℕ
+or_if_none absent None = Some absent
+or_if_none absent (Some d) = number_in d
 
--- a number, 0 where the field is absent
-abbrev pub number_or_zero : List ℕ → Data → Option ℕ
-number_or_zero key d = zero_if_none (get key d)
+-- a number, and another where the field is absent
+abbrev pub number_or : ℕ → List ℕ → Data → Option ℕ
+number_or absent key d = or_if_none absent (get key d)
 
 -- ---- commands
 
@@ -105,7 +105,7 @@ numbers_in d =
     with number_field (codes "dawdle") d
     with number_field (codes "change") d
     with number_field (codes "seed") d
-    with number_or_zero (codes "start") d
+    with number_or 0 (codes "start") d
 
 unfoldable pub load_in : Data → Option Command
 load_in d =
@@ -124,12 +124,18 @@ load_in d =
     with field (list_in turn_in) (codes "turns") d
     with numbers_in d
 
-unfoldable pub enter_in : Data → Option Command
-enter_in d =
-    Some (λ plan lane depart. Enter plan lane depart)
+-- how many cells a vehicle covers: 1 where the field is absent, and also, whatever it holds, where sizes are not read
+abbrev pub size_in : Bool → Data → Option ℕ
+size_in true d = number_or 1 (codes "size") d
+size_in false d = Some 1
+
+unfoldable pub enter_in : Bool → Data → Option Command
+enter_in sized d =
+    Some (λ plan lane depart size. Enter plan lane depart size)
     with field (list_in number_in) (codes "plan") d
     with number_field (codes "lane") d
     with number_field (codes "depart") d
+    with size_in sized d
 
 unfoldable pub signal_in : Data → Option Command
 signal_in d =
@@ -187,9 +193,9 @@ observing_names =
     ∷ (codes "count", λ d. Some Count) ∷ []
 
 -- each name that `cmd` may have, and how that command is read
-abbrev pub names : List (List ℕ × (Data → Option Command))
-names =
-    (codes "load", load_in) ∷ (codes "signal", signal_in) ∷ (codes "enter", enter_in) ∷ (codes "advance", advance_in)
+abbrev pub names : Bool → List (List ℕ × (Data → Option Command))
+names sized =
+    (codes "load", load_in) ∷ (codes "signal", signal_in) ∷ (codes "enter", enter_in sized) ∷ (codes "advance", advance_in)
     ∷ (codes "close", close_in) ∷ (codes "reopen", reopen_in) ∷ (codes "takeout", take_out_in) ∷ observing_names
 
 -- the command of the first entry with this name
@@ -197,11 +203,12 @@ abbrev pub named_in : List (List ℕ × (Data → Option Command)) → List ℕ 
 named_in [] name d = None
 named_in ((key, reads) ∷ rest) name d = if bytes_eq name key then reads d else named_in rest name d
 
-unfoldable pub named : List ℕ → Data → Option Command
-named name d = named_in names name d
+unfoldable pub named : Bool → List ℕ → Data → Option Command
+named sized name d = named_in (names sized) name d
 
-unfoldable pub command_in : Data → Option Command
-command_in d = option_and_then (λ name. named name d) (field as_str (codes "cmd") d)
+-- the command that a value says; sizes are read or not
+unfoldable pub command_in : Bool → Data → Option Command
+command_in sized d = option_and_then (λ name. named sized name d) (field as_str (codes "cmd") d)
 
 -- ---- lines
 
@@ -218,7 +225,7 @@ value_of line = if is_utf8 line then read line else None
 
 abbrev pub command_or_fault : Option Data → Result Command LineFault
 command_or_fault None = Err NotJson
-command_or_fault (Some d) = or_fault BadCommand (command_in d)
+command_or_fault (Some d) = or_fault BadCommand (command_in true d)
 
 -- what a line says: a command, or the first fault
 unfoldable pub reading : List ℕ → Result Command LineFault

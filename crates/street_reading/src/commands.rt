@@ -4,9 +4,9 @@
 ghost use Rattle.std.specs.Prelude.{◌≡◌, ◌⊎◌};
 ghost use Rattle.serde_json.specs.Errors.{IsMemory};
 ghost use Rattle.serde_json.specs.View.{view};
-ghost use Rattle.street_reading.specs.Reading.{numbers_in, load_in, signal_in, enter_in, advance_in, close_in, reopen_in, take_out_in, place_meter_in, read_meter_in, vehicle_in, lane_in, observing_names, named_in, named, command_in, or_fault, reading, value_of, Gives, GivesValue};
+ghost use Rattle.street_reading.specs.Reading.{numbers_in, load_in, signal_in, size_in, enter_in, advance_in, close_in, reopen_in, take_out_in, place_meter_in, read_meter_in, vehicle_in, lane_in, observing_names, named_in, named, command_in, or_fault, reading, value_of, Gives, GivesValue};
 
-use crate::entries::{field_of, number_or_zero};
+use crate::entries::{field_of, number_or};
 use crate::fault::LineFault;
 use serde_json::{Category, Error, Value};
 use std::alloc::Global;
@@ -33,7 +33,7 @@ fn numbers(alloc: Global, value: &Value) -> Result<NetNumbers, LineFault>
     let dawdle = field_of(alloc, value, "dawdle")?;
     let change = field_of(alloc, value, "change")?;
     let seed = field_of(alloc, value, "seed")?;
-    let start = number_or_zero(value, "start")?;
+    let start = number_or(value, "start", 0)?;
     Ok(NetNumbers {
         zone,
         dawdle,
@@ -77,14 +77,31 @@ fn signal(alloc: Global, value: &Value) -> Result<Command, LineFault>
     })
 }
 
+/// How many cells a vehicle covers: 1 where the field is absent, and where sizes are not read.
+fn size_of_vehicle(value: &Value, sized: bool) -> Result<u64, LineFault>
+    ensures { Gives result (or_fault LineFault.BadCommand (size_in sized (view value.now))) }
+{
+    if sized {
+        number_or(value, "size", 1)
+    } else {
+        Ok(1)
+    }
+}
+
 #[tactic(auto, unfolding(crate::specs::Reading::enter_in))]
-fn enter(alloc: Global, value: &Value) -> Result<Command, LineFault>
-    ensures { Gives result (or_fault LineFault.BadCommand (enter_in (view value.now))) }
+fn enter(alloc: Global, value: &Value, sized: bool) -> Result<Command, LineFault>
+    ensures { Gives result (or_fault LineFault.BadCommand (enter_in sized (view value.now))) }
 {
     let plan = field_of(alloc, value, "plan")?;
     let lane = field_of(alloc, value, "lane")?;
     let depart = field_of(alloc, value, "depart")?;
-    Ok(Command::Enter { plan, lane, depart })
+    let size = size_of_vehicle(value, sized)?;
+    Ok(Command::Enter {
+        plan,
+        lane,
+        depart,
+        size,
+    })
 }
 
 #[tactic(auto, unfolding(crate::specs::Reading::advance_in))]
@@ -192,13 +209,13 @@ fn observing(alloc: Global, name: &str, value: &Value) -> Result<Command, LineFa
 
 /// The command of a name.
 #[tactic(auto, unfolding(crate::specs::Reading::named))]
-fn named(alloc: Global, name: &str, value: &Value) -> Result<Command, LineFault>
-    ensures { Gives result (or_fault LineFault.BadCommand (named name.now (view value.now))) }
+fn named(alloc: Global, name: &str, value: &Value, sized: bool) -> Result<Command, LineFault>
+    ensures { Gives result (or_fault LineFault.BadCommand (named sized name.now (view value.now))) }
 {
     match name {
         "load" => load(alloc, value),
         "signal" => signal(alloc, value),
-        "enter" => enter(alloc, value),
+        "enter" => enter(alloc, value, sized),
         "advance" => advance(alloc, value),
         "close" => close(alloc, value),
         "reopen" => reopen(alloc, value),
@@ -207,20 +224,20 @@ fn named(alloc: Global, name: &str, value: &Value) -> Result<Command, LineFault>
     }
 }
 
-/// The command that a JSON value says.
+/// The command that a JSON value says. Where sizes are not read, each vehicle that enters has size 1, whatever is told.
 ///
 /// # Errors
 ///
 /// `BadCommand` where it says none; `Starved` where there was no memory for its lists.
 #[tactic(auto, unfolding(crate::specs::Reading::command_in))]
-pub fn command_of(alloc: Global, value: &Value) -> Result<Command, LineFault>
-    ensures { Gives result (or_fault LineFault.BadCommand (command_in (view value.now))) }
+pub fn command_of(alloc: Global, value: &Value, sized: bool) -> Result<Command, LineFault>
+    ensures { Gives result (or_fault LineFault.BadCommand (command_in sized (view value.now))) }
 {
     let name = value
         .get("cmd")
         .and_then(Value::as_str)
         .ok_or(LineFault::BadCommand)?;
-    named(alloc, name, value)
+    named(alloc, name, value, sized)
 }
 
 /// The fault of a text that was not read: only want of memory says nothing of the text.
@@ -258,5 +275,5 @@ pub fn read_command(alloc: Global, line: &[u8]) -> Result<Command, LineFault>
         return Err(LineFault::LineTooLong);
     }
     let value = parse(alloc, line)?;
-    command_of(alloc, &value)
+    command_of(alloc, &value, true)
 }

@@ -4,7 +4,7 @@
 ghost use Rattle.std.specs.Prelude.{◌≡◌, Option};
 ghost use Rattle.serde_json.specs.Data.{Data};
 ghost use Rattle.serde_json.specs.View.{view};
-ghost use Rattle.street_reading.specs.Reading.{number_in, list_in, row_in, node_in, link_in, turn_in, green_in, phase_in, field, number_or_zero, or_fault, Gives};
+ghost use Rattle.street_reading.specs.Reading.{number_in, list_in, row_in, node_in, link_in, turn_in, green_in, phase_in, field, number_or, or_fault, Gives};
 
 use crate::fault::LineFault;
 use serde_json::Value;
@@ -138,12 +138,12 @@ pub(crate) fn field_of<T: Entry>(alloc: Global, value: &Value, name: &str) -> Re
     T::of_value(alloc, found)
 }
 
-/// The number of a name, 0 where the field is absent.
-pub(crate) fn number_or_zero(value: &Value, name: &str) -> Result<u64, LineFault>
-    ensures { Gives result (or_fault LineFault.BadCommand (number_or_zero name.now (view value.now))) }
+/// The number of a name, and `absent` where the field is absent.
+pub(crate) fn number_or(value: &Value, name: &str, absent: u64) -> Result<u64, LineFault>
+    ensures { Gives result (or_fault LineFault.BadCommand (number_or absent name.now (view value.now))) }
 {
     match value.get(name) {
         Some(found) => found.as_u64().ok_or(LineFault::BadCommand),
-        None => Ok(0),
+        None => Ok(absent),
     }
 }

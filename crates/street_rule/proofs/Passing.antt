@@ -1,5 +1,5 @@
 -- A walk that drives each car of a list.
-use Rattle.std.proofs.Common.{◌≡◌, ◌≢◌, ◌⊎◌, ℕ, ◌+◌, ◌<◌, ◌≤◌, Bool, List, [], ◌∷◌, ◌++◌, length, get_or, set, Option, Some, None, IsSomeAnd, refl, sym, ap, subst, ◌∙◌, inl, inr, arith, get_or-set_same, get_or-set_other}
+use Rattle.std.proofs.Common.{◌≡◌, ◌≢◌, ◌⊎◌, ℕ, ◌+◌, ◌-◌, ◌<◌, ◌≤◌, Bool, List, [], ◌∷◌, ◌++◌, length, get_or, set, Option, Some, None, IsSomeAnd, refl, sym, ap, subst, ◌∙◌, inl, inr, arith, get_or-set_same, get_or-set_other}
 use Rattle.std.specs.Option.{option_map, option_and_then, unwrap_or}
 use Rattle.std.proofs.lemmas.Bool.{cases_eq}
 use Rattle.std.proofs.lemmas.List.{append_assoc, append-nil, length-set}
@@ -9,7 +9,7 @@ use Rattle.street_yard.proofs.Keys.{IsApart-split, last_or-push, snoc_cases, wit
 use Rattle.street_base.specs.Vehicle.{Vehicle, vehicle_of, with_speed}
 use Rattle.street_base.specs.Lane.{Cells, vehicle_at, obstacle_ahead}
 use Rattle.street_base.specs.Motion.{Drive, speed_after, motion_gap, moved, motion, leaver}
-use Rattle.street_yard.specs.Listed.{cell_at, vehicle_with, key_at, cells_at, IsFalling, IsLane, AllAbove}
+use Rattle.street_yard.specs.Listed.{cell_at, rear_at, vehicle_with, key_at, cells_at, IsFalling, IsLane, AllAbove}
 use Rattle.street_gap.specs.Closed.{entrance_after}
 use Rattle.street_rule.specs.Course.{nearest, gap_to}
 use Rattle.street_rule.specs.Pass.{Drives, Leaves, Moves, left_lists, stopped}
@@ -19,11 +19,15 @@ use Rattle.street_base.proofs.MotionLemmas.{IsPartMoved, leaver_from, part_moved
 use Rattle.street_rule.specs.declared.watch.Watch.{Watch}
 use Rattle.street_rule.specs.Watching.{watched, noted}
 use Rattle.street_rule.proofs.Watching.{watched_from, watched-skip, watched-noted, watched-all}
-use Rattle.street_rule.proofs.Sights.{obstacle-is}
+use Rattle.street_rule.proofs.Sights.{obstacle-is, rear-under}
+use Rattle.street_gap.proofs.Sights.{clear-of-key}
+use Rattle.street_base.specs.Apart.{AreDisjoint}
+use Rattle.street_base.proofs.MotionApartLemmas.{keeps_apart}
+use Rattle.std.specs.Prelude.{MatchOption}
 use Rattle.street_rule.proofs.Steps.{AllFrom, from-lower, from-push, from-same, falling-join, low_of, nobody-between, part_moved-skip, gap-within, speed-within}
 
 module _ (drive : Drive) (closed : List Bool) where
-  pub record IsPass (first now : Yard) (n count : ℕ) (ahead cursor away fast : Option ℕ) : Type 0 where
+  pub record IsPass (first now : Yard) (n count : ℕ) (ahead rear cursor away fast : Option ℕ) : Type 0 where
     pub was : List ℕ
     pub done : List ℕ
     pub rest : List ℕ
@@ -31,6 +35,7 @@ module _ (drive : Drive) (closed : List Bool) where
     pub split : list_at now n ≡ done ++ rest
     pub at_cursor : cursor ≡ first_or rest None
     pub at_ahead : ahead ≡ option_map (cell_at first) (last_or was None)
+    pub at_rear : rear ≡ option_map (rear_at first) (last_or was None)
     pub falls : IsFalling (cell_at now) count done
     pub over : AllFrom (cell_at now) (low_of ahead count) done
     pub same : (k : ℕ) → Has rest k → car_of now k ≡ car_of first k
@@ -41,9 +46,9 @@ module _ (drive : Drive) (closed : List Bool) where
     pub kept : Moves first now n away
     pub whole_first : IsWhole first
 
-  pub IsPass-start : (y : Yard) (n count : ℕ) (cursor : Option ℕ) → IsWhole y → IsLane y n count → cursor ≡ first_or (list_at y n) None → IsPass y y n count None cursor None None
+  pub IsPass-start : (y : Yard) (n count : ℕ) (cursor : Option ℕ) → IsWhole y → IsLane y n count → cursor ≡ first_or (list_at y n) None → IsPass y y n count None None cursor None None
   IsPass-start y n count cursor whole lane at =
-      let size : length (cells_at y n count) ≡ count = cells-length y n count whole lane in
+      let size : length (cells_at y n count) ≡ count = cells-length y n count whole lane.falls in
       record {
         was = [];
         done = [];
@@ -52,6 +57,7 @@ module _ (drive : Drive) (closed : List Bool) where
         split = refl;
         at_cursor = at;
         at_ahead = refl;
+        at_rear = refl;
         falls = tt;
         over = tt;
         same = λ k h. refl;
@@ -69,44 +75,50 @@ module _ (drive : Drive) (closed : List Bool) where
         | inl e ↦ subst (λ o. low_of o count ≤ count) (sym (at ∙ ap (λ l. option_map (cell_at first) (last_or l None)) e)) (omega arith)
         | inr s ↦ (
             let is : ahead ≡ Some (cell_at first s.1) = at ∙ ap (option_map (cell_at first)) (ap (λ l. last_or l None) s.2 ∙ last_or-push s.0 s.1 None) in
-            let f = falling-split (cell_at first) count s.0 s.1 rest (subst (IsFalling (cell_at first) count) (before ∙ ap (λ l. l ++ rest) s.2 ∙ append_assoc s.0 (s.1 ∷ []) rest) lane) in
+            let f = falling-split (cell_at first) count s.0 s.1 rest (subst (IsFalling (cell_at first) count) (before ∙ ap (λ l. l ++ rest) s.2 ∙ append_assoc s.0 (s.1 ∷ []) rest) lane.falls) in
             let h : cell_at first s.1 < count = f.1 in
             subst (λ o. low_of o count ≤ count) (sym is) (omega arith))
       ]
 
-  pub IsPass-end : (first now : Yard) (n count : ℕ) (ahead cursor away fast : Option ℕ) → IsLane first n count → cursor ≡ None → IsPass first now n count ahead cursor away fast
+  pub IsPass-end : (first now : Yard) (n count : ℕ) (ahead rear cursor away fast : Option ℕ) → IsLane first n count → cursor ≡ None → IsPass first now n count ahead rear cursor away fast
       → (cells_at now n count ≡ motion drive (cells_at first n count) closed) × (option_and_then (vehicle_with now) away ≡ leaver drive (cells_at first n count) closed) × (fast ≡ option_map (λ (v : Vehicle). v.speed) (leaver drive (cells_at first n count) closed)) × IsLane now n count
-  IsPass-end first now n count ahead cursor away fast lane cur w =
+  IsPass-end first now n count ahead rear cursor away fast lane cur w =
       let none : w.rest ≡ [] = no_head w.rest cursor cur w.at_cursor in
       let cell = cell_at first in
-      let size : length (cells_at first n count) ≡ count = cells-length first n count w.whole_first lane in
+      let size : length (cells_at first n count) ≡ count = cells-length first n count w.whole_first lane.falls in
       let within : low_of ahead count ≤ count = low-within first n count w.was w.rest ahead lane w.before w.at_ahead in
       let empty : (z : ℕ) → 0 ≤ z → z < low_of ahead count → vehicle_at (cells_at first n count) z ≡ None =
-      λ z a b. cells-read first n count w.whole_first lane z
+      λ z a b. cells-read first n count w.whole_first lane.falls z
       ∙ ap (option_and_then (vehicle_with first)) (ap (λ l. key_at cell l z) (w.before ∙ ap (λ l. w.was ++ l) none)
-      ∙ nobody-between cell count 0 w.was [] z (subst (IsFalling cell count) (w.before ∙ ap (λ l. w.was ++ l) none) lane) (subst (λ o. z < low_of o count) w.at_ahead b) tt (omega arith)) in
+      ∙ nobody-between cell count 0 w.was [] z (subst (IsFalling cell count) (w.before ∙ ap (λ l. w.was ++ l) none) lane.falls) (subst (λ o. z < low_of o count) w.at_ahead b) tt (omega arith)) in
       let r = part_moved-skip drive (cells_at first n count) closed (low_of ahead count) 0 (cells_at now n count) (omega arith) (rw size within) empty w.moved_to in (
-        part_moved-all drive (cells_at first n count) closed (cells_at now n count) r.0,
+        now_is r.0,
         w.out ∙ sym r.1 ∙ leaver_from-all drive (cells_at first n count) closed,
         w.fast_is ∙ ap (option_map (λ (v : Vehicle). v.speed)) (sym r.1 ∙ leaver_from-all drive (cells_at first n count) closed),
-        subst (IsFalling (cell_at now) count) (sym (w.split ∙ ap (λ l. w.done ++ l) none ∙ append-nil w.done)) w.falls,
+        record {
+          falls = subst (IsFalling (cell_at now) count) (sym (w.split ∙ ap (λ l. w.done ++ l) none ∙ append-nil w.done)) w.falls;
+          disjoint = subst AreDisjoint (sym (now_is r.0)) ((keeps_apart drive (cells_at first n count) closed).all_disjoint lane.disjoint);
+        },
       )
+    where
+      now_is : IsPartMoved drive (cells_at first n count) closed 0 (cells_at now n count) → cells_at now n count ≡ motion drive (cells_at first n count) closed
+      now_is moved_all = part_moved-all drive (cells_at first n count) closed (cells_at now n count) moved_all
 
-  pub IsPass-watched : (first now : Yard) (n count : ℕ) (ahead cursor away fast : Option ℕ) → IsLane first n count → cursor ≡ None → IsPass first now n count ahead cursor away fast → (w : Watch) → watched_from drive (cells_at first n count) closed (low_of ahead count) w ≡ watched drive (record { cells = cells_at first n count; closed = closed }) w
-  IsPass-watched first now n count ahead cursor away fast lane cur p w =
+  pub IsPass-watched : (first now : Yard) (n count : ℕ) (ahead rear cursor away fast : Option ℕ) → IsLane first n count → cursor ≡ None → IsPass first now n count ahead rear cursor away fast → (w : Watch) → watched_from drive (cells_at first n count) closed (low_of ahead count) w ≡ watched drive (record { cells = cells_at first n count; closed = closed }) w
+  IsPass-watched first now n count ahead rear cursor away fast lane cur p w =
       let none : p.rest ≡ [] = no_head p.rest cursor cur p.at_cursor in
       let cell = cell_at first in
       let empty : (z : ℕ) → 0 ≤ z → z < low_of ahead count → vehicle_at (cells_at first n count) z ≡ None =
-      λ z a b. cells-read first n count p.whole_first lane z
+      λ z a b. cells-read first n count p.whole_first lane.falls z
       ∙ ap (option_and_then (vehicle_with first)) (ap (λ l. key_at cell l z) (p.before ∙ ap (λ l. p.was ++ l) none)
-      ∙ nobody-between cell count 0 p.was [] z (subst (IsFalling cell count) (p.before ∙ ap (λ l. p.was ++ l) none) lane) (subst (λ o. z < low_of o count) p.at_ahead b) tt (omega arith)) in
+      ∙ nobody-between cell count 0 p.was [] z (subst (IsFalling cell count) (p.before ∙ ap (λ l. p.was ++ l) none) lane.falls) (subst (λ o. z < low_of o count) p.at_ahead b) tt (omega arith)) in
       sym (watched-skip drive (cells_at first n count) closed (low_of ahead count) 0 w (omega arith) empty) ∙ watched-all drive (cells_at first n count) closed w
 
   moved-is : (old : Cells) (x : ℕ) (v : Vehicle) (obstacle : Option ℕ) (speed : ℕ) → vehicle_at old x ≡ Some v → obstacle_ahead old closed x ≡ obstacle → speed ≡ speed_after drive.limit (gap_to obstacle x (length old) (drive.is_open_to v)) (drive.dawdles v.number) v.speed → moved drive old closed x ≡ Some (with_speed v speed)
   unfolding moved motion_gap
   moved-is old x v obstacle speed there ahead is = rw (there, ahead, is) refl
 
-  module _ (first y : Yard) (n count key : ℕ) (ahead cursor away fast : Option ℕ) (lane : IsLane first n count) (cur : cursor ≡ Some key) (w : IsPass first y n count ahead cursor away fast) where
+  module _ (first y : Yard) (n count key : ℕ) (ahead rear cursor away fast : Option ℕ) (lane : IsLane first n count) (cur : cursor ≡ Some key) (w : IsPass first y n count ahead rear cursor away fast) where
     tail : (t : List ℕ) × (w.rest ≡ key ∷ t)
     tail = head_is key w.rest cursor cur w.at_cursor
 
@@ -123,7 +135,7 @@ module _ (drive : Drive) (closed : List Bool) where
     on_first = w.whole_first.names key n (w.was, tail.0, before)
 
     falls_first : IsFalling (cell_at first) count (w.was ++ key ∷ tail.0)
-    falls_first = subst (IsFalling (cell_at first) count) before lane
+    falls_first = subst (IsFalling (cell_at first) count) before lane.falls
 
     apart : Away key w.done × Away key tail.0 × IsApart (w.done ++ tail.0)
     apart = IsApart-split w.done key tail.0 (subst IsApart split (w.kept.whole.apart n))
@@ -145,20 +157,27 @@ module _ (drive : Drive) (closed : List Bool) where
       IsPass-inside = let h = parts.1 in omega (arith, x_is)
 
       size : length (cells_at first n count) ≡ count
-      size = cells-length first n count w.whole_first lane
+      size = cells-length first n count w.whole_first lane.falls
 
       there : vehicle_at (cells_at first n count) car.cell ≡ Some (vehicle_of car)
       there =
-          cells-read first n count w.whole_first lane car.cell
+          cells-read first n count w.whole_first lane.falls car.cell
           ∙ ap (option_and_then (vehicle_with first)) (ap (λ l. key_at (cell_at first) l car.cell) before ∙ ap (key_at (cell_at first) (w.was ++ key ∷ tail.0)) (sym x_is) ∙ key_at-split (cell_at first) count w.was key tail.0 falls_first)
           ∙ ap (option_map vehicle_of) (sym same_here ∙ is)
 
-      obstacle : length closed ≡ count → obstacle_ahead (cells_at first n count) closed car.cell ≡ nearest ahead (entrance_after closed car.cell)
+      r_is : rear_at first key ≡ car.cell - (car.size - 1)
+      r_is = ap (λ o. unwrap_or (option_map (λ (c : Car). c.cell - (c.size - 1)) o) 0) (sym same_here ∙ is)
+
+      -- the car lies below the rear of the one ahead
+      clear : MatchOption (last_or w.was None) (Unit {0}) (λ k. car.cell < rear_at first k)
+      clear = subst (λ c. MatchOption (last_or w.was None) (Unit {0}) (λ k. c < rear_at first k)) x_is (clear-of-key first n count key w.was tail.0 w.whole_first lane before)
+
+      obstacle : length closed ≡ count → obstacle_ahead (cells_at first n count) closed car.cell ≡ nearest rear (entrance_after closed car.cell)
       obstacle len =
           let above : AllAbove (cell_at first) car.cell w.was = subst (λ c. AllAbove (cell_at first) c w.was) x_is parts.0 in
           let below : IsFalling (cell_at first) (car.cell + 1) (key ∷ tail.0) = ((let e = x_is in let h : cell_at first key < car.cell + 1 = omega arith in h), parts.2) in
-          obstacle-is first n count w.whole_first lane w.was (key ∷ tail.0) before car.cell above below closed len
-          ∙ ap (λ o. nearest o (entrance_after closed car.cell)) (sym w.at_ahead)
+          obstacle-is first n count w.whole_first lane w.was (key ∷ tail.0) before car.cell above clear below closed len
+          ∙ ap (λ o. nearest o (entrance_after closed car.cell)) (sym w.at_rear)
 
       pub low-above : car.cell < low_of ahead count
       low-above = at-low w.was refl
@@ -177,6 +196,15 @@ module _ (drive : Drive) (closed : List Bool) where
               last-above [] u a = a.0
               last-above (v ∷ us) u a = last-above us u a.1
 
+      pub rear-above : car.cell < low_of rear count
+      rear-above = elim (snoc_cases w.was) as (λ _. car.cell < low_of rear count) [
+        | inl z ↦ subst (λ o. car.cell < low_of o count) (sym (w.at_rear ∙ ap (λ l. option_map (rear_at first) (last_or l None)) z)) IsPass-inside
+        | inr s ↦ (
+            let last : last_or w.was None ≡ Some s.1 = ap (λ l. last_or l None) s.2 ∙ last_or-push s.0 s.1 None in
+            let h : car.cell < rear_at first s.1 = subst (λ o. MatchOption o (Unit {0}) (λ k. car.cell < rear_at first k)) last clear in
+            subst (λ o. car.cell < low_of o count) (sym (w.at_rear ∙ ap (option_map (rear_at first)) last)) h)
+      ]
+
       lane_now : IsFalling (cell_at y) count (w.done ++ key ∷ tail.0)
       lane_now =
           let f : IsFalling (cell_at first) car.cell tail.0 = subst (λ c. IsFalling (cell_at first) c tail.0) x_is parts.2 in
@@ -187,7 +215,7 @@ module _ (drive : Drive) (closed : List Bool) where
           cell-of : (k : ℕ) → Has tail.0 k → cell_at first k ≡ cell_at y k
           cell-of k h = ap (λ o. unwrap_or (option_map (λ (c : Car). c.cell) o) 0) (sym (w.same k (subst (λ l. Has l k) (sym tail.1) (has-later key k tail.0 h))))
 
-      lane_y : IsLane y n count
+      lane_y : IsFalling (cell_at y) count (list_at y n)
       lane_y = subst (IsFalling (cell_at y) count) (sym split) lane_now
 
       away-join : (us vs : List ℕ) → Away key us → Away key vs → Away key (us ++ vs)
@@ -201,7 +229,7 @@ module _ (drive : Drive) (closed : List Bool) where
       has-left us vs k h = (h.0, h.1 ++ vs, ap (λ l. l ++ vs) h.2 ∙ append_assoc h.0 (k ∷ h.1) vs)
 
       -- the cells after the key has gone from its cell
-      reads : (a : Yard) → IsWhole a → IsLane a n count → ((k : ℕ) → k ≢ key → car_of a k ≡ car_of y k) → (z : ℕ) → key_at (cell_at a) (list_at a n) z ≡ key_at (cell_at a) (w.done ++ tail.0) z → vehicle_at (cells_at a n count) z ≡ vehicle_at (set (cells_at y n count) car.cell None) z
+      reads : (a : Yard) → IsWhole a → IsFalling (cell_at a) count (list_at a n) → ((k : ℕ) → k ≢ key → car_of a k ≡ car_of y k) → (z : ℕ) → key_at (cell_at a) (list_at a n) z ≡ key_at (cell_at a) (w.done ++ tail.0) z → vehicle_at (cells_at a n count) z ≡ vehicle_at (set (cells_at y n count) car.cell None) z
       reads a whole lane_a cars z at =
           cells-read a n count whole lane_a z
           ∙ ap (option_and_then (vehicle_with a)) at
@@ -218,7 +246,7 @@ module _ (drive : Drive) (closed : List Bool) where
           ]
 
       module _ (speed place : ℕ) (u : Yard) (d : Drives y u key speed place) (place_is : place ≡ car.cell + speed) (len : length closed ≡ count) (next : Option ℕ) (behind : IsBehind y key next)
-          (speed_is : speed ≡ speed_after drive.limit (gap_to (nearest ahead (entrance_after closed car.cell)) car.cell count (drive.is_open_to (vehicle_of car))) (drive.dawdles car.number) car.speed) where
+          (speed_is : speed ≡ speed_after drive.limit (gap_to (nearest rear (entrance_after closed car.cell)) car.cell count (drive.is_open_to (vehicle_of car))) (drive.dawdles car.number) car.speed) where
         driven : car_of u key ≡ Some (record car { speed = speed; cell = place })
         driven = d.driven ∙ ap (option_map (λ (c : Car). record c { speed = speed; cell = place })) is
 
@@ -229,17 +257,26 @@ module _ (drive : Drive) (closed : List Bool) where
         cars_u k ne = ap (option_map (λ (e : Kept). e.car)) (d.others k ne)
 
         moved_here : moved drive (cells_at first n count) closed car.cell ≡ Some (with_speed (vehicle_of car) speed)
-        moved_here = moved-is (cells_at first n count) car.cell (vehicle_of car) (nearest ahead (entrance_after closed car.cell)) speed there (obstacle len) (rw size speed_is)
+        moved_here = moved-is (cells_at first n count) car.cell (vehicle_of car) (nearest rear (entrance_after closed car.cell)) speed there (obstacle len) (rw size speed_is)
 
-        gap_bound : speed ≤ gap_to (nearest ahead (entrance_after closed car.cell)) car.cell count (drive.is_open_to (vehicle_of car))
-        gap_bound = subst (λ s. s ≤ gap_to (nearest ahead (entrance_after closed car.cell)) car.cell count (drive.is_open_to (vehicle_of car))) (sym speed_is) (speed-within drive.limit _ (drive.dawdles car.number) car.speed)
+        gap_bound : speed ≤ gap_to (nearest rear (entrance_after closed car.cell)) car.cell count (drive.is_open_to (vehicle_of car))
+        gap_bound = subst (λ s. s ≤ gap_to (nearest rear (entrance_after closed car.cell)) car.cell count (drive.is_open_to (vehicle_of car))) (sym speed_is) (speed-within drive.limit _ (drive.dawdles car.number) car.speed)
 
         behind_ahead : (a : ℕ) → ahead ≡ Some a → place < a
-        behind_ahead a e =
-            let g : speed ≤ gap_to (nearest (Some a) (entrance_after closed car.cell)) car.cell count (drive.is_open_to (vehicle_of car)) = subst (λ o. speed ≤ gap_to (nearest o (entrance_after closed car.cell)) car.cell count (drive.is_open_to (vehicle_of car))) e gap_bound in
-            let b = gap-within a (entrance_after closed car.cell) car.cell count (drive.is_open_to (vehicle_of car)) in
-            let l : car.cell < a = subst (λ o. car.cell < low_of o count) e low-above in
-            omega (arith, g, b)
+        behind_ahead a e = elim (snoc_cases w.was) as (λ _. place < a) [
+          | inl z ↦ absurd (let bad : ◌≡◌ {A = Option ℕ} None (Some a) = sym (w.at_ahead ∙ ap (λ l. option_map (cell_at first) (last_or l None)) z) ∙ e in cc)
+          | inr s ↦ (
+              let last : last_or w.was None ≡ Some s.1 = ap (λ l. last_or l None) s.2 ∙ last_or-push s.0 s.1 None in
+              let r = rear_at first s.1 in
+              let is_rear : rear ≡ Some r = w.at_rear ∙ ap (option_map (rear_at first)) last in
+              let front : ◌≡◌ {A = Option ℕ} (Some (cell_at first s.1)) (Some a) = sym (w.at_ahead ∙ ap (option_map (cell_at first)) last) ∙ e in
+              let at : cell_at first s.1 ≡ a = cc in
+              let g : speed ≤ gap_to (nearest (Some r) (entrance_after closed car.cell)) car.cell count (drive.is_open_to (vehicle_of car)) = subst (λ o. speed ≤ gap_to (nearest o (entrance_after closed car.cell)) car.cell count (drive.is_open_to (vehicle_of car))) is_rear gap_bound in
+              let b = gap-within r (entrance_after closed car.cell) car.cell count (drive.is_open_to (vehicle_of car)) in
+              let l : car.cell < r = subst (λ o. MatchOption o (Unit {0}) (λ k. car.cell < rear_at first k)) last clear in
+              let under = rear-under first s.1 in
+              omega (arith, g, b))
+        ]
 
         none-or-some : (o : Option ℕ) → (o ≡ None) ⊎ ((a : ℕ) × (o ≡ Some a))
         none-or-some None = inl refl
@@ -269,10 +306,13 @@ module _ (drive : Drive) (closed : List Bool) where
         ahead_step : ◌≡◌ {A = Option ℕ} (Some car.cell) (option_map (cell_at first) (last_or (w.was ++ key ∷ []) None))
         ahead_step = sym (ap (option_map (cell_at first)) (last_or-push w.was key None) ∙ ap Some x_is)
 
-        -- the cells between the car and the one ahead were empty
+        rear_step : ◌≡◌ {A = Option ℕ} (Some (car.cell - (car.size - 1))) (option_map (rear_at first) (last_or (w.was ++ key ∷ []) None))
+        rear_step = sym (ap (option_map (rear_at first)) (last_or-push w.was key None) ∙ ap Some r_is)
+
+        -- no front stood in the cells between the car and the one ahead
         empty : (z : ℕ) → car.cell + 1 ≤ z → z < low_of ahead count → vehicle_at (cells_at first n count) z ≡ None
         empty z a b =
-            cells-read first n count w.whole_first lane z
+            cells-read first n count w.whole_first lane.falls z
             ∙ ap (option_and_then (vehicle_with first)) (ap (λ l. key_at (cell_at first) l z) before
             ∙ nobody-between (cell_at first) count (car.cell + 1) w.was (key ∷ tail.0) z falls_first (subst (λ o. z < low_of o count) w.at_ahead b) ((let e = x_is in let h : cell_at first key < car.cell + 1 = omega arith in h), parts.2) a)
 
@@ -332,7 +372,7 @@ module _ (drive : Drive) (closed : List Bool) where
             at-entry None h p = absurd (cc)
             at-entry (Some e) h p = (let l = h in let bad : ◌≡◌ {A = Option ℕ} None (Some n) = sym l ∙ p in cc)
 
-        pub IsPass-stay : place < count → IsPass first u n count (Some car.cell) next away fast × (left u n next < left y n cursor)
+        pub IsPass-stay : place < count → IsPass first u n count (Some car.cell) (Some (car.cell - (car.size - 1))) next away fast × (left u n next < left y n cursor)
         IsPass-stay h =
             let v = with_speed (vehicle_of car) speed in
             let old = cells_at first n count in
@@ -340,7 +380,7 @@ module _ (drive : Drive) (closed : List Bool) where
             let falls_u : IsFalling (cell_at u) count (w.done ++ key ∷ tail.0) =
             falling-join (cell_at u) count (low_of ahead count) w.done (key ∷ tail.0) (done_falls u cars_u) (done_over u cars_u) within
             ((let e = cell_key in let g : cell_at u key < low_of ahead count = omega arith in g), falling-wider (cell_at u) car.cell (cell_at u key) tail.0 (let e = cell_key in omega arith) (tail_falls u cars_u)) in
-            let lane_u : IsLane u n count = subst (IsFalling (cell_at u) count) (sym list_u) falls_u in
+            let lane_u : IsFalling (cell_at u) count (list_at u n) = subst (IsFalling (cell_at u) count) (sym list_u) falls_u in
             let at_place : key_at (cell_at u) (list_at u n) (car.cell + speed) ≡ Some key =
             ap (λ l. key_at (cell_at u) l (car.cell + speed)) list_u ∙ ap (key_at (cell_at u) (w.done ++ key ∷ tail.0)) (sym place_is ∙ sym cell_key) ∙ key_at-split (cell_at u) count w.done key tail.0 falls_u in
             let step_u : list_at u n ≡ (w.done ++ key ∷ []) ++ tail.0 = list_u ∙ sym (append_assoc w.done (key ∷ []) tail.0) in
@@ -359,6 +399,7 @@ module _ (drive : Drive) (closed : List Bool) where
                 split = step_u;
                 at_cursor = is_next;
                 at_ahead = ahead_step;
+                at_rear = rear_step;
                 falls = falling-join (cell_at u) count (low_of ahead count) w.done (key ∷ []) (done_falls u cars_u) (done_over u cars_u) within ((let e = cell_key in let g : cell_at u key < low_of ahead count = omega arith in g), tt);
                 over = from-push (cell_at u) car.cell w.done key (from-lower (cell_at u) car.cell (low_of ahead count) w.done (let l = low-above in omega arith) (done_over u cars_u)) (let e = cell_key in omega arith);
                 same = tail_agrees u cars_u;
@@ -401,13 +442,13 @@ module _ (drive : Drive) (closed : List Bool) where
           cars_a : (k : ℕ) → k ≢ key → car_of a k ≡ car_of y k
           cars_a k ne = ap (option_map (λ (e : Kept). e.car)) (l.others k ne) ∙ cars_u k ne
 
-          pub IsPass-leave : IsPass first a n count (Some car.cell) next (Some key) (Some speed) × (left a n next < left y n cursor)
+          pub IsPass-leave : IsPass first a n count (Some car.cell) (Some (car.cell - (car.size - 1))) next (Some key) (Some speed) × (left a n next < left y n cursor)
           IsPass-leave =
               let v = with_speed (vehicle_of car) speed in
               let old = cells_at first n count in
               let falls_a : IsFalling (cell_at a) count (w.done ++ tail.0) =
               falling-join (cell_at a) count (low_of ahead count) w.done tail.0 (done_falls a cars_a) (done_over a cars_a) within (falling-wider (cell_at a) car.cell (low_of ahead count) tail.0 (let b = low-above in omega arith) (tail_falls a cars_a)) in
-              let lane_a : IsLane a n count = subst (IsFalling (cell_at a) count) (sym list_a) falls_a in
+              let lane_a : IsFalling (cell_at a) count (list_at a n) = subst (IsFalling (cell_at a) count) (sym list_a) falls_a in
               let long : length old ≤ car.cell + speed = rw size (omega arith) in
               let goes : leaver_from drive old closed car.cell ≡ Some v = leaver_from-goes drive old closed car.cell v inside moved_here long in (
                 record {
@@ -418,6 +459,7 @@ module _ (drive : Drive) (closed : List Bool) where
                   split = list_a;
                   at_cursor = is_next;
                   at_ahead = ahead_step;
+                  at_rear = rear_step;
                   falls = done_falls a cars_a;
                   over = from-lower (cell_at a) car.cell (low_of ahead count) w.done (let b = low-above in omega arith) (done_over a cars_a);
                   same = tail_agrees a cars_a;

@@ -1,5 +1,6 @@
 -- The value of a call: it has no float, prints no LF, is no deeper than the parser reads, and says that call.
-use Rattle.std.proofs.Common.{◌≡◌, ℕ, ◌≤◌, List, [], ◌∷◌, true, false, Some, refl, arith}
+use Rattle.std.proofs.Common.{◌≡◌, ℕ, ◌≤◌, ◌==◌, List, [], ◌∷◌, true, false, Some, refl, sym, ◌∙◌, inl, inr, arith}
+use Rattle.std.proofs.lemmas.Bool.{cases_Bool}
 use Rattle.json.proofs.Printed.Utf8.{IsUtf8-are_ascii}
 use Rattle.json.specs.Print.{escape_byte}
 use Rattle.serde_json.specs.Data.{Data, depth, items_depth}
@@ -18,7 +19,7 @@ use Rattle.street_tape.proofs.Unbroken.{is_clear, are_items_clear}
 use Rattle.street_text.proofs.Again.{command_again, command_plain}
 use Rattle.street_text.proofs.CommandData.{whole_command}
 use Rattle.street_text.proofs.Plain.{IsPlain}
-use Rattle.street_text.specs.CommandTexts.{command_data}
+use Rattle.street_text.specs.CommandTexts.{command_data, tells_size}
 
 -- ---- it has no float
 
@@ -38,9 +39,9 @@ outcome_again Whole = refl
 outcome_again Starved = refl
 outcome_again (Short k) = refl
 
-pub entry_again : (e : Entry) → entry_in (entry_data e) ≡ Some e
+pub entry_again : (e : Entry) → tells_size e.command ≡ false → entry_in (entry_data e) ≡ Some e
 unfolding entry_in
-entry_again e = rw (command_again e.command, outcome_again e.outcome) refl
+entry_again e untold = rw (command_again false e.command (λ told. sym untold ∙ told), outcome_again e.outcome) refl
 
 -- ---- with numbers of 64 bits it is plain
 
@@ -68,7 +69,10 @@ clear_phase p = rw (clear_list green_data (λ g. refl) p.greens) refl
 clear_command : (c : Command) → is_clear (command_data c) ≡ true
 unfolding escape_byte
 clear_command (Load net) = rw (clear_list link_data (λ l. refl) net.links, clear_list node_data (λ n. refl) net.nodes, clear_list turn_data (λ t. refl) net.turns) refl
-clear_command (Enter plan lane depart) = rw (clear_list number_data (λ n. refl) plan) refl
+clear_command (Enter plan lane depart size) = elim (cases_Bool (size == 1)) as (λ _. is_clear (command_data (Enter plan lane depart size)) ≡ true) [
+  | inl one ↦ rw (one, clear_list number_data (λ n. refl) plan) refl
+  | inr other ↦ rw (other, clear_list number_data (λ n. refl) plan) refl
+]
 clear_command (Signal node offset phases) = rw (clear_list phase_data clear_phase phases) refl
 clear_command (Advance steps) = refl
 clear_command (CloseLane link lane first last) = refl
@@ -109,7 +113,12 @@ flat_command (Load net) =
     let nodes = list_depth node_data 1 (λ n. omega arith) net.nodes in
     let turns = list_depth turn_data 1 (λ t. omega arith) net.turns in
     omega arith
-flat_command (Enter plan lane depart) = let links = list_depth number_data 1 (λ n. omega arith) plan in omega arith
+flat_command (Enter plan lane depart size) =
+    let links = list_depth number_data 1 (λ n. omega arith) plan in
+    elim (cases_Bool (size == 1)) as (λ _. depth (command_data (Enter plan lane depart size)) ≤ 5) [
+      | inl one ↦ rw one (omega arith)
+      | inr other ↦ rw other (omega arith)
+    ]
 flat_command (Signal node offset phases) = let each = list_depth phase_data 3 phase_depth phases in omega arith
 flat_command (Advance steps) = omega arith
 flat_command (CloseLane link lane first last) = omega arith

@@ -2,3 +2,4 @@ pub mod Unbroken
 pub mod EntryData
 pub mod Told
 pub mod Sending
+mod Sizes

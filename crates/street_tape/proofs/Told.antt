@@ -24,7 +24,7 @@ value_told d plain shallow short =
 -- a call
 pub entry_told : (e : Entry) → EntryFits e → entry_reading (compact_text (entry_data e)) ≡ Ok e
 unfolding entry_reading
-entry_told e h = rw (value_told (entry_data e) (entry_plain e h) (shallow_entry e) h.line, entry_again e) refl
+entry_told e h = rw (value_told (entry_data e) (entry_plain e h) (shallow_entry e) h.line, entry_again e h.untold) refl
 
 head_short : length (compact_text head_data) ≤ longest_tape_line
 unfolding escape_byte

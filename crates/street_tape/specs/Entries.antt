@@ -16,6 +16,7 @@ use Rattle.street_reading.specs.Reading.{number_in, field, number_field, command
 use Rattle.street_reading.specs.declared.fault.LineFault.{LineFault}
 use Rattle.street_reading.specs.declared.fault.LineFault.TheVariants.{LineTooLong, NotJson, BadCommand, Starved as NoMemory}
 use Rattle.street_tape.specs.Tapes.{entry_data}
+use Rattle.street_text.specs.CommandTexts.{tells_size}
 use Rattle.street_text.specs.Fits.{IsWord, Fits}
 
 abbrev pub longest_tape_line : ℕ
@@ -65,10 +66,11 @@ named_outcome name = if bytes_eq name (codes "whole") then Some Whole else (if b
 unfoldable pub outcome_in : Data → Option Outcome
 outcome_in d = option_map_or named_outcome (as_str d) (option_map Short (number_in d))
 
+-- sizes are not read: in this version each vehicle that enters has size 1
 unfoldable pub entry_in : Data → Option Entry
 entry_in d =
     Some (λ command outcome session. entry session command outcome)
-    with field command_in (codes "command") d
+    with field (command_in false) (codes "command") d
     with field outcome_in (codes "outcome") d
     with number_field (codes "session") d
 
@@ -107,9 +109,10 @@ OutcomeFits Whole = ⊤
 OutcomeFits Starved = ⊤
 OutcomeFits (Short k) = IsWord k
 
--- each number of the call is one of 64 bits, and its line is no longer than a tape line may be
+-- each number of the call is one of 64 bits, no size is told, and its line is no longer than a tape line may be
 pub record EntryFits (e : Entry) : Type 0 where
   pub session : IsWord e.session
   pub command : Fits e.command
   pub outcome : OutcomeFits e.outcome
+  pub untold : tells_size e.command ≡ false
   pub line : length (compact_text (entry_data e)) ≤ longest_tape_line

@@ -1,12 +1,13 @@
 -- The text of a tape.
 -- Source: this profile. A first line with the version, then a line for each call of the journal; keys stand in byte order, and each line ends with LF.
-use Rattle.std.specs.Prelude.{ℕ, List, [], ◌∷◌, ◌++◌, codes}
+use Rattle.std.specs.Prelude.{ℕ, List, [], ◌∷◌, ◌++◌, Bool, codes}
+use Rattle.std.specs.List.{list_any}
 use Rattle.serde_json.specs.Data.{Data, number, unsigned, string, object, no_members, member}
 use Rattle.street_base.specs.declared.reply.Outcome.{Outcome}
 use Rattle.street_base.specs.declared.reply.Outcome.TheVariants.{Whole, Starved, Short}
 use Rattle.street_desk.specs.declared.journal.Entry.{Entry}
 use Rattle.street_printing.specs.Printing.{number_at, line_of}
-use Rattle.street_text.specs.CommandTexts.{command_data}
+use Rattle.street_text.specs.CommandTexts.{command_data, tells_size}
 
 -- a word, or the number of the steps that were made
 abbrev pub outcome_data : Outcome → Data
@@ -34,6 +35,10 @@ head_line = line_of head_data
 abbrev pub entry_lines : List Entry → List ℕ
 entry_lines [] = []
 entry_lines (e ∷ es) = entry_line e ++ entry_lines es
+
+-- one of these calls tells a size, which a tape of this version does not
+abbrev pub tell_sizes : List Entry → Bool
+tell_sizes es = list_any (λ e. tells_size e.command) es
 
 -- the tape of a journal
 abbrev pub tape_text : List Entry → List ℕ

@@ -64,13 +64,13 @@ fn number_of(value: &Value, name: &str) -> Result<u64, LineFault>
     found.as_u64().ok_or(LineFault::BadCommand)
 }
 
-/// The call that a JSON value says.
+/// The call that a JSON value says. In this version of a tape sizes are not read.
 #[tactic(auto, unfolding(crate::specs::Entries::entry_in))]
 fn entry_of(alloc: Global, value: &Value) -> Result<Entry, LineFault>
     ensures { Gives result (or_fault LineFault.BadCommand (entry_in (view value.now))) }
 {
     let command = value.get("command").ok_or(LineFault::BadCommand)?;
-    let command = command_of(alloc, command)?;
+    let command = command_of(alloc, command, false)?;
     let outcome = value.get("outcome").ok_or(LineFault::BadCommand)?;
     let outcome = outcome_of(outcome)?;
     let session = number_of(value, "session")?;

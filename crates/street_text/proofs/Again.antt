@@ -1,5 +1,6 @@
 -- The value of a command says that command, and is plain.
-use Rattle.std.proofs.Common.{◌≡◌, List, [], ◌∷◌, All, Option, Some, refl}
+use Rattle.std.proofs.Common.{◌≡◌, ℕ, ◌==◌, Bool, true, false, not, List, [], ◌∷◌, All, Option, Some, refl, sym, ap, inl, inr}
+use Rattle.std.proofs.lemmas.Bool.{cases_Bool, eqb-true, true≢false}
 use Rattle.std.proofs.lemmas.List.Elements.{All-head, All-tail}
 use Rattle.json.proofs.Printed.Utf8.{IsUtf8-are_ascii}
 use Rattle.serde_json.specs.Data.{Data}
@@ -10,7 +11,7 @@ use Rattle.street_base.specs.declared.command.PhaseSpec.{PhaseSpec}
 use Rattle.street_base.specs.declared.net.NodeSpec.{NodeSpec}
 use Rattle.street_base.specs.declared.net.LinkSpec.{LinkSpec}
 use Rattle.street_base.specs.declared.net.TurnSpec.{TurnSpec}
-use Rattle.street_text.specs.CommandTexts.{command_data}
+use Rattle.street_text.specs.CommandTexts.{command_data, tells_size}
 use Rattle.street_printing.specs.Printing.{items_from, number_data, node_data, link_data, turn_data, green_data, phase_data}
 use Rattle.street_reading.specs.Reading.{entries_of, number_in, row_in, node_in, link_in, turn_in, green_in, phase_in, command_in, named, load_in, numbers_in, signal_in, enter_in, advance_in, close_in, reopen_in, take_out_in, place_meter_in, read_meter_in, vehicle_in, lane_in}
 use Rattle.street_text.specs.Fits.{IsWord, NodeFits, LinkFits, TurnFits, GreenFits, PhaseFits, Fits}
@@ -42,21 +43,29 @@ phase_again : (p : PhaseSpec) → phase_in (phase_data p) ≡ Some p
 unfolding phase_in
 phase_again p = rw (list_again green_in green_data green_again p.greens) refl
 
-pub command_again : (c : Command) → command_in (command_data c) ≡ Some c
+enter_again : (b sized : Bool) (plan : List ℕ) (lane depart size : ℕ) → (size == 1) ≡ b → (not (size == 1) ≡ true → sized ≡ true) → command_in sized (command_data (Enter plan lane depart size)) ≡ Some (Enter plan lane depart size)
+unfolding command_in named enter_in
+enter_again true true plan lane depart size one told = rw (eqb-true size 1 one, list_again number_in number_data (λ n. refl) plan) refl
+enter_again true false plan lane depart size one told = rw (eqb-true size 1 one, list_again number_in number_data (λ n. refl) plan) refl
+enter_again false true plan lane depart size other told = rw (other, list_again number_in number_data (λ n. refl) plan) refl
+enter_again false false plan lane depart size other told = absurd (true≢false (sym (told (ap not other))))
+
+-- where a size is told, sizes are read
+pub command_again : (sized : Bool) (c : Command) → (tells_size c ≡ true → sized ≡ true) → command_in sized (command_data c) ≡ Some c
 unfolding command_in named load_in numbers_in signal_in enter_in advance_in close_in reopen_in take_out_in place_meter_in read_meter_in vehicle_in lane_in
-command_again (Load net) =
+command_again sized (Load net) told =
     rw (list_again node_in node_data node_again net.nodes, list_again link_in link_data link_again net.links, list_again turn_in turn_data turn_again net.turns) refl
-command_again (Enter plan lane depart) = rw (list_again number_in number_data (λ n. refl) plan) refl
-command_again (Signal node offset phases) = rw (list_again phase_in phase_data phase_again phases) refl
-command_again (Advance steps) = refl
-command_again (CloseLane link lane first last) = refl
-command_again (ReopenLane link lane first last) = refl
-command_again (TakeOut car) = refl
-command_again (PlaceMeter link lane cell period) = refl
-command_again (ReadMeter meter) = refl
-command_again (Vehicle car) = refl
-command_again (Lane link lane) = refl
-command_again Count = refl
+command_again sized (Enter plan lane depart size) told = enter_again (size == 1) sized plan lane depart size refl told
+command_again sized (Signal node offset phases) told = rw (list_again phase_in phase_data phase_again phases) refl
+command_again sized (Advance steps) told = refl
+command_again sized (CloseLane link lane first last) told = refl
+command_again sized (ReopenLane link lane first last) told = refl
+command_again sized (TakeOut car) told = refl
+command_again sized (PlaceMeter link lane cell period) told = refl
+command_again sized (ReadMeter meter) told = refl
+command_again sized (Vehicle car) told = refl
+command_again sized (Lane link lane) told = refl
+command_again sized Count told = refl
 
 -- ---- with numbers of 64 bits it is plain
 
@@ -85,9 +94,12 @@ command_plain (Load net) h =
     let nodes = list_plain NodeFits node_data node_plain net.nodes h.0 in
     let turns = list_plain TurnFits turn_data turn_plain net.turns h.2 in
     ((IsUtf8-are_ascii _ refl, h.5, (IsUtf8-are_ascii _ refl, IsUtf8-are_ascii _ refl, (IsUtf8-are_ascii _ refl, h.4, (IsUtf8-are_ascii _ refl, links, (IsUtf8-are_ascii _ refl, nodes, (IsUtf8-are_ascii _ refl, h.6, (IsUtf8-are_ascii _ refl, h.7, (IsUtf8-are_ascii _ refl, turns, (IsUtf8-are_ascii _ refl, h.3, tt))))))))), refl)
-command_plain (Enter plan lane depart) h =
+command_plain (Enter plan lane depart size) h =
     let links = list_plain IsWord number_data (λ n fits. fits) plan h.0 in
-    ((IsUtf8-are_ascii _ refl, IsUtf8-are_ascii _ refl, (IsUtf8-are_ascii _ refl, h.2, (IsUtf8-are_ascii _ refl, h.1, (IsUtf8-are_ascii _ refl, links, tt)))), refl)
+    elim (cases_Bool (size == 1)) as (λ _. IsPlain (command_data (Enter plan lane depart size))) [
+      | inl one ↦ rw one ((IsUtf8-are_ascii _ refl, IsUtf8-are_ascii _ refl, (IsUtf8-are_ascii _ refl, h.2, (IsUtf8-are_ascii _ refl, h.1, (IsUtf8-are_ascii _ refl, links, tt)))), refl)
+      | inr other ↦ rw other ((IsUtf8-are_ascii _ refl, IsUtf8-are_ascii _ refl, (IsUtf8-are_ascii _ refl, h.2, (IsUtf8-are_ascii _ refl, h.1, (IsUtf8-are_ascii _ refl, links, (IsUtf8-are_ascii _ refl, h.3, tt))))), refl)
+    ]
 command_plain (Signal node offset phases) h =
     let each = list_plain PhaseFits phase_data phase_plain phases h.2 in
     ((IsUtf8-are_ascii _ refl, IsUtf8-are_ascii _ refl, (IsUtf8-are_ascii _ refl, h.0, (IsUtf8-are_ascii _ refl, h.1, (IsUtf8-are_ascii _ refl, each, tt)))), refl)

@@ -1,5 +1,6 @@
 -- The value of a command has no float, and is no deeper than the parser reads.
-use Rattle.std.proofs.Common.{◌≡◌, ℕ, ◌≤◌, List, [], ◌∷◌, false, refl, arith}
+use Rattle.std.proofs.Common.{◌≡◌, ℕ, ◌≤◌, ◌==◌, List, [], ◌∷◌, false, refl, inl, inr, arith}
+use Rattle.std.proofs.lemmas.Bool.{cases_Bool}
 use Rattle.serde_json.specs.Data.{Data, depth, items_depth}
 use Rattle.serde_json.specs.Read.{max_depth}
 use Rattle.serde_json.specs.Written.{has_float}
@@ -17,7 +18,10 @@ whole_phase p = rw (whole_list green_data (λ g. refl) p.greens) refl
 
 pub whole_command : (c : Command) → has_float (command_data c) ≡ false
 whole_command (Load net) = rw (whole_list link_data (λ l. refl) net.links, whole_list node_data (λ n. refl) net.nodes, whole_list turn_data (λ t. refl) net.turns) refl
-whole_command (Enter plan lane depart) = rw (whole_list number_data (λ n. refl) plan) refl
+whole_command (Enter plan lane depart size) = elim (cases_Bool (size == 1)) as (λ _. has_float (command_data (Enter plan lane depart size)) ≡ false) [
+  | inl one ↦ rw (one, whole_list number_data (λ n. refl) plan) refl
+  | inr other ↦ rw (other, whole_list number_data (λ n. refl) plan) refl
+]
 whole_command (Signal node offset phases) = rw (whole_list phase_data whole_phase phases) refl
 whole_command (Advance steps) = refl
 whole_command (CloseLane link lane first last) = refl
@@ -44,7 +48,12 @@ shallow_command (Load net) =
     let nodes = list_depth node_data 1 (λ n. omega arith) net.nodes in
     let turns = list_depth turn_data 1 (λ t. omega arith) net.turns in
     omega arith
-shallow_command (Enter plan lane depart) = let links = list_depth number_data 1 (λ n. omega arith) plan in omega arith
+shallow_command (Enter plan lane depart size) =
+    let links = list_depth number_data 1 (λ n. omega arith) plan in
+    elim (cases_Bool (size == 1)) as (λ _. depth (command_data (Enter plan lane depart size)) ≤ max_depth) [
+      | inl one ↦ rw one (omega arith)
+      | inr other ↦ rw other (omega arith)
+    ]
 shallow_command (Signal node offset phases) = let each = list_depth phase_data 3 phase_depth phases in omega arith
 shallow_command (Advance steps) = omega arith
 shallow_command (CloseLane link lane first last) = omega arith

@@ -1,7 +1,7 @@
 -- The text of a command.
--- Source: this profile. All its fields are written, keys in byte order.
-use Rattle.std.specs.Prelude.{ℕ, List, codes}
-use Rattle.serde_json.specs.Data.{Data, object, no_members}
+-- Source: this profile. All its fields are written but a size of 1, keys in byte order.
+use Rattle.std.specs.Prelude.{ℕ, ◌==◌, List, Bool, false, not, if◌then◌else◌, codes}
+use Rattle.serde_json.specs.Data.{Data, Members, object, no_members}
 use Rattle.serde_json.specs.Written.{compact_text}
 use Rattle.street_base.specs.declared.command.Command.{Command}
 use Rattle.street_base.specs.declared.command.Command.TheVariants.{Load, Enter, Signal, Advance, CloseLane, ReopenLane, TakeOut, PlaceMeter, ReadMeter, Vehicle, Lane, Count}
@@ -26,11 +26,20 @@ stretch_data_of name link lane first last =
 abbrev pub car_data_of : List ℕ → ℕ → Data
 car_data_of name car = object (number_at (codes "car") car (text_at (codes "cmd") name no_members))
 
+-- a vehicle enters whose size is told: it is not 1
+abbrev pub tells_size : Command → Bool
+tells_size (Enter plan lane depart size) = not (size == 1)
+tells_size c = false
+
+-- the size of a vehicle, where it is not 1
+abbrev pub size_at : ℕ → Members → Members
+size_at size more = if size == 1 then more else number_at (codes "size") size more
+
 abbrev pub command_data : Command → Data
 command_data (Load net) = load_data net
-command_data (Enter plan lane depart) =
+command_data (Enter plan lane depart size) =
     object (text_at (codes "cmd") (codes "enter") (number_at (codes "depart") depart (number_at (codes "lane") lane
-    (list_at (codes "plan") number_data plan no_members))))
+    (list_at (codes "plan") number_data plan (size_at size no_members)))))
 command_data (Signal node offset phases) =
     object (text_at (codes "cmd") (codes "signal") (number_at (codes "node") node (number_at (codes "offset") offset
     (list_at (codes "phases") phase_data phases no_members))))

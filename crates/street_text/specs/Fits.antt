@@ -32,7 +32,7 @@ PhaseFits p = IsWord p.duration × All GreenFits p.greens
 abbrev pub Fits : Command → Type 0
 Fits (Load net) =
     All NodeFits net.nodes × All LinkFits net.links × All TurnFits net.turns × IsWord net.zone × IsWord net.dawdle × IsWord net.change × IsWord net.seed × IsWord net.start
-Fits (Enter plan lane depart) = All IsWord plan × IsWord lane × IsWord depart
+Fits (Enter plan lane depart size) = All IsWord plan × IsWord lane × IsWord depart × IsWord size
 Fits (Signal node offset phases) = IsWord node × IsWord offset × All PhaseFits phases
 Fits (Advance steps) = IsWord steps
 Fits (CloseLane link lane first last) = IsWord link × IsWord lane × IsWord first × IsWord last

@@ -1,7 +1,7 @@
 //! From a command to its text.
 //!
 //! Source: this profile.
-ghost use Rattle.std.specs.Prelude.{◌≡◌, ◌≤◌, IfOk, Ok, length};
+ghost use Rattle.std.specs.Prelude.{◌≡◌, ◌≤◌, ◌==◌, IfOk, Ok, Some, None, if◌then◌else◌, length};
 ghost use Rattle.serde_json.specs.View.{view};
 ghost use Rattle.street_base.specs.declared.command.Command.TheVariants.{Load, Enter, Signal, Advance, PlaceMeter, ReadMeter, Lane, Count};
 ghost use Rattle.street_reading.specs.Reading.{longest_line, reading};
@@ -31,8 +31,21 @@ fn load_value(alloc: Global, net: &NetSpec) -> Result<Value, AllocError>
     )
 }
 
-fn enter_value(alloc: Global, plan: &[u64], lane: u64, depart: u64) -> Result<Value, AllocError>
-    ensures { IfOk result (λ v. view v ≡ command_data (Enter plan.now lane depart)) }
+/// The size of a vehicle, where it is not 1.
+fn told_size(size: u64) -> Option<u64>
+    ensures { result ≡ (if size == 1 then None else Some size) }
+{
+    if size == 1 { None } else { Some(size) }
+}
+
+fn enter_value(
+    alloc: Global,
+    plan: &[u64],
+    lane: u64,
+    depart: u64,
+    size: u64,
+) -> Result<Value, AllocError>
+    ensures { IfOk result (λ v. view v ≡ command_data (Enter plan.now lane depart size)) }
 {
     object_value(
         alloc,
@@ -41,6 +54,7 @@ fn enter_value(alloc: Global, plan: &[u64], lane: u64, depart: u64) -> Result<Va
             ("depart", Member::Number(depart)),
             ("lane", Member::Number(lane)),
             ("plan", Member::Numbers(plan)),
+            ("size", Member::Optional(told_size(size))),
         ],
     )
 }
@@ -171,12 +185,12 @@ pub fn command_value(alloc: Global, command: &Command) -> Result<Value, AllocErr
 {
     match command {
         Command::Load(net) => load_value(alloc, net),
-        Command::Enter { plan, lane, depart } => enter_value(
-            alloc,
-            plan.as_slice(),
-            *lane,
-            *depart,
-        ),
+        Command::Enter {
+            plan,
+            lane,
+            depart,
+            size,
+        } => enter_value(alloc, plan.as_slice(), *lane, *depart, *size),
         Command::Signal {
             node,
             offset,
@@ -209,7 +223,7 @@ pub fn command_value(alloc: Global, command: &Command) -> Result<Value, AllocErr
     }
 }
 
-/// The text of a command: one JSON object with all its fields, its keys in byte order, and no line end. It reads as the
+/// The text of a command: one JSON object with all its fields but a size of 1, its keys in byte order, and no line end. It reads as the
 /// command, if it is no longer than a line may be.
 ///
 /// # Errors

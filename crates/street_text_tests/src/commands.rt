@@ -86,11 +86,27 @@ fn prints_an_entry(rt: HostRuntime) -> Result<(), Fail> {
         plan: listing(rt.alloc(), &[10, 20])?,
         lane: 0,
         depart: 3,
+        size: 1,
     };
     check_text(
         &rt,
         &enter,
         "{\"cmd\":\"enter\",\"depart\":3,\"lane\":0,\"plan\":[10,20]}",
+    )
+}
+
+#[test]
+fn prints_an_entry_of_three_cells(rt: HostRuntime) -> Result<(), Fail> {
+    let enter = Command::Enter {
+        plan: listing(rt.alloc(), &[10, 20])?,
+        lane: 0,
+        depart: 3,
+        size: 3,
+    };
+    check_text(
+        &rt,
+        &enter,
+        "{\"cmd\":\"enter\",\"depart\":3,\"lane\":0,\"plan\":[10,20],\"size\":3}",
     )
 }
 

@@ -40,13 +40,14 @@ fn prints_a_vehicle_in_a_cell(rt: HostRuntime) -> Result<(), Fail> {
         lane: 1,
         cell: 9,
         speed: 4,
+        size: 2,
         plan: listing(rt.alloc(), &[20, 30])?,
     };
     check_vehicle(
         &rt,
         3,
         cell,
-        r#"{"car":3,"cell":9,"lane":1,"link":20,"plan":[20,30],"speed":4,"state":"cell"}"#,
+        r#"{"car":3,"cell":9,"lane":1,"link":20,"plan":[20,30],"size":2,"speed":4,"state":"cell"}"#,
     )
 }
 
@@ -57,13 +58,14 @@ fn prints_a_vehicle_in_a_buffer(rt: HostRuntime) -> Result<(), Fail> {
         lane: 0,
         ready: 5,
         speed: 4,
+        size: 4,
         plan: listing(rt.alloc(), &[10, 20])?,
     };
     check_vehicle(
         &rt,
         0,
         buffer,
-        r#"{"car":0,"lane":0,"link":10,"plan":[10,20],"ready":5,"speed":4,"state":"buffer"}"#,
+        r#"{"car":0,"lane":0,"link":10,"plan":[10,20],"ready":5,"size":4,"speed":4,"state":"buffer"}"#,
     )
 }
 
@@ -73,6 +75,7 @@ fn prints_a_vehicle_that_waits(rt: HostRuntime) -> Result<(), Fail> {
         link: 20,
         lane: 0,
         depart: 5,
+        size: 1,
         plan: listing(rt.alloc(), &[20])?,
     };
     check_vehicle(
@@ -225,11 +228,13 @@ fn prints_a_lane(rt: HostRuntime) -> Result<(), Fail> {
         car: 0,
         cell: 15,
         speed: 5,
+        size: 3,
     };
     let behind = CellEntry {
         car: 2,
         cell: 1,
         speed: 0,
+        size: 1,
     };
     let closed = [Stretch { first: 4, last: 6 }, Stretch { first: 9, last: 9 }];
     let waiting = WaitingEntry { car: 7, depart: 30 };
@@ -243,7 +248,7 @@ fn prints_a_lane(rt: HostRuntime) -> Result<(), Fail> {
     check_text(
         &rt,
         &full,
-        r#"{"buffer":[[3,5,12]],"cells":[[0,15,5],[2,1,0]],"closed":[[4,6],[9,9]],"waiting":[[7,30]]}"#,
+        r#"{"buffer":[[3,5,12]],"cells":[[0,15,5,3],[2,1,0]],"closed":[[4,6],[9,9]],"waiting":[[7,30]]}"#,
     )
 }
 

@@ -189,7 +189,7 @@ moved-lanes net xs ys i left es a moved of_left of_xs k d h =
     ])
 
 no_entry : Entry
-no_entry = record { to = record { link = 0; lane = 0 }; vehicle = record { number = 0; speed = 0; plan = []; position = 0 } }
+no_entry = record { to = record { link = 0; lane = 0 }; vehicle = record { number = 0; size = 1; speed = 0; plan = []; position = 0 } }
 
 -- one more of the hand-overs of tile i, from the last on
 pub moves-step : (xs ys zs : List Part) (i n : ℕ) (d : Part) (es : List Entry) → i < length xs → n < length (get_or xs i d).handed → length ys ≡ length xs

@@ -5,7 +5,7 @@ ghost use Rattle.street_lanes.specs.Lists.{HasShortPlan};
 use std::alloc::{AllocError, Global};
 use std::process::Abort;
 use std::test::Fail;
-use street_base::{Car, CarNo, LinkIx, LinkSpec, Listing, NetSpec, NodeSpec, Plan, Step};
+use street_base::{Car, CarNo, LinkIx, LinkSpec, Listing, NetSpec, NodeSpec, Plan, Size, Step};
 use street_lanes::{LaneSizes, Lanes};
 use street_net::{LaneId, Network};
 
@@ -72,6 +72,9 @@ fn car(alloc: Global, number: CarNo, depart: Step) -> Result<Car, AllocError>
     ensures { IfOk result HasShortPlan }
 {
     let plan = Vec::from_slice(alloc, &[LinkIx::new(0)])?;
+    let Some(size) = Size::new(1) else {
+        unreachable!();
+    };
     Ok(Car {
         plan: Box::new(alloc, Plan::from_vec(plan))?,
         number,
@@ -79,6 +82,7 @@ fn car(alloc: Global, number: CarNo, depart: Step) -> Result<Car, AllocError>
         step: depart,
         at: 0,
         speed: 1,
+        size,
     })
 }
 

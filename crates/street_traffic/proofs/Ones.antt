@@ -7,7 +7,7 @@ use Rattle.std.proofs.lemmas.List.Sums.{sum_by-cons}
 use Rattle.street_base.specs.declared.net.NetSpec.{NetSpec}
 use Rattle.street_base.specs.Network.{Place, is_place, places}
 use Rattle.street_base.specs.State.{Traffic, lane_at}
-use Rattle.street_base.specs.Census.{in_lane, one_if, IsWhole, IsSound}
+use Rattle.street_base.specs.Census.{in_lane, one_if, IsFormed, IsWhole}
 use Rattle.street_base.proofs.ReleaseLemmas.{is_place-same, is_place-refl}
 use Rattle.street_base.proofs.ReleaseCountLemmas.{in_lanes-places}
 use Rattle.street_base.proofs.FormLemmas.{shape-of}
@@ -51,11 +51,11 @@ one_if-le true = omega arith
 one_if-le false = omega arith
 
 -- where it is on one lane it is on no other
-pub on-one : (m : Traffic) → IsSound m → (number : ℕ) (p q : Place) → is_place p q ≡ false → list_any (is_place p) (places m.network) ≡ true → list_any (is_place q) (places m.network) ≡ true → 0 < in_lane number (lane_at m p) → in_lane number (lane_at m q) ≡ 0
-on-one m sound number p q ne a b some =
-    let all = in_lanes-places m (shape-of m sound.formed) number in
+pub on-one : (m : Traffic) → IsFormed m → IsWhole m → (number : ℕ) (p q : Place) → is_place p q ≡ false → list_any (is_place p) (places m.network) ≡ true → list_any (is_place q) (places m.network) ≡ true → 0 < in_lane number (lane_at m p) → in_lane number (lane_at m q) ≡ 0
+on-one m formed once number p q ne a b some =
+    let all = in_lanes-places m (shape-of m formed) number in
     let two = sum-two (λ r. in_lane number (lane_at m r)) (places m.network) p q ne a b in
-    let whole = sound.whole number in
+    let whole = once number in
     let most = one_if-le (nat_lt number (length m.ends)) in
     omega arith
 

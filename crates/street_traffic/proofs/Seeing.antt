@@ -114,7 +114,7 @@ module _ (net : NetSpec) (xs : List Part) (tiles : AreTiles net xs) (number : �
       let among : list_any (is_place p) (places m.network) ≡ true = subst (λ (n : NetSpec). list_any (is_place p) (places n) ≡ true) (sym net_is) of_p.0 in
       let is : seen_in m.network p number (lane_at m p) ≡ Some w = subst (λ (n : NetSpec). seen_in n p number (lane_at m p) ≡ Some w) (sym net_is) found.3 in
       let some = seen-some net p number (lane_at m p) w found.3 in
-      first-only (λ q. seen_in m.network q number (lane_at m q)) (places m.network) p w among is (λ q a ne. zero-unseen m.network q number (lane_at m q) (on-one m sound number p q ne among a some))
+      first-only (λ q. seen_in m.network q number (lane_at m q)) (places m.network) p w among is (λ q a ne. zero-unseen m.network q number (lane_at m q) (on-one m sound.formed sound.whole number p q ne among a some))
 
   -- a lane of one tile has it
   pub found-on-seen : (m : Traffic) → IsSound m → AllStand net xs m → (i : ℕ) (d : Part) (p : Place) (w : Whereabouts) → i < length xs → IsLane net p → is_own net (get_or xs i d).low (get_or xs i d).high p ≡ true → ◌≡◌ {A = Option Whereabouts} (Some w) (seen_in net p number (lane_at m p)) → ◌≡◌ {A = Option Whereabouts} (Some w) (seen m number)

@@ -89,28 +89,28 @@ module _ (net : NetSpec) (sites : List Site) (clock : ℕ) (xs ys : List Part) (
       omega arith
 
   -- with the next vehicle as it may be written
-  abbrev waits_at : Traffic → ℕ → ℕ → List ℕ → Place → Traffic
-  waits_at m depart number plan p = record m {
-    lanes = each_lane (λ q lane. if is_place q p then with_waiting (record { vehicle = record { number = number; speed = 0; plan = plan; position = 0 }; depart = depart }) lane else lane) m.lanes;
+  abbrev waits_at : Traffic → ℕ → ℕ → ℕ → List ℕ → Place → Traffic
+  waits_at m depart size number plan p = record m {
+    lanes = each_lane (λ q lane. if is_place q p then with_waiting (record { vehicle = record { number = number; size = size; speed = 0; plan = plan; position = 0 }; depart = depart }) lane else lane) m.lanes;
     ends = m.ends ++ None ∷ [];
   }
 
-  pub entered-stands : (number lane depart : ℕ) (plan ids : List ℕ) (p : Place) → AllDoIf net (λ m. in_lane number (lane_at m p) ≡ 0) (at_place p (with_waiting (record { vehicle = record { number = number; speed = 0; plan = plan; position = 0 }; depart = depart }))) xs ys
+  pub entered-stands : (number lane depart size : ℕ) (plan ids : List ℕ) (p : Place) → AllDoIf net (λ m. in_lane number (lane_at m p) ≡ 0) (at_place p (with_waiting (record { vehicle = record { number = number; size = size; speed = 0; plan = plan; position = 0 }; depart = depart }))) xs ys
       → (m : Traffic) → IsTrafficOf (view net sites clock xs ends) m → number ≡ length ends → plan ≡ plan_links m.network ids → p ≡ entry_of m.network ids lane → p.lane < (link_at m.network p.link).lanes
-      → IsTrafficOf (view net sites clock ys (ends ++ None ∷ [])) (entered m ids lane depart)
+      → IsTrafficOf (view net sites clock ys (ends ++ None ∷ [])) (entered m ids lane depart size)
   unfolding entered at_place
-  entered-stands number lane depart plan ids p does m t is_number is_plan is_entry within =
+  entered-stands number lane depart size plan ids p does m t is_number is_plan is_entry within =
       let next : number ≡ length m.ends = is_number ∙ ap length t.ends in
       let none : in_lane number (lane_at m p) ≡ 0 = subst (λ (n : ℕ). in_lane n (lane_at m p) ≡ 0) (sym next) (nowhere-next m t.sound p within) in
-      let stood : AllStand net ys (waits_at m depart number plan p) = ends-stand net ys (at_place p (with_waiting (record { vehicle = record { number = number; speed = 0; plan = plan; position = 0 }; depart = depart })) m) (m.ends ++ None ∷ []) (does.stand m none t.tiles) in
-      let named : AllStand net ys (waits_at m depart (length m.ends) plan p) = subst (λ (n : ℕ). AllStand net ys (waits_at m depart n plan p)) next stood in
-      let planned : AllStand net ys (waits_at m depart (length m.ends) (plan_links m.network ids) p) = subst (λ (l : List ℕ). AllStand net ys (waits_at m depart (length m.ends) l p)) is_plan named in
-      let placed : AllStand net ys (waits_at m depart (length m.ends) (plan_links m.network ids) (entry_of m.network ids lane)) = subst (λ (q : Place). AllStand net ys (waits_at m depart (length m.ends) (plan_links m.network ids) q)) is_entry planned in
+      let stood : AllStand net ys (waits_at m depart size number plan p) = ends-stand net ys (at_place p (with_waiting (record { vehicle = record { number = number; size = size; speed = 0; plan = plan; position = 0 }; depart = depart })) m) (m.ends ++ None ∷ []) (does.stand m none t.tiles) in
+      let named : AllStand net ys (waits_at m depart size (length m.ends) plan p) = subst (λ (n : ℕ). AllStand net ys (waits_at m depart size n plan p)) next stood in
+      let planned : AllStand net ys (waits_at m depart size (length m.ends) (plan_links m.network ids) p) = subst (λ (l : List ℕ). AllStand net ys (waits_at m depart size (length m.ends) l p)) is_plan named in
+      let placed : AllStand net ys (waits_at m depart size (length m.ends) (plan_links m.network ids) (entry_of m.network ids lane)) = subst (λ (q : Place). AllStand net ys (waits_at m depart size (length m.ends) (plan_links m.network ids) q)) is_entry planned in
       record {
         clock = t.clock;
         ends = ap (λ (es : List (Option End)). es ++ None ∷ []) t.ends;
         tiles = placed;
-        sound = entered-sound m ids lane depart (subst (λ (q : Place). q.lane < (link_at m.network q.link).lanes) is_entry within) t.sound;
+        sound = entered-sound m ids lane depart size (subst (λ (q : Place). q.lane < (link_at m.network q.link).lanes) is_entry within) t.sound;
         signals = t.signals;
         meters = does.meters m none t.tiles t.meters;
         sites = t.sites;
@@ -125,7 +125,7 @@ module _ (net : NetSpec) (sites : List Site) (clock : ℕ) (xs ys : List Part) (
     clock = t.clock;
     ends = t.ends;
     tiles = does.stand m (let e = t.signals in omega arith) t.tiles;
-    sound = record { formed = record { lanes = t.sound.formed.lanes; cells = t.sound.formed.cells; turns = t.sound.formed.turns }; whole = t.sound.whole };
+    sound = record { formed = record { lanes = t.sound.formed.lanes; cells = t.sound.formed.cells; turns = t.sound.formed.turns }; whole = t.sound.whole; disjoint = t.sound.disjoint };
     signals = length-set m.signals node (Some plan) ∙ t.signals;
     meters = does.meters m (let e = t.signals in omega arith) t.tiles t.meters;
     sites = t.sites;
@@ -175,7 +175,7 @@ module _ (net : NetSpec) (sites : List Site) (clock : ℕ) (xs ys : List Part) (
         clock = t.clock;
         ends = t.ends;
         tiles = does.stand m tt t.tiles;
-        sound = record { formed = record { lanes = t.sound.formed.lanes; cells = t.sound.formed.cells; turns = t.sound.formed.turns }; whole = t.sound.whole };
+        sound = record { formed = record { lanes = t.sound.formed.lanes; cells = t.sound.formed.cells; turns = t.sound.formed.turns }; whole = t.sound.whole; disjoint = t.sound.disjoint };
         signals = t.signals;
         meters = does.meters m tt t.tiles t.meters;
         sites = sites-more net sites m.detectors s _ t.sites (omega arith) lane refl (number m t.meters);
@@ -305,17 +305,17 @@ census-is m admitted arrived buffers cells clock taken waiting a b c d e f g = r
 
 -- ---- a vehicle is admitted, with what the code has in hand
 
-pub admitted-stands : (net : NetSpec) (sites : List Site) (clock : ℕ) (xs ys : List Part) (ends : List (Option End)) (v : StreetsView) → view net sites clock xs ends ≡ v → (number first lane depart : ℕ) (plan kept ids : List ℕ)
-    → AllDoIf net (λ m. in_lane number (lane_at m (record { link = first; lane = lane })) ≡ 0) (at_place (record { link = first; lane = lane }) (with_waiting (record { vehicle = record { number = number; speed = 0; plan = kept; position = 0 }; depart = depart }))) xs ys
+pub admitted-stands : (net : NetSpec) (sites : List Site) (clock : ℕ) (xs ys : List Part) (ends : List (Option End)) (v : StreetsView) → view net sites clock xs ends ≡ v → (number first lane depart size : ℕ) (plan kept ids : List ℕ)
+    → AllDoIf net (λ m. in_lane number (lane_at m (record { link = first; lane = lane })) ≡ 0) (at_place (record { link = first; lane = lane }) (with_waiting (record { vehicle = record { number = number; size = size; speed = 0; plan = kept; position = 0 }; depart = depart }))) xs ys
     → number ≡ length ends → kept ≡ plan → plan ≡ plan_links v.network ids → first ≡ get_or plan 0 0 → lane < (link_at v.network (get_or plan 0 0)).lanes
-    → (m : Traffic) → IsTrafficOf (view net sites clock xs ends) m → IsTrafficOf (view net sites clock ys (ends ++ None ∷ [])) (entered m ids lane depart)
-admitted-stands net sites clock xs ys ends v is number first lane depart plan kept ids does is_number is_plan is_links is_first within m t =
+    → (m : Traffic) → IsTrafficOf (view net sites clock xs ends) m → IsTrafficOf (view net sites clock ys (ends ++ None ∷ [])) (entered m ids lane depart size)
+admitted-stands net sites clock xs ys ends v is number first lane depart size plan kept ids does is_number is_plan is_links is_first within m t =
     let network : v.network ≡ m.network = ap (λ (u : StreetsView). u.network) (sym is) ∙ sym t.tiles.on.network in
     let links : plan ≡ plan_links m.network ids = is_links ∙ ap (λ (n : NetSpec). plan_links n ids) network in
     let begins : first ≡ get_or (plan_links m.network ids) 0 0 = is_first ∙ ap (λ (l : List ℕ). get_or l 0 0) links in
     let entry : ◌≡◌ {A = Place} (record { link = first; lane = lane }) (entry_of m.network ids lane) = ap (λ (l : ℕ). record { link = l; lane = lane }) begins in
     let inside : lane < (link_at m.network first).lanes = subst (λ (n : NetSpec). lane < (link_at n first).lanes) network (subst (λ (l : ℕ). lane < (link_at v.network l).lanes) (sym is_first) within) in
-    entered-stands net sites clock xs ys ends number lane depart kept ids (record { link = first; lane = lane }) does m t is_number (is_plan ∙ links) entry inside
+    entered-stands net sites clock xs ys ends number lane depart size kept ids (record { link = first; lane = lane }) does m t is_number (is_plan ∙ links) entry inside
 
 pub always-err : {T E : Type 0} (P : Type 0) (r : Result T E) → P → OnErr r P
 always-err P (Ok t) p = tt

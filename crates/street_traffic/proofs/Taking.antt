@@ -88,7 +88,7 @@ module _ (net : NetSpec) (number : ℕ) where
       let of_p = own-at net (get_or xs i d) (tiles-of net 0 (length net.nodes) xs row i d h) have.0 p have.2 in
       let of_q = own-at net (get_or xs k e) (tiles-of net 0 (length net.nodes) xs row k e hk) l q at in
       let among : (r : Place) → list_any (is_place r) (places net) ≡ true → list_any (is_place r) (places m.network) ≡ true = λ r t. subst (λ (n : NetSpec). list_any (is_place r) (places n) ≡ true) (sym s.on.network) t in
-      on-one m (record { formed = s.on.formed; whole = whole }) number p q (apart net xs tiles i k d e h hk other have.0 l p q have.2 at) (among p of_p.0) (among q of_q.0) have.3
+      on-one m s.on.formed whole number p q (apart net xs tiles i k d e h hk other have.0 l p q have.2 at) (among p of_p.0) (among q of_q.0) have.3
 
   detectors : (m : Traffic) → (without number m).detectors ≡ m.detectors
   unfolding without

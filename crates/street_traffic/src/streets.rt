@@ -25,7 +25,7 @@ use std::alloc::Global;
 use std::marker::Model;
 use std::thread::Threads;
 use street_base::{
-    Car, CarNo, CellNo, End, LaneNo, NetSpec, NodeIx, Plan, Reply, Starved, Step, Whereabouts,
+    Car, CarNo, CellNo, End, LaneNo, NetSpec, NodeIx, Plan, Reply, Size, Starved, Step, Whereabouts,
 };
 use street_net::{LaneId, NetFault, Network};
 use street_node::SignalPlan;
@@ -139,13 +139,14 @@ impl Streets {
         plan: Plan,
         lane: LaneNo,
         depart: Step,
+        size: Size,
     ) -> Result<(), Starved>
         requires some { 0 < length plan }
         requires links { (ids : List ℕ) × (plan ≡ plan_links self.old.network ids) }
         requires short { length plan ≤ most_plan }
         requires lane { lane < (link_at self.old.network (slice_index_or plan 0 0)).lanes }
         requires few { length self.old.ends < most_vehicles }
-        ensures waits { OnOk result ((ids : List ℕ) → plan ≡ plan_links self.old.network ids → Goes (λ m. entered m ids lane depart) self.old self.new) }
+        ensures waits { OnOk result ((ids : List ℕ) → plan ≡ plan_links self.old.network ids → Goes (λ m. entered m ids lane depart size) self.old self.new) }
         ensures starved { OnErr result (Goes (λ m. m) self.old self.new) }
     {
         let at = LaneId {
@@ -159,6 +160,7 @@ impl Streets {
             step: depart,
             at: 0,
             speed: 0,
+            size,
         };
         self.ends.reserve()?;
         self.hints.reserve()?;

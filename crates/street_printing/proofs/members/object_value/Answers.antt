@@ -9,8 +9,8 @@ use Rattle.street_printing.proofs.members.object_value.Goals as goal
 
 pub loop-key-preserved : goal.loop-key-preserved
 loop-key-preserved c =
-    let e = one_more_member c.args.members.now c.loop-key.key-index c.loop-key-item.result (members_view c.loop-key.found.entries) (members_view c.put.new.map.entries)
-    c.loop-key-test.true (rw (← c.loop-key-item.is, ← c.in_ok-to_value.ensures) c.in_ok-put.ensures.ok) in
+    let e = one_more_member c.args.members.now c.loop-key.key-index c.loop-key-item.result (members_view c.loop-key.found.entries) (members_view c.put_member.new.found.entries)
+    c.loop-key-test.true (rw (← c.loop-key-item.is) c.in_ok-put_member.ensures) in
     e ∙ c.loop-key.invariant
 
 pub returns : goal.returns

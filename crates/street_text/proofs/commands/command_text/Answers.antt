@@ -1,4 +1,4 @@
-use Rattle.std.proofs.Common.{◌≡◌, ◌≤◌, Some, ap, ◌∙◌, false}
+use Rattle.std.proofs.Common.{◌≡◌, ◌≤◌, Some, ap, ◌∙◌, refl, true, false}
 use Rattle.serde_json.specs.Data.{depth}
 use Rattle.serde_json.specs.Read.{max_depth}
 use Rattle.serde_json.specs.Written.{compact_text, has_float}
@@ -21,4 +21,4 @@ returns-clause-reads c =
     let is = c.in_ok-command_value.ensures in
     let shallow : depth (view c.in_ok-command_value.field-0) ≤ max_depth = rw is (shallow_command c.args.command.now) in
     λ short. command_read c.in_ok-text.text.items (command_data c.args.command.now) c.args.command.now short c.in_ok-text.ensures.utf8
-    (c.in_ok-text.ensures.reads_back shallow ∙ ap Some is) (command_again c.args.command.now)
+    (c.in_ok-text.ensures.reads_back shallow ∙ ap Some is) (command_again true c.args.command.now (λ told. refl))

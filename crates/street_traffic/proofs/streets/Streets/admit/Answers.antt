@@ -42,11 +42,11 @@ invariant_of-self-2 c =
     let begin : c.index-as_slice-0.result ≡ get_or c.args.plan 0 0 = c.index-as_slice-0.is ∙ ap (λ (l : List ℕ). get_or l 0 c.index-as_slice-0.result) c.as_slice.ensures ∙ get_or_default c.args.plan 0 c.index-as_slice-0.result 0 c.requires.some in
     let items : (with_items s.tiles ys).items ≡ ys = with_items_is s.tiles ys (omega (arith, c.admit.auto.tiles, c.deref_mut.ensures.len)) in
     let pushed : c.give.new.self.ends ≡ s.ends.ends ++ None ∷ [] = c.give.ensures ∙ ap (λ (es : List (Option End)). es ++ None ∷ []) c.reserve.ensures.kept in
-    let does : AllDoIf s.network (λ m. in_lane c.len.result (lane_at m (record { link = c.index-as_slice-0.result; lane = c.args.lane })) ≡ 0) (at_place (record { link = c.index-as_slice-0.result; lane = c.args.lane }) (with_waiting (record { vehicle = record { number = c.len.result; speed = 0; plan = c.in_ok-new.field-0.value; position = 0 }; depart = c.args.depart }))) xs ys = subst (λ (ts : List Part). AllDoIf s.network (λ m. in_lane c.len.result (lane_at m (record { link = c.index-as_slice-0.result; lane = c.args.lane })) ≡ 0) (at_place (record { link = c.index-as_slice-0.result; lane = c.args.lane }) (with_waiting (record { vehicle = record { number = c.len.result; speed = 0; plan = c.in_ok-new.field-0.value; position = 0 }; depart = c.args.depart }))) ts ys) c.deref_mut.ensures.value c.in_ok-admit.ensures.waits in
+    let does : AllDoIf s.network (λ m. in_lane c.len.result (lane_at m (record { link = c.index-as_slice-0.result; lane = c.args.lane })) ≡ 0) (at_place (record { link = c.index-as_slice-0.result; lane = c.args.lane }) (with_waiting (record { vehicle = record { number = c.len.result; size = c.args.size; speed = 0; plan = c.in_ok-new.field-0.value; position = 0 }; depart = c.args.depart }))) xs ys = subst (λ (ts : List Part). AllDoIf s.network (λ m. in_lane c.len.result (lane_at m (record { link = c.index-as_slice-0.result; lane = c.args.lane })) ≡ 0) (at_place (record { link = c.index-as_slice-0.result; lane = c.args.lane }) (with_waiting (record { vehicle = record { number = c.len.result; size = c.args.size; speed = 0; plan = c.in_ok-new.field-0.value; position = 0 }; depart = c.args.depart }))) ts ys) c.deref_mut.ensures.value c.in_ok-admit.ensures.waits in
     let m = c.self.invariant.some.0 in
     let ids = c.requires.links.0 in
-    subst (λ (ts : List Part). IsKept (view s.network s.sites.items s.clock ts c.give.new.self.ends) (length s.view)) (sym items) (subst (λ (es : List (Option End)). IsKept (view s.network s.sites.items s.clock ys es) (length s.view)) (sym pushed) (kept-does s.network s.sites.items s.clock xs ys s.ends.ends (s.ends.ends ++ None ∷ []) (length s.view) (λ m. in_lane c.len.result (lane_at m (record { link = c.index-as_slice-0.result; lane = c.args.lane })) ≡ 0) (at_place (record { link = c.index-as_slice-0.result; lane = c.args.lane }) (with_waiting (record { vehicle = record { number = c.len.result; speed = 0; plan = c.in_ok-new.field-0.value; position = 0 }; depart = c.args.depart }))) c.self.invariant does
-    (entered m ids c.args.lane c.args.depart, admitted-stands s.network s.sites.items s.clock xs ys s.ends.ends c.args.self.now c.self.view_is c.len.result c.index-as_slice-0.result c.args.lane c.args.depart c.args.plan c.in_ok-new.field-0.value ids does c.len.ensures.count c.in_ok-new.ensures.ok c.requires.links.1 begin c.requires.lane m c.self.invariant.some.1)))
+    subst (λ (ts : List Part). IsKept (view s.network s.sites.items s.clock ts c.give.new.self.ends) (length s.view)) (sym items) (subst (λ (es : List (Option End)). IsKept (view s.network s.sites.items s.clock ys es) (length s.view)) (sym pushed) (kept-does s.network s.sites.items s.clock xs ys s.ends.ends (s.ends.ends ++ None ∷ []) (length s.view) (λ m. in_lane c.len.result (lane_at m (record { link = c.index-as_slice-0.result; lane = c.args.lane })) ≡ 0) (at_place (record { link = c.index-as_slice-0.result; lane = c.args.lane }) (with_waiting (record { vehicle = record { number = c.len.result; size = c.args.size; speed = 0; plan = c.in_ok-new.field-0.value; position = 0 }; depart = c.args.depart }))) c.self.invariant does
+    (entered m ids c.args.lane c.args.depart c.args.size, admitted-stands s.network s.sites.items s.clock xs ys s.ends.ends c.args.self.now c.self.view_is c.len.result c.index-as_slice-0.result c.args.lane c.args.depart c.args.size c.args.plan c.in_ok-new.field-0.value ids does c.len.ensures.count c.in_ok-new.ensures.ok c.requires.links.1 begin c.requires.lane m c.self.invariant.some.1)))
 
 pub returns-clause-waits : goal.returns-clause-waits
 returns-clause-waits c = λ ids same.
@@ -56,7 +56,7 @@ returns-clause-waits c = λ ids same.
     let begin : c.index-as_slice-0.result ≡ get_or c.args.plan 0 0 = c.index-as_slice-0.is ∙ ap (λ (l : List ℕ). get_or l 0 c.index-as_slice-0.result) c.as_slice.ensures ∙ get_or_default c.args.plan 0 c.index-as_slice-0.result 0 c.requires.some in
     let items : (with_items s.tiles ys).items ≡ ys = with_items_is s.tiles ys (omega (arith, c.admit.auto.tiles, c.deref_mut.ensures.len)) in
     let pushed : c.give.new.self.ends ≡ s.ends.ends ++ None ∷ [] = c.give.ensures ∙ ap (λ (es : List (Option End)). es ++ None ∷ []) c.reserve.ensures.kept in
-    let does : AllDoIf s.network (λ m. in_lane c.len.result (lane_at m (record { link = c.index-as_slice-0.result; lane = c.args.lane })) ≡ 0) (at_place (record { link = c.index-as_slice-0.result; lane = c.args.lane }) (with_waiting (record { vehicle = record { number = c.len.result; speed = 0; plan = c.in_ok-new.field-0.value; position = 0 }; depart = c.args.depart }))) xs ys = subst (λ (ts : List Part). AllDoIf s.network (λ m. in_lane c.len.result (lane_at m (record { link = c.index-as_slice-0.result; lane = c.args.lane })) ≡ 0) (at_place (record { link = c.index-as_slice-0.result; lane = c.args.lane }) (with_waiting (record { vehicle = record { number = c.len.result; speed = 0; plan = c.in_ok-new.field-0.value; position = 0 }; depart = c.args.depart }))) ts ys) c.deref_mut.ensures.value c.in_ok-admit.ensures.waits in
-    let f : Traffic → Traffic = λ m. entered m ids c.args.lane c.args.depart in
+    let does : AllDoIf s.network (λ m. in_lane c.len.result (lane_at m (record { link = c.index-as_slice-0.result; lane = c.args.lane })) ≡ 0) (at_place (record { link = c.index-as_slice-0.result; lane = c.args.lane }) (with_waiting (record { vehicle = record { number = c.len.result; size = c.args.size; speed = 0; plan = c.in_ok-new.field-0.value; position = 0 }; depart = c.args.depart }))) xs ys = subst (λ (ts : List Part). AllDoIf s.network (λ m. in_lane c.len.result (lane_at m (record { link = c.index-as_slice-0.result; lane = c.args.lane })) ≡ 0) (at_place (record { link = c.index-as_slice-0.result; lane = c.args.lane }) (with_waiting (record { vehicle = record { number = c.len.result; size = c.args.size; speed = 0; plan = c.in_ok-new.field-0.value; position = 0 }; depart = c.args.depart }))) ts ys) c.deref_mut.ensures.value c.in_ok-admit.ensures.waits in
+    let f : Traffic → Traffic = λ m. entered m ids c.args.lane c.args.depart c.args.size in
     subst (λ (ts : List Part). Goes f c.args.self.now (view s.network s.sites.items s.clock ts c.give.new.self.ends)) (sym items) (subst (λ (es : List (Option End)). Goes f c.args.self.now (view s.network s.sites.items s.clock ys es)) (sym pushed) (goes-with f (view s.network s.sites.items s.clock xs s.ends.ends) (view s.network s.sites.items s.clock ys (s.ends.ends ++ None ∷ [])) c.args.self.now c.self.view_is
-    (admitted-stands s.network s.sites.items s.clock xs ys s.ends.ends c.args.self.now c.self.view_is c.len.result c.index-as_slice-0.result c.args.lane c.args.depart c.args.plan c.in_ok-new.field-0.value ids does c.len.ensures.count c.in_ok-new.ensures.ok same begin c.requires.lane)))
+    (admitted-stands s.network s.sites.items s.clock xs ys s.ends.ends c.args.self.now c.self.view_is c.len.result c.index-as_slice-0.result c.args.lane c.args.depart c.args.size c.args.plan c.in_ok-new.field-0.value ids does c.len.ensures.count c.in_ok-new.ensures.ok same begin c.requires.lane)))
