@@ -14,12 +14,12 @@ use Rattle.street_gap.specs.Closed.{entrance_after}
 use Rattle.street_rule.specs.Course.{nearest, gap_to}
 use Rattle.street_rule.specs.Pass.{Drives, Leaves, Moves, left_lists, stopped}
 use Rattle.street_yard.proofs.Callers.{left, left-is, head_is, no_head, cell_is}
-use Rattle.street_yard.proofs.Placed.{falling-agree, found, found-agree, key_at-drop, key_at-gone, falling-split, falling-wider, key_at-split, cells-length, cells-read}
+use Rattle.street_yard.proofs.Placed.{falling-agree, found, found-agree, key_at-drop, key_at-gone, falling-split, falling-wider, key_at-split, rear-under, cells-length, cells-read}
 use Rattle.street_base.proofs.MotionLemmas.{IsPartMoved, leaver_from, part_moved-start, part_moved-all, part_moved-vehicle, leaver_from-past, leaver_from-stays, leaver_from-goes, leaver_from-all}
 use Rattle.street_rule.specs.declared.watch.Watch.{Watch}
 use Rattle.street_rule.specs.Watching.{watched, noted}
 use Rattle.street_rule.proofs.Watching.{watched_from, watched-skip, watched-noted, watched-all}
-use Rattle.street_rule.proofs.Sights.{obstacle-is, rear-under}
+use Rattle.street_rule.proofs.Sights.{obstacle-is}
 use Rattle.street_gap.proofs.Sights.{clear-of-key}
 use Rattle.street_base.specs.Apart.{AreDisjoint}
 use Rattle.street_base.proofs.MotionApartLemmas.{keeps_apart}
