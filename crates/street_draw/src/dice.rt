@@ -197,6 +197,17 @@ impl Dice {
         })
     }
 
+    /// Draws to fill new places with: those kept at the first place, which need no cipher, or else those of vehicle 0.
+    fn some_draws(&mut self) -> KeptDraws
+        ensures kept { IsKept (key_of_seed self.old.seed) self.old.dawdle self.old.change result }
+        ensures same { self.new ≡ self.old }
+    {
+        if let Some(first) = self.kept.first() {
+            return *first;
+        }
+        drawn(&mut self.rng, 0, 0, self.dawdle, self.change)
+    }
+
     /// Makes room to keep the draws of so many vehicles. Every answer stays what it was.
     ///
     /// # Errors
@@ -208,7 +219,7 @@ impl Dice {
         if places <= self.kept.len() {
             return Ok(());
         }
-        let first = drawn(&mut self.rng, 0, 0, self.dawdle, self.change);
+        let first = self.some_draws();
         grow(&mut self.aside, first, places.min(MOST_ASIDE))?;
         grow(&mut self.kept, first, places)
     }
