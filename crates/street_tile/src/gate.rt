@@ -1,4 +1,4 @@
-//! What a caller of a step is told of its workers.
+//! What the caller of a step sees and says of its workers.
 
 use crate::tile::Tile;
 
@@ -10,4 +10,10 @@ pub trait Gate {
 
     /// After it.
     fn leave(&self, worker: u32, phase: u32, tile: &Tile) {}
+
+    /// Whether the workers share a step, each on a thread of its own, while so many vehicles are in cells; else the calling
+    /// thread runs all tiles in turn. The step is the same.
+    fn shares(&self, vehicles: u64) -> bool {
+        true
+    }
 }
