@@ -105,12 +105,13 @@ class Vehicle:
     plan: tuple = ()  # what remains, the present link included
     depart: int | None = None
     ready: int | None = None
+    size: int = 1  # cells
     step: int | None = None  # of arriving, or the clock at taking out
 
 
 @dataclass(slots=True, frozen=True)
 class Lane:
-    cells: tuple  # of (car, cell, speed), the greatest cell first
+    cells: tuple  # of (car, cell of its front, speed), with the size where it is above 1; the greatest cell first
     buffer: tuple  # of (car, speed, ready), from the front
     waiting: tuple  # of (car, depart)
     closed: tuple  # of (first, last)
@@ -314,9 +315,9 @@ class Client:
         """Sets a node's plan, phases of (duration, [(link, lane, next), ..]); gives the cycle."""
         return self.ask("signal", node=node, offset=offset, phases=phases)
 
-    def enter(self, plan, lane=0, depart=0):
-        """Gives the vehicle's number."""
-        return self.ask("enter", plan=plan, lane=lane, depart=depart)
+    def enter(self, plan, lane=0, depart=0, size=1):
+        """Gives the number of the vehicle, which takes so many cells."""
+        return self.ask("enter", plan=plan, lane=lane, depart=depart, **({} if size == 1 else {"size": size}))
 
     def advance(self, steps=1):
         """Makes the steps, asking again for those that a short reply left, and gives the clock."""

@@ -109,7 +109,7 @@ def save(figure, path):
 
 
 def draw_corridor(pyplot, folder, words):
-    from matplotlib.collections import LineCollection
+    from matplotlib.collections import LineCollection, PolyCollection
 
     edges = words.edges.split()
     if words.first >= words.last:
@@ -120,10 +120,10 @@ def draw_corridor(pyplot, folder, words):
     placed, length = series.stretches(folder, edges)
     figure, axes = pyplot.subplots(figsize=(10, 6))
     for least, label, colour, width in reversed(SPEEDS):
-        shown = [
-            (begin, end) for begin, end, speed in pieces if speed == least or (speed > least and least == SPEEDS[-1][0])
-        ]
-        axes.add_collection(LineCollection(shown, colors=colour, linewidths=width, label=label))
+        shown = [piece for piece in pieces if piece[2] == least or (piece[2] > least and least == SPEEDS[-1][0])]
+        fronts = [(begin, end) for begin, end, _, _ in shown]
+        axes.add_collection(LineCollection(fronts, colors=colour, linewidths=width, label=label))
+        axes.add_collection(PolyCollection(series.bands(shown), facecolors=colour, linewidths=0, alpha=0.6))
     for at, (place, begin, end) in enumerate(series.reds(folder, edges, words.first, words.last)):
         axes.plot(
             (begin, end),
@@ -217,9 +217,8 @@ def draw_queues(pyplot, folder, _words):
     times = sorted({time for _, queue in lanes for time in queue})
     times = list(range(times[0], times[-1] + 1, folder.every))
     figure, axes = pyplot.subplots(figsize=(10, 1 + 0.26 * max(4, len(lanes))))
-    cells = [[queue.get(time, 0) * limits.CELL_METRES for time in times] for _, queue in lanes]
     image = axes.imshow(
-        cells,
+        [[queue.get(time, 0) for time in times] for _, queue in lanes],
         aspect="auto",
         cmap="magma_r",
         interpolation="nearest",

@@ -2,6 +2,7 @@
 from dataclasses import dataclass, field
 
 from .files import Fault, at_least_zero, attribute, elements, number, seconds, told
+from .sumo_types import TAGS
 
 INNER = ("internal", "walkingarea", "crossing")
 
@@ -94,11 +95,13 @@ def read_net(path, classes, report):
     return net
 
 
-def read_additional(path, net, report):
-    """Signal programs of an additional file; all else there is counted as ignored."""
+def read_additional(path, net, types, report):
+    """Signal programs and vehicle types of an additional file; all else there is counted as ignored."""
     for element in elements(path, ["additional", "add", "routes", "tlLogics"]):
         if element.tag == "tlLogic":
             read_program(path, element, net, ())
+        elif element.tag in TAGS:
+            types.read(path, element)
         else:
             report.ignored[f"<{element.tag}> of additional files"] += 1
 
