@@ -29,7 +29,7 @@ class Folder:
 
     def polls(self):
         """What stood on the lanes at each poll: {"clock", "lanes": [link, lane, [[car, cell, speed], ..], [cars in the
-        buffer], closed stretches]}."""
+        buffer], closed stretches]}; the size of a car stands after its speed where it is above 1."""
         path = f"{self.path}/lanes.jsonl.gz"
         with reading(path), open_text(path) as file:
             yield from map(json.loads, file)

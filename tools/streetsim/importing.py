@@ -5,13 +5,14 @@ import sys
 from collections import Counter
 
 from . import limits
-from .files import Fault, whole_file
+from .files import Fault, place_of, refuse_equal, whole_file
 from .mapping import map_of
 from .network import Network, Options
 from .report import Report, some
 from .sumo_demand import Demand, enters
-from .sumo_net import read_additional, read_net
+from .sumo_net import CLASSES, read_additional, read_net
 from .sumo_signals import signals
+from .sumo_types import Sizes, Types
 
 
 def parser():
@@ -20,7 +21,11 @@ def parser():
         description="Makes load, signal and enter lines, and a map of the names, of a SUMO network and its routes.",
     )
     made.add_argument("net", help="the network (.net.xml, .net.xml.gz)")
-    made.add_argument("additional", nargs="*", help="additional files with signal programs, the last of a light counts")
+    made.add_argument(
+        "additional",
+        nargs="*",
+        help="additional files with signal programs, of which the last of a light counts, and vehicle types",
+    )
     made.add_argument("--routes", nargs="+", default=[], metavar="FILE", help="vehicles, flows and routes (.rou.xml)")
     made.add_argument("-o", "--output", required=True, help="the run: lines of JSON (.jsonl, .jsonl.gz)")
     made.add_argument("--map", required=True, help="the map of names to write (.json)")
@@ -32,6 +37,12 @@ def parser():
         choices=["both", "strict"],
         default="both",
         help="both: each lane of two leads to each next link; strict: SUMO's connections alone",
+    )
+    made.add_argument(
+        "--sizes",
+        choices=["on", "off"],
+        default="on",
+        help="on: vehicles take as many cells, 1 to 4, as their type is long with its gap; off: one cell each",
     )
     made.add_argument("--strict", action="store_true", help="end with status 1 where vehicles were skipped")
     made.add_argument(
@@ -77,13 +88,19 @@ def within(least, most):
 def options_of(words):
     if not 0 <= words.permissive <= 1:
         raise Fault("--permissive is a share from 0 to 1")
+    unknown = [name for name in words.classes.split(",") if name not in CLASSES]
+    if unknown:
+        raise Fault(f"--classes: SUMO has no vehicle class {unknown[0]!r}; it has {', '.join(CLASSES)}")
     names = ("dawdle", "change", "zone", "seed", "residence", "buffer", "permissive", "begin")
     given = {name: getattr(words, name) for name in names}
-    return Options(classes=tuple(words.classes.split(",")), strict_turns=words.turns == "strict", **given)
+    given.update(strict_turns=words.turns == "strict", sizes=words.sizes == "on")
+    return Options(classes=tuple(words.classes.split(",")), **given)
 
 
 def main(arguments):
     words = parser().parse_args(arguments)
+    refuse_equal({"-o": words.output, "--map": words.map}, [words.net, *words.additional, *words.routes])
+    place_of(words.output), place_of(words.map)
     report, options = Report(), options_of(words)
     network, lights, commands, names = convert(words.net, words.additional, words.routes, options, report)
     lines = [json.dumps(command, separators=(",", ":")) for command in commands]
@@ -103,13 +120,16 @@ def main(arguments):
 def convert(net_path, additional, routes, options, report):
     """The network, its lights, the commands of the run and the names of its vehicles."""
     net = read_net(net_path, options.classes, report)
+    types = Types(options.seed, report)
     for path in additional:
-        read_additional(path, net, report)
+        read_additional(path, net, types, report)
     network = Network(net, options, report)
-    demand = Demand(net, options.seed, report)
+    demand = Demand(net, types, options.seed, report)
     for path in routes:
         demand.read(path)
-    entered, names = enters(demand.finish(), net, network, report)
+    sizes = Sizes(types)
+    entered, names = enters(demand.finish(), net, network, sizes, report)
+    sizes.tell(report)
     warn_of_rules(net, network, report)
     made = signals(net, network, report)
     lights = [[light, command["node"]] for light, command in made]

@@ -24,6 +24,7 @@ class Options:
     buffer: int = 4
     permissive: float = 0.7
     begin: int = 0
+    sizes: bool = True  # of vehicles, by their types; else one cell each
 
 
 @dataclass(slots=True)

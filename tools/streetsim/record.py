@@ -24,7 +24,7 @@ class Settings:
 class Records:
     counts: dict = field(default_factory=dict)  # (link, lane): rows by their begin
     uncounted: int = 0  # lanes without a detector, as there are more than 1,024
-    queues: list = field(default_factory=list)  # (clock, link, lane, vehicles)
+    queues: list = field(default_factory=list)  # (clock, link, lane, vehicles, cells)
     censuses: list = field(default_factory=list)
     ends: list = field(default_factory=list)  # for each vehicle of the file its last reply, or none if it never entered
     unsent: int = 0  # timed lines whose clock did not come
@@ -35,15 +35,9 @@ class Records:
 class Recorder:
     """Drives a run from its load to the end."""
 
-    def __init__(self, sim, run, mapping, settings, lanes_file, progress):
-        self.sim, self.run, self.mapping, self.settings, self.lanes_file, self.progress = (
-            sim,
-            run,
-            mapping,
-            settings,
-            lanes_file,
-            progress,
-        )
+    def __init__(self, sim, run, mapping, settings, lanes_file, tell):
+        self.sim, self.run, self.mapping, self.settings = sim, run, mapping, settings
+        self.lanes_file, self.tell = lanes_file, tell
         self.records = Records(clock=run.start())
         self.places = mapping.lanes()
         self.lines = [line_of({"cmd": "lane", "link": link, "lane": lane}) for link, lane in self.places]
@@ -91,7 +85,7 @@ class Recorder:
             self.send_timed(clock)
             clock = self.advance(clock)
             self.poll(clock)
-            self.progress.show(clock, self.records)
+            self.tell(clock, self.records.censuses[-1] if self.records.censuses else None)
         self.read_meters()
         self.find_ends()
         self.records.unsent = len(self.run.timed) - self.sent
@@ -156,10 +150,10 @@ class Recorder:
         shown = []
         for at in filter(lanes.__contains__, self.polled):
             (link, lane), reply = self.places[at], lanes[at]
-            queue = standing(reply.cells, self.mapping.links[link].cells)
-            if queue:
-                self.records.queues.append((clock, link, lane, queue))
-            cells = [(self.owners[car], cell, speed) for car, cell, speed in reply.cells]
+            count, covered = standing(reply.cells, self.mapping.links[link].cells)
+            if count:
+                self.records.queues.append((clock, link, lane, count, covered))
+            cells = [(self.owners[car], *rest) for car, *rest in reply.cells]
             shown.append([link, lane, cells, [self.owners[car] for car, _, _ in reply.buffer], reply.closed])
         self.lanes_file.write(json.dumps({"clock": clock, "lanes": shown}, separators=(",", ":")) + "\n")
 
@@ -171,15 +165,16 @@ class Recorder:
             link = self.places[at][0]
             if reply.buffer:
                 standing_now[reply.buffer[0][0], link] = reply.buffer[0][2]
-            if reply.cells and reply.cells[0][1:] == (self.mapping.links[link].cells - 1, 0):
+            if reply.cells and reply.cells[0][1:3] == (self.mapping.links[link].cells - 1, 0):
                 place = reply.cells[0][0], link
                 standing_now[place] = self.standing.get(place, clock)
         self.standing = standing_now
         for car in [car for (car, _), since in standing_now.items() if clock - since >= self.settings.rescue]:
-            rest = self.sim.vehicle(car).plan[1:]
+            vehicle = self.sim.vehicle(car)
+            rest = vehicle.plan[1:]
             if rest:
                 self.sim.takeout(car)
-                self.sim.enter(list(rest), self.departure_lane(rest), clock)
+                self.sim.enter(list(rest), self.departure_lane(rest), clock, vehicle.size)
                 self.owners.append(self.owners[car])
                 self.records.rescues[self.owners[car]] += 1
 
@@ -227,10 +222,10 @@ class Recorder:
 
 
 def standing(cells, length):
-    """How many vehicles stand without a gap from the stop line; cells from the greatest."""
-    count = 0
-    for _, cell, speed in cells:
-        if speed or cell != length - 1 - count:
+    """How many vehicles stand without a gap from the stop line, and the cells that they cover; cells from the greatest."""
+    count = covered = 0
+    for _, cell, speed, *size in cells:
+        if speed or cell != length - 1 - covered:
             break
-        count += 1
-    return count
+        count, covered = count + 1, covered + (size[0] if size else 1)
+    return count, min(covered, length)

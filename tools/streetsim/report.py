@@ -5,6 +5,7 @@ from collections import Counter
 class Report:
     def __init__(self):
         self.warnings = []
+        self.notes = []  # what was counted
         self.ignored = Counter()  # what is read and has no effect
         self.skipped = Counter()  # vehicles that do not drive, by reason
 
@@ -14,6 +15,7 @@ class Report:
 
     def lines(self):
         yield from (f"warning: {text}" for text in self.warnings)
+        yield from self.notes
         yield from (f"ignored: {count} x {what}" for what, count in sorted(self.ignored.items()) if count)
         yield from (f"skipped: {count} vehicles: {why}" for why, count in sorted(self.skipped.items()))
 

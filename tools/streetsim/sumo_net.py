@@ -2,8 +2,17 @@
 from dataclasses import dataclass, field
 
 from .files import Fault, at_least_zero, attribute, elements, number, seconds, told
+from .sumo_types import TAGS
 
 INNER = ("internal", "walkingarea", "crossing")
+DEMAND = ("route", "vehicle", "flow", "trip")
+# SUMO's vehicle classes.
+CLASSES = (
+    *("private", "emergency", "authority", "army", "vip", "passenger", "hov", "taxi", "bus", "coach", "delivery"),
+    *("truck", "trailer", "tram", "rail_urban", "rail", "rail_electric", "rail_fast", "motorcycle", "moped", "bicycle"),
+    *("pedestrian", "evehicle", "ship", "container", "cable_car", "subway", "aircraft", "wheelchair", "scooter", "drone"),
+    *("custom1", "custom2"),
+)
 
 
 @dataclass(slots=True)
@@ -94,11 +103,15 @@ def read_net(path, classes, report):
     return net
 
 
-def read_additional(path, net, report):
-    """Signal programs of an additional file; all else there is counted as ignored."""
+def read_additional(path, net, types, report):
+    """Signal programs and vehicle types of an additional file; all else there is counted as ignored."""
     for element in elements(path, ["additional", "add", "routes", "tlLogics"]):
         if element.tag == "tlLogic":
             read_program(path, element, net, ())
+        elif element.tag in TAGS:
+            types.read(path, element)
+        elif element.tag in DEMAND:
+            raise Fault(f"{told(path, element)} in an additional file: give files of routes after --routes")
         else:
             report.ignored[f"<{element.tag}> of additional files"] += 1
 

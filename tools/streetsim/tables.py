@@ -102,8 +102,8 @@ def free_flow(plan, mapping, dawdle):
 
 def queues(records, mapping):
     """A row for each poll and lane where vehicles stand at the stop line."""
-    for clock, link, lane, count in records.queues:
-        yield clock, mapping.links[link].edge, mapping.links[link].lanes[lane], count, count * limits.CELL_METRES
+    for clock, link, lane, count, covered in records.queues:
+        yield clock, mapping.links[link].edge, mapping.links[link].lanes[lane], count, covered * limits.CELL_METRES
 
 
 def summary(records):
