@@ -1,6 +1,6 @@
 """The program's words: standard input, scripts, tapes and replays, what it says on standard error, and its status.
 
-What is wanted is told by crates/street_examples/data (LINES.md, stored sessions with their replies) and docs/help.txt.
+What is wanted is told by docs/LINES.md, docs/help.txt and examples/ (stored sessions with their replies).
 """
 import json
 import resource
@@ -12,10 +12,10 @@ import unittest
 from support import PROGRAM, TOOLS, Case, needs_simulator
 
 TOP = TOOLS.parent
-DATA = TOP / "crates/street_examples/data"
-PLANNER = DATA / "clients/planner.jsonl"
-COUNTER = DATA / "clients/counter.jsonl"
-ONE_VEHICLE = (DATA / "examples/one-vehicle.out").read_text()
+EXAMPLES = TOP / "examples"
+PLANNER = EXAMPLES / "clients/planner.jsonl"
+COUNTER = EXAMPLES / "clients/counter.jsonl"
+ONE_VEHICLE = (EXAMPLES / "one-vehicle.out").read_text()
 FULL = '{"error":23,"name":"Full"}\n'
 NOT_LOADED = '{"error":1,"name":"NotLoaded"}\n'
 NO_VEHICLES = '{"admitted":0,"arrived":0,"buffers":0,"cells":0,"clock":0,"taken":0,"waiting":0}\n'
@@ -25,7 +25,7 @@ AFTER_ONE_VEHICLE = '{"admitted":1,"arrived":1,"buffers":0,"cells":0,"clock":5,"
 
 def tape_in_lines():
     """The tape of examples/one-vehicle.jsonl, as LINES.md has it."""
-    text = (DATA / "LINES.md").read_text()
+    text = (TOP / "docs/LINES.md").read_text()
     return '{"tape":1}\n' + text.split('```\n{"tape":1}\n')[1].split("```")[0]
 
 
@@ -63,7 +63,7 @@ class ProgramCase(Case):
 
 class Input(ProgramCase):
     def test_each_example_for_each_number_of_workers(self):
-        for session in sorted((DATA / "examples").glob("*.jsonl")):
+        for session in sorted(EXAMPLES.glob("*.jsonl")):
             for workers in (1, 2, 3, 64):
                 with self.subTest(session=session.stem, workers=workers):
                     told = self.ends(["--workers", workers], session.read_text())
@@ -81,7 +81,7 @@ class Input(ProgramCase):
 
 class Scripts(ProgramCase):
     def test_replies_come_in_the_order_of_the_words(self):
-        planner, queue = PLANNER, DATA / "examples/queue.jsonl"
+        planner, queue = PLANNER, EXAMPLES / "queue.jsonl"
         alone = self.ends([planner])
         self.assertEqual(alone, ONE_VEHICLE)
         for workers in (1, 3):
