@@ -286,11 +286,41 @@ fn reads_the_size_of_an_enter(rt: HostRuntime) {
     assert!(rt; enter_of(rt.alloc(), line) == Some(([20, 10], 1, 3, 3)));
 }
 
+/// Sizes as they may be written, and those that are read: whether a vehicle may have one is tested by the machine.
+static SIZES: [(&str, Option<u64>); 11] = [
+    ("1", Some(1)),
+    ("4", Some(4)),
+    ("0", Some(0)),
+    ("5", Some(5)),
+    ("18446744073709551615", Some(18446744073709551615)),
+    ("18446744073709551616", None),
+    ("-1", None),
+    ("1.5", None),
+    (r#""x""#, None),
+    ("null", None),
+    ("[1]", None),
+];
+
+/// The size of the entry that a line reads as; nothing where it is a bad command.
+fn size_of(rt: &(impl Abort + AllocGlobal), line: &[u8]) -> Option<u64> {
+    match read_command(rt.alloc(), line) {
+        Ok(Command::Enter { size, .. }) => Some(size),
+        read => {
+            assert!(rt; matches!(read, Err(LineFault::BadCommand)));
+            None
+        }
+    }
+}
+
 #[test]
-fn refuses_a_size_that_is_no_number(rt: HostRuntime) {
-    let line = b"{\"cmd\":\"enter\",\"depart\":3,\"plan\":[20,10],\"lane\":1,\"size\":\"x\"}";
-    let read = read_command(rt.alloc(), line);
-    assert!(rt; matches!(read, Err(LineFault::BadCommand)));
+fn sizes_are_digits_alone(rt: HostRuntime) -> Result<(), Fail> {
+    for (size, want) in SIZES.iter() {
+        let line = format!(in rt.alloc();
+            "{{\"cmd\":\"enter\",\"depart\":0,\"lane\":0,\"plan\":[10],\"size\":{size}}}"
+        )?;
+        assert!(rt; size_of(&rt, line.as_bytes()) == *want, "size {size}");
+    }
+    Ok(())
 }
 
 /// The numbers of a command, up to four of them, in the order of its fields.

@@ -9,7 +9,7 @@ use crate::nets::{link, node, turn};
 use std::alloc::{AllocError, Global};
 use std::process::Abort;
 use std::test::Fail;
-use street_base::{Car, CarNo, LinkIx, LinkSpec, Plan, Speed, Step};
+use street_base::{Car, CarNo, LinkIx, LinkSpec, Plan, Size, Speed, Step};
 use street_buffer::{Buffers, Released};
 use street_net::Network;
 use street_yard::{ListId, Yard};
@@ -26,11 +26,12 @@ fn two_into_one(alloc: Global, limit: u64) -> Result<Network, Fail> {
     nets::network(alloc, &nodes, &links, &[turn(10, 30), turn(20, 30)])
 }
 
-/// A vehicle that waits in the buffer of a lane: 0 is that of link 10, and 1 that of link 20.
+/// A vehicle that waits in the buffer of a lane, 0 that of link 10 and 1 that of link 20, with its size in cells.
 #[derive(Clone, Copy)]
 struct Waiting {
     lane: u16,
     number: CarNo,
+    size: u8,
     speed: Speed,
     ready: Step,
 }
@@ -39,6 +40,7 @@ struct Waiting {
 const LATE: Waiting = Waiting {
     lane: 0,
     number: 0,
+    size: 3,
     speed: 4,
     ready: 5,
 };
@@ -47,12 +49,13 @@ const LATE: Waiting = Waiting {
 const EARLY: Waiting = Waiting {
     lane: 1,
     number: 1,
+    size: 1,
     speed: 3,
     ready: 4,
 };
 
-/// The vehicle, on its way to link 30.
-fn car(alloc: Global, waiting: Waiting) -> Result<Car, AllocError>
+/// The vehicle, of this size, on its way to link 30.
+fn car(alloc: Global, waiting: Waiting, size: Size) -> Result<Car, AllocError>
     ensures { IfOk result (λ c. length c.plan.value ≤ most_plan) }
 {
     let plan = Vec::from_slice(alloc, &[LinkIx::new(waiting.lane), LinkIx::new(2)])?;
@@ -63,6 +66,7 @@ fn car(alloc: Global, waiting: Waiting) -> Result<Car, AllocError>
         step: 0,
         at: 0,
         speed: waiting.speed,
+        size,
     })
 }
 
@@ -81,7 +85,10 @@ fn take_in(
 {
     let lane = usize::from(waiting.lane);
     assert!(rt; lane < 2);
-    let car = car(rt.alloc(), waiting)?;
+    let Some(size) = Size::new(u64::from(waiting.size)) else {
+        return Err(Fail::from("a size is 1 to 4"));
+    };
+    let car = car(rt.alloc(), waiting, size)?;
     yard.reserve(1)?;
     let key = yard.admit_reserved(car);
     assert!(rt; buffers.has_room(yard, lane));
@@ -108,10 +115,11 @@ fn fill(
     Ok(())
 }
 
-/// A vehicle that went: its number, the position of the link that it left, its speed, and its position in its plan.
+/// A vehicle that went: its number and size, the position of the link that it left, its speed, and its position in its plan.
 #[derive(PartialEq, Eq, Clone, Copy)]
 struct Went {
     number: CarNo,
+    size: u8,
     from: usize,
     speed: Speed,
     at: u16,
@@ -129,6 +137,7 @@ fn told(
         let car = yard.car(front.key);
         went.push(Went {
             number: car.number,
+            size: car.size.cells(),
             from: front.turn.link.position(),
             speed: car.speed,
             at: car.at,
@@ -236,6 +245,7 @@ fn check_outcome(
 
 const FIRST: Went = Went {
     number: 0,
+    size: 3,
     from: 0,
     speed: 4,
     at: 1,
@@ -243,6 +253,7 @@ const FIRST: Went = Went {
 
 const SECOND: Went = Went {
     number: 1,
+    size: 1,
     from: 1,
     speed: 3,
     at: 1,

@@ -1,10 +1,12 @@
 //! Motion with values reckoned by hand.
 
-ghost use Rattle.std.specs.Prelude.{◌≡◌, ◌<◌, ℕ, IfOk, OnOk, length};
+ghost use Rattle.std.specs.Prelude.{◌≡◌, ◌-◌, ◌<◌, ℕ, IfOk, OnOk, length, true};
 ghost use Rattle.std.specs.List.{All};
+ghost use Rattle.street_base.specs.Faults.{is_within};
+ghost use Rattle.street_base.specs.Limits.{most_size};
 ghost use Rattle.street_rule.specs.Watching.{IsReady};
 ghost use Rattle.street_yard.specs.Yard.{list_at};
-ghost use Rattle.street_yard.specs.Listed.{cell_at, AllAbove, IsLane};
+ghost use Rattle.street_yard.specs.Listed.{rear_at, AllAbove, IsLane};
 ghost use Rattle.street_gap.specs.Closed.{IsWithin};
 
 use crate::nets;
@@ -12,7 +14,7 @@ use crate::nets::{link, node};
 use std::alloc::Global;
 use std::process::Abort;
 use std::test::Fail;
-use street_base::{Car, CarNo, CellNo, LinkIx, Plan, Speed, Starved};
+use street_base::{Car, CarNo, CellNo, LinkIx, Plan, Size, Speed, Starved};
 use street_gap::Closures;
 use street_net::Network;
 use street_rule::{Dice, Leaver, Road, RoadLane, Watch, motion_pass};
@@ -23,22 +25,31 @@ fn one_link(alloc: Global) -> Result<Network, Fail> {
     nets::network(alloc, &[node(1), node(2)], &[link(10, 1, 2, 40)], &[])
 }
 
-/// A vehicle stands here with this speed.
+/// A vehicle of this size stands with its front here, with this speed.
 #[derive(Clone, Copy)]
 struct Standing {
     cell: CellNo,
     speed: Speed,
+    size: Size,
 }
 
-/// A vehicle comes last on list 0, in a cell below all others.
+/// The last cell that it covers.
+fn rear(standing: Standing) -> CellNo
+    ensures { result ≡ standing.cell - (standing.size - 1) }
+{
+    let tail = standing.size.cells() - 1;
+    standing.cell.saturating_sub(CellNo::from(tail))
+}
+
+/// A vehicle comes last on list 0, with its front below the rears of all others.
 fn put(alloc: Global, yard: &mut Yard, number: CarNo, standing: Standing) -> Result<Key, Starved>
     requires list { 0 < length yard.old.lists }
     requires lane { IsLane yard.old 0 40 }
-    requires below { AllAbove (cell_at yard.old) standing.cell (list_at yard.old 0) }
+    requires below { AllAbove (rear_at yard.old) standing.cell (list_at yard.old 0) }
     requires within { standing.cell < 40 }
     ensures list { OnOk result (length yard.new.lists ≡ length yard.old.lists) }
     ensures lane { OnOk result (IsLane yard.new 0 40) }
-    ensures below { OnOk result ((cell : ℕ) → cell < standing.cell → AllAbove (cell_at yard.new) cell (list_at yard.new 0)) }
+    ensures below { OnOk result ((cell : ℕ) → cell < standing.cell - (standing.size - 1) → AllAbove (rear_at yard.new) cell (list_at yard.new 0)) }
 {
     yard.whole();
     let plan = Box::new(
@@ -53,8 +64,10 @@ fn put(alloc: Global, yard: &mut Yard, number: CarNo, standing: Standing) -> Res
         step: 0,
         at: 0,
         speed: standing.speed,
+        size: standing.size,
     });
     yard.push_back(ListId(0), key);
+    yard.whole();
     Ok(key)
 }
 
@@ -81,11 +94,11 @@ type Three = (Standing, Standing, Standing);
 fn add(rt: &(impl Abort + AllocGlobal), yard: &mut Yard, number: CarNo, standing: Standing) -> Key
     requires list { 0 < length yard.old.lists }
     requires lane { IsLane yard.old 0 40 }
-    requires below { AllAbove (cell_at yard.old) standing.cell (list_at yard.old 0) }
+    requires below { AllAbove (rear_at yard.old) standing.cell (list_at yard.old 0) }
     requires within { standing.cell < 40 }
     ensures list { length yard.new.lists ≡ length yard.old.lists }
     ensures lane { IsLane yard.new 0 40 }
-    ensures below { (cell : ℕ) → cell < standing.cell → AllAbove (cell_at yard.new) cell (list_at yard.new 0) }
+    ensures below { (cell : ℕ) → cell < standing.cell - (standing.size - 1) → AllAbove (rear_at yard.new) cell (list_at yard.new 0) }
 {
     match put(rt.alloc(), yard, number, standing) {
         Ok(key) => key,
@@ -102,7 +115,7 @@ fn stand(rt: &(impl Abort + AllocGlobal), cars: Three) -> (Yard, Keys)
     ensures lane { IsLane result.0 0 40 }
 {
     let (first, second, third) = cars;
-    assert!(rt; first.cell < 40 && second.cell < first.cell && third.cell < second.cell);
+    assert!(rt; first.cell < 40 && second.cell < rear(first) && third.cell < rear(second));
     let Ok(mut yard) = Yard::new(rt.alloc(), 1) else {
         panic!(rt; "no memory for a yard")
     };
@@ -219,8 +232,19 @@ fn check_moved(
     Ok(())
 }
 
+/// A vehicle of so many cells, 1 to 4, with its front here.
+fn long(cell: CellNo, speed: Speed, cells: u64) -> Standing
+    requires { is_within 1 most_size cells ≡ true }
+{
+    let Some(size) = Size::new(cells) else {
+        unreachable!();
+    };
+    Standing { cell, speed, size }
+}
+
+/// A vehicle of one cell.
 fn at(cell: CellNo, speed: Speed) -> Standing {
-    Standing { cell, speed }
+    long(cell, speed, 1)
 }
 
 /// With a closed stretch far away, and with one ahead of the first vehicle.
@@ -281,4 +305,48 @@ fn check_exit(rt: &(impl Abort + AllocGlobal), network: &Network) -> Result<(), 
 fn an_open_exit_is_left_by(rt: HostRuntime) -> Result<(), Fail> {
     let network = one_link(rt.alloc())?;
     check_exit(&rt, &network)
+}
+
+/// Vehicles of 4, 2 and 1 cells: each stops for the rear of the one ahead, also where that lies over the begin of a closed
+/// stretch, nearer than it.
+fn check_rears(rt: &(impl Abort + AllocGlobal), network: &Network) -> Result<(), Fail> {
+    let behind = Scene {
+        cars: (long(10, 4, 4), long(4, 2, 2), at(0, 3)),
+        exit: true,
+        watch: 5,
+    };
+    let moved = Moved {
+        cars: [Some((15, 5)), Some((6, 2)), Some((2, 2))],
+        left: None,
+        noted: (1, 2),
+    };
+    check_moved(rt, network, 39, 39, behind, moved)?;
+    check_moved(rt, network, 8, 12, behind, moved)
+}
+
+#[test]
+fn vehicles_stop_for_rears(rt: HostRuntime) -> Result<(), Fail> {
+    let network = one_link(rt.alloc())?;
+    check_rears(&rt, &network)
+}
+
+/// A vehicle of 4 cells leaves whole; who is behind it moves by where its rear was.
+fn check_leaves_whole(rt: &(impl Abort + AllocGlobal), network: &Network) -> Result<(), Fail> {
+    let leaving = Scene {
+        cars: (long(38, 4, 4), long(30, 5, 3), at(20, 0)),
+        exit: true,
+        watch: 38,
+    };
+    let left = Moved {
+        cars: [None, Some((34, 4)), Some((21, 1))],
+        left: Some(5),
+        noted: (1, 5),
+    };
+    check_moved(rt, network, 5, 6, leaving, left)
+}
+
+#[test]
+fn long_vehicles_leave_whole(rt: HostRuntime) -> Result<(), Fail> {
+    let network = one_link(rt.alloc())?;
+    check_leaves_whole(&rt, &network)
 }
