@@ -11,8 +11,9 @@ from .network import Network, Options
 from .report import Report, some
 from .sumo_demand import Demand, enters
 from .sumo_net import read_additional, read_net
-from .sumo_signals import signals
+from .sumo_signals import movements, signals
 from .sumo_types import Sizes, Types
+from .yielding import equivalents, hourly_flows
 
 
 def parser():
@@ -69,9 +70,8 @@ def parser():
     made.add_argument(
         "--permissive",
         type=float,
-        default=0.7,
         metavar="SHARE",
-        help="the last share of each permissive green that is shown (default %(default)s)",
+        help="the last share of each permissive green that is shown (default: by the flows that it gives way to)",
     )
     return made
 
@@ -86,7 +86,7 @@ def within(least, most):
 
 
 def options_of(words):
-    if not 0 <= words.permissive <= 1:
+    if words.permissive is not None and not 0 <= words.permissive <= 1:
         raise Fault("--permissive is a share from 0 to 1")
     names = ("dawdle", "change", "zone", "seed", "residence", "buffer", "permissive", "begin")
     given = {name: getattr(words, name) for name in names}
@@ -118,15 +118,19 @@ def convert(net_path, additional, routes, options, report):
     types = Types(options.seed, report)
     for path in additional:
         read_additional(path, net, types, report)
-    network = Network(net, options, report)
     demand = Demand(net, types, options.seed, report)
     for path in routes:
         demand.read(path)
+    vehicles = demand.finish()
+    flows = hourly_flows(vehicles)
+    network = Network(net, options, report, flows)
+    found = movements(net, network, flows, report)
+    network.equivalents = equivalents(one for junction in found.values() for one in junction.values())
     sizes = Sizes(types)
-    entered, names = enters(demand.finish(), net, network, sizes, report)
+    entered, names = enters(vehicles, net, network, sizes, report)
     sizes.tell(report)
     warn_of_rules(net, network, report)
-    made = signals(net, network, report)
+    made = signals(net, network, found, report)
     lights = [[light, command["node"]] for light, command in made]
     return network, lights, [network.load(), *(command for _, command in made), *entered], names
 
@@ -164,4 +168,4 @@ def warn_of_rules(net, network, report):
         report.warn(f"{len(network.joined)} turns between parallel links added for routes that change between them")
     split = sum(len(links) > 1 for links in network.links_of.values())
     if split:
-        report.warn(f"{split} edges of three lanes or more became parallel links")
+        report.warn(f"{split} edges became parallel links of one or two lanes")

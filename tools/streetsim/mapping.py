@@ -33,6 +33,8 @@ class MapTurn:
     light: str | None
     index: int  # in the light's state
     added: bool  # not SUMO's
+    speed: float = 13.9  # metres a second, inside the junction if that is known
+    limit: int = 2  # of its link, cells a step
 
 
 @dataclass(slots=True)
@@ -88,7 +90,9 @@ def map_of(network, lights, names, report):
             for link in network.links
         ],
         turns=[
-            MapTurn(link, lane, following, turn.next_lane, turn.light, turn.index, turn.added)
+            MapTurn(
+                link, lane, following, turn.next_lane, turn.light, turn.index, turn.added, turn.speed, turn.limit
+            )
             for (link, lane, following), turn in network.turns.items()
         ],
         signals=lights,
