@@ -10,9 +10,11 @@ from .mapping import map_of
 from .network import Network, Options
 from .report import Report, some
 from .sumo_demand import Demand, enters
+from .sumo_detectors import placed
 from .sumo_net import CLASSES, read_additional, read_net
-from .sumo_signals import signals
+from .sumo_signals import movements, signals
 from .sumo_types import Sizes, Types
+from .yielding import equivalents, hourly_flows
 
 
 def parser():
@@ -69,9 +71,8 @@ def parser():
     made.add_argument(
         "--permissive",
         type=float,
-        default=0.7,
         metavar="SHARE",
-        help="the last share of each permissive green that is shown (default %(default)s)",
+        help="the last share of each permissive green that is shown (default: by the flows that it gives way to)",
     )
     return made
 
@@ -86,7 +87,7 @@ def within(least, most):
 
 
 def options_of(words):
-    if not 0 <= words.permissive <= 1:
+    if words.permissive is not None and not 0 <= words.permissive <= 1:
         raise Fault("--permissive is a share from 0 to 1")
     unknown = [name for name in words.classes.split(",") if name not in CLASSES]
     if unknown:
@@ -103,11 +104,14 @@ def main(arguments):
     place_of(words.output), place_of(words.map)
     report, options = Report(), options_of(words)
     network, lights, commands, names = convert(words.net, words.additional, words.routes, options, report)
+    mapping = map_of(network, lights, names, report)
+    mapping.detectors = placed(network.detectors, mapping, network.dropped, report)
+    mapping.warnings = list(report.lines())
     lines = [json.dumps(command, separators=(",", ":")) for command in commands]
     refuse_over_limits(network, lines[0], names)
     with whole_file(words.output) as run, whole_file(words.map) as mapped:
         run.writelines(line + "\n" for line in lines)
-        json.dump(map_of(network, lights, names, report).written(), mapped, separators=(",", ":"))
+        json.dump(mapping.written(), mapped, separators=(",", ":"))
     print(*report.lines(), sep="\n", end="\n" if any(report.lines()) else "", file=sys.stderr)
     print(
         f"{len(network.nodes):,} nodes, {len(network.links):,} links, {len(network.turns):,} turns, "
@@ -123,15 +127,19 @@ def convert(net_path, additional, routes, options, report):
     types = Types(options.seed, report)
     for path in additional:
         read_additional(path, net, types, report)
-    network = Network(net, options, report)
     demand = Demand(net, types, options.seed, report)
     for path in routes:
         demand.read(path)
+    vehicles = demand.finish()
+    flows = hourly_flows(vehicles)
+    network = Network(net, options, report, flows)
+    found = movements(net, network, flows, report)
+    network.equivalents = equivalents(one for junction in found.values() for one in junction.values())
     sizes = Sizes(types)
-    entered, names = enters(demand.finish(), net, network, sizes, report)
+    entered, names = enters(vehicles, net, network, sizes, report)
     sizes.tell(report)
     warn_of_rules(net, network, report)
-    made = signals(net, network, report)
+    made = signals(net, network, found, report)
     lights = [[light, command["node"]] for light, command in made]
     return network, lights, [network.load(), *(command for _, command in made), *entered], names
 
@@ -169,4 +177,4 @@ def warn_of_rules(net, network, report):
         report.warn(f"{len(network.joined)} turns between parallel links added for routes that change between them")
     split = sum(len(links) > 1 for links in network.links_of.values())
     if split:
-        report.warn(f"{split} edges of three lanes or more became parallel links")
+        report.warn(f"{split} edges became parallel links of one or two lanes")

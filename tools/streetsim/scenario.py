@@ -281,8 +281,8 @@ class TrafficLight(Part):
         return tuple(sorted({light for light, _ in self.scenario.map.signals}))
 
     def setProgramLogic(self, name, phases, offset=0):
-        """Sets a light's cycle: phases of (seconds, state), as a tlLogic has them, from the next step on. Gives what
-        there is to warn of."""
+        """Sets a light's cycle: phases of (seconds, state), as a tlLogic has them, from the next step on; of permissive
+        greens the usual share is shown, as flows are not known here. Gives what there is to warn of."""
         mapping, report = self.scenario.map, Report()
         program, permissive = (
             Program(offset, [tuple(phase) for phase in phases], "static"),
