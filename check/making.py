@@ -11,15 +11,20 @@ BOUNDS = [
     ("zone", None, 1000, [1001]), ("dawdle", None, 1000, [1001]), ("change", None, 1000, [1001]), ("start", None, 10 ** 9, [10 ** 9 + 1]),
 ]
 # What may stand in a field where a number is wanted, and is none, or makes the line no JSON.
-NO_NUMBERS = ["-1", "-0", "1.0", "1e3", "18446744073709551616", '"7"', "null", "true", "[1]", "{}", "01", "+1", "NaN", "1e999", "", "18446744073709551615"]
-# Lines that are no command, or are blank.
-ODD_LINES = [
-    b"", b" ", b"\t \r", b"advance", b"[]", b"{}", b"null", b'"count"', b'{"cmd":"stop"}', b'{"cmd":7}', b'{"cmd":"Count"}', b'{"cmd":"count"', b'{"cmd":"count"} x',
-    b'\xef\xbb\xbf{"cmd":"count"}', b'{"cmd":"count","x":"\xff"}', b'{"cmd":"count","x":"\\ud800"}', b'{"cmd":"count","x":"\\ud83d\\ude00"}', b'{"cmd":"count","x":1e999}',
-    b'{"cmd":"count","x":[1,]}', b'{"cmd":"count","x":"a\tb"}', b'{"cmd":"count","cmd":"stop"}', b'{"cmd":"stop","cmd":"count"}', b'{"\\u0063md":"count"}',
-    b'{"cmd":"count","x":' + b"[" * 126 + b"]" * 126 + b"}", b'{"cmd":"count","x":' + b"[" * 127 + b"]" * 127 + b"}", b" \t{ \"cmd\" : \"count\" , \"x\" : -1.5e-3 }\r",
-    b"x" * 1048576, b"x" * 1048577,
+NO_NUMBERS = [
+    "-1", "-0", "1.0", "1e3", "18446744073709551616", '"7"', "null", "true", "[1]", "{}", "01", "+1", "NaN", "1e999", "", "18446744073709551615",
 ]
+# Lines that are no command, or are blank; or are `count` in another dress.
+ODD_LINES = [
+    b"", b" ", b"\t \r", b"advance", b"[]", b"{}", b"null", b'"count"', b'{"cmd":"stop"}', b'{"cmd":7}', b'{"cmd":"Count"}', b'{"cmd":"count"',
+    b'{"cmd":"count"} x', b'\xef\xbb\xbf{"cmd":"count"}', b'{"cmd":"count","x":"\xff"}', b'{"cmd":"count","x":"\\ud800"}',
+    b'{"cmd":"count","x":"\\ud83d\\ude00"}', b'{"cmd":"count","x":1e999}', b'{"cmd":"count","x":[1,]}', b'{"cmd":"count","x":"a\tb"}',
+    b'{"cmd":"count","cmd":"stop"}', b'{"cmd":"stop","cmd":"count"}', b'{"\\u0063md":"count"}',
+    b'{"cmd":"count","x":' + b"[" * 126 + b"]" * 126 + b"}", b'{"cmd":"count","x":' + b"[" * 127 + b"]" * 127 + b"}",
+    b" \t{ \"cmd\" : \"count\" , \"x\" : -1.5e-3 }\r",
+]
+# Lines as long as one may be, and longer; rare, as they take time.
+LONG_LINES = [b"x" * 1048576, b"x" * 1048577]
 
 
 class Maker:
@@ -27,7 +32,7 @@ class Maker:
 
     def __init__(self, seed):
         self.random = random.Random(seed)
-        self.lines, self.admitted, self.meters = [], 0, 0
+        self.lines, self.last, self.admitted, self.meters = [], {}, 0, 0
 
     def some(self, chance):
         return self.random.random() < chance
@@ -40,10 +45,12 @@ class Maker:
         self.network()
         if self.some(.05):
             self.say({"cmd": self.pick("count", "advance"), "steps": 1})
-        while self.some(.15):
+        while self.some(.3):
             self.say(self.spoilt_load())
         self.say(self.load)
         self.clock = self.load["start"]
+        for _ in range(self.pick(0, 2, 5)):
+            self.enter()
         for _ in range(self.random.randint(12, 40)):
             self.one()
         self.show_all()
@@ -60,9 +67,12 @@ class Maker:
             links.append([name, self.pick(*ids), self.pick(*ids), self.pick(1, 2, 2), cells, self.pick(1, 2, 3, 5, 5, 5)])
         nodes = [[name, self.pick(1, 1, 2, 3, self.random.randint(1, 6)), self.pick(1, 1, 2, 3, 6)] for name in ids]
         self.load = {
-            "cmd": "load", "nodes": nodes, "links": links, "turns": self.turns_of(links), "zone": self.pick(0, 2, 4, 8, 16, 1000),
-            "dawdle": self.pick(0, 0, 0, 100, 300, 563, 679, 1000), "change": self.pick(0, 500, 700, 1000, 1000, 1000),
-            "seed": self.pick(0, 1, 2 ** 32, 2 ** 64 - 1, self.random.getrandbits(64)), "start": self.pick(0, 0, 0, 7, self.random.randint(0, 10 ** 6), 999999970),
+            "cmd": "load", "nodes": nodes, "links": links, "turns": self.turns_of(links),
+            "zone": self.pick(0, 2, 4, 8, 16, 1000),
+            "dawdle": self.pick(0, 0, 0, 100, 300, 563, 679, 1000),
+            "change": self.pick(0, 500, 700, 1000, 1000, 1000),
+            "seed": self.pick(0, 1, 2 ** 32, 2 ** 64 - 1, self.random.getrandbits(64)),
+            "start": self.pick(0, 0, 0, 7, self.random.randint(0, 10 ** 6), 999999970),
         }
 
     def turns_of(self, links):
@@ -93,7 +103,7 @@ class Maker:
     def one(self):
         """One command more, or a few that belong together."""
         kinds = [self.enter, self.advance, self.close, self.take_out, self.signal, self.meter, self.read, self.vehicle, self.lane, self.count, self.odd]
-        self.random.choices(kinds, [26, 30, 8, 4, 7, 5, 4, 6, 4, 2, 6])[0]()
+        self.random.choices([*kinds, self.load_again], [26, 30, 8, 4, 7, 5, 4, 6, 4, 2, 6, .5])[0]()
 
     def link(self):
         """A link of the network; rarely one that is not there."""
@@ -154,6 +164,9 @@ class Maker:
         first, last = sorted(self.random.randint(0, link[4] - 1) for _ in range(2)) if self.some(.9) else self.random.choices(range(link[4] + 1), k=2)
         self.say({"cmd": self.pick("close", "close", "reopen"), "link": link[0], "lane": self.lane_of(link), "first": first, "last": last})
 
+    def load_again(self):
+        self.say(self.load)
+
     def take_out(self):
         self.say({"cmd": "takeout", "car": self.random.randint(0, self.admitted)})
 
@@ -195,7 +208,7 @@ class Maker:
 
     def say(self, command):
         """A command as a line; some with other spaces, another order of fields, and a field that is not known."""
-        fields = list(command.items())
+        self.last, fields = command, list(command.items())
         if self.some(.1):
             fields.append(("note", self.pick(None, [1.5, {"a": "b"}], "é", -3)))
             self.random.shuffle(fields)
@@ -203,11 +216,11 @@ class Maker:
         self.lines.append(json.dumps(dict(fields), separators=spaces, ensure_ascii=self.some(.5)).encode())
 
     def odd(self):
-        """A line that is no command, or one of the last commands with a field spoilt or left out."""
-        if self.some(.4) or self.lines[-1][:1] != b"{":
-            self.lines.append(self.pick(*ODD_LINES[:-2]) if self.some(.99) else self.pick(*ODD_LINES[-2:]))
+        """A line that is no command, or the last command with a field spoilt or left out."""
+        if self.some(.4):
+            self.lines.append(self.pick(*ODD_LINES) if self.some(.99) else self.pick(*LONG_LINES))
             return
-        command = json.loads(self.lines[-1])
+        command = dict(self.last)
         name = self.pick(*command)
         if self.some(.3):
             del command[name]
