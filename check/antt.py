@@ -50,7 +50,6 @@ class Definition:
     shared: list
     module: int
     type: list
-    kept: bool = False
     # Of each clause the patterns and the body, as tokens.
     clauses: list = field(default_factory=list)
 
@@ -174,7 +173,7 @@ def signature(tokens, shared, module):
     """The definition that `[unfoldable] [pub] name : type` begins."""
     colon = next(at for at, token in enumerate(tokens) if token.text == ":")
     name = tokens[colon - 1]
-    return Definition(name.text.strip("◌"), name.line, shared, module, tokens[colon + 1:], tokens[0].text == "unfoldable")
+    return Definition(name.text.strip("◌"), name.line, shared, module, tokens[colon + 1:])
 
 
 def add_type(source, tokens, words):

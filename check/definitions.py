@@ -17,12 +17,20 @@ from words import NONE, Record, Variant, some
 
 TOP = Path(__file__).resolve().parent.parent
 MACHINE = "street_base.specs.Outcomes"
+RUNNING = "street_line.specs.Running"
 WHOLE = Variant("Outcome.Whole")
 # A row about all states, numbers or lists is evaluated at these, as far as its premises leave them free.
 STATES = "street_base.proofs.rows.States"
 GREEN = Record({"v_link": 10, "v_lane": 0, "v_next": 20})
 
 sys.setrecursionlimit(100_000)
+
+
+def without_end(line):
+    """The bytes of a line, without its LF."""
+    if line[-1] != 10:
+        raise Refused("a reply has no line end")
+    return bytes(line[:-1])
 
 
 class Definitions:
@@ -36,9 +44,12 @@ class Definitions:
 
     # ---- sessions
 
-    def serve(self, lines):
-        """The reply to each line, none for a blank one, and the calls that were made; lines and replies are bytes without line ends."""
-        said, line_of_reply = self.word("street_line.specs.Running", "said"), self.word("street_line.specs.Running", "served_line")
+    def serve(self, lines, most=65536):
+        """The reply to each line, none for a blank one, and the calls that were made; lines and replies are bytes without line ends.
+
+        A command after `most` calls has no place.
+        """
+        said, served_line = self.word(RUNNING, "said"), self.word(RUNNING, "served_line")
         fault_line, entry = self.word("street_text.specs.FaultLines", "fault_line"), self.word("street_desk.specs.History", "entry")
         state, replies, calls = NONE, [], []
         for line in lines:
@@ -46,11 +57,13 @@ class Definitions:
             if what.name == "silent":
                 replies.append(None)
             elif what.name == "faulty":
-                replies.append(bytes(fault_line(what.parts[0]).parts[0])[:-1])
+                replies.append(without_end(fault_line(what.parts[0]).parts[0]))
+            elif len(calls) == most:
+                replies.append(without_end(served_line(Variant("Served.Full"))))
             else:
                 command = what.parts[0]
                 reply, state = self.call(state, command)
-                replies.append(bytes(line_of_reply(Variant("Served.Answered", (reply,))))[:-1])
+                replies.append(without_end(served_line(Variant("Served.Answered", (reply,)))))
                 calls.append(entry(0, command, WHOLE))
         return replies, calls
 
@@ -62,8 +75,26 @@ class Definitions:
         return reply, after
 
     def lines(self, text):
-        """The lines of a text, by the definition; for short texts alone, since it is evaluated byte by byte."""
+        """The lines of a text, by the definition; for short texts alone, since each line doubles its work."""
         return [bytes(line) for line in self.word("street_ends.specs.Lines", "lines_of")(list(text))]
+
+    # ---- tapes
+
+    def tape(self, calls):
+        """The tape of these calls."""
+        return bytes(self.word("street_tape.specs.Tapes", "tape_text")(calls))
+
+    def calls_of_tape(self, lines):
+        """The calls that the lines of a tape say, or none if it is no whole tape."""
+        found = self.word("street_tape.specs.Entries", "tape_in")([list(line) for line in lines])
+        return None if found is NONE else found.parts[0]
+
+    def replay(self, calls):
+        """The replies to these calls from nothing loaded, and then to a count."""
+        counted = [*calls, self.word("street_desk.specs.History", "entry")(0, Variant("Command.Count"), WHOLE)]
+        replies = self.word("street_desk.specs.History", "answers_of")(counted)
+        self.program.forget()
+        return [without_end(self.word("street_printing.specs.Printing", "reply_line")(reply)) for reply, _ in replies]
 
     # ---- rows
 

@@ -11,6 +11,9 @@ from words import CONSTRUCTORS, NONE, VALUES, WORDS, Record, Variant
 SIGNS = {"||": "or", "&&": "and", "==": "==", "≡": "==", "≢": "!=", "<": "<", "≤": "<=", "+": "+", "++": "+", "*": "*", "/": "//", "%": "%", "^": "**",
          "×": "and", "⊎": "or"}
 
+# Words that are asked the same again and again in a step; what they return is kept until a command is done.
+REMEMBERED = {"front_over", "moved", "changes"}
+
 
 def minus(a, b):
     """Subtraction stops at 0."""
@@ -29,9 +32,9 @@ def refuse(message):
 
 
 def remembered(f, answers):
-    """The same function; the same values (numbers, or the very same lists and records) are answered from what it returned before."""
+    """The same function; for the very same arguments it returns again what it returned before."""
     def remembering(*arguments):
-        key = (f, *(x if type(x) is int else id(x) for x in arguments))
+        key = (f, *map(id, arguments))
         found = answers.get(key)
         if found is None:
             # The arguments are kept, so that their identities stay theirs.
@@ -96,7 +99,7 @@ class Program:
             definition = source.definitions.get(name)
             lines = self.definition(path, definition) if definition else self.record(path, name)
             exec(compile("\n".join(lines), f"{source.title}: {name}", "exec"), self.world)
-            if definition and definition.kept and not takes_function(definition):
+            if name in REMEMBERED:
                 function = self.functions[path, name][0]
                 self.world[function] = remembered(self.world[function], self.answers)
 
@@ -142,16 +145,6 @@ def definition_arity(definition, title):
     if not definition.clauses:
         raise Refused(f"{title} line {definition.line}: {definition.name} has no clause")
     return len(definition.shared) + len(clause_parts(definition.clauses[0], definition.name, title)[0])
-
-
-def takes_function(definition):
-    """Whether an argument is a function: an arrow stands in parentheses."""
-    depth = 0
-    for token in definition.type:
-        depth += {"(": 1, ")": -1}.get(token.text, 0)
-        if depth and token.text == "→":
-            return True
-    return False
 
 
 class Translator:
