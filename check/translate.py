@@ -109,9 +109,10 @@ class Program:
         title = self.source(path).title
         lines = [f"def {function}({', '.join(f'a{at}' for at in range(arity))}):"]
         lines += [f"  v_{name} = a{at}" for at, name in enumerate(definition.shared)]
+        lines.append("  while True:")
         for tokens in definition.clauses:
             lines += self.clause(path, definition, tokens)
-        return [*lines, f"  refuse({f'{title} line {definition.line}: no clause of {definition.name} fits'!r})"]
+        return [*lines, f"    refuse({f'{title} line {definition.line}: no clause of {definition.name} fits'!r})"]
 
     def clause(self, path, definition, tokens):
         """The lines of a clause: what its patterns ask for, what they name, and what is returned."""
@@ -125,10 +126,10 @@ class Program:
         for at, pattern in enumerate(patterns):
             translator.fit(pattern, f"a{at + shared}", tests, names)
         translator.locals = {*names, *definition.shared}
-        lines = [f"v_{name} = {value}" for name, value in names.items()] + [f"return {translator.code(body)}"]
+        lines = [f"v_{name} = {value}" for name, value in names.items()] + translator.returning(body)
         if not tests:
-            return ["  " + line for line in lines]
-        return [f"  if {' and '.join(tests)}:"] + ["    " + line for line in lines]
+            return ["    " + line for line in lines]
+        return [f"    if {' and '.join(tests)}:"] + ["      " + line for line in lines]
 
     def record(self, path, name):
         """The lines of a function for a record with parameters: all its fields hold, each over those before."""
@@ -158,6 +159,22 @@ class Translator:
     def code(self, tree):
         """Python for the value of a tree."""
         return getattr(self, tree[0])(*tree[1:])
+
+    def returning(self, tree):
+        """Lines that return the value of a tree. A word that ends with itself goes round again, so that long lists need no deep calls."""
+        if tree[0] == "choice":
+            return [f"if {self.code(tree[1])}:", *("  " + line for line in self.returning(tree[2])), *self.returning(tree[3])]
+        if tree[0] == "apply" and tree[1][:2] == ("name", self.definition.name) and self.goes_round(tree[2]):
+            names = ", ".join(f"a{at}" for at in range(len(tree[2])))
+            return [f"{names} = {', '.join(map(self.code, tree[2]))}", "continue"]
+        return [f"return {self.code(tree)}"]
+
+    def goes_round(self, arguments):
+        """Whether a word may be a loop: it is called with all its arguments, and none of its functions could see a name change."""
+        if self.definition.shared or self.definition.name in self.locals:
+            return False
+        has_functions = any(token.text == "λ" for tokens in self.definition.clauses for token in tokens)
+        return not has_functions and len(arguments) == self.program.functions[self.path, self.definition.name][1]
 
     # ---- words
 
