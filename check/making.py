@@ -27,7 +27,7 @@ class Maker:
 
     def __init__(self, seed):
         self.random = random.Random(seed)
-        self.lines, self.admitted, self.meters = [], 0, 0
+        self.lines, self.last, self.admitted, self.meters = [], {}, 0, 0
 
     def some(self, chance):
         return self.random.random() < chance
@@ -40,10 +40,12 @@ class Maker:
         self.network()
         if self.some(.05):
             self.say({"cmd": self.pick("count", "advance"), "steps": 1})
-        while self.some(.15):
+        while self.some(.3):
             self.say(self.spoilt_load())
         self.say(self.load)
         self.clock = self.load["start"]
+        for _ in range(self.pick(0, 2, 5)):
+            self.enter()
         for _ in range(self.random.randint(12, 40)):
             self.one()
         self.show_all()
@@ -93,7 +95,7 @@ class Maker:
     def one(self):
         """One command more, or a few that belong together."""
         kinds = [self.enter, self.advance, self.close, self.take_out, self.signal, self.meter, self.read, self.vehicle, self.lane, self.count, self.odd]
-        self.random.choices(kinds, [26, 30, 8, 4, 7, 5, 4, 6, 4, 2, 6])[0]()
+        self.random.choices([*kinds, self.load_again], [26, 30, 8, 4, 7, 5, 4, 6, 4, 2, 6, .5])[0]()
 
     def link(self):
         """A link of the network; rarely one that is not there."""
@@ -154,6 +156,9 @@ class Maker:
         first, last = sorted(self.random.randint(0, link[4] - 1) for _ in range(2)) if self.some(.9) else self.random.choices(range(link[4] + 1), k=2)
         self.say({"cmd": self.pick("close", "close", "reopen"), "link": link[0], "lane": self.lane_of(link), "first": first, "last": last})
 
+    def load_again(self):
+        self.say(self.load)
+
     def take_out(self):
         self.say({"cmd": "takeout", "car": self.random.randint(0, self.admitted)})
 
@@ -195,7 +200,7 @@ class Maker:
 
     def say(self, command):
         """A command as a line; some with other spaces, another order of fields, and a field that is not known."""
-        fields = list(command.items())
+        self.last, fields = command, list(command.items())
         if self.some(.1):
             fields.append(("note", self.pick(None, [1.5, {"a": "b"}], "é", -3)))
             self.random.shuffle(fields)
@@ -203,11 +208,11 @@ class Maker:
         self.lines.append(json.dumps(dict(fields), separators=spaces, ensure_ascii=self.some(.5)).encode())
 
     def odd(self):
-        """A line that is no command, or one of the last commands with a field spoilt or left out."""
-        if self.some(.4) or self.lines[-1][:1] != b"{":
+        """A line that is no command, or the last command with a field spoilt or left out."""
+        if self.some(.4):
             self.lines.append(self.pick(*ODD_LINES[:-2]) if self.some(.99) else self.pick(*ODD_LINES[-2:]))
             return
-        command = json.loads(self.lines[-1])
+        command = dict(self.last)
         name = self.pick(*command)
         if self.some(.3):
             del command[name]

@@ -10,6 +10,7 @@ small and printed as lines to paste; the status is then 1. `--program PATH` name
 """
 import argparse
 import concurrent.futures
+import json
 import os
 import shlex
 import subprocess
@@ -46,9 +47,8 @@ class Comparison:
     def __init__(self, program, top=TOP):
         self.program, self.definitions = program, Definitions(top)
 
-    def difference(self, lines):
-        """The first difference in a session, or none. Every fourth session has places for half of its lines alone."""
-        most = len(lines) // 2 if len(lines) % 4 == 0 and len(lines) > 1 else MOST_CALLS
+    def difference(self, lines, most=MOST_CALLS):
+        """The first difference in a session that has places for so many calls, or none."""
         replies, calls = self.definitions.serve(lines, most)
         text = b"".join(line + b"\n" for line in lines)
         with tempfile.TemporaryDirectory() as folder:
@@ -91,22 +91,40 @@ class Comparison:
 
     # ---- making it small
 
-    def smaller(self, difference):
-        """The same kind of difference in as few lines as can be found soon."""
-        until, best, size = time.monotonic() + SMALLER_SECONDS, difference, len(difference.lines)
-        while size > 0 and time.monotonic() < until:
-            at = 0
-            while at < len(best.lines) and time.monotonic() < until:
-                found = self.difference_if_any(best.lines[:at] + best.lines[at + size:])
-                if found:
-                    best = found
-                else:
-                    at += size
-            size //= 2
+    def smaller(self, difference, most=MOST_CALLS):
+        """A difference in as few lines, with as short lists in them, as can be found soon."""
+        until, best, tried = time.monotonic() + SMALLER_SECONDS, difference, set()
+        while time.monotonic() < until:
+            lines = next((lines for lines in shorter(best.lines) if tuple(lines) not in tried), None)
+            if lines is None:
+                break
+            tried.add(tuple(lines))
+            best = self.difference(lines, most) or best
         return best
 
-    def difference_if_any(self, lines):
-        return self.difference(lines) if lines else None
+
+def shorter(lines):
+    """Shorter sessions: without a half, a quarter and so on of the lines, without one line, and with one entry less in a list of a line."""
+    size = len(lines) // 2
+    while size > 0:
+        for at in range(0, len(lines), size):
+            yield lines[:at] + lines[at + size:]
+        size //= 2
+    for at, line in enumerate(lines):
+        for less in shorter_lists(line):
+            yield [*lines[:at], less, *lines[at + 1:]]
+
+
+def shorter_lists(line):
+    """A command with one entry less in one of its lists."""
+    try:
+        command = json.loads(line)
+    except ValueError:
+        return
+    for name in ("turns", "links", "nodes", "plan", "phases"):
+        entries = command.get(name, []) if isinstance(command, dict) else []
+        for at in range(len(entries) if isinstance(entries, list) else 0):
+            yield json.dumps({**command, name: entries[:at] + entries[at + 1:]}, separators=(",", ":")).encode()
 
 
 def shown(difference):
@@ -131,8 +149,10 @@ def start_worker(program, top):
 def fault_of_seed(seed):
     """What differs in the session of a seed, small and shown, or none; and how many lines it has."""
     lines = Maker(seed).session()
-    found = comparison.difference(lines)
-    return (shown(comparison.smaller(found)) if found else None), len(lines)
+    # Every tenth session comes to the end of its places.
+    most = len(lines) // 2 if seed % 10 == 0 else MOST_CALLS
+    found = comparison.difference(lines, most)
+    return (shown(comparison.smaller(found, most)) if found else None), len(lines)
 
 
 def compare(program, top, seeds, until=None):
