@@ -11,15 +11,20 @@ BOUNDS = [
     ("zone", None, 1000, [1001]), ("dawdle", None, 1000, [1001]), ("change", None, 1000, [1001]), ("start", None, 10 ** 9, [10 ** 9 + 1]),
 ]
 # What may stand in a field where a number is wanted, and is none, or makes the line no JSON.
-NO_NUMBERS = ["-1", "-0", "1.0", "1e3", "18446744073709551616", '"7"', "null", "true", "[1]", "{}", "01", "+1", "NaN", "1e999", "", "18446744073709551615"]
-# Lines that are no command, or are blank.
-ODD_LINES = [
-    b"", b" ", b"\t \r", b"advance", b"[]", b"{}", b"null", b'"count"', b'{"cmd":"stop"}', b'{"cmd":7}', b'{"cmd":"Count"}', b'{"cmd":"count"', b'{"cmd":"count"} x',
-    b'\xef\xbb\xbf{"cmd":"count"}', b'{"cmd":"count","x":"\xff"}', b'{"cmd":"count","x":"\\ud800"}', b'{"cmd":"count","x":"\\ud83d\\ude00"}', b'{"cmd":"count","x":1e999}',
-    b'{"cmd":"count","x":[1,]}', b'{"cmd":"count","x":"a\tb"}', b'{"cmd":"count","cmd":"stop"}', b'{"cmd":"stop","cmd":"count"}', b'{"\\u0063md":"count"}',
-    b'{"cmd":"count","x":' + b"[" * 126 + b"]" * 126 + b"}", b'{"cmd":"count","x":' + b"[" * 127 + b"]" * 127 + b"}", b" \t{ \"cmd\" : \"count\" , \"x\" : -1.5e-3 }\r",
-    b"x" * 1048576, b"x" * 1048577,
+NO_NUMBERS = [
+    "-1", "-0", "1.0", "1e3", "18446744073709551616", '"7"', "null", "true", "[1]", "{}", "01", "+1", "NaN", "1e999", "", "18446744073709551615",
 ]
+# Lines that are no command, or are blank; or are `count` in another dress.
+ODD_LINES = [
+    b"", b" ", b"\t \r", b"advance", b"[]", b"{}", b"null", b'"count"', b'{"cmd":"stop"}', b'{"cmd":7}', b'{"cmd":"Count"}', b'{"cmd":"count"',
+    b'{"cmd":"count"} x', b'\xef\xbb\xbf{"cmd":"count"}', b'{"cmd":"count","x":"\xff"}', b'{"cmd":"count","x":"\\ud800"}',
+    b'{"cmd":"count","x":"\\ud83d\\ude00"}', b'{"cmd":"count","x":1e999}', b'{"cmd":"count","x":[1,]}', b'{"cmd":"count","x":"a\tb"}',
+    b'{"cmd":"count","cmd":"stop"}', b'{"cmd":"stop","cmd":"count"}', b'{"\\u0063md":"count"}',
+    b'{"cmd":"count","x":' + b"[" * 126 + b"]" * 126 + b"}", b'{"cmd":"count","x":' + b"[" * 127 + b"]" * 127 + b"}",
+    b" \t{ \"cmd\" : \"count\" , \"x\" : -1.5e-3 }\r",
+]
+# Lines as long as one may be, and longer; rare, as they take time.
+LONG_LINES = [b"x" * 1048576, b"x" * 1048577]
 
 
 class Maker:
@@ -62,9 +67,12 @@ class Maker:
             links.append([name, self.pick(*ids), self.pick(*ids), self.pick(1, 2, 2), cells, self.pick(1, 2, 3, 5, 5, 5)])
         nodes = [[name, self.pick(1, 1, 2, 3, self.random.randint(1, 6)), self.pick(1, 1, 2, 3, 6)] for name in ids]
         self.load = {
-            "cmd": "load", "nodes": nodes, "links": links, "turns": self.turns_of(links), "zone": self.pick(0, 2, 4, 8, 16, 1000),
-            "dawdle": self.pick(0, 0, 0, 100, 300, 563, 679, 1000), "change": self.pick(0, 500, 700, 1000, 1000, 1000),
-            "seed": self.pick(0, 1, 2 ** 32, 2 ** 64 - 1, self.random.getrandbits(64)), "start": self.pick(0, 0, 0, 7, self.random.randint(0, 10 ** 6), 999999970),
+            "cmd": "load", "nodes": nodes, "links": links, "turns": self.turns_of(links),
+            "zone": self.pick(0, 2, 4, 8, 16, 1000),
+            "dawdle": self.pick(0, 0, 0, 100, 300, 563, 679, 1000),
+            "change": self.pick(0, 500, 700, 1000, 1000, 1000),
+            "seed": self.pick(0, 1, 2 ** 32, 2 ** 64 - 1, self.random.getrandbits(64)),
+            "start": self.pick(0, 0, 0, 7, self.random.randint(0, 10 ** 6), 999999970),
         }
 
     def turns_of(self, links):
@@ -210,7 +218,7 @@ class Maker:
     def odd(self):
         """A line that is no command, or the last command with a field spoilt or left out."""
         if self.some(.4):
-            self.lines.append(self.pick(*ODD_LINES[:-2]) if self.some(.99) else self.pick(*ODD_LINES[-2:]))
+            self.lines.append(self.pick(*ODD_LINES) if self.some(.99) else self.pick(*LONG_LINES))
             return
         command = dict(self.last)
         name = self.pick(*command)

@@ -32,7 +32,7 @@ SPOILT = [
     (f"{BASE}/Lane.antt", "rear x v = x - (v.size - 1)", "rear x v = x - v.size"),
     (f"{BASE}/Draw.antt", "* 1000 / 2 ^ 32", "* 1000 / 2 ^ 31"),
     (f"{BASE}/Signal.antt", "((step + plan.offset) % cycle plan)", "((step - plan.offset) % cycle plan)"),
-    (f"{BASE}/State.antt", "slice_index_or (slice_index_or m.lanes place.link []) place.lane no_lane", "slice_index_or (slice_index_or m.lanes place.link []) 0 no_lane"),
+    (f"{BASE}/State.antt", "place.lane no_lane", "0 no_lane"),
     (f"{BASE}/LaneChange.antt", "nat_lt 5 (free_behind", "nat_le 5 (free_behind"),
     (f"{BASE}/Motion.antt", "min (speed + 1) limit", "min (speed + 2) limit"),
     (f"{BASE}/Release.antt", "nat_le q.ready m.clock", "nat_lt q.ready m.clock"),
