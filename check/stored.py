@@ -44,7 +44,7 @@ def cells_of(lines):
 def session_fault(definitions, name, lines, wanted):
     """What is wrong with a session by the definitions, or none."""
     try:
-        replies = [reply for reply in definitions.serve(lines)[0] if reply is not None]
+        replies = [reply for reply in definitions.serve(lines).replies if reply is not None]
     except Exception as error:  # of a spoilt definition, or what is not understood
         return f"session {name}: {type(error).__name__} {error}"
     for at, (reply, right) in enumerate(zip(replies, wanted)):

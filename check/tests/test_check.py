@@ -182,7 +182,7 @@ class Spoilt(Timed):
             with self.subTest(file=file, word=word), tempfile.TemporaryDirectory() as folder:
                 spoil(Path(folder), file, word, other)
                 comparison = Comparison(PROGRAM, Path(folder))
-                self.assertTrue(any(comparison.difference(Maker(seed).session()) for seed in range(5)))
+                self.assertTrue(any(comparison.difference(Maker(seed).session()) for seed in range(12)))
 
 
 if __name__ == "__main__":
