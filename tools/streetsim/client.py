@@ -1,16 +1,13 @@
 """A client of streetsim: starts the program, sends commands as lines and gives typed replies."""
 import fcntl
 import json
-import os
-import shutil
 import subprocess
 import tempfile
 from dataclasses import dataclass
-from pathlib import Path
 
 from . import limits
+from .program import find_program
 
-PROGRAM = str(Path(__file__).resolve().parents[2] / "streetsim")
 CHUNK = 60_000  # bytes: fits in an empty pipe, so the two sides never wait for each other
 
 
@@ -216,11 +213,12 @@ def most_calls(program):
 class Client:
     """One run of the program, over pipes. Methods raise what was refused; `batch` gives refusals as values.
 
-    Where the program counts calls, as many as there may be are asked for: polling uses many.
+    The program is the one given, else the one that STREETSIM_PROGRAM names. Where it counts calls, as many as there may
+    be are asked for: polling uses many.
     """
 
-    def __init__(self, program=PROGRAM, workers=1, calls=None):
-        program = shutil.which(program) or os.path.abspath(program)
+    def __init__(self, program=None, workers=1, calls=None):
+        program = find_program(program)
         self.calls = most_calls(program) if calls is None else calls
         words = [
             program,

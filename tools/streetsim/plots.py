@@ -2,8 +2,7 @@
 import argparse
 import io
 
-from . import limits, ring, series
-from .client import PROGRAM
+from . import limits, program, ring, series
 from .compare import read_tripinfo
 from .files import Fault
 from .folder import read_folder
@@ -52,7 +51,7 @@ def parser():
                 default=limits.LIMIT,
                 help="of the ring, cells a step (default %(default)s)",
             )
-            one.add_argument("--program", default=PROGRAM, help="the simulator, for the ring")
+            one.add_argument("--program", help=f"for the ring: {program.HELP}")
         if kind == "arrivals":
             one.add_argument("--sumo", metavar="TRIPINFO", help="SUMO's trips of the same demand, drawn beside")
     return made

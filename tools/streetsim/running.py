@@ -9,8 +9,8 @@ from concurrent.futures import ProcessPoolExecutor
 from dataclasses import replace
 from statistics import fmean
 
-from . import limits, tables
-from .client import PROGRAM, Client, NoReply, ProgramEnded, Refused, Starved
+from . import limits, program, tables
+from .client import Client, NoReply, ProgramEnded, Refused, Starved
 from .files import Fault, whole_file
 from .folder import write_setting
 from .importing import within
@@ -64,7 +64,7 @@ def parser():
         help="road works: close a lane (edge_index) between two places, from one second to another; may be repeated",
     )
     made.add_argument("--out", required=True, metavar="DIR", help="the folder to write to")
-    made.add_argument("--program", default=PROGRAM, help="the simulator (default: streetsim of this repository)")
+    made.add_argument("--program", help=program.HELP)
     made.add_argument("--workers", type=within(1, 64), default=1, help="of the simulator (default %(default)s)")
     return made
 
@@ -105,6 +105,7 @@ def main(arguments):
     run.timed.sort(key=lambda pair: pair[0])
     if words.until <= run.start():
         raise Fault(f"--until {words.until}: the run starts at {run.start()}")
+    words.program = program.find_program(words.program)
     if words.seeds:
         return run_seeds(words, run, mapping, settings)
     print(summary_line(one_run(words, run, mapping, settings, words.out, True)))

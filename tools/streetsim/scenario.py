@@ -1,6 +1,6 @@
 """A run under SUMO's names and units (metres, metres a second, seconds), with TraCI's calls where one fits."""
 from . import limits
-from .client import PROGRAM, Client
+from .client import Client
 from .mapping import read_map
 from .report import Report
 from .runs import read_run
@@ -43,7 +43,7 @@ class Part:
 class Scenario:
     """A running simulation of a run file and its map: its network, signals and vehicles are loaded at once."""
 
-    def __init__(self, run, mapping, program=PROGRAM, workers=1):
+    def __init__(self, run, mapping, program=None, workers=1):
         self.map, source = read_map(mapping), read_run(run)
         self.client = Client(program, workers)
         self.clock = source.start()
