@@ -5,12 +5,12 @@ import sys
 from collections import Counter
 
 from . import limits
-from .files import Fault, whole_file
+from .files import Fault, place_of, refuse_equal, whole_file
 from .mapping import map_of
 from .network import Network, Options
 from .report import Report, some
 from .sumo_demand import Demand, enters
-from .sumo_net import read_additional, read_net
+from .sumo_net import CLASSES, read_additional, read_net
 from .sumo_signals import movements, signals
 from .sumo_types import Sizes, Types
 from .yielding import equivalents, hourly_flows
@@ -88,6 +88,9 @@ def within(least, most):
 def options_of(words):
     if words.permissive is not None and not 0 <= words.permissive <= 1:
         raise Fault("--permissive is a share from 0 to 1")
+    unknown = [name for name in words.classes.split(",") if name not in CLASSES]
+    if unknown:
+        raise Fault(f"--classes: SUMO has no vehicle class {unknown[0]!r}; it has {', '.join(CLASSES)}")
     names = ("dawdle", "change", "zone", "seed", "residence", "buffer", "permissive", "begin")
     given = {name: getattr(words, name) for name in names}
     given.update(strict_turns=words.turns == "strict", sizes=words.sizes == "on")
@@ -96,6 +99,8 @@ def options_of(words):
 
 def main(arguments):
     words = parser().parse_args(arguments)
+    refuse_equal({"-o": words.output, "--map": words.map}, [words.net, *words.additional, *words.routes])
+    place_of(words.output), place_of(words.map)
     report, options = Report(), options_of(words)
     network, lights, commands, names = convert(words.net, words.additional, words.routes, options, report)
     lines = [json.dumps(command, separators=(",", ":")) for command in commands]

@@ -35,15 +35,9 @@ class Records:
 class Recorder:
     """Drives a run from its load to the end."""
 
-    def __init__(self, sim, run, mapping, settings, lanes_file, progress):
-        self.sim, self.run, self.mapping, self.settings, self.lanes_file, self.progress = (
-            sim,
-            run,
-            mapping,
-            settings,
-            lanes_file,
-            progress,
-        )
+    def __init__(self, sim, run, mapping, settings, lanes_file, tell):
+        self.sim, self.run, self.mapping, self.settings = sim, run, mapping, settings
+        self.lanes_file, self.tell = lanes_file, tell
         self.records = Records(clock=run.start())
         self.places = mapping.lanes()
         self.lines = [line_of({"cmd": "lane", "link": link, "lane": lane}) for link, lane in self.places]
@@ -91,7 +85,7 @@ class Recorder:
             self.send_timed(clock)
             clock = self.advance(clock)
             self.poll(clock)
-            self.progress.show(clock, self.records)
+            self.tell(clock, self.records.censuses[-1] if self.records.censuses else None)
         self.read_meters()
         self.find_ends()
         self.records.unsent = len(self.run.timed) - self.sent

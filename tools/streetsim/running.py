@@ -5,15 +5,15 @@ import os
 import re
 import sys
 import time
-from concurrent.futures import ProcessPoolExecutor
 from dataclasses import replace
 from statistics import fmean
 
 from . import limits, program, tables
 from .client import Client, NoReply, ProgramEnded, Refused, Starved
-from .files import Fault, whole_file
-from .folder import write_setting
+from .files import Fault, whole_file, whole_folder
+from .folder import NAME, write_setting
 from .importing import within
+from .jobs import CORES, side_by_side
 from .mapping import read_map
 from .record import Recorder, Settings
 from .runs import Line, read_run
@@ -54,7 +54,7 @@ def parser():
         "--seeds", metavar="FIRST-LAST", help="run each of these seeds, side by side, into folders of their own"
     )
     made.add_argument(
-        "--jobs", type=within(1, 64), default=os.cpu_count() or 1, help="runs side by side (default %(default)s)"
+        "--jobs", type=within(1, 1024), default=CORES, help="runs side by side (default: one for each core, %(default)s)"
     )
     made.add_argument(
         "--close",
@@ -72,22 +72,29 @@ def parser():
 class Progress:
     """A line on a terminal: clock, vehicles on their way, arrived, steps a second. Nothing elsewhere."""
 
-    def __init__(self, until, shown):
-        self.until, self.shown, self.begin, self.last = until, shown and sys.stderr.isatty(), time.monotonic(), 0.0
+    def __init__(self, until, runs=1):
+        self.until, self.shown, self.begin, self.last = until, sys.stderr.isatty(), time.monotonic(), 0.0
+        self.clocks, self.ways, self.arrived = [0] * runs, [0] * runs, [0] * runs
 
-    def show(self, clock, records):
-        now = time.monotonic()
-        if not self.shown or not records.censuses or (now - self.last < 0.2 and clock < self.until):
+    def show(self, clock, census, run=0):
+        """Notes how far a run is, and shows the line at most five times a second."""
+        if not self.shown or census is None:
             return
-        self.last, census = now, records.censuses[-1]
-        bar = "#" * (30 * clock // self.until)
-        end = "\n" if clock == self.until else ""
-        print(
-            f"\r[{bar:30}] {clock:,} s, {census.cells + census.buffers:,} on their way, {census.arrived:,} arrived, "
-            f"{clock / max(0.001, now - self.begin):,.0f} steps/s ",
-            end=end,
-            file=sys.stderr,
-            flush=True,
+        self.clocks[run], self.ways[run], self.arrived[run] = clock, census.cells + census.buffers, census.arrived
+        now, ended = time.monotonic(), min(self.clocks) >= self.until
+        if now - self.last < 0.2 and not ended:
+            return
+        self.last = now
+        print(f"\r{self.line(now)} ", end="\n" if ended else "", file=sys.stderr, flush=True)
+
+    def line(self, now):
+        done, runs = sum(self.clocks), len(self.clocks)
+        bar = "#" * (30 * done // (self.until * runs))
+        over = sum(clock >= self.until for clock in self.clocks)
+        place = f"{self.clocks[0]:,} s" if runs == 1 else f"{over} of {runs} runs done"
+        return (
+            f"[{bar:30}] {place}, {sum(self.ways):,} on their way, {sum(self.arrived):,} arrived, "
+            f"{done / max(0.001, now - self.begin):,.0f} steps/s"
         )
 
 
@@ -108,7 +115,10 @@ def main(arguments):
     words.program = program.find_program(words.program)
     if words.seeds:
         return run_seeds(words, run, mapping, settings)
-    print(summary_line(one_run(words, run, mapping, settings, words.out, True)))
+    shown = Progress(words.until)
+    with whole_folder(words.out, NAME) as folder:
+        figures = one_run(words, run, mapping, settings, folder, shown.show)
+    report(figures, "")
     return 0
 
 
@@ -138,31 +148,34 @@ def closure(text, mapping):
     ]
 
 
-def one_run(words, run, mapping, settings, folder, shown):
-    """One run into a folder; gives its figures."""
+def one_run(words, run, mapping, settings, folder, tell):
+    """One run into a folder that is there; gives its figures. `tell` gets the clock and the last census."""
     try:
-        os.makedirs(folder, exist_ok=True)
         with whole_file(f"{folder}/lanes.jsonl.gz") as lanes_file, Client(words.program, words.workers) as sim:
-            records = Recorder(sim, run, mapping, settings, lanes_file, Progress(settings.until, shown)).record()
+            records = Recorder(sim, run, mapping, settings, lanes_file, tell).record()
     except (Refused, Starved, NoReply, ProgramEnded) as fault:
         raise Fault(f"{words.run}: {fault}") from None
-    except OSError as fault:
-        raise Fault(f"{fault.filename}: {fault.strerror}") from None
     trips = list(tables.trips(records, run, mapping))
     tables.write_table(f"{folder}/counts.csv", tables.COUNTS, tables.counts(records, mapping))
     tables.write_table(f"{folder}/trips.csv", tables.TRIPS, trips)
     tables.write_table(f"{folder}/queues.csv", tables.QUEUES, tables.queues(records, mapping))
     tables.write_table(f"{folder}/summary.csv", tables.SUMMARY, tables.summary(records))
     write_setting(folder, mapping, run, settings)
-    for told in notes(records):
-        print(told, file=sys.stderr)
     durations = [trip[3] for trip in trips if trip[3] != ""]
     return {
         "vehicles": len(trips),
         "arrived": len(durations),
         "mean_trip_s": fmean(durations) if durations else None,
         "rescues": records.rescues.total(),
+        "notes": list(notes(records)),
     }
+
+
+def report(figures, name):
+    """Prints what a run gave."""
+    for told in figures["notes"]:
+        print(f"{name}{told}", file=sys.stderr)
+    print(f"{name}{summary_line(figures)}")
 
 
 def notes(records):
@@ -194,17 +207,20 @@ def run_seeds(words, run, mapping, settings):
     if not (first.isdecimal() and last.isdecimal() and int(first) <= int(last) < min(int(first) + 1000, 2**64)):
         raise Fault(f"--seeds {words.seeds!r}: expected FIRST-LAST, at most 1,000 of them")
     seeds = range(int(first), int(last) + 1)
+    shown = Progress(words.until, len(seeds))
+    with whole_folder(words.out, NAME) as folder:
 
-    with ProcessPoolExecutor(words.jobs) as pool:
-        running = [
-            pool.submit(one_run, words, seeded(run, seed), mapping, settings, f"{words.out}/seed-{seed}", False)
-            for seed in seeds
-        ]
-        figures = [one.result() for one in running]
-    rows = [(seed, *one.values()) for seed, one in zip(seeds, figures, strict=True)]
-    tables.write_table(f"{words.out}/seeds.csv", ("seed", "vehicles", "arrived", "mean_trip_s", "rescues"), rows)
+        def run_seed(seed, tell):
+            place = f"{folder}/seed-{seed}"
+            os.mkdir(place)
+            return one_run(words, seeded(run, seed), mapping, settings, place, lambda *values: tell(values))
+
+        figures = side_by_side(run_seed, seeds, words.jobs, lambda place, values: shown.show(*values, place))
+        names = ("vehicles", "arrived", "mean_trip_s", "rescues")
+        rows = [(seed, *(one[name] for name in names)) for seed, one in zip(seeds, figures, strict=True)]
+        tables.write_table(f"{folder}/seeds.csv", ("seed", *names), rows)
     for seed, one in zip(seeds, figures, strict=True):
-        print(f"seed {seed}: {summary_line(one)}")
+        report(one, f"seed {seed}: ")
     means = [one["mean_trip_s"] for one in figures if one["arrived"]]
     if means:
         mean, half = tables.interval(means)

@@ -5,6 +5,14 @@ from .files import Fault, at_least_zero, attribute, elements, number, seconds, t
 from .sumo_types import TAGS
 
 INNER = ("internal", "walkingarea", "crossing")
+DEMAND = ("route", "vehicle", "flow", "trip")
+# SUMO's vehicle classes.
+CLASSES = (
+    *("private", "emergency", "authority", "army", "vip", "passenger", "hov", "taxi", "bus", "coach", "delivery"),
+    *("truck", "trailer", "tram", "rail_urban", "rail", "rail_electric", "rail_fast", "motorcycle", "moped", "bicycle"),
+    *("pedestrian", "evehicle", "ship", "container", "cable_car", "subway", "aircraft", "wheelchair", "scooter", "drone"),
+    *("custom1", "custom2"),
+)
 
 
 @dataclass(slots=True)
@@ -106,6 +114,8 @@ def read_additional(path, net, types, report):
             read_program(path, element, net, ())
         elif element.tag in TAGS:
             types.read(path, element)
+        elif element.tag in DEMAND:
+            raise Fault(f"{told(path, element)} in an additional file: give files of routes after --routes")
         else:
             report.ignored[f"<{element.tag}> of additional files"] += 1
 

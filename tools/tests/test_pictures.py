@@ -96,7 +96,25 @@ class Pictures(Given):
                 self.assertTrue(500 < width < 1200 and 200 < height < 1000, (width, height))
                 self.assertLess(len(content), 110_000)
 
+    def test_formats(self):
+        for name, begin in (("x.svg", b"<?xml"), ("x.pdf", b"%PDF-"), ("x.PNG", b"\x89PNG")):
+            self.tool("plot", "queues", self.folder, "-o", self.folder / name)
+            content = (self.folder / name).read_bytes()
+            self.assertEqual(content[: len(begin)], begin)
+            self.tool("plot", "queues", self.folder, "-o", self.folder / name)
+            self.assertEqual((self.folder / name).read_bytes(), content)
+
     def test_faults(self):
+        for words, told in (
+            (("queues", self.folder, "-o", self.folder / "x.bmp"), "a picture's name ends with .png, .svg or .pdf"),
+            (("corridor", self.folder, "--edges", "b a"), "no turn leads from 'b' to 'a'"),
+            (("corridor", self.folder, "--edges", " "), "no edge is named"),
+            (("corridor", self.folder, "--edges", "a b", "--first", 50), "nothing was polled from 50 to 600 s"),
+            (("corridor", self.folder, "--edges", "a b", "--first", 5, "--last", 5), "--first 5 is not before --last 5"),
+        ):
+            with self.subTest(told):
+                more = () if "-o" in words else ("-o", self.folder / "x.png")
+                self.assertIn(told, self.tool("plot", *words, *more, status=2)[1])
         self.assertIn(
             "the map has no edge 'z'",
             self.tool("plot", "corridor", self.folder, "--edges", "z", "-o", self.folder / "x.png", status=2)[1],
