@@ -1,5 +1,6 @@
 """streetsim-run: runs a file and writes its tables."""
 import argparse
+import contextlib
 import json
 import os
 import re
@@ -9,13 +10,15 @@ from dataclasses import replace
 from statistics import fmean
 
 from . import limits, program, tables
+from .budget import INTERVALS, Budget
 from .client import Client, NoReply, ProgramEnded, Refused, Starved
+from .detectors import area_rows, loop_rows
 from .files import Fault, whole_file, whole_folder
 from .folder import NAME, write_setting
 from .importing import within
 from .jobs import CORES, side_by_side
 from .mapping import read_map
-from .record import Recorder, Settings
+from .record import Recorder, Repeater, Settings
 from .runs import Line, read_run
 
 
@@ -30,10 +33,9 @@ def parser():
     made.add_argument("--until", required=True, type=within(1, limits.CLOCK), metavar="S", help="the clock at the end")
     made.add_argument(
         "--every",
-        type=within(1, limits.CLOCK),
-        default=10,
+        type=within(0, limits.CLOCK),
         metavar="S",
-        help="seconds between polls of the lanes (default %(default)s)",
+        help="seconds between polls of the lanes; 0: never (default: 10, or more where the calls do not allow that)",
     )
     made.add_argument(
         "--period",
@@ -49,6 +51,16 @@ def parser():
         default=300,
         metavar="S",
         help="take out who stood so long at a stop line and enter it on the next link; 0: never (default %(default)s)",
+    )
+    made.add_argument(
+        "--counted",
+        choices=["all", "busiest"],
+        default="all",
+        help=f"all: where a run has more than {limits.METERS:,} lanes, further runs repeat it to count the others; busiest: "
+        "the lanes on most plans alone",
+    )
+    made.add_argument(
+        "--calls", type=within(1, limits.CALLS), metavar="N", help="take at most so many calls of the program (default: all)"
     )
     made.add_argument(
         "--seeds", metavar="FIRST-LAST", help="run each of these seeds, side by side, into folders of their own"
@@ -103,7 +115,8 @@ def main(arguments):
     run, mapping = read_run(words.run), read_map(words.map)
     if not fits(run, mapping):
         raise Fault(f"{words.map}: not the map of {words.run}, whose links are other ones")
-    settings = Settings(words.until, words.every, words.period, words.rescue, tuple(words.edges.split()))
+    asked = (words.until, words.every, words.period, words.rescue, tuple(words.edges.split()), words.calls)
+    settings = Settings(*asked, words.counted == "all")
     unknown = [edge for edge in settings.edges if edge not in mapping.links_of]
     if unknown:
         raise Fault(f"--edges: the map has no edge {unknown[0]!r}")
@@ -117,7 +130,7 @@ def main(arguments):
         return run_seeds(words, run, mapping, settings)
     shown = Progress(words.until)
     with whole_folder(words.out, NAME) as folder:
-        figures = one_run(words, run, mapping, settings, folder, shown.show)
+        figures = one_run(words, run, mapping, settings, folder, shown.show, words.jobs)
     report(figures, "")
     return 0
 
@@ -148,26 +161,27 @@ def closure(text, mapping):
     ]
 
 
-def one_run(words, run, mapping, settings, folder, tell):
+def one_run(words, run, mapping, settings, folder, tell, jobs):
     """One run into a folder that is there; gives its figures. `tell` gets the clock and the last census."""
-    try:
-        with whole_file(f"{folder}/lanes.jsonl.gz") as lanes_file, Client(words.program, words.workers) as sim:
-            records = Recorder(sim, run, mapping, settings, lanes_file, tell).record()
-    except (Refused, Starved, NoReply, ProgramEnded) as fault:
-        raise Fault(f"{words.run}: {fault}") from None
+    with whole_file(f"{folder}/lanes.jsonl.gz") as lanes_file, serving(words) as sim:
+        records = Recorder(sim, run, mapping, settings, lanes_file, tell, mapping.detectors).record()
+    count_further(words, run, mapping, settings, records, jobs)
     trips = list(tables.trips(records, run, mapping))
     tables.write_table(f"{folder}/counts.csv", tables.COUNTS, tables.counts(records, mapping))
     tables.write_table(f"{folder}/trips.csv", tables.TRIPS, trips)
+    tables.write_table(f"{folder}/edges.csv", tables.EDGES, tables.edges(records, mapping))
+    tables.write_table(f"{folder}/detectors.csv", tables.LOOPS, loop_rows(records, mapping.detectors))
+    tables.write_table(f"{folder}/areas.csv", tables.AREAS, area_rows(records, mapping.detectors, settings.until))
     tables.write_table(f"{folder}/queues.csv", tables.QUEUES, tables.queues(records, mapping))
     tables.write_table(f"{folder}/summary.csv", tables.SUMMARY, tables.summary(records))
-    write_setting(folder, mapping, run, settings)
+    write_setting(folder, mapping, run, settings, records.asking.every)
     durations = [trip[3] for trip in trips if trip[3] != ""]
     return {
         "vehicles": len(trips),
         "arrived": len(durations),
         "mean_trip_s": fmean(durations) if durations else None,
         "rescues": records.rescues.total(),
-        "notes": list(notes(records)),
+        "notes": list(notes(records, settings)),
     }
 
 
@@ -178,13 +192,41 @@ def report(figures, name):
     print(f"{name}{summary_line(figures)}")
 
 
-def notes(records):
+@contextlib.contextmanager
+def serving(words):
+    """The program of a run; what it refuses is a Fault."""
+    try:
+        with Client(words.program, words.workers) as sim:
+            yield sim
+    except (Refused, Starved, NoReply, ProgramEnded) as fault:
+        raise Fault(f"{words.run}: {fault}") from None
+
+
+def count_further(words, run, mapping, settings, first, jobs):
+    """Counts the lanes that the first run has no detectors for, by runs that repeat it; adds to its records."""
+
+    def repeat(lanes, _tell):
+        with serving(words) as sim:
+            repeater = Repeater(sim, run, mapping, settings)
+            asking = Budget(run, settings, lanes, (), ()).repeated(lanes, len(first.rescued), settings.calls or sim.calls)
+            return repeater.record(first, asking, lambda clock: None)
+
+    for records in side_by_side(repeat, first.asking.further, jobs):
+        first.counts.update(records.counts)
+        first.edgedata.add(records.edgedata)
+        first.uncounted -= len(records.counts)
+
+
+def notes(records, settings):
     """What the tables do not have."""
     if records.uncounted:
         yield (
-            f"counts: {records.uncounted:,} lanes have no detector, there are at most {limits.METERS:,}; "
-            "those on most plans have one"
+            f"counts: {records.uncounted:,} lanes have no detector, a run takes {limits.METERS:,}; those on most plans "
+            "have one (--counted all counts all)"
         )
+    if settings.every is None and records.asking.every != INTERVALS[0]:
+        often = f"every {records.asking.every:,} s" if records.asking.every else "never"
+        yield f"lanes are polled {often}, as the program takes no more calls"
     if records.unsent:
         yield f"{records.unsent:,} lines were not sent, as their clock is after --until"
 
@@ -213,7 +255,7 @@ def run_seeds(words, run, mapping, settings):
         def run_seed(seed, tell):
             place = f"{folder}/seed-{seed}"
             os.mkdir(place)
-            return one_run(words, seeded(run, seed), mapping, settings, place, lambda *values: tell(values))
+            return one_run(words, seeded(run, seed), mapping, settings, place, lambda *values: tell(values), 1)
 
         figures = side_by_side(run_seed, seeds, words.jobs, lambda place, values: shown.show(*values, place))
         names = ("vehicles", "arrived", "mean_trip_s", "rescues")
