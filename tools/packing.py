@@ -49,8 +49,8 @@ def stem_of(project):
 
 def sources():
     """The package's files by their paths."""
-    paths = sorted(path for path in (TOP / "streetsim").iterdir() if path.suffix in (".py", ".html"))
-    return {f"streetsim/{path.name}": path.read_bytes() for path in paths}
+    paths = sorted(path for path in (TOP / "streetsim").rglob("*") if path.suffix in (".py", ".html"))
+    return {path.relative_to(TOP).as_posix(): path.read_bytes() for path in paths}
 
 
 def metadata(project, folder):

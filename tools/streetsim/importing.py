@@ -10,6 +10,7 @@ from .mapping import map_of
 from .network import Network, Options
 from .report import Report, some
 from .sumo_demand import Demand, enters
+from .sumo_detectors import placed
 from .sumo_net import CLASSES, read_additional, read_net
 from .sumo_signals import movements, signals
 from .sumo_types import Sizes, Types
@@ -103,11 +104,14 @@ def main(arguments):
     place_of(words.output), place_of(words.map)
     report, options = Report(), options_of(words)
     network, lights, commands, names = convert(words.net, words.additional, words.routes, options, report)
+    mapping = map_of(network, lights, names, report)
+    mapping.detectors = placed(network.detectors, mapping, network.dropped, report)
+    mapping.warnings = list(report.lines())
     lines = [json.dumps(command, separators=(",", ":")) for command in commands]
     refuse_over_limits(network, lines[0], names)
     with whole_file(words.output) as run, whole_file(words.map) as mapped:
         run.writelines(line + "\n" for line in lines)
-        json.dump(map_of(network, lights, names, report).written(), mapped, separators=(",", ":"))
+        json.dump(mapping.written(), mapped, separators=(",", ":"))
     print(*report.lines(), sep="\n", end="\n" if any(report.lines()) else "", file=sys.stderr)
     print(
         f"{len(network.nodes):,} nodes, {len(network.links):,} links, {len(network.turns):,} turns, "

@@ -57,7 +57,7 @@ class Network:
 
     def __init__(self, net, options, report, flows):
         """Flows are the routes' vehicles an hour from edge to edge; none where no route is known."""
-        self.options = options
+        self.options, self.detectors, self.dropped = options, net.detectors, net.dropped
         edges = ordered(net)
         ends = {name for edge in edges for name in (edge.begin, edge.end)}
         self.nodes = [name for name in net.junctions if name in ends]

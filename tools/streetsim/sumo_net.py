@@ -2,6 +2,7 @@
 from dataclasses import dataclass, field
 
 from .files import Fault, at_least_zero, attribute, elements, number, seconds, told
+from .sumo_detectors import KINDS, read_detector
 from .sumo_types import TAGS
 
 INNER = ("internal", "walkingarea", "crossing")
@@ -61,6 +62,7 @@ class SumoNet:
     connections: list = field(default_factory=list)  # between kept lanes
     roundabouts: set = field(default_factory=set)  # edges
     programs: dict = field(default_factory=dict)  # light: Program, the last loaded
+    detectors: list = field(default_factory=list)  # of additional files
     yields: dict = field(default_factory=dict)  # junction: for each request those that it gives way to
     inner_speeds: dict = field(default_factory=dict)  # lane inside a junction: metres a second
 
@@ -114,6 +116,8 @@ def read_additional(path, net, types, report):
             read_program(path, element, net, ())
         elif element.tag in TAGS:
             types.read(path, element)
+        elif element.tag in KINDS:
+            net.detectors += filter(None, [read_detector(path, element, report)])
         elif element.tag in DEMAND:
             raise Fault(f"{told(path, element)} in an additional file: give files of routes after --routes")
         else:

@@ -123,6 +123,11 @@ class Session(Scenario):
     def close(self):
         self.client.close()
 
+    def close_lane(self, name, command):
+        """Closes a lane, or opens it again."""
+        link, lane = self.lane_of[name]
+        self.ask(line_of({"cmd": command, "link": link, "lane": lane, "first": 0, "last": self.map.links[link].cells - 1}))
+
     # Steps
 
     def step(self, target=0.0):
