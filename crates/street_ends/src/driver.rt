@@ -152,7 +152,8 @@ fn finish<H: LineHandler, W: Write>(
     if progress.part.as_slice().is_empty() {
         return Ok(());
     }
-    end_line(alloc, handler, writer, &progress.part, &mut progress.tally)
+    end_line(alloc, handler, writer, &progress.part, &mut progress.tally)?;
+    Ok(())
 }
 
 /// The text has ended, and its last replies are passed on.
