@@ -4,3 +4,4 @@ pub mod Cutting
 pub mod Handled
 pub mod Feeding
 pub mod Breaking
+pub mod Parted
