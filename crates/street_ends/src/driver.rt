@@ -145,6 +145,7 @@ fn finish<H: LineHandler, W: Write>(
     requires room { progress.old.tally.lines < 2 ^ 62 }
     ensures finishes { OnOk result (Finishes H.takes H.LONGEST handler.old (W.contents writer.old.end) progress.old
         handler.new (W.contents writer.new.end) progress.new.tally) }
+    ensures grows { OnOk result (Grows progress.old.tally progress.new.tally 1) }
     ensures broken { IfErr result (λ cause. FinishBreaks H.takes H.stops H.LONGEST handler.old (W.contents writer.old.end)
         progress.old handler.new (W.contents writer.new.end) cause progress.new.tally) }
     ensures caused { IfErr result (λ cause. IsCausedByLine cause writer.new) }
@@ -168,6 +169,7 @@ fn finish_through<H: LineHandler, W: Write>(
     requires room { progress.old.tally.lines < 2 ^ 62 }
     ensures finishes { OnOk result (Finishes H.takes H.LONGEST handler.old (W.contents writer.old.end) progress.old
         handler.new (W.contents writer.new.end) progress.new.tally) }
+    ensures grows { OnOk result (Grows progress.old.tally progress.new.tally 1) }
     ensures broken { IfErr result (λ cause. FinishBreaks H.takes H.stops H.LONGEST handler.old (W.contents writer.old.end)
         progress.old handler.new (W.contents writer.new.end) cause progress.new.tally) }
     ensures caused { IfErr result (λ cause. IsCausedByLine cause writer.new) }
@@ -192,6 +194,7 @@ fn drive_all<H: LineHandler, R: Read, W: Write>(
     requires tally { IsTally progress.old.tally [] [] }
     ensures whole { OnOk result (Whole H.takes handler.old (R.remaining reader.old.end) (W.contents writer.old.end)
         handler.new (R.remaining reader.new.end) (W.contents writer.new.end) progress.new.tally) }
+    ensures few { OnOk result (progress.new.tally.lines < 2 ^ 62) }
     ensures broken { IfErr result (λ cause. Broke H.takes H.stops handler.old (R.remaining reader.old.end) (W.contents writer.old.end)
         handler.new (R.remaining reader.new.end) (W.contents writer.new.end) cause progress.new.tally) }
     ensures caused { IfErr result (λ cause. IsCausedBy cause reader.new writer.new reads) }
@@ -235,6 +238,7 @@ pub fn drive_lines<H: LineHandler, R: Read, W: Write>(
     requires writer { IsFresh writer.old }
     ensures whole { IfOk result (λ tally. Whole H.takes handler.old (R.remaining reader.old.end) (W.contents writer.old.end)
         handler.new (R.remaining reader.new.end) (W.contents writer.new.end) tally) }
+    ensures few { IfOk result (λ tally. tally.lines < 2 ^ 62) }
     ensures broken { IfErr result (λ halt. Broke H.takes H.stops handler.old (R.remaining reader.old.end) (W.contents writer.old.end)
         handler.new (R.remaining reader.new.end) (W.contents writer.new.end) halt.cause halt.tally) }
     ensures caused { IfErr result (λ halt. IsCausedBy halt.cause reader.new writer.new reads) }
