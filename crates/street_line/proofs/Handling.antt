@@ -1,5 +1,5 @@
 -- What a service is as a handler of lines.
-use Rattle.std.proofs.Common.{◌≡◌, ◌∙◌, ℕ, ◌+◌, List, [], ◌∷◌, ◌++◌, true, false, Option, if◌then◌else◌, inl, inr, refl, sym, ap}
+use Rattle.std.proofs.Common.{◌≡◌, ◌∙◌, ℕ, ◌+◌, ◌<◌, ◌⊎◌, length, arith, List, [], ◌∷◌, ◌++◌, true, false, Option, if◌then◌else◌, inl, inr, refl, sym, ap}
 use Rattle.std.specs.List.{count_by}
 use Rattle.street_base.specs.declared.command.Command.{Command}
 use Rattle.street_base.specs.declared.reply.Starved.{Starved as NoMemory}
@@ -16,6 +16,12 @@ use Rattle.street_line.specs.declared.service.Served.{Served}
 
 abbrev pub LeavesState : {S : Type 0} → S → List ℕ → NoMemory → S → Type 0
 LeavesState old line stop new = new ≡ old
+
+-- where all bytes are written no reply is cut off
+all_replies : (tally : Tally) (es : List Effect) → ((tally.bytes ≡ length (output es)) × (tally.replies ≡ replies_in es)) ⊎ ((tally.bytes < length (output es)) × (tally.replies + 1 ≡ replies_in es))
+    → tally.bytes ≡ length (output es) → tally.replies ≡ replies_in es
+all_replies tally es (inl is) all = is.1
+all_replies tally es (inr less) all = absurd (omega (arith, less.0, all))
 
 module _ {S : Type 0} (serves : S → Command → Served → S → Type 0) where
   -- what a line gives has its output as text
@@ -90,13 +96,8 @@ module _ {S : Type 0} (serves : S → Command → Served → S → Type 0) where
         whole = λ read.
             let whole = h.leaves.2 read in
             let all = whole.1 in
-            (whole.0, record { lines = h.leaves.1; calls = called; replies = whole_replies h.replies all ∙ replied; bytes = all });
+            (whole.0, record { lines = h.leaves.1; calls = called; replies = all_replies tally h.effects h.replies all ∙ replied; bytes = all });
       }
-    where
-      whole_replies : ((tally.bytes ≡ length (output h.effects)) × (tally.replies ≡ replies_in h.effects)) ⊎ ((tally.bytes < length (output h.effects)) × (tally.replies + 1 ≡ replies_in h.effects))
-          → tally.bytes ≡ length (output h.effects) → tally.replies ≡ replies_in h.effects
-      whole_replies (inl is) all = is.1
-      whole_replies (inr less) all = absurd (omega (arith, less.0, all))
   served_breaks at_end old before text new after (Line stop) tally h =
       let went = goes old h.done h.effects h.mid h.handled in
       record {

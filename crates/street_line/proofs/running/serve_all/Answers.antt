@@ -4,4 +4,19 @@ use Rattle.street_line.specs.Serving.{IsServed}
 use Rattle.street_line.proofs.running.serve_all.Goals as goal
 
 pub returns-in-Ok-clause-same_reference : goal.returns-in-Ok-clause-same_reference
-returns-in-Ok-clause-same_reference g c = ?
+returns-in-Ok-clause-same_reference g c =
+    (whole_part (λ s. s.service.now) (λ s. s.service.ghost_name) (IsServed g.S.Service.serves) LeavesState c.args.serving.now _ _ c.drive_lines.new.handler _ _ _ c.in-Ok.ensures.whole).0
+
+pub returns-in-Ok-clause-served : goal.returns-in-Ok-clause-served
+returns-in-Ok-clause-served g c =
+    served_whole g.S.Service.serves _ _ _ _ _ _ _
+    (whole_part (λ s. s.service.now) (λ s. s.service.ghost_name) (IsServed g.S.Service.serves) LeavesState c.args.serving.now _ _ c.drive_lines.new.handler _ _ _ c.in-Ok.ensures.whole).1
+
+pub returns-clause-same_reference : goal.returns-clause-same_reference
+returns-clause-same_reference g c =
+    (broke_part (λ s. s.service.now) (λ s. s.service.ghost_name) (IsServed g.S.Service.serves) LeavesState c.args.serving.now _ _ c.drive_lines.new.handler _ _ _ _ c.in-Err.ensures.broken).0
+
+pub returns-clause-broken : goal.returns-clause-broken
+returns-clause-broken g c =
+    rw c.kind_of.ensures (served_in_part g.S.Service.serves _ _ _ _ _ _ _ _
+    (broke_part (λ s. s.service.now) (λ s. s.service.ghost_name) (IsServed g.S.Service.serves) LeavesState c.args.serving.now _ _ c.drive_lines.new.handler _ _ _ _ c.in-Err.ensures.broken).1)
