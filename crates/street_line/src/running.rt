@@ -12,7 +12,8 @@ use crate::serving::Serving;
 use std::alloc::Global;
 use std::io::{Read, Write};
 use street_base::Starved;
-use street_ends::{Cause, Counted, FaultKind, RunFault, Tally, drive_lines};
+use street_ends::{Cause, Counted, FaultKind, Limits, RunFault, Tally, drive_lines};
+use street_text::LONGEST_LINE;
 
 /// The most calls of `read` in one run.
 const MOST_READS: u32 = 1_000_000_000;
@@ -48,7 +49,11 @@ fn serve_all<S: Service, R: Read, W: Write>(
     ensures caused { IfErr result (λ fault. IsCaused fault.kind reader.new writer.new reads) }
     ensures bounded { reader.new.calls ≤ reads }
 {
-    match drive_lines(alloc, serving, reader, writer, reads) {
+    let limits = Limits {
+        line: LONGEST_LINE,
+        reads,
+    };
+    match drive_lines(alloc, serving, reader, writer, limits) {
         Ok(tally) => Ok(tally),
         Err(halt) => Err(RunFault {
             kind: kind_of(halt.cause),

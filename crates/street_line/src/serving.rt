@@ -12,7 +12,7 @@ use crate::writing::served_text;
 use std::alloc::Global;
 use street_base::Starved;
 use street_ends::{Answer, LineHandler, PartialLine};
-use street_text::{LONGEST_LINE, fault_text, read_command};
+use street_text::{fault_text, read_command};
 
 /// A service as a handler of lines.
 #[derive(Drop)]
@@ -56,7 +56,7 @@ impl<'a, S: Service> LineHandler for Serving<'a, S> {
 
     type Stop = Starved;
 
-    ghost LONGEST = { longest_line };
+    ghost longest = { longest_line };
 
     ghost takes = { λ old line effect new. (new.service.ghost_name ≡ old.service.ghost_name)
         × IsServed S.serves old.service.now line effect new.service.now };
@@ -65,8 +65,6 @@ impl<'a, S: Service> LineHandler for Serving<'a, S> {
         × (new.service.now ≡ old.service.now) };
 
     ghost ready = { S.ready };
-
-    const LONGEST: usize = LONGEST_LINE;
 
     fn take(&mut self, alloc: Global, line: &PartialLine) -> Result<Answer, Starved> {
         if line.is_blank() {

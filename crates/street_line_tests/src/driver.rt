@@ -4,7 +4,7 @@ use std::alloc::Global;
 use std::process::Abort;
 use std::test::Fail;
 use street_ends::{
-    Answer, Cause, Counted, FaultKind, Halt, LineHandler, PartialLine, Tally, drive_lines,
+    Answer, Cause, Counted, FaultKind, Halt, Limits, LineHandler, PartialLine, Tally, drive_lines,
 };
 
 /// A line that ended a run: how many came before it.
@@ -34,15 +34,13 @@ fn reply_to(alloc: Global, line: &PartialLine) -> Result<Option<Vec<u8>>, street
 impl LineHandler for Answering {
     type Stop = Stopped;
 
-    ghost LONGEST = { 3 };
+    ghost longest = { 3 };
 
     ghost takes = { λ old line effect new. Unit {0} };
 
     ghost stops = { λ old line stop new. Unit {0} };
 
     ghost ready = { Unit {0} };
-
-    const LONGEST: usize = 3;
 
     fn take(&mut self, alloc: Global, line: &PartialLine) -> Result<Answer, Stopped> {
         if line.as_slice() == b"x".as_slice() {
@@ -66,7 +64,8 @@ fn drive(alloc: Global, text: &[u8], reads: u32) -> (Result<Tally, Halt<Stopped>
     let mut reader = Counted::new(text);
     let mut writer = Counted::new(Vec::new(alloc));
     let mut handler = Answering { lines: 0 };
-    let run = drive_lines(alloc, &mut handler, &mut reader, &mut writer, reads);
+    let limits = Limits { line: 3, reads };
+    let run = drive_lines(alloc, &mut handler, &mut reader, &mut writer, limits);
     (run, writer.end)
 }
 
