@@ -1,16 +1,13 @@
 """A client of streetsim: starts the program, sends commands as lines and gives typed replies."""
 import fcntl
 import json
-import os
-import shutil
 import subprocess
 import tempfile
 from dataclasses import dataclass
-from pathlib import Path
 
 from . import limits
+from .program import find_program
 
-PROGRAM = str(Path(__file__).resolve().parents[2] / "streetsim")
 CHUNK = 60_000  # bytes: fits in an empty pipe, so the two sides never wait for each other
 
 
@@ -105,12 +102,13 @@ class Vehicle:
     plan: tuple = ()  # what remains, the present link included
     depart: int | None = None
     ready: int | None = None
+    size: int = 1  # cells
     step: int | None = None  # of arriving, or the clock at taking out
 
 
 @dataclass(slots=True, frozen=True)
 class Lane:
-    cells: tuple  # of (car, cell, speed), the greatest cell first
+    cells: tuple  # of (car, cell of its front, speed), with the size where it is above 1; the greatest cell first
     buffer: tuple  # of (car, speed, ready), from the front
     waiting: tuple  # of (car, depart)
     closed: tuple  # of (first, last)
@@ -215,11 +213,12 @@ def most_calls(program):
 class Client:
     """One run of the program, over pipes. Methods raise what was refused; `batch` gives refusals as values.
 
-    Where the program counts calls, as many as there may be are asked for: polling uses many.
+    The program is the one given, else the one that STREETSIM_PROGRAM names. Where it counts calls, as many as there may
+    be are asked for: polling uses many.
     """
 
-    def __init__(self, program=PROGRAM, workers=1, calls=None):
-        program = shutil.which(program) or os.path.abspath(program)
+    def __init__(self, program=None, workers=1, calls=None):
+        program = find_program(program)
         self.calls = most_calls(program) if calls is None else calls
         words = [
             program,
@@ -314,9 +313,9 @@ class Client:
         """Sets a node's plan, phases of (duration, [(link, lane, next), ..]); gives the cycle."""
         return self.ask("signal", node=node, offset=offset, phases=phases)
 
-    def enter(self, plan, lane=0, depart=0):
-        """Gives the vehicle's number."""
-        return self.ask("enter", plan=plan, lane=lane, depart=depart)
+    def enter(self, plan, lane=0, depart=0, size=1):
+        """Gives the number of the vehicle, which takes so many cells."""
+        return self.ask("enter", plan=plan, lane=lane, depart=depart, **({} if size == 1 else {"size": size}))
 
     def advance(self, steps=1):
         """Makes the steps, asking again for those that a short reply left, and gives the clock."""

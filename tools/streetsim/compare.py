@@ -1,11 +1,12 @@
 """streetsim-compare: how close a run is to SUMO's own outputs of the same demand."""
 import argparse
+import sys
 from bisect import bisect_right
-from collections import defaultdict
 from statistics import fmean
 
 from .files import Fault, attribute, elements, seconds
 from .folder import read_folder
+from .report import Slow, some
 
 
 def parser():
@@ -34,14 +35,21 @@ def read_tripinfo(path):
     return trips
 
 
-def read_edgedata(path):
-    """SUMO's counts, {(begin, end, edge): vehicles}: those that left the edge, and those that arrived on it."""
-    counts = {}
+def read_edges(path):
+    """SUMO's edges, {(begin, end, edge): (vehicles, seconds)}: those that left the edge or arrived on it, and the seconds
+    that all vehicles were on it."""
+    edges = {}
     for interval in elements(path, ["meandata"]):
         period = attribute(path, interval, "begin", seconds), attribute(path, interval, "end", seconds)
         for edge in interval.iter("edge"):
-            counts[*period, attribute(path, edge, "id")] = int(edge.get("left", 0)) + int(edge.get("arrived", 0))
-    return counts
+            vehicles = int(edge.get("left", 0)) + int(edge.get("arrived", 0))
+            edges[*period, attribute(path, edge, "id")] = vehicles, float(edge.get("sampledSeconds", 0))
+    return edges
+
+
+def read_edgedata(path):
+    """The vehicles alone."""
+    return {key: vehicles for key, (vehicles, _) in read_edges(path).items()}
 
 
 def trips_of(folder):
@@ -49,13 +57,20 @@ def trips_of(folder):
     return {row["id"]: (float(row["depart"]), float(row["arrival"])) for row in folder.trips() if row["arrival"]}
 
 
-def counts_of(folder):
-    """The run's counts by edge, summed over links and lanes; those of whole periods."""
-    counts = defaultdict(int)
-    for row in folder.counts():
+def edges_of(folder):
+    """The run's edges, as SUMO's: those of which all lanes have counts, in whole periods; no seconds where there are none."""
+    edges = {}
+    for row in folder.edges():
         if int(row["end"]) - int(row["begin"]) == folder.period:
-            counts[float(row["begin"]), float(row["end"]), row["edge"]] += int(row["vehicles"])
-    return dict(counts)
+            metres = folder.mapping.links[folder.mapping.links_of[row["edge"]][0]].metres
+            there = float(row["density_per_km"]) * metres / 1000 * folder.period if row["density_per_km"] else None
+            edges[float(row["begin"]), float(row["end"]), row["edge"]] = int(row["left"]), there
+    return edges
+
+
+def counts_of(folder):
+    """The vehicles alone."""
+    return {key: vehicles for key, (vehicles, _) in edges_of(folder).items()}
 
 
 def geh(here, there):
@@ -83,8 +98,13 @@ def greatest_gap(here, there, vehicles):
     ) / max(1, vehicles)
 
 
-def compare_trips(here, there, vehicles):
-    """Lines on the trips of both."""
+def compare_trips(here, there, names):
+    """Lines on the trips of both; names: the vehicles of the run. Others, which the import skipped, are left out."""
+    names, vehicles = set(names), len(names)
+    skipped = [name for name in there if name not in names]
+    there = {name: trip for name, trip in there.items() if name in names}
+    if skipped:
+        yield f"left out: {len(skipped):,} vehicles of SUMO that the run does not have ({some(skipped, 3)})"
     both = sorted(here.keys() & there.keys())
     yield f"arrived: {len(here):,} here, {len(there):,} in SUMO, {len(both):,} in both"
     if both:
@@ -100,29 +120,47 @@ def compare_trips(here, there, vehicles):
         yield f"arrival curves: greatest gap {gap * 100:.1f} % of {vehicles:,} vehicles"
 
 
-def compare_counts(here, there, period):
-    """Lines on the counts of edges and periods that both have; an edge that SUMO does not list in a period had nobody."""
+def compare_edges(here, there, period, network):
+    """Lines on the edges and periods that both have; an edge that SUMO does not list in a period had nobody. network: how
+    many edges the run's network has."""
     periods = {key[:2] for key in here} & {key[:2] for key in there}
-    edges = {key[2] for key in there}
-    pairs = [(count, there.get(key, 0)) for key, count in here.items() if key[:2] in periods and key[2] in edges]
-    if not pairs:
-        yield f"counts: no period of {period} s in common"
+    edges = {key[2] for key in there} & {key[2] for key in here}
+    if not periods or not edges:
+        yield f"counts: no period of {period} s and edge in common"
         return
+    keys = [key for key in here if key[:2] in periods and key[2] in edges]
+    pairs = [(here[key][0], there.get(key, (0, 0))[0]) for key in keys]
     hourly = 3600 / period
     good = sum(geh(one * hourly, other * hourly) < 5 for one, other in pairs)
     r = correlation(*zip(*pairs, strict=True))
+    yield f"edges: {len(edges):,} of {network:,} judged, in {len(periods):,} periods of {period} s"
     yield f"counts: GEH below 5 for {good / len(pairs) * 100:.1f} % of {len(pairs):,} counts of {period} s" + (
         f", r = {r:.3f}" if r is not None else ""
     )
+    times = [(here[key][1], there.get(key, (0, 0))[1]) for key in keys if here[key][1] is not None]
+    if times:
+        hours = [sum(values) / 3600 for values in zip(*times, strict=True)]
+        more = f" ({(hours[0] / hours[1] - 1) * 100:+.1f} %)" if hours[1] else ""
+        yield f"time on these edges: {hours[0]:,.1f} vehicle hours here, {hours[1]:,.1f} in SUMO{more}"
 
 
 def main(arguments):
     words = parser().parse_args(arguments)
     if len(words.sumo) > 2:
         raise Fault("--sumo takes tripinfo.xml and at most one edgedata.xml")
-    folder = read_folder(words.folder)
-    lines = list(compare_trips(trips_of(folder), read_tripinfo(words.sumo[0]), len(folder.mapping.cars)))
+    folder, shown = read_folder(words.folder), Slow()
+    shown.show("reading the run's trips")
+    here, names = trips_of(folder), [row["id"] for row in folder.trips()]
+    shown.show("reading SUMO's trips")
+    there = read_tripinfo(words.sumo[0])
+    lines, common = list(compare_trips(here, there, names)), bool(here.keys() & there.keys())
     if len(words.sumo) == 2:
-        lines += compare_counts(counts_of(folder), read_edgedata(words.sumo[1]), folder.period)
+        shown.show("reading SUMO's edges")
+        edges, sumo = edges_of(folder), read_edges(words.sumo[1])
+        lines += compare_edges(edges, sumo, folder.period, len(folder.mapping.links_of))
+        common = common and any(key in sumo for key in edges)
+    shown.end()
     print(*lines, sep="\n")
-    return 0
+    if not common:
+        print("nothing is common to both", file=sys.stderr)
+    return 0 if common else 1

@@ -4,7 +4,10 @@ import gzip
 import json
 import math
 import os
+import shutil
+import signal
 import sys
+import tempfile
 import xml.etree.ElementTree as ElementTree
 import zlib
 
@@ -20,14 +23,14 @@ def open_text(path, mode="r"):
         return open(path, mode, encoding="utf-8", newline="")
     if mode == "r":
         return gzip.open(path, "rt", encoding="utf-8")
-    return ZippedText(path)
+    return ZippedText(path, mode)
 
 
 class ZippedText:
     """Writes text to a gzip file."""
 
-    def __init__(self, path):
-        self.raw = open(path, "wb")
+    def __init__(self, path, mode):
+        self.raw = open(path, f"{mode}b")
         self.zipped = gzip.GzipFile(filename="", fileobj=self.raw, mode="wb", mtime=0, compresslevel=6)
 
     def write(self, text):
@@ -132,14 +135,36 @@ def read_json(path, keys):
     return value
 
 
+def place_of(path):
+    """Where an output is written: a link is followed, and what is there already must be a regular file."""
+    place = os.path.realpath(path)
+    if os.path.exists(place) and not os.path.isfile(place):
+        raise Fault(f"{path}: exists and is no regular file")
+    return place
+
+
+def refuse_equal(outputs, inputs=()):
+    """Refuses outputs, {what the user calls it: path}, of which two are one file, or one is an input."""
+    places = {}
+    for name, path in outputs.items():
+        place = os.path.realpath(path)
+        if place in places:
+            raise Fault(f"{path}: {places[place]} and {name} name the same file")
+        places[place] = name
+    for path in inputs:
+        if os.path.realpath(path) in places:
+            raise Fault(f"{path}: {places[os.path.realpath(path)]} names a file that is read")
+
+
 @contextlib.contextmanager
-def whole_file(path):
-    """A file to write, which takes its name when all is written; after a fault nothing of it is left."""
-    half = f"{path}.half" + (".gz" if str(path).endswith(".gz") else "")
+def whole_path(path):
+    """A path to write to, whose file takes the place of an output when all is written; after a fault nothing is left."""
+    folder, name = os.path.split(place_of(path))
+    stem, dot, end = name.partition(".")
+    half = os.path.join(folder, f".{stem}.{os.getpid()}.half{dot}{end}")
     try:
-        with open_text(half, "w") as file:
-            yield file
-        os.replace(half, path)
+        yield half
+        os.replace(half, os.path.join(folder, name))
     except OSError as fault:
         if fault.filename not in (None, half):
             raise
@@ -149,8 +174,75 @@ def whole_file(path):
             os.remove(half)
 
 
+@contextlib.contextmanager
+def whole_file(path):
+    """A text file to write, which takes its name when all is written; after a fault nothing of it is left."""
+    with whole_path(path) as half, open_text(half, "w") as file:
+        yield file
+
+
+@contextlib.contextmanager
+def whole_folder(path, last):
+    """A folder to write to, whose files come to an output folder together; after a fault that folder is as it was.
+
+    A file of the name `last` is away while the others take their places, so that a folder without it is not whole.
+    """
+    made = not os.path.isdir(path)
+    half = None
+    try:
+        os.makedirs(path, exist_ok=True)
+        half = tempfile.mkdtemp(prefix=".half-", dir=path)
+        yield half
+        with uninterrupted():
+            move_files(half, path, last)
+        made = False
+    except OSError as fault:
+        named = fault.filename if fault.filename and ".half-" not in str(fault.filename) else path
+        raise Fault(f"{named}: {fault.strerror or fault}") from None
+    finally:
+        if half:
+            shutil.rmtree(half, ignore_errors=True)
+        if made:
+            with contextlib.suppress(OSError):
+                os.rmdir(path)
+
+
+def move_files(source, target, last):
+    """Moves all files below a folder to their places below another; those of the name `last` at the end."""
+    names = [os.path.relpath(os.path.join(folder, name), source) for folder, _, files in os.walk(source) for name in files]
+    for name in names:
+        os.makedirs(os.path.dirname(os.path.join(target, name)), exist_ok=True)
+        place_of(os.path.join(target, name))
+    for name in names:
+        if os.path.basename(name) == last:
+            with contextlib.suppress(FileNotFoundError):
+                os.remove(os.path.join(target, name))
+    for name in sorted(names, key=lambda name: os.path.basename(name) == last):
+        os.replace(os.path.join(source, name), os.path.join(target, name))
+
+
+ENDINGS = (signal.SIGTERM, signal.SIGINT, signal.SIGHUP)
+
+
+@contextlib.contextmanager
+def uninterrupted():
+    """Holds back the signals that end a tool."""
+    before = signal.pthread_sigmask(signal.SIG_BLOCK, ENDINGS)
+    try:
+        yield
+    finally:
+        signal.pthread_sigmask(signal.SIG_SETMASK, before)
+
+
+def end_by_signal(number, _frame):
+    """Ends the tool as by a fault, so that nothing half is left."""
+    sys.exit(128 + number)
+
+
 def run_tool(main):
     """Runs a tool's main function: a Fault is told in a line, with status 2."""
+    for number in (signal.SIGTERM, signal.SIGHUP):
+        signal.signal(number, end_by_signal)
     try:
         sys.exit(main(sys.argv[1:]))
     except Fault as fault:

@@ -24,12 +24,15 @@ class Folder:
     def counts(self):
         return tables.read_table(f"{self.path}/counts.csv", tables.COUNTS)
 
+    def edges(self):
+        return tables.read_table(f"{self.path}/edges.csv", tables.EDGES)
+
     def queues(self):
         return tables.read_table(f"{self.path}/queues.csv", tables.QUEUES)
 
     def polls(self):
         """What stood on the lanes at each poll: {"clock", "lanes": [link, lane, [[car, cell, speed], ..], [cars in the
-        buffer], closed stretches]}."""
+        buffer], closed stretches]}; the size of a car stands after its speed where it is above 1."""
         path = f"{self.path}/lanes.jsonl.gz"
         with reading(path), open_text(path) as file:
             yield from map(json.loads, file)
@@ -42,7 +45,7 @@ class Folder:
         return [self.mapping.links_of[edge] for edge in edges]
 
 
-def write_setting(path, mapping, run, settings):
+def write_setting(path, mapping, run, settings, every):
     signals = [[run.start(), line.command] for line in run.first if line.command["cmd"] == "signal"]
     signals += [[clock, line.command] for clock, line in run.timed if line.command["cmd"] == "signal"]
     with whole_file(f"{path}/{NAME}") as file:
@@ -51,7 +54,7 @@ def write_setting(path, mapping, run, settings):
                 "map": mapping.written(),
                 "signals": signals,
                 "dawdle": run.load.command["dawdle"],
-                "every": settings.every,
+                "every": every,
                 "period": settings.period,
             },
             file,

@@ -5,13 +5,16 @@ import sys
 from collections import Counter
 
 from . import limits
-from .files import Fault, whole_file
+from .files import Fault, place_of, refuse_equal, whole_file
 from .mapping import map_of
 from .network import Network, Options
 from .report import Report, some
 from .sumo_demand import Demand, enters
-from .sumo_net import read_additional, read_net
-from .sumo_signals import signals
+from .sumo_detectors import placed
+from .sumo_net import CLASSES, read_additional, read_net
+from .sumo_signals import movements, signals
+from .sumo_types import Sizes, Types
+from .yielding import equivalents, hourly_flows
 
 
 def parser():
@@ -20,7 +23,11 @@ def parser():
         description="Makes load, signal and enter lines, and a map of the names, of a SUMO network and its routes.",
     )
     made.add_argument("net", help="the network (.net.xml, .net.xml.gz)")
-    made.add_argument("additional", nargs="*", help="additional files with signal programs, the last of a light counts")
+    made.add_argument(
+        "additional",
+        nargs="*",
+        help="additional files with signal programs, of which the last of a light counts, and vehicle types",
+    )
     made.add_argument("--routes", nargs="+", default=[], metavar="FILE", help="vehicles, flows and routes (.rou.xml)")
     made.add_argument("-o", "--output", required=True, help="the run: lines of JSON (.jsonl, .jsonl.gz)")
     made.add_argument("--map", required=True, help="the map of names to write (.json)")
@@ -32,6 +39,12 @@ def parser():
         choices=["both", "strict"],
         default="both",
         help="both: each lane of two leads to each next link; strict: SUMO's connections alone",
+    )
+    made.add_argument(
+        "--sizes",
+        choices=["on", "off"],
+        default="on",
+        help="on: vehicles take as many cells, 1 to 4, as their type is long with its gap; off: one cell each",
     )
     made.add_argument("--strict", action="store_true", help="end with status 1 where vehicles were skipped")
     made.add_argument(
@@ -58,9 +71,8 @@ def parser():
     made.add_argument(
         "--permissive",
         type=float,
-        default=0.7,
         metavar="SHARE",
-        help="the last share of each permissive green that is shown (default %(default)s)",
+        help="the last share of each permissive green that is shown (default: by the flows that it gives way to)",
     )
     return made
 
@@ -75,22 +87,31 @@ def within(least, most):
 
 
 def options_of(words):
-    if not 0 <= words.permissive <= 1:
+    if words.permissive is not None and not 0 <= words.permissive <= 1:
         raise Fault("--permissive is a share from 0 to 1")
+    unknown = [name for name in words.classes.split(",") if name not in CLASSES]
+    if unknown:
+        raise Fault(f"--classes: SUMO has no vehicle class {unknown[0]!r}; it has {', '.join(CLASSES)}")
     names = ("dawdle", "change", "zone", "seed", "residence", "buffer", "permissive", "begin")
     given = {name: getattr(words, name) for name in names}
-    return Options(classes=tuple(words.classes.split(",")), strict_turns=words.turns == "strict", **given)
+    given.update(strict_turns=words.turns == "strict", sizes=words.sizes == "on")
+    return Options(classes=tuple(words.classes.split(",")), **given)
 
 
 def main(arguments):
     words = parser().parse_args(arguments)
+    refuse_equal({"-o": words.output, "--map": words.map}, [words.net, *words.additional, *words.routes])
+    place_of(words.output), place_of(words.map)
     report, options = Report(), options_of(words)
     network, lights, commands, names = convert(words.net, words.additional, words.routes, options, report)
+    mapping = map_of(network, lights, names, report)
+    mapping.detectors = placed(network.detectors, mapping, network.dropped, report)
+    mapping.warnings = list(report.lines())
     lines = [json.dumps(command, separators=(",", ":")) for command in commands]
     refuse_over_limits(network, lines[0], names)
     with whole_file(words.output) as run, whole_file(words.map) as mapped:
         run.writelines(line + "\n" for line in lines)
-        json.dump(map_of(network, lights, names, report).written(), mapped, separators=(",", ":"))
+        json.dump(mapping.written(), mapped, separators=(",", ":"))
     print(*report.lines(), sep="\n", end="\n" if any(report.lines()) else "", file=sys.stderr)
     print(
         f"{len(network.nodes):,} nodes, {len(network.links):,} links, {len(network.turns):,} turns, "
@@ -103,15 +124,22 @@ def main(arguments):
 def convert(net_path, additional, routes, options, report):
     """The network, its lights, the commands of the run and the names of its vehicles."""
     net = read_net(net_path, options.classes, report)
+    types = Types(options.seed, report)
     for path in additional:
-        read_additional(path, net, report)
-    network = Network(net, options, report)
-    demand = Demand(net, options.seed, report)
+        read_additional(path, net, types, report)
+    demand = Demand(net, types, options.seed, report)
     for path in routes:
         demand.read(path)
-    entered, names = enters(demand.finish(), net, network, report)
+    vehicles = demand.finish()
+    flows = hourly_flows(vehicles)
+    network = Network(net, options, report, flows)
+    found = movements(net, network, flows, report)
+    network.equivalents = equivalents(one for junction in found.values() for one in junction.values())
+    sizes = Sizes(types)
+    entered, names = enters(vehicles, net, network, sizes, report)
+    sizes.tell(report)
     warn_of_rules(net, network, report)
-    made = signals(net, network, report)
+    made = signals(net, network, found, report)
     lights = [[light, command["node"]] for light, command in made]
     return network, lights, [network.load(), *(command for _, command in made), *entered], names
 
@@ -149,4 +177,4 @@ def warn_of_rules(net, network, report):
         report.warn(f"{len(network.joined)} turns between parallel links added for routes that change between them")
     split = sum(len(links) > 1 for links in network.links_of.values())
     if split:
-        report.warn(f"{split} edges of three lanes or more became parallel links")
+        report.warn(f"{split} edges became parallel links of one or two lanes")

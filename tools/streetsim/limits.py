@@ -6,6 +6,7 @@ LINKS = 4_096
 TURNS = 32_768
 CELLS = 1_000_000  # of a link
 LIMIT = 5  # cells a step
+SIZE = 4  # cells of a vehicle
 RESIDENCE = 60
 BUFFER = 64
 PLAN = 1_024

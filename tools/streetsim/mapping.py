@@ -1,6 +1,7 @@
 """The map file: which SUMO names the numbers of a run stand for."""
 from dataclasses import asdict, dataclass, field
 
+from .detectors import Detector
 from .files import Fault, read_json
 
 KEYS = ("nodes", "links", "turns", "signals", "cars", "options", "warnings")
@@ -33,6 +34,8 @@ class MapTurn:
     light: str | None
     index: int  # in the light's state
     added: bool  # not SUMO's
+    speed: float = 13.9  # metres a second, inside the junction if that is known
+    limit: int = 2  # of its link, cells a step
 
 
 @dataclass(slots=True)
@@ -44,6 +47,7 @@ class Map:
     cars: list  # SUMO's vehicle names, by number
     options: dict
     warnings: list
+    detectors: list = field(default_factory=list)  # of additional files
     links_of: dict = field(default_factory=dict)  # edge: links
 
     def __post_init__(self):
@@ -72,6 +76,7 @@ class Map:
             "cars": self.cars,
             "options": self.options,
             "warnings": self.warnings,
+            "detectors": [list(asdict(detector).values()) for detector in self.detectors],
         }
 
 
@@ -88,7 +93,9 @@ def map_of(network, lights, names, report):
             for link in network.links
         ],
         turns=[
-            MapTurn(link, lane, following, turn.next_lane, turn.light, turn.index, turn.added)
+            MapTurn(
+                link, lane, following, turn.next_lane, turn.light, turn.index, turn.added, turn.speed, turn.limit
+            )
             for (link, lane, following), turn in network.turns.items()
         ],
         signals=lights,
@@ -105,7 +112,8 @@ def read_map(path):
 def map_from(path, value):
     """The map of a file's content."""
     try:
+        detectors = [Detector(*detector) for detector in value.get("detectors", ())]
         links, turns = [MapLink(*link) for link in value["links"]], [MapTurn(*turn) for turn in value["turns"]]
-        return Map(links=links, turns=turns, **{key: value[key] for key in KEYS if key not in ("links", "turns")})
+        return Map(links=links, turns=turns, detectors=detectors, **{key: value[key] for key in KEYS if key not in ("links", "turns")})
     except (KeyError, TypeError) as fault:
         raise Fault(f"{path}: not a map that streetsim-import wrote: {fault}") from None

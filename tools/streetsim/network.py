@@ -1,13 +1,15 @@
 """Nodes, links and turns of streetsim, made of a SUMO network."""
 from collections import Counter, defaultdict
-from dataclasses import dataclass
+from dataclasses import dataclass, replace
 
 from . import limits
 from .files import Fault
 from .report import some
 
 MISSING_TURN = 0.5  # what a change between parallel links costs that SUMO has no connection for
+WRONG_LANE = 100.0  # the same from lanes that do not lead to an edge to which others wait for a gap
 CROWDING = 0.2  # what a link costs each of whose lanes carries as much as its edge's links do on average
+CROWDING_BESIDE = 2.0  # the same where links of an edge lead to a common one and on some of them vehicles wait for gaps
 
 
 @dataclass(slots=True)
@@ -20,10 +22,11 @@ class Options:
     change: int = 1000
     zone: int = 1000
     seed: int = 1
-    residence: int = 3
+    residence: int = 2
     buffer: int = 4
-    permissive: float = 0.7
+    permissive: float | None = None  # by the flows
     begin: int = 0
+    sizes: bool = True  # of vehicles, by their types; else one cell each
 
 
 @dataclass(slots=True)
@@ -45,13 +48,16 @@ class Turn:
     light: str | None
     index: int
     added: bool
+    speed: float  # metres a second, inside the junction if that is known
+    limit: int  # of its link, cells a step
 
 
 class Network:
     """Links and nodes go by number, their place in the load."""
 
-    def __init__(self, net, options, report):
-        self.options = options
+    def __init__(self, net, options, report, flows):
+        """Flows are the routes' vehicles an hour from edge to edge; none where no route is known."""
+        self.options, self.detectors, self.dropped = options, net.detectors, net.dropped
         edges = ordered(net)
         ends = {name for edge in edges for name in (edge.begin, edge.end)}
         self.nodes = [name for name in net.junctions if name in ends]
@@ -60,20 +66,25 @@ class Network:
             raise Fault(f"the network has no junction {min(ends - number.keys())!r}, where an edge begins or ends")
         self.places = [net.junctions[name] for name in self.nodes]
         self.links, self.links_of, self.place_of = [], {}, {}
-        following = next_edges(net)
+        following, waiting = next_edges(net, flows)
         for edge in edges:
-            bundles = parallel(edge, following)
+            bundles = parallel(edge, following, waiting)
             self.links_of[edge.name] = list(range(len(self.links), len(self.links) + len(bundles)))
             for lanes in bundles:
                 self.place_of.update({(edge.name, lane.index): (len(self.links), at) for at, lane in enumerate(lanes)})
                 self.links.append(link_of(edge, lanes, number, options))
         self.turns = {}  # (link, lane, next link): Turn
+        self.waiting = set()  # (edge, next edge) to which a signal lets go only when there is a gap
+        self.waiting.update((edge, target) for (edge, _), targets in waiting.items() for target in targets)
         self.movements = defaultdict(list)  # (edge, next edge): connections
         self.add_connections(net, report)
         if not options.strict_turns:
             self.open_both_lanes(report)
+        self.leads = {(link, self.links[following].edge) for link, _, following in self.turns}
+        self.unlike = self.shared_ways() & {edge for edge, _ in self.waiting}
         self.residences = residences(edges, net, self.nodes, options.residence)
         self.use = Counter()
+        self.equivalents = {}  # (edge, next edge): in how many others' place a vehicle counts that waits for a gap
         self.joined = set()
 
     def add_connections(self, net, report):
@@ -83,7 +94,7 @@ class Network:
             self.movements[connection.source, connection.target].append(connection)
             link, lane = self.place_of[connection.source, connection.source_lane]
             following, next_lane = self.place_of[connection.target, connection.target_lane]
-            key, turn = (link, lane, following), Turn(next_lane, connection.light, connection.index, False)
+            key, turn = (link, lane, following), self.turn(link, next_lane, connection, False)
             held = self.turns.get(key)
             if held is not None:
                 doubled.add(connection.source)
@@ -95,13 +106,17 @@ class Network:
                 f"edges {some(sorted(doubled))}"
             )
 
+    def turn(self, link, next_lane, connection, added):
+        speed = connection.speed or self.links[link].speed
+        return Turn(next_lane, connection.light, connection.index, added, speed, self.links[link].limit)
+
     def open_both_lanes(self, report):
         """Where one lane of two has a turn to a next link, the other gets it too: else two vehicles side by side, each
         needing the other's lane, stand for ever."""
         count = 0
         for (link, lane, following), turn in list(self.turns.items()):
             if len(self.links[link].lanes) == 2 and (link, 1 - lane, following) not in self.turns:
-                self.turns[link, 1 - lane, following] = Turn(turn.next_lane, turn.light, turn.index, True)
+                self.turns[link, 1 - lane, following] = replace(turn, added=True)
                 count += 1
         if count:
             report.warn(
@@ -120,7 +135,7 @@ class Network:
         for lane, index in enumerate(self.links[link].lanes):
             nearest = min(connections, key=lambda connection: abs(connection.source_lane - index))
             next_lane = min(lane, len(self.links[following].lanes) - 1)
-            self.turns[link, lane, following] = Turn(next_lane, nearest.light, nearest.index, True)
+            self.turns[link, lane, following] = self.turn(link, next_lane, nearest, True)
         self.joined.add((link, following))
 
     def route(self, edges):
@@ -132,23 +147,38 @@ class Network:
         for edge in edges[1:]:
             best = {
                 link: min(
-                    (cost + self.crowding(link) + (0 if self.serves(path[-1], link) else MISSING_TURN), (*path, link))
+                    (cost + self.crowding(link) + self.change_cost(path[-1], link), (*path, link))
                     for cost, path in best.values()
                 )
                 for link in self.links_of[edge]
             }
         plan = min(best.values())[1]
-        self.use.update(plan)
+        self.use[plan[-1]] += 1
         for link, following in zip(plan, plan[1:]):
+            self.use[link] += self.equivalents.get((self.links[link].edge, self.links[following].edge), 1)
             if not self.serves(link, following):
                 self.join(link, following)
         return plan
+
+    def shared_ways(self):
+        """The edges of which two links lead to one next edge."""
+        ways = Counter((self.links[link].edge, target) for link, target in self.leads)
+        return {edge for (edge, _), count in ways.items() if count > 1}
+
+    def change_cost(self, link, following):
+        """What a plan costs more that goes from one link to another without a connection of SUMO's."""
+        if self.serves(link, following):
+            return 0.0
+        edge, target = self.links[link].edge, self.links[following].edge
+        wrong = (edge, target) in self.waiting and (link, target) not in self.leads
+        return WRONG_LANE if wrong else MISSING_TURN
 
     def crowding(self, link):
         """The cost of a link for what each of its lanes carries already, against the mean of the edge's links."""
         links = self.links_of[self.links[link].edge]
         total = sum(self.use[other] for other in links)
-        return CROWDING * self.use[link] / len(self.links[link].lanes) * len(links) / total if total else 0.0
+        weight = CROWDING_BESIDE if self.links[link].edge in self.unlike else CROWDING
+        return weight * self.use[link] / len(self.links[link].lanes) * len(links) / total if total else 0.0
 
     def load(self):
         """The load command."""
@@ -201,25 +231,55 @@ def ordered(net):
     return sorted(net.edges.values(), key=key)
 
 
-def next_edges(net):
-    """The edges that each lane leads to."""
-    following = defaultdict(set)
+def next_edges(net, flows):
+    """The edges that each lane leads to, and of these the ones to which a signal lets it go only when there is a gap.
+    Those alone that routes take, where a lane leads to any of these."""
+    used = {(connection.source, connection.source_lane) for connection in net.connections if taken(connection, flows)}
+    following, waiting = defaultdict(set), defaultdict(set)
     for connection in net.connections:
-        following[connection.source, connection.source_lane].add(connection.target)
-    return following
+        lane = connection.source, connection.source_lane
+        if lane not in used or taken(connection, flows):
+            following[lane].add(connection.target)
+            if may_wait(connection, net):
+                waiting[lane].add(connection.target)
+    return following, waiting
 
 
-def parallel(edge, following):
-    """The lanes of an edge in groups of two, from the right; of an odd number above one the single lane is the outer
-    one that shares fewer next edges with its neighbour."""
-    lanes = edge.lanes
-    shared = [
-        len(following[edge.name, lane.index] & following[edge.name, beside.index])
-        for lane, beside in zip(lanes, lanes[1:])
-    ]
-    first = 1 if len(lanes) % 2 and len(lanes) > 1 and shared[0] < shared[-1] else 0
-    groups = [lanes[:first]] if first else []
-    return groups + [lanes[at : at + 2] for at in range(first, len(lanes), 2)]
+def taken(connection, flows):
+    """Whether a route takes the way of a connection."""
+    return bool(flows.get((connection.source, connection.target)))
+
+
+def may_wait(connection, net):
+    """Whether a signal shows a connection that it may go if nobody comes whom it has to give way to."""
+    program = net.programs.get(connection.light)
+    yields = net.yields.get(net.edges[connection.source].end, {}).get(connection.request)
+    shown = {state[connection.index : connection.index + 1] for _, state in program.phases} if program else set()
+    return bool(yields) and not shown.isdisjoint("go")
+
+
+def parallel(edge, following, waiting):
+    """The lanes of an edge in groups of one and two, from the right: as few groups as there may be, and of these the
+    ones whose lanes share most next edges."""
+    places = [(edge.name, lane.index) for lane in edge.lanes]
+    best = [(0, 0, [])]  # for the first lanes: groups, less their shared edges
+    for end in range(1, len(places) + 1):
+        found = []
+        for size in (1, 2):
+            if size <= end and (size == 1 or may_share(*places[end - 2 : end], following, waiting)):
+                groups, shared, made = best[end - size]
+                own = len(following[places[end - 1]] & following[places[end - 2]]) if size == 2 else 0
+                found.append((groups + 1, shared - own, [*made, edge.lanes[end - size : end]]))
+        best.append(min(found, key=lambda way: way[:2]))
+    return best[-1][2]
+
+
+def may_share(right, left, following, waiting):
+    """Whether two lanes side by side may be one link: not where they lead to different edges, and not where one of them
+    has vehicles that wait for a gap and the other has not."""
+    if not following[right] or not following[left]:
+        return True
+    return bool(following[right] & following[left]) and waiting[right] == waiting[left]
 
 
 def link_of(edge, lanes, number, options):

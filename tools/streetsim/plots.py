@@ -1,15 +1,16 @@
-"""streetsim-plot: pictures of a run, as PNG."""
+"""streetsim-plot: pictures of a run, as PNG, SVG or PDF."""
 import argparse
 import io
+import os
 
-from . import limits, ring, series
-from .client import PROGRAM
+from . import limits, program, ring, series
 from .compare import read_tripinfo
-from .files import Fault
+from .files import Fault, place_of, whole_path
 from .folder import read_folder
 from .importing import within
 
 DPI, COLOURS = 95, 64
+DATES = {"svg": {"Date": None}, "pdf": {"CreationDate": None}}  # without: equal runs give equal bytes
 SPEEDS = (
     (0, "standing", "#a50026", 2.2),
     (1, "1 cell a step (27 km/h)", "#f08000", 1.4),
@@ -33,7 +34,7 @@ def parser():
     ):
         one = kinds.add_parser(kind, help=words, description=words)
         one.add_argument("folder", nargs="?" if kind == "fundamental" else None, help="what streetsim-run wrote")
-        one.add_argument("-o", "--output", required=True, help="the picture (.png)")
+        one.add_argument("-o", "--output", required=True, help="the picture (.png, .svg, .pdf)")
         if kind in ("corridor", "fundamental"):
             one.add_argument("--edges", required=kind == "corridor", default="", help="edges, with spaces between")
         if kind == "corridor":
@@ -52,7 +53,7 @@ def parser():
                 default=limits.LIMIT,
                 help="of the ring, cells a step (default %(default)s)",
             )
-            one.add_argument("--program", default=PROGRAM, help="the simulator, for the ring")
+            one.add_argument("--program", help=f"for the ring: {program.HELP}")
         if kind == "arrivals":
             one.add_argument("--sumo", metavar="TRIPINFO", help="SUMO's trips of the same demand, drawn beside")
     return made
@@ -77,6 +78,8 @@ def main(arguments):
     }[words.kind]
     if words.folder is None and not words.ring:
         raise Fault("fundamental needs a folder or --ring")
+    ending_of(words.output)
+    place_of(words.output)
     pyplot = drawing()
     figure = draw(pyplot, read_folder(words.folder) if words.folder else None, words)
     save(figure, words.output)
@@ -92,38 +95,63 @@ def drawing():
     matplotlib.use("Agg")
     from matplotlib import pyplot
 
-    pyplot.rcParams.update({"font.size": 9, "axes.grid": True, "grid.color": "#dddddd", "axes.axisbelow": True})
+    pyplot.rcParams.update({"font.size": 9, "svg.hashsalt": "streetsim", "axes.grid": True, "grid.color": "#dddddd", "axes.axisbelow": True})
     return pyplot
 
 
-def save(figure, path):
-    """A PNG of few colours, which keeps it small."""
-    from PIL import Image
+def ending_of(path):
+    """The format of a picture, which its name tells."""
+    ending = os.path.splitext(path)[1].lower().removeprefix(".")
+    if ending not in ("png", *DATES):
+        raise Fault(f"{path}: a picture's name ends with .png, .svg or .pdf")
+    return ending
 
-    raw = io.BytesIO()
-    figure.savefig(raw, dpi=DPI, bbox_inches="tight", facecolor="white")
-    try:
-        Image.open(raw).convert("RGB").quantize(COLOURS).save(path, format="PNG", optimize=True)
-    except OSError as fault:
-        raise Fault(f"{path}: {fault.strerror or fault}") from None
+
+def save(figure, path):
+    """A picture in the format of its name; a PNG of few colours, which keeps it small."""
+    ending = ending_of(path)
+    with whole_path(path) as half:
+        if ending != "png":
+            figure.savefig(half, format=ending, bbox_inches="tight", facecolor="white", metadata=DATES[ending])
+            return
+        from PIL import Image
+
+        raw = io.BytesIO()
+        figure.savefig(raw, dpi=DPI, bbox_inches="tight", facecolor="white")
+        Image.open(raw).convert("RGB").quantize(COLOURS).save(half, format="PNG", optimize=True)
+
+
+def path_of(folder, text):
+    """The edges of --edges, each of which must lead to the next."""
+    edges = text.split()
+    if not edges:
+        raise Fault("--edges: no edge is named")
+    links = folder.links_along(edges)
+    turns = {(turn.link, turn.next) for turn in folder.mapping.turns}
+    for (edge, here), (following, there) in zip(zip(edges, links), list(zip(edges, links))[1:]):
+        if not any((link, target) in turns for link in here for target in there):
+            raise Fault(f"--edges: no turn leads from {edge!r} to {following!r}")
+    return edges
 
 
 def draw_corridor(pyplot, folder, words):
-    from matplotlib.collections import LineCollection
+    from matplotlib.collections import LineCollection, PolyCollection
 
-    edges = words.edges.split()
+    edges = path_of(folder, words.edges)
     if words.first >= words.last:
         raise Fault(f"--first {words.first} is not before --last {words.last}")
     if folder.every > 5:
         raise Fault(f"{folder.path} was polled every {folder.every} s: a corridor needs streetsim-run --every 1 (to 5)")
+    if not any(words.first <= poll["clock"] <= words.last for poll in folder.polls()):
+        raise Fault(f"{folder.path}: nothing was polled from {words.first} to {words.last} s")
     pieces = series.trajectories(folder, edges, words.first, words.last)
     placed, length = series.stretches(folder, edges)
     figure, axes = pyplot.subplots(figsize=(10, 6))
     for least, label, colour, width in reversed(SPEEDS):
-        shown = [
-            (begin, end) for begin, end, speed in pieces if speed == least or (speed > least and least == SPEEDS[-1][0])
-        ]
-        axes.add_collection(LineCollection(shown, colors=colour, linewidths=width, label=label))
+        shown = [piece for piece in pieces if piece[2] == least or (piece[2] > least and least == SPEEDS[-1][0])]
+        fronts = [(begin, end) for begin, end, _, _ in shown]
+        axes.add_collection(LineCollection(fronts, colors=colour, linewidths=width, label=label))
+        axes.add_collection(PolyCollection(series.bands(shown), facecolors=colour, linewidths=0, alpha=0.6))
     for at, (place, begin, end) in enumerate(series.reds(folder, edges, words.first, words.last)):
         axes.plot(
             (begin, end),
@@ -217,9 +245,8 @@ def draw_queues(pyplot, folder, _words):
     times = sorted({time for _, queue in lanes for time in queue})
     times = list(range(times[0], times[-1] + 1, folder.every))
     figure, axes = pyplot.subplots(figsize=(10, 1 + 0.26 * max(4, len(lanes))))
-    cells = [[queue.get(time, 0) * limits.CELL_METRES for time in times] for _, queue in lanes]
     image = axes.imshow(
-        cells,
+        [[queue.get(time, 0) for time in times] for _, queue in lanes],
         aspect="auto",
         cmap="magma_r",
         interpolation="nearest",

@@ -1,21 +1,24 @@
 """streetsim-run: runs a file and writes its tables."""
 import argparse
+import contextlib
 import json
 import os
 import re
 import sys
 import time
-from concurrent.futures import ProcessPoolExecutor
 from dataclasses import replace
 from statistics import fmean
 
-from . import limits, tables
-from .client import PROGRAM, Client, NoReply, ProgramEnded, Refused, Starved
-from .files import Fault, whole_file
-from .folder import write_setting
+from . import limits, program, tables
+from .budget import INTERVALS, Budget
+from .client import Client, NoReply, ProgramEnded, Refused, Starved
+from .detectors import area_rows, loop_rows
+from .files import Fault, whole_file, whole_folder
+from .folder import NAME, write_setting
 from .importing import within
+from .jobs import CORES, side_by_side
 from .mapping import read_map
-from .record import Recorder, Settings
+from .record import Recorder, Repeater, Settings
 from .runs import Line, read_run
 
 
@@ -30,10 +33,9 @@ def parser():
     made.add_argument("--until", required=True, type=within(1, limits.CLOCK), metavar="S", help="the clock at the end")
     made.add_argument(
         "--every",
-        type=within(1, limits.CLOCK),
-        default=10,
+        type=within(0, limits.CLOCK),
         metavar="S",
-        help="seconds between polls of the lanes (default %(default)s)",
+        help="seconds between polls of the lanes; 0: never (default: 10, or more where the calls do not allow that)",
     )
     made.add_argument(
         "--period",
@@ -51,10 +53,20 @@ def parser():
         help="take out who stood so long at a stop line and enter it on the next link; 0: never (default %(default)s)",
     )
     made.add_argument(
+        "--counted",
+        choices=["all", "busiest"],
+        default="all",
+        help=f"all: where a run has more than {limits.METERS:,} lanes, further runs repeat it to count the others; busiest: "
+        "the lanes on most plans alone",
+    )
+    made.add_argument(
+        "--calls", type=within(1, limits.CALLS), metavar="N", help="take at most so many calls of the program (default: all)"
+    )
+    made.add_argument(
         "--seeds", metavar="FIRST-LAST", help="run each of these seeds, side by side, into folders of their own"
     )
     made.add_argument(
-        "--jobs", type=within(1, 64), default=os.cpu_count() or 1, help="runs side by side (default %(default)s)"
+        "--jobs", type=within(1, 1024), default=CORES, help="runs side by side (default: one for each core, %(default)s)"
     )
     made.add_argument(
         "--close",
@@ -64,7 +76,7 @@ def parser():
         help="road works: close a lane (edge_index) between two places, from one second to another; may be repeated",
     )
     made.add_argument("--out", required=True, metavar="DIR", help="the folder to write to")
-    made.add_argument("--program", default=PROGRAM, help="the simulator (default: streetsim of this repository)")
+    made.add_argument("--program", help=program.HELP)
     made.add_argument("--workers", type=within(1, 64), default=1, help="of the simulator (default %(default)s)")
     return made
 
@@ -72,22 +84,29 @@ def parser():
 class Progress:
     """A line on a terminal: clock, vehicles on their way, arrived, steps a second. Nothing elsewhere."""
 
-    def __init__(self, until, shown):
-        self.until, self.shown, self.begin, self.last = until, shown and sys.stderr.isatty(), time.monotonic(), 0.0
+    def __init__(self, until, runs=1):
+        self.until, self.shown, self.begin, self.last = until, sys.stderr.isatty(), time.monotonic(), 0.0
+        self.clocks, self.ways, self.arrived = [0] * runs, [0] * runs, [0] * runs
 
-    def show(self, clock, records):
-        now = time.monotonic()
-        if not self.shown or not records.censuses or (now - self.last < 0.2 and clock < self.until):
+    def show(self, clock, census, run=0):
+        """Notes how far a run is, and shows the line at most five times a second."""
+        if not self.shown or census is None:
             return
-        self.last, census = now, records.censuses[-1]
-        bar = "#" * (30 * clock // self.until)
-        end = "\n" if clock == self.until else ""
-        print(
-            f"\r[{bar:30}] {clock:,} s, {census.cells + census.buffers:,} on their way, {census.arrived:,} arrived, "
-            f"{clock / max(0.001, now - self.begin):,.0f} steps/s ",
-            end=end,
-            file=sys.stderr,
-            flush=True,
+        self.clocks[run], self.ways[run], self.arrived[run] = clock, census.cells + census.buffers, census.arrived
+        now, ended = time.monotonic(), min(self.clocks) >= self.until
+        if now - self.last < 0.2 and not ended:
+            return
+        self.last = now
+        print(f"\r{self.line(now)} ", end="\n" if ended else "", file=sys.stderr, flush=True)
+
+    def line(self, now):
+        done, runs = sum(self.clocks), len(self.clocks)
+        bar = "#" * (30 * done // (self.until * runs))
+        over = sum(clock >= self.until for clock in self.clocks)
+        place = f"{self.clocks[0]:,} s" if runs == 1 else f"{over} of {runs} runs done"
+        return (
+            f"[{bar:30}] {place}, {sum(self.ways):,} on their way, {sum(self.arrived):,} arrived, "
+            f"{done / max(0.001, now - self.begin):,.0f} steps/s"
         )
 
 
@@ -96,7 +115,8 @@ def main(arguments):
     run, mapping = read_run(words.run), read_map(words.map)
     if not fits(run, mapping):
         raise Fault(f"{words.map}: not the map of {words.run}, whose links are other ones")
-    settings = Settings(words.until, words.every, words.period, words.rescue, tuple(words.edges.split()))
+    asked = (words.until, words.every, words.period, words.rescue, tuple(words.edges.split()), words.calls)
+    settings = Settings(*asked, words.counted == "all")
     unknown = [edge for edge in settings.edges if edge not in mapping.links_of]
     if unknown:
         raise Fault(f"--edges: the map has no edge {unknown[0]!r}")
@@ -105,9 +125,13 @@ def main(arguments):
     run.timed.sort(key=lambda pair: pair[0])
     if words.until <= run.start():
         raise Fault(f"--until {words.until}: the run starts at {run.start()}")
+    words.program = program.find_program(words.program)
     if words.seeds:
         return run_seeds(words, run, mapping, settings)
-    print(summary_line(one_run(words, run, mapping, settings, words.out, True)))
+    shown = Progress(words.until)
+    with whole_folder(words.out, NAME) as folder:
+        figures = one_run(words, run, mapping, settings, folder, shown.show, words.jobs)
+    report(figures, "")
     return 0
 
 
@@ -137,40 +161,72 @@ def closure(text, mapping):
     ]
 
 
-def one_run(words, run, mapping, settings, folder, shown):
-    """One run into a folder; gives its figures."""
-    try:
-        os.makedirs(folder, exist_ok=True)
-        with whole_file(f"{folder}/lanes.jsonl.gz") as lanes_file, Client(words.program, words.workers) as sim:
-            records = Recorder(sim, run, mapping, settings, lanes_file, Progress(settings.until, shown)).record()
-    except (Refused, Starved, NoReply, ProgramEnded) as fault:
-        raise Fault(f"{words.run}: {fault}") from None
-    except OSError as fault:
-        raise Fault(f"{fault.filename}: {fault.strerror}") from None
+def one_run(words, run, mapping, settings, folder, tell, jobs):
+    """One run into a folder that is there; gives its figures. `tell` gets the clock and the last census."""
+    with whole_file(f"{folder}/lanes.jsonl.gz") as lanes_file, serving(words) as sim:
+        records = Recorder(sim, run, mapping, settings, lanes_file, tell, mapping.detectors).record()
+    count_further(words, run, mapping, settings, records, jobs)
     trips = list(tables.trips(records, run, mapping))
     tables.write_table(f"{folder}/counts.csv", tables.COUNTS, tables.counts(records, mapping))
     tables.write_table(f"{folder}/trips.csv", tables.TRIPS, trips)
+    tables.write_table(f"{folder}/edges.csv", tables.EDGES, tables.edges(records, mapping))
+    tables.write_table(f"{folder}/detectors.csv", tables.LOOPS, loop_rows(records, mapping.detectors))
+    tables.write_table(f"{folder}/areas.csv", tables.AREAS, area_rows(records, mapping.detectors, settings.until))
     tables.write_table(f"{folder}/queues.csv", tables.QUEUES, tables.queues(records, mapping))
     tables.write_table(f"{folder}/summary.csv", tables.SUMMARY, tables.summary(records))
-    write_setting(folder, mapping, run, settings)
-    for told in notes(records):
-        print(told, file=sys.stderr)
+    write_setting(folder, mapping, run, settings, records.asking.every)
     durations = [trip[3] for trip in trips if trip[3] != ""]
     return {
         "vehicles": len(trips),
         "arrived": len(durations),
         "mean_trip_s": fmean(durations) if durations else None,
         "rescues": records.rescues.total(),
+        "notes": list(notes(records, settings)),
     }
 
 
-def notes(records):
+def report(figures, name):
+    """Prints what a run gave."""
+    for told in figures["notes"]:
+        print(f"{name}{told}", file=sys.stderr)
+    print(f"{name}{summary_line(figures)}")
+
+
+@contextlib.contextmanager
+def serving(words):
+    """The program of a run; what it refuses is a Fault."""
+    try:
+        with Client(words.program, words.workers) as sim:
+            yield sim
+    except (Refused, Starved, NoReply, ProgramEnded) as fault:
+        raise Fault(f"{words.run}: {fault}") from None
+
+
+def count_further(words, run, mapping, settings, first, jobs):
+    """Counts the lanes that the first run has no detectors for, by runs that repeat it; adds to its records."""
+
+    def repeat(lanes, _tell):
+        with serving(words) as sim:
+            repeater = Repeater(sim, run, mapping, settings)
+            asking = Budget(run, settings, lanes, (), ()).repeated(lanes, len(first.rescued), settings.calls or sim.calls)
+            return repeater.record(first, asking, lambda clock: None)
+
+    for records in side_by_side(repeat, first.asking.further, jobs):
+        first.counts.update(records.counts)
+        first.edgedata.add(records.edgedata)
+        first.uncounted -= len(records.counts)
+
+
+def notes(records, settings):
     """What the tables do not have."""
     if records.uncounted:
         yield (
-            f"counts: {records.uncounted:,} lanes have no detector, there are at most {limits.METERS:,}; "
-            "those on most plans have one"
+            f"counts: {records.uncounted:,} lanes have no detector, a run takes {limits.METERS:,}; those on most plans "
+            "have one (--counted all counts all)"
         )
+    if settings.every is None and records.asking.every != INTERVALS[0]:
+        often = f"every {records.asking.every:,} s" if records.asking.every else "never"
+        yield f"lanes are polled {often}, as the program takes no more calls"
     if records.unsent:
         yield f"{records.unsent:,} lines were not sent, as their clock is after --until"
 
@@ -193,17 +249,20 @@ def run_seeds(words, run, mapping, settings):
     if not (first.isdecimal() and last.isdecimal() and int(first) <= int(last) < min(int(first) + 1000, 2**64)):
         raise Fault(f"--seeds {words.seeds!r}: expected FIRST-LAST, at most 1,000 of them")
     seeds = range(int(first), int(last) + 1)
+    shown = Progress(words.until, len(seeds))
+    with whole_folder(words.out, NAME) as folder:
 
-    with ProcessPoolExecutor(words.jobs) as pool:
-        running = [
-            pool.submit(one_run, words, seeded(run, seed), mapping, settings, f"{words.out}/seed-{seed}", False)
-            for seed in seeds
-        ]
-        figures = [one.result() for one in running]
-    rows = [(seed, *one.values()) for seed, one in zip(seeds, figures, strict=True)]
-    tables.write_table(f"{words.out}/seeds.csv", ("seed", "vehicles", "arrived", "mean_trip_s", "rescues"), rows)
+        def run_seed(seed, tell):
+            place = f"{folder}/seed-{seed}"
+            os.mkdir(place)
+            return one_run(words, seeded(run, seed), mapping, settings, place, lambda *values: tell(values), 1)
+
+        figures = side_by_side(run_seed, seeds, words.jobs, lambda place, values: shown.show(*values, place))
+        names = ("vehicles", "arrived", "mean_trip_s", "rescues")
+        rows = [(seed, *(one[name] for name in names)) for seed, one in zip(seeds, figures, strict=True)]
+        tables.write_table(f"{folder}/seeds.csv", ("seed", *names), rows)
     for seed, one in zip(seeds, figures, strict=True):
-        print(f"seed {seed}: {summary_line(one)}")
+        report(one, f"seed {seed}: ")
     means = [one["mean_trip_s"] for one in figures if one["arrived"]]
     if means:
         mean, half = tables.interval(means)

@@ -1,6 +1,6 @@
 """A run under SUMO's names and units (metres, metres a second, seconds), with TraCI's calls where one fits."""
 from . import limits
-from .client import PROGRAM, Client
+from .client import Client
 from .mapping import read_map
 from .report import Report
 from .runs import read_run
@@ -8,6 +8,7 @@ from .sumo_net import Program
 from .sumo_signals import signal
 
 NOWHERE = -1073741824.0  # TraCI's value for a place that is not known
+GAP = 2.5  # metres of a vehicle's cells that are the gap ahead of it: SUMO's default, so that a car is 5 m long
 ADVICE = {
     "vehicle.setSpeed": "speeds follow the rules alone",
     "vehicle.slowDown": "speeds follow the rules alone",
@@ -42,11 +43,11 @@ class Part:
 class Scenario:
     """A running simulation of a run file and its map: its network, signals and vehicles are loaded at once."""
 
-    def __init__(self, run, mapping, program=PROGRAM, workers=1):
+    def __init__(self, run, mapping, program=None, workers=1):
         self.map, source = read_map(mapping), read_run(run)
         self.client = Client(program, workers)
         self.clock = source.start()
-        self.cars, self.plans = {}, {}  # by name: number, links
+        self.cars, self.plans, self.sizes = {}, {}, {}  # by name: number, links, cells
         self.going = {}  # number: name, of vehicles that may be on their way
         self.routes, self.detectors = {}, {}
         self.lane_of = {self.map.lane_name(link, lane): (link, lane) for link, lane in self.map.lanes()}
@@ -55,9 +56,8 @@ class Scenario:
                 raise reply
         names = iter(self.map.cars)
         for line in source.enters:
-            self.enter(
-                next(names, f"#{len(self.cars)}"), line.command["plan"], line.command["lane"], line.command["depart"]
-            )
+            command, name = line.command, next(names, f"#{len(self.cars)}")
+            self.enter(name, command["plan"], command["lane"], command["depart"], command.get("size", 1))
         self.simulation, self.vehicle, self.route = Simulation(self), Vehicle(self), Route(self)
         self.lane, self.edge, self.inductionloop, self.trafficlight = (
             Lane(self),
@@ -78,11 +78,11 @@ class Scenario:
         while self.clock < target:
             self.clock = self.client.advance(min(limits.STEPS, target - self.clock))
 
-    def enter(self, name, plan, lane, depart):
+    def enter(self, name, plan, lane, depart, size=1):
         if name in self.cars:
             raise ValueError(f"there is a vehicle {name!r} already")
-        self.cars[name] = self.client.enter(plan, lane, depart)
-        self.plans[name] = tuple(plan)
+        self.cars[name] = self.client.enter(plan, lane, depart, size)
+        self.plans[name], self.sizes[name] = tuple(plan), size
         self.going[self.cars[name]] = name
 
     def plan(self, edges):
@@ -133,14 +133,15 @@ class Route(Part):
 
 
 class Vehicle(Part):
-    def add(self, name, route, depart=None):
-        """Adds a vehicle on a route that route.add told; it departs now or at a time in seconds."""
+    def add(self, name, route, depart=None, size=1):
+        """Adds a vehicle of 1 to 4 cells on a route that route.add told; it departs now or at a time in seconds."""
         scenario = self.scenario
         plan = scenario.routes[route]
         lane = next(
             (turn.lane for turn in scenario.map.turns if len(plan) > 1 and (turn.link, turn.next) == plan[:2]), 0
         )
-        scenario.enter(name, list(plan), lane, scenario.clock if depart is None else max(0, -int(-depart // 1)))
+        depart = scenario.clock if depart is None else max(0, -int(-depart // 1))
+        scenario.enter(name, list(plan), lane, depart, size)
 
     def remove(self, name):
         self.scenario.client.takeout(self.scenario.cars[name])
@@ -185,6 +186,14 @@ class Vehicle(Part):
         speed = self.where(name).speed
         return NOWHERE if speed is None else speed * limits.CELL_METRES
 
+    def getLength(self, name):
+        """Metres of the vehicle: its cells without the gap ahead, 5 m for one cell, 12.5 m for two."""
+        return self.scenario.sizes[name] * limits.CELL_METRES - GAP
+
+    def getMinGap(self, _name):
+        """Metres of the gap ahead of a vehicle that stands, which its cells hold."""
+        return GAP
+
     def getRoute(self, name):
         return tuple(self.scenario.map.links[link].edge for link in self.scenario.plans[name])
 
@@ -196,17 +205,17 @@ class Lane(Part):
     def getLastStepVehicleIDs(self, name):
         """Vehicles on the lane, the rearmost first."""
         names = {car: vehicle for vehicle, car in self.scenario.cars.items()}
-        return tuple(names[car] for car, _, _ in reversed(self.scenario.lane_state(name).cells))
+        return tuple(names[car] for car, *_ in reversed(self.scenario.lane_state(name).cells))
 
     def getLastStepVehicleNumber(self, name):
         return len(self.scenario.lane_state(name).cells)
 
     def getLastStepHaltingNumber(self, name):
-        return sum(speed == 0 for _, _, speed in self.scenario.lane_state(name).cells)
+        return sum(speed == 0 for _, _, speed, *_ in self.scenario.lane_state(name).cells)
 
     def getLastStepMeanSpeed(self, name):
         """Metres a second; -1 where the lane is empty."""
-        speeds = [speed for _, _, speed in self.scenario.lane_state(name).cells]
+        speeds = [speed for _, _, speed, *_ in self.scenario.lane_state(name).cells]
         return sum(speeds) / len(speeds) * limits.CELL_METRES if speeds else -1.0
 
     def getLength(self, name):
@@ -235,7 +244,7 @@ class Edge(Part):
         return sum(len(lane.cells) for lane in self.lanes(name))
 
     def getLastStepHaltingNumber(self, name):
-        return sum(speed == 0 for lane in self.lanes(name) for _, _, speed in lane.cells)
+        return sum(speed == 0 for lane in self.lanes(name) for _, _, speed, *_ in lane.cells)
 
 
 class InductionLoop(Part):
@@ -272,8 +281,8 @@ class TrafficLight(Part):
         return tuple(sorted({light for light, _ in self.scenario.map.signals}))
 
     def setProgramLogic(self, name, phases, offset=0):
-        """Sets a light's cycle: phases of (seconds, state), as a tlLogic has them, from the next step on. Gives what
-        there is to warn of."""
+        """Sets a light's cycle: phases of (seconds, state), as a tlLogic has them, from the next step on; of permissive
+        greens the usual share is shown, as flows are not known here. Gives what there is to warn of."""
         mapping, report = self.scenario.map, Report()
         program, permissive = (
             Program(offset, [tuple(phase) for phase in phases], "static"),

@@ -18,7 +18,7 @@ def stretches(folder, edges):
 
 def trajectories(folder, edges, first, last):
     """Pieces of the vehicles' ways along a path between polls: ((second, metres), (second, metres), speed in cells a
-    step)."""
+    step, metres of the vehicle's cells)."""
     placed, _ = stretches(folder, edges)
     pieces, before = [], {}
     for poll in folder.polls():
@@ -28,12 +28,21 @@ def trajectories(folder, edges, first, last):
         for link, _lane, cells, _buffer, _closed in poll["lanes"]:
             if link in placed:
                 begin, metres, count = placed[link]
-                now.update({car: (clock, begin + (cell + 1) * metres / count, speed) for car, cell, speed in cells})
-        for car, (_, place, speed) in now.items():
+                for car, cell, speed, *size in cells:
+                    long = (size[0] if size else 1) * metres / count
+                    now[car] = clock, begin + (cell + 1) * metres / count, speed, long
+        for car, (_, place, speed, long) in now.items():
             if car in before and before[car][1] <= place:
-                pieces.append((before[car][:2], (clock, place), speed))
+                pieces.append((before[car][:2], (clock, place), speed, long))
         before = now
     return pieces
+
+
+def bands(pieces):
+    """The areas that vehicles longer than a cell cover over time, from their fronts to their rears, as corners."""
+    for (second, place), (later, other), _, long in pieces:
+        if long > 1.5 * limits.CELL_METRES:
+            yield (second, place), (later, other), (later, other - long), (second, place - long)
 
 
 def reds(folder, edges, first, last):
@@ -86,11 +95,11 @@ def densities(folder):
 
 
 def longest_queues(folder, most):
-    """The lanes with the longest queues, the longest first: (edge_lane, {time: vehicles}); and how many lanes with
+    """The lanes with the longest queues, the longest first: (edge_lane, {time: metres}); and how many lanes with
     queues there are."""
     by_lane = defaultdict(dict)
     for row in folder.queues():
-        by_lane[f"{row['edge']}_{row['lane']}"][int(row["time"])] = int(row["vehicles"])
+        by_lane[f"{row['edge']}_{row['lane']}"][int(row["time"])] = float(row["metres"])
     ranked = sorted(by_lane.items(), key=lambda item: (-max(item[1].values()), item[0]))
     return ranked[:most], len(ranked)
 

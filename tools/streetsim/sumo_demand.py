@@ -8,7 +8,8 @@ from . import limits
 from .files import Fault, attribute, elements, seconds, told
 from .flows import departs
 
-READ = {"id", "depart", "route", "edges", "begin", "end", "number", "period", "probability", "vehsPerHour", "perHour"}
+READ = {"id", "type", "depart", "route", "edges", "begin", "end"}
+READ |= {"number", "period", "probability", "vehsPerHour", "perHour"}
 NOT_DRIVEN = {
     "trip": "a trip",
     "person": "a person",
@@ -24,13 +25,14 @@ class Vehicle:
     name: str
     depart: float  # seconds
     edges: tuple
+    type: str
 
 
 class Demand:
     """The vehicles of route files, and the routes that they name."""
 
-    def __init__(self, net, seed, report):
-        self.net, self.report = net, report
+    def __init__(self, net, types, seed, report):
+        self.net, self.types, self.report = net, types, report
         self.draws = random.Random(seed)
         self.routes = {}  # name: edges
         self.vehicles = []
@@ -41,8 +43,8 @@ class Demand:
             "route": self.read_route,
             "vehicle": self.read_vehicle,
             "flow": self.read_flow,
-            "vType": self.read_type,
-            "vTypeDistribution": self.read_type,
+            "vType": self.types.read,
+            "vTypeDistribution": self.types.read,
         }
         for element in elements(path, ["routes", "additional", "add"]):
             if element.tag == "trip":
@@ -53,9 +55,6 @@ class Demand:
                 readers[element.tag](path, element)
             else:
                 self.report.ignored[f"<{element.tag}> of route files"] += 1
-
-    def read_type(self, _path, element):
-        self.report.ignored["vehicle types"] += sum(1 for inner in element.iter() if inner.tag == "vType")
 
     def read_route(self, path, element):
         name = attribute(path, element, "id")
@@ -83,7 +82,7 @@ class Demand:
         self.note_ignored(element)
         edges = self.edges(path, element, inner) if inner is not None else None
         for name, depart in departs:
-            vehicle = Vehicle(name, depart, edges)
+            vehicle = Vehicle(name, depart, edges, element.get("type"))
             self.vehicles.append(vehicle)
             if edges is None:
                 self.later.append((vehicle, told(path, element), element.get("route")))
@@ -108,7 +107,7 @@ class Demand:
         )
 
     def finish(self):
-        """All vehicles, each with its route, in order of departure and file."""
+        """All vehicles, each with its route and its type, in order of departure and file."""
         for vehicle, where, name in self.later:
             if name not in self.routes:
                 raise Fault(f"{where}: there is no route {name!r}")
@@ -117,10 +116,12 @@ class Demand:
         double = next((name for name, count in names.items() if count > 1), None)
         if double is not None:
             raise Fault(f"two vehicles are named {double!r}")
+        for vehicle in self.vehicles:
+            vehicle.type = self.types.drawn(vehicle.type)
         return sorted(self.vehicles, key=lambda vehicle: vehicle.depart)
 
 
-def enters(vehicles, net, network, report):
+def enters(vehicles, net, network, sizes, report):
     """Enter commands and the names of their vehicles; vehicles that can not drive are counted by reason."""
     commands, names, used = [], [], Counter()
     for vehicle in vehicles:
@@ -131,7 +132,9 @@ def enters(vehicles, net, network, report):
         lanes = network.serves(plan[0], plan[1]) if len(plan) > 1 else range(len(network.links[plan[0]].lanes))
         lane = lanes[used[plan[0]] % len(lanes)]
         used[plan[0]] += 1
-        commands.append({"cmd": "enter", "plan": list(plan), "lane": lane, "depart": max(0, math.ceil(vehicle.depart))})
+        command = {"cmd": "enter", "plan": list(plan), "lane": lane, "depart": max(0, math.ceil(vehicle.depart))}
+        size = sizes.of(vehicle.type) if network.options.sizes else 1
+        commands.append({**command, "size": size} if size > 1 else command)
         names.append(vehicle.name)
     return commands, names
 

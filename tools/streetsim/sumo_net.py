@@ -2,8 +2,18 @@
 from dataclasses import dataclass, field
 
 from .files import Fault, at_least_zero, attribute, elements, number, seconds, told
+from .sumo_detectors import KINDS, read_detector
+from .sumo_types import TAGS
 
 INNER = ("internal", "walkingarea", "crossing")
+DEMAND = ("route", "vehicle", "flow", "trip")
+# SUMO's vehicle classes.
+CLASSES = (
+    *("private", "emergency", "authority", "army", "vip", "passenger", "hov", "taxi", "bus", "coach", "delivery"),
+    *("truck", "trailer", "tram", "rail_urban", "rail", "rail_electric", "rail_fast", "motorcycle", "moped", "bicycle"),
+    *("pedestrian", "evehicle", "ship", "container", "cable_car", "subway", "aircraft", "wheelchair", "scooter", "drone"),
+    *("custom1", "custom2"),
+)
 
 
 @dataclass(slots=True)
@@ -32,6 +42,8 @@ class Connection:
     light: str | None
     index: int  # in the light's state
     state: str  # M: major, m: minor, ..
+    request: int | None = None  # its place among the requests of its junction
+    speed: float | None = None  # metres a second inside the junction
 
 
 @dataclass(slots=True)
@@ -50,6 +62,9 @@ class SumoNet:
     connections: list = field(default_factory=list)  # between kept lanes
     roundabouts: set = field(default_factory=set)  # edges
     programs: dict = field(default_factory=dict)  # light: Program, the last loaded
+    detectors: list = field(default_factory=list)  # of additional files
+    yields: dict = field(default_factory=dict)  # junction: for each request those that it gives way to
+    inner_speeds: dict = field(default_factory=dict)  # lane inside a junction: metres a second
 
 
 def shape(text):
@@ -94,17 +109,25 @@ def read_net(path, classes, report):
     return net
 
 
-def read_additional(path, net, report):
-    """Signal programs of an additional file; all else there is counted as ignored."""
+def read_additional(path, net, types, report):
+    """Signal programs and vehicle types of an additional file; all else there is counted as ignored."""
     for element in elements(path, ["additional", "add", "routes", "tlLogics"]):
         if element.tag == "tlLogic":
             read_program(path, element, net, ())
+        elif element.tag in TAGS:
+            types.read(path, element)
+        elif element.tag in KINDS:
+            net.detectors += filter(None, [read_detector(path, element, report)])
+        elif element.tag in DEMAND:
+            raise Fault(f"{told(path, element)} in an additional file: give files of routes after --routes")
         else:
             report.ignored[f"<{element.tag}> of additional files"] += 1
 
 
 def read_edge(path, element, net, classes):
     if element.get("function") in INNER:
+        for lane in element.iter("lane"):
+            net.inner_speeds[attribute(path, lane, "id")] = attribute(path, lane, "speed", at_least_zero(number))
         return
     name = attribute(path, element, "id")
     if name in net.edges or name in net.dropped:
@@ -136,10 +159,14 @@ def read_edge(path, element, net, classes):
 
 def read_junction(path, element, net, _classes):
     if element.get("type") != "internal":
-        net.junctions[attribute(path, element, "id")] = (
-            attribute(path, element, "x", number),
-            attribute(path, element, "y", number),
-        )
+        name = attribute(path, element, "id")
+        net.junctions[name] = attribute(path, element, "x", number), attribute(path, element, "y", number)
+        net.yields[name] = {
+            attribute(path, request, "index", at_least_zero(int)): {
+                at for at, bit in enumerate(reversed(attribute(path, request, "response"))) if bit == "1"
+            }
+            for request in element.iter("request")
+        }
 
 
 def read_connection(path, element, net, classes):
@@ -156,8 +183,27 @@ def read_connection(path, element, net, classes):
     if has_lane(net.edges[source], source_lane) and has_lane(net.edges[target], target_lane):
         light = element.get("tl")
         index = attribute(path, element, "linkIndex", at_least_zero(int)) if light else 0
-        state = element.get("state", "M")
-        net.connections.append(Connection(source, target, source_lane, target_lane, light, index, state))
+        state, inner = element.get("state", "M"), element.get("via", "")
+        net.connections.append(
+            Connection(
+                source,
+                target,
+                source_lane,
+                target_lane,
+                light,
+                index,
+                state,
+                request_of(inner),
+                net.inner_speeds.get(inner),
+            )
+        )
+
+
+def request_of(inner):
+    """The place among its junction's requests of a connection that runs over a lane inside it, ":junction_N_LANE": the
+    lanes of one inner edge follow each other."""
+    parts = inner.rsplit("_", 2)
+    return int(parts[1]) + int(parts[2]) if len(parts) == 3 and all(map(str.isdecimal, parts[1:])) else None
 
 
 def has_lane(edge, index):

@@ -5,12 +5,37 @@ from itertools import groupby
 from . import limits
 from .files import Fault
 from .report import some
+from .yielding import GREEN, PERMISSIVE, hidden_start, movements_of, runs_of, settle
 
-GREEN = "GsO"
-PERMISSIVE = "go"
+DEFAULT_SHARE = 0.7  # of a permissive green that is shown, where nothing is known of who gives way
+GRAINS = (1, 2, 3, 5, 8, 12, 20)  # seconds to which what is shown of a green is rounded: the first that gives few phases
 
 
-def signals(net, network, report):
+def movements(net, network, flows, report):
+    """The connections of each junction with a light over its cycle, {junction: {request: movement}}; none where nothing
+    is known of who gives way to whom, or of flows, which are the routes' vehicles an hour from edge to edge."""
+    limits_of = {link.edge: link.limit for link in network.links}
+    connections_at, found = defaultdict(list), {}
+    for connection in net.connections:
+        connections_at[net.edges[connection.source].end].append(connection)
+    for junction, connections in connections_at.items() if flows else ():
+        light = light_of(connections, net)
+        ours = [connection for connection in connections if connection.light in (light, None)]
+        if light and net.yields.get(junction) and all(connection.request is not None for connection in ours):
+            states = each_second(light, net.programs[light], report)
+            check_states(light, states, ours)
+            found[junction] = movements_of(ours, states, net.yields[junction], flows, limits_of)
+            settle(list(found[junction].values()))
+    return found
+
+
+def light_of(turns, net):
+    """The light that is used at a node, of those of its turns or connections: the first that has a program."""
+    lights = {turn.light for turn in turns if turn.light}
+    return min((light for light in lights if light in net.programs and net.programs[light].phases), default=None)
+
+
+def signals(net, network, movements_at, report):
     """A signal command for each node with a light, and for each the light's name."""
     turns_at = defaultdict(list)
     for (link, lane, following), turn in network.turns.items():
@@ -19,35 +44,35 @@ def signals(net, network, report):
     for node, turns in sorted(turns_at.items()):
         lights = {turn.light for *_, turn in turns if turn.light}
         known = sorted(light for light in lights if light in net.programs and net.programs[light].phases)
+        junction = network.nodes[node]
         if lights and not known:
-            report.warn(
-                f"junction {network.nodes[node]!r}: no program for its light {some(sorted(lights))}; always green"
-            )
+            report.warn(f"junction {junction!r}: no program for its light {some(sorted(lights))}; always green")
         if len(known) > 1:
-            report.warn(f"junction {network.nodes[node]!r}: of its lights {', '.join(known)} the first alone is used")
+            report.warn(f"junction {junction!r}: of its lights {', '.join(known)} the first alone is used")
         if known:
             edges = {link: network.links[link].edge for link, *_ in turns}
-            made.append(
-                (
-                    known[0],
-                    signal(node, turns, edges, known[0], net.programs[known[0]], network.options.permissive, report),
-                )
-            )
+            found = movements_at.get(junction, {}) if network.options.permissive is None else {}
+            program, permissive = net.programs[known[0]], network.options.permissive
+            made.append((known[0], signal(node, turns, edges, known[0], program, permissive, report, found)))
     for light in sorted({light for light, _ in made}):
         if net.programs[light].kind != "static":
             report.warn(f"light {light!r} is {net.programs[light].kind}: its listed durations are used")
     return made
 
 
-def signal(node, turns, edges, light, program, permissive, report):
-    """The signal command of one node, of its turns (link, lane, next link, with light and index) and the edges of
-    their links."""
+def signal(node, turns, edges, light, program, permissive, report, found=None):
+    """The signal command of one node, of its turns (link, lane, next link, with light and index), the edges of their
+    links, and what was found of who gives way there; else the last share of each permissive green is shown."""
     states = each_second(light, program, report)
-    greens = green_seconds(light, turns, states, permissive)
-    phases = run_lengths(greens)
+    check_states(light, states, [turn for *_, turn in turns])
+    ends = ends_by_gaps(found) if found else ends_by_share(light, turns, states, permissive)
+    for grain in GRAINS:
+        phases = run_lengths(green_seconds(light, turns, states, ends, grain))
+        if len(phases) <= limits.PHASES:
+            break
     if len(phases) > limits.PHASES:
         report.warn(f"light {light!r}: more than {limits.PHASES} phases, so permissive greens are green throughout")
-        phases = run_lengths(green_seconds(light, turns, states, 1.0))
+        phases = run_lengths(green_seconds(light, turns, states, {}, 1))
     if len(phases) > limits.PHASES:
         report.warn(
             f"light {light!r}: still more than {limits.PHASES} phases; the shortest are joined to those before them"
@@ -84,14 +109,38 @@ def each_second(light, program, report):
     return states
 
 
-def green_seconds(light, turns, states, share):
+def check_states(light, states, turns):
+    """Refuses a program whose states do not have a place for each of some turns."""
+    for turn in turns:
+        if turn.light == light and any(turn.index >= len(state) for state in states):
+            raise Fault(f"light {light!r}: a state is shorter than link index {turn.index}")
+
+
+def ends_by_gaps(found):
+    """For each index of a light's state the seconds at the end of each permissive green that are shown, {index: {first
+    second: seconds}}, by what was found of who gives way; of connections that share an index the most."""
+    ends = defaultdict(dict)
+    for movement in found.values():
+        own = ends[movement.index]
+        own.update({start: max(seconds, own.get(start, 0)) for start, seconds in movement.shown.items()})
+    return ends
+
+
+def ends_by_share(light, turns, states, permissive):
+    """The same by a share of each permissive green, the usual one where none is given."""
+    share, ends = DEFAULT_SHARE if permissive is None else permissive, {}
+    for index in {turn.index for *_, turn in turns if turn.light == light}:
+        runs = runs_of("".join(state[index] for state in states), PERMISSIVE)
+        ends[index] = {start: length - round(length * (1 - share)) for start, length in runs.items()}
+    return ends
+
+
+def green_seconds(light, turns, states, ends, grain):
     """The green turns of each second. Turns that the light does not control are always green."""
     greens = [set() for _ in states]
     for link, lane, following, turn in turns:
-        if turn.light == light and any(turn.index >= len(state) for state in states):
-            raise Fault(f"light {light!r}: a state is shorter than link index {turn.index}")
         shown = (
-            shown_green("".join(state[turn.index] for state in states), share)
+            shown_green("".join(state[turn.index] for state in states), ends.get(turn.index, {}), turn, grain)
             if turn.light == light
             else [True] * len(states)
         )
@@ -101,16 +150,19 @@ def green_seconds(light, turns, states, share):
     return [frozenset(green) for green in greens]
 
 
-def shown_green(states, share):
-    """For each second whether a turn shows green. Of each unbroken run of permissive seconds (round the cycle) only
-    the last share is: the oncoming queue goes first."""
+def shown_green(states, ends, turn, grain):
+    """For each second whether a turn shows green. Of each permissive green only so many seconds at its end as are told:
+    those whom it gives way to go first. Of each other green that no permissive one goes before the begin is left out in
+    which SUMO's queues start. Begins are rounded down to a grain of seconds."""
     count = len(states)
-    shown = [state in GREEN or state in PERMISSIVE for state in states]
-    starts = [at for at in range(count) if states[at] in PERMISSIVE and states[at - 1] not in PERMISSIVE]
-    for start in starts:
-        length = next(steps for steps in range(1, count + 1) if states[(start + steps) % count] not in PERMISSIVE)
-        for second in range(round(length * (1 - share))):
-            shown[(start + second) % count] = False
+    shown = [state in GREEN for state in states]
+    for start, length in runs_of(states, PERMISSIVE).items():
+        for second in range((length - ends.get(start, length)) // grain * grain, length):
+            shown[(start + second) % count] = True
+    for start, length in runs_of(states, GREEN).items():
+        if length < count and states[start - 1] not in PERMISSIVE:
+            for second in range(hidden_start(length, turn.speed, turn.limit) // grain * grain):
+                shown[(start + second) % count] = False
     return shown
 
 

@@ -3,7 +3,9 @@ import csv
 from statistics import fmean, stdev
 
 from . import limits
+from .edgedata import edge_rows
 from .files import Fault, open_text, reading, whole_file
+from .freeflow import FreeFlow
 
 # Quantiles of Student's t at 97.5 %, for 1 to 30 degrees of freedom.
 STUDENT = (
@@ -51,6 +53,12 @@ COUNTS = (
     "occupancy_percent",
 )
 TRIPS = ("id", "depart", "arrival", "duration", "free_flow", "loss", "edges", "rescues", "state")
+EDGES = ("begin", "end", "edge", "entered", "left", "density_per_km", "mean_speed_kmh", "travel_time_s")
+LOOPS = ("begin", "end", "id", "vehicles", "vehicles_per_hour", "mean_speed_kmh", "occupancy_percent")
+AREAS = (
+    *("begin", "end", "id", "mean_vehicles", "most_vehicles", "mean_speed_kmh", "occupancy_percent"),
+    *("mean_jam_vehicles", "longest_jam_vehicles"),
+)
 QUEUES = ("time", "edge", "lane", "vehicles", "metres")
 SUMMARY = ("time", "entered", "waiting", "on_cells", "in_buffers", "arrived", "taken_out")
 
@@ -73,12 +81,19 @@ def counts(records, mapping):
             )
 
 
+def edges(records, mapping):
+    """A row for each period and edge of which all lanes have a detector, as SUMO's edgeData."""
+    for begin, end, edge, entered, left, *seen in edge_rows(records.counts, records.edgedata, mapping):
+        texts = ("" if value is None else f"{value:.2f}" for value in seen)
+        yield begin, end, edge, "" if entered is None else entered, left, *texts
+
+
 def trips(records, run, mapping):
     """A row for each vehicle of the run file, as SUMO's tripinfo; a trip lasts from the wished departure to arrival."""
-    dawdle = run.load.command["dawdle"] / 1000
+    free_flow = FreeFlow(mapping, run.load.command["dawdle"] / 1000)
     for place, (name, line, end) in enumerate(zip(names(run, mapping), run.enters, records.ends, strict=True)):
         plan, depart = line.command["plan"], line.command["depart"]
-        free = free_flow(plan, mapping, dawdle)
+        free = free_flow(plan)
         arrival = end.step + 1 if end is not None and end.state == "arrived" else None
         trip = (
             (arrival, arrival - depart, f"{free:.1f}", f"{arrival - depart - free:.1f}")
@@ -93,17 +108,10 @@ def names(run, mapping):
     return [*mapping.cars, *(f"#{number}" for number in range(len(mapping.cars), len(run.enters)))][: len(run.enters)]
 
 
-def free_flow(plan, mapping, dawdle):
-    """Seconds that a plan takes where nobody is in the way: cells at the free speed, and the residence at each node
-    crossed."""
-    driving = sum(mapping.links[link].cells / max(0.001, mapping.links[link].limit - dawdle) for link in plan)
-    return driving + sum(mapping.nodes[mapping.links[link].end][3] for link in plan[:-1])
-
-
 def queues(records, mapping):
     """A row for each poll and lane where vehicles stand at the stop line."""
-    for clock, link, lane, count in records.queues:
-        yield clock, mapping.links[link].edge, mapping.links[link].lanes[lane], count, count * limits.CELL_METRES
+    for clock, link, lane, count, covered in records.queues:
+        yield clock, mapping.links[link].edge, mapping.links[link].lanes[lane], count, covered * limits.CELL_METRES
 
 
 def summary(records):

@@ -122,3 +122,14 @@ FORK = net(
     [("a", "A", "B", [lane("a", 0), lane("a", 1)]), ("b", "B", "C", [lane("b", 0)]), ("c", "B", "D", [lane("c", 0)])],
     [("a", 0, "b", 0, ""), ("a", 1, "c", 0, "")],
 )
+
+# Two lanes of one cell: both lead to c, the right one also to b and the left one to d.
+SHARED = net(
+    [
+        ("a", "A", "B", [lane("a", 0, metres=7.5), lane("a", 1, metres=7.5)]),
+        ("b", "B", "C", [lane("b", 0)]),
+        ("c", "B", "D", [lane("c", 0)]),
+        ("d", "B", "E", [lane("d", 0)]),
+    ],
+    [("a", 0, "b", 0, ""), ("a", 0, "c", 0, ""), ("a", 1, "c", 0, ""), ("a", 1, "d", 0, "")],
+)

@@ -1,8 +1,10 @@
 """Comparing with SUMO: its files, GEH, correlation, arrival curves."""
+import io
 import unittest
 
 from support import Case
 from streetsim import compare
+from streetsim.report import Slow
 
 
 class Compare(Case):
@@ -33,20 +35,51 @@ class Compare(Case):
         path = self.write(
             "e.xml",
             '<meandata><interval begin="0.00" end="900.00" id="e">'
-            '<edge id="a" left="3" arrived="2" entered="9"/><edge id="b"/></interval></meandata>',
+            '<edge id="a" left="3" arrived="2" entered="9" sampledSeconds="71.5"/><edge id="b"/></interval></meandata>',
         )
-        self.assertEqual(compare.read_edgedata(path), {(0.0, 900.0, "a"): 5, (0.0, 900.0, "b"): 0})
+        self.assertEqual(compare.read_edges(path), {(0.0, 900.0, "a"): (5, 71.5), (0.0, 900.0, "b"): (0, 0.0)})
 
     def test_lines(self):
         here, there = {"v": (0, 90), "w": (0, 50)}, {"v": (0, 100), "w": (0, 60), "x": (0, 5)}
         self.assertEqual(
-            list(compare.compare_trips(here, there, 3))[:2],
+            list(compare.compare_trips(here, there, "vwx"))[:2],
             ["arrived: 2 here, 3 in SUMO, 2 in both", "mean trip of these: 70.0 s here, 80.0 s in SUMO (-12.5 %)"],
         )
+        # One that the import skipped is in neither number nor curve.
+        told = list(compare.compare_trips(here, {**there, "bus.1": (0, 9000)}, "vwx"))
+        self.assertEqual(told[0], "left out: 1 vehicles of SUMO that the run does not have (bus.1)")
+        self.assertEqual(told[1:], list(compare.compare_trips(here, there, "vwx")))
+
+    def test_edges(self):
         # Quarter hours: 25 against 20 is 100 against 80 an hour, GEH 2.1; 30 against 90 is 120 against 360, GEH 15.5.
-        counts = {(0, 900, "a"): 25, (0, 900, "b"): 30, (900, 1800, "a"): 9}
-        [line] = compare.compare_counts(counts, {(0, 900, "a"): 20, (0, 900, "b"): 90}, 900)
-        self.assertIn("GEH below 5 for 50.0 % of 2 counts of 900 s", line)
+        # The second period is not SUMO's; of edge c no lane is known here; d is not SUMO's.
+        here = {(0, 900, "a"): (25, 1800.0), (0, 900, "b"): (30, None), (900, 1800, "a"): (9, 9.0), (0, 900, "d"): (7, 7.0)}
+        there = {(0, 900, "a"): (20, 1440.0), (0, 900, "b"): (90, 5.0), (0, 900, "c"): (50, 5.0)}
+        self.assertEqual(
+            list(compare.compare_edges(here, there, 900, 4))[:1] + list(compare.compare_edges(here, there, 900, 4))[2:],
+            [
+                "edges: 2 of 4 judged, in 1 periods of 900 s",
+                "time on these edges: 0.5 vehicle hours here, 0.4 in SUMO (+25.0 %)",
+            ],
+        )
+        self.assertIn("GEH below 5 for 50.0 % of 2 counts of 900 s", list(compare.compare_edges(here, there, 900, 4))[1])
+        [line] = compare.compare_edges(here, {(0, 300, "a"): (1, 1.0)}, 900, 4)
+        self.assertEqual(line, "counts: no period of 900 s and edge in common")
+
+    def test_a_line_after_two_seconds_on_a_terminal(self):
+        class Terminal(io.StringIO):
+            def isatty(self):
+                return True
+
+        for wait, told in ((0, "\rreading ..\r          \r"), (2, "")):
+            stream = Terminal()
+            slow = Slow(stream, wait)
+            slow.show("reading")
+            slow.end()
+            self.assertEqual(stream.getvalue(), told)
+        stream = io.StringIO()
+        Slow(stream, 0).show("reading")
+        self.assertEqual(stream.getvalue(), "")
 
 
 if __name__ == "__main__":

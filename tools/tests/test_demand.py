@@ -1,7 +1,7 @@
 """Vehicles, flows and routes; the departures of flows are those of SUMO 1.15."""
 import unittest
 
-from support import FORK, Case
+from support import FORK, SHARED, Case
 from streetsim.files import Fault
 from streetsim.importing import convert
 from streetsim.network import Options
@@ -57,12 +57,12 @@ class Demand(Case):
         self.assertEqual(self.enters(text, '<route id="r" edges="a c"/>'), [("one", 2), ("two", 2), ("late", 9)])
 
     def test_departure_lanes_take_turns(self):
-        net, routes = self.write("x.net.xml", FORK), self.write(
-            "r.rou.xml", '<routes><flow id="f" begin="0" end="4" period="1"><route edges="a b"/></flow></routes>'
-        )
+        flow = '<flow id="f" begin="0" end="4" period="1"><route edges="a b"/></flow>'
+        others = "".join(f'<vehicle id="{to}" depart="9"><route edges="a {to}"/></vehicle>' for to in "cd")
+        net, routes = self.write("x.net.xml", SHARED), self.write("r.rou.xml", f"<routes>{flow}{others}</routes>")
         for strict, lanes in ((False, [0, 1, 0, 1]), (True, [0, 0, 0, 0])):
             _, _, commands, _ = convert(net, [], [routes], Options(strict_turns=strict), Report())
-            self.assertEqual([command["lane"] for command in commands if command["cmd"] == "enter"], lanes)
+            self.assertEqual([command["lane"] for command in commands if command["cmd"] == "enter"][:4], lanes)
 
     def test_skipped_and_ignored_are_counted(self):
         report = Report()
@@ -74,6 +74,7 @@ class Demand(Case):
         self.assertEqual(
             list(report.lines()),
             [
+                "warning: 1 edges became parallel links of one or two lanes",
                 "ignored: 1 x departPos of vehicles",
                 "ignored: 1 x stops",
                 "skipped: 1 vehicles: a person, which streetsim does not have",

@@ -2,7 +2,7 @@
 import json
 import unittest
 
-from support import FORK, PROGRAM, SCENARIOS, Case, lane, needs_simulator, net
+from support import FORK, PROGRAM, SCENARIOS, SHARED, Case, lane, needs_simulator, net
 from streetsim.client import Client
 from streetsim.files import Fault
 from streetsim.importing import convert, refuse_over_limits
@@ -41,13 +41,18 @@ class Networks(Case):
         )
 
     def test_turns_for_both_lanes(self):
-        network, *_ = self.network(FORK)
+        network, *_ = self.network(SHARED)
         self.assertEqual(
             {key: turn.added for key, turn in network.turns.items()},
-            {(0, 0, 1): False, (0, 1, 2): False, (0, 0, 2): True, (0, 1, 1): True},
+            {(0, 0, 1): False, (0, 0, 2): False, (0, 1, 2): False, (0, 1, 3): False, (0, 1, 1): True, (0, 0, 3): True},
         )
-        strict, *_ = self.network(FORK, strict_turns=True)
-        self.assertEqual(set(strict.turns), {(0, 0, 1), (0, 1, 2)})
+        strict, *_ = self.network(SHARED, strict_turns=True)
+        self.assertEqual(set(strict.turns), {(0, 0, 1), (0, 0, 2), (0, 1, 2), (0, 1, 3)})
+
+    def test_lanes_to_different_edges_are_links_of_their_own(self):
+        network, *_ = self.network(FORK)
+        self.assertEqual([link.lanes for link in network.links[:2]], [(0,), (1,)])
+        self.assertEqual(set(network.turns), {(0, 0, 2), (1, 0, 3)})
 
     def test_of_several_connections_the_same_lane_is_kept(self):
         wide = net(
@@ -122,7 +127,7 @@ class Networks(Case):
         ]
         network, *_ = self.network(net(edges, []))
         self.assertEqual(
-            dict(zip(network.nodes, network.residences, strict=True)), {"A": 1, "B": 3, "Z": 1, "b": 1, "c": 1, "d": 1}
+            dict(zip(network.nodes, network.residences, strict=True)), {"A": 1, "B": 2, "Z": 1, "b": 1, "c": 1, "d": 1}
         )
 
     def test_classes(self):
@@ -145,10 +150,10 @@ class Networks(Case):
         # Each needs the turn of the other's lane. With SUMO's turns alone they stand for ever; with the added ones
         # both arrive.
         for strict, arrived in ((True, 0), (False, 2)):
-            _, _, commands, _ = self.network(FORK, strict_turns=strict, dawdle=0)
+            _, _, commands, _ = self.network(SHARED, strict_turns=strict, dawdle=0)
             with Client(PROGRAM) as sim:
                 sim.batch(commands)
-                sim.enter([0, 2], 0, 0)
+                sim.enter([0, 3], 0, 0)
                 sim.enter([0, 1], 1, 0)
                 sim.advance(10_000)
                 self.assertEqual(sim.count().arrived, arrived)
@@ -218,10 +223,12 @@ class Tool(Case):
         mapped = json.loads(self.mapped.read_text())
         self.assertEqual(
             (mapped["cars"], [link[0] for link in mapped["links"]], [node[0] for node in mapped["nodes"]]),
-            (["v"], ["a", "b", "c"], ["A", "B", "C", "D"]),
+            (["v"], ["a", "a", "b", "c"], ["A", "B", "C", "D"]),
         )
         load = json.loads(self.output.read_text().splitlines()[0])
-        self.assertEqual(load["links"], [[0, 0, 1, 2, 10, 2], [1, 1, 2, 1, 10, 2], [2, 1, 3, 1, 10, 2]])
+        self.assertEqual(
+            load["links"], [[0, 0, 1, 1, 10, 2], [1, 0, 1, 1, 10, 2], [2, 1, 2, 1, 10, 2], [3, 1, 3, 1, 10, 2]]
+        )
 
 
 @unittest.skipUnless(SCENARIOS.exists(), "Debian's sumo-tools is not installed")

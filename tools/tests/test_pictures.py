@@ -57,7 +57,7 @@ class Numbers(Given):
         # Between clocks 1 and 2 the first drives from the front of cell 0 (7.5 m) to that of cell 1 (15 m), and so the
         # second a step later.
         self.assertEqual(
-            series.trajectories(self.given, ["a", "b"], 0, 10), [((1, 7.5), (2, 15.0), 1), ((2, 7.5), (3, 15.0), 1)]
+            series.trajectories(self.given, ["a", "b"], 0, 10), [((1, 7.5), (2, 15.0), 1, 7.5), ((2, 7.5), (3, 15.0), 1, 7.5)]
         )
         self.assertEqual(series.stretches(self.given, ["a", "b"]), ({0: (0.0, 75.0, 10), 1: (75.0, 75.0, 10)}, 150.0))
         self.assertEqual(series.reds(self.given, ["a", "b"], 0, 40), [(75.0, 5, 15), (75.0, 25, 35)])
@@ -67,7 +67,7 @@ class Numbers(Given):
         self.assertEqual([round(value, 3) for value in series.densities(self.given)], [13.333, 3.333])
 
     def test_queues(self):
-        self.assertEqual(series.longest_queues(self.given, 1), ([("a_0", {10: 3, 20: 1})], 2))
+        self.assertEqual(series.longest_queues(self.given, 1), ([("a_0", {10: 22.5, 20: 7.5})], 2))
 
     def test_fundamental(self):
         # 15 % of the time a vehicle of 7.5 m: 20 a kilometre. The short last period and the empty lane are left out.
@@ -96,7 +96,25 @@ class Pictures(Given):
                 self.assertTrue(500 < width < 1200 and 200 < height < 1000, (width, height))
                 self.assertLess(len(content), 110_000)
 
+    def test_formats(self):
+        for name, begin in (("x.svg", b"<?xml"), ("x.pdf", b"%PDF-"), ("x.PNG", b"\x89PNG")):
+            self.tool("plot", "queues", self.folder, "-o", self.folder / name)
+            content = (self.folder / name).read_bytes()
+            self.assertEqual(content[: len(begin)], begin)
+            self.tool("plot", "queues", self.folder, "-o", self.folder / name)
+            self.assertEqual((self.folder / name).read_bytes(), content)
+
     def test_faults(self):
+        for words, told in (
+            (("queues", self.folder, "-o", self.folder / "x.bmp"), "a picture's name ends with .png, .svg or .pdf"),
+            (("corridor", self.folder, "--edges", "b a"), "no turn leads from 'b' to 'a'"),
+            (("corridor", self.folder, "--edges", " "), "no edge is named"),
+            (("corridor", self.folder, "--edges", "a b", "--first", 50), "nothing was polled from 50 to 600 s"),
+            (("corridor", self.folder, "--edges", "a b", "--first", 5, "--last", 5), "--first 5 is not before --last 5"),
+        ):
+            with self.subTest(told):
+                more = () if "-o" in words else ("-o", self.folder / "x.png")
+                self.assertIn(told, self.tool("plot", *words, *more, status=2)[1])
         self.assertIn(
             "the map has no edge 'z'",
             self.tool("plot", "corridor", self.folder, "--edges", "z", "-o", self.folder / "x.png", status=2)[1],
@@ -123,10 +141,12 @@ class Player(Given):
         # signal is green. At clock 2 both drive, one of them stands.
         page = self.page()
         self.assertEqual(
-            self.shown(page, 3), {"clock": 3, "vehicles": 1, "buffered": 1, "standing": 0, "red": 0, "closed": 1}
+            self.shown(page, 3),
+            {"clock": 3, "vehicles": 1, "covered": 1, "buffered": 1, "standing": 0, "red": 0, "closed": 1},
         )
         self.assertEqual(
-            self.shown(page, 2), {"clock": 2, "vehicles": 2, "buffered": 0, "standing": 1, "red": 0, "closed": 0}
+            self.shown(page, 2),
+            {"clock": 2, "vehicles": 2, "covered": 2, "buffered": 0, "standing": 1, "red": 0, "closed": 0},
         )
 
     @unittest.skipUnless(CHROMIUM, "Debian's chromium is not installed")

@@ -1,8 +1,9 @@
 """The program's words: standard input, scripts, tapes and replays, what it says on standard error, and its status.
 
-What is wanted is told by crates/street_examples/data (LINES.md, stored sessions with their replies) and docs/help.txt.
+What is wanted is told by docs/LINES.md, docs/help.txt and examples/ (stored sessions with their replies).
 """
 import json
+import re
 import resource
 import shutil
 import socket
@@ -12,10 +13,10 @@ import unittest
 from support import PROGRAM, TOOLS, Case, needs_simulator
 
 TOP = TOOLS.parent
-DATA = TOP / "crates/street_examples/data"
-PLANNER = DATA / "clients/planner.jsonl"
-COUNTER = DATA / "clients/counter.jsonl"
-ONE_VEHICLE = (DATA / "examples/one-vehicle.out").read_text()
+EXAMPLES = TOP / "examples"
+PLANNER = EXAMPLES / "clients/planner.jsonl"
+COUNTER = EXAMPLES / "clients/counter.jsonl"
+ONE_VEHICLE = (EXAMPLES / "one-vehicle.out").read_text()
 FULL = '{"error":23,"name":"Full"}\n'
 NOT_LOADED = '{"error":1,"name":"NotLoaded"}\n'
 NO_VEHICLES = '{"admitted":0,"arrived":0,"buffers":0,"cells":0,"clock":0,"taken":0,"waiting":0}\n'
@@ -25,7 +26,7 @@ AFTER_ONE_VEHICLE = '{"admitted":1,"arrived":1,"buffers":0,"cells":0,"clock":5,"
 
 def tape_in_lines():
     """The tape of examples/one-vehicle.jsonl, as LINES.md has it."""
-    text = (DATA / "LINES.md").read_text()
+    text = (TOP / "docs/LINES.md").read_text()
     return '{"tape":1}\n' + text.split('```\n{"tape":1}\n')[1].split("```")[0]
 
 
@@ -53,24 +54,29 @@ class ProgramCase(Case):
         self.assertEqual((done.returncode, done.stderr), (status, error))
         return done.stdout
 
-    def is_refused(self, words, *parts):
-        """The words are bad: nothing is written to standard output, and standard error names what is bad."""
+    def is_refused(self, words, why):
+        """The words are bad: nothing is written to standard output, and standard error says which word is bad and why."""
         done = subprocess.run(
             [PROGRAM, *map(str, words)], input=PLANNER.read_text(), capture_output=True, text=True, timeout=60, cwd=self.folder, check=False
         )
-        self.assertEqual((done.returncode, done.stdout), (2, ""))
-        self.assertTrue(done.stderr.startswith("streetsim: bad arguments"), done.stderr)
-        for part in parts:
-            self.assertIn(part, done.stderr)
+        self.assertEqual((done.returncode, done.stdout, done.stderr), (2, "", f"streetsim: bad arguments\n{why}\n"))
 
 
 class Input(ProgramCase):
     def test_each_example_for_each_number_of_workers(self):
-        for session in sorted((DATA / "examples").glob("*.jsonl")):
+        for session in sorted(EXAMPLES.glob("*.jsonl")):
             for workers in (1, 2, 3, 64):
                 with self.subTest(session=session.stem, workers=workers):
                     told = self.ends(["--workers", workers], session.read_text())
                     self.assertEqual(told, session.with_suffix(".out").read_text())
+
+    def test_the_table_of_the_readme_is_a_session(self):
+        rows = re.findall(r"^\| `(\{.*?\})`[^|]*\| `(\{.*\})` \|$", (TOP / "README.md").read_text(), re.M)
+        self.assertGreater(len(rows), 10)
+        load = PLANNER.read_text().splitlines()[0]
+        lines = [load, *(line for line, _ in rows[1:])]
+        self.assertTrue(rows[0][0].startswith('{"cmd":"load"'))
+        self.assertEqual(self.ends([], "\n".join(lines)), "".join(f"{reply}\n" for _, reply in rows))
 
     def test_no_input_gives_no_reply(self):
         self.assertEqual(self.ends([]), "")
@@ -84,7 +90,7 @@ class Input(ProgramCase):
 
 class Scripts(ProgramCase):
     def test_replies_come_in_the_order_of_the_words(self):
-        planner, queue = PLANNER, DATA / "examples/queue.jsonl"
+        planner, queue = PLANNER, EXAMPLES / "queue.jsonl"
         alone = self.ends([planner])
         self.assertEqual(alone, ONE_VEHICLE)
         for workers in (1, 3):
@@ -288,33 +294,38 @@ class Words(ProgramCase):
         self.assertEqual(self.ends(["-h"]), wanted)
 
     def test_bad_words(self):
-        for words, what in (
-            (["--fast"], "--fast"),
-            (["--workers", 0], "0"),
-            (["--workers", 65], "65"),
-            (["--workers", "two"], "two"),
-            (["--workers", 1, "--workers", 2], "--workers"),
-            (["--workers"], "--workers"),
-            (["--workers", -1], "-1"),
-            (["--workers", ""], "--workers"),
-            (["--calls", 5, "--calls", 5], "--calls"),
-            (["--tape", "run.tape", "--tape", "run.tape"], "--tape"),
-            (["--replay"], "--replay"),
-            (["--replay", "run.tape", "--replay", "run.tape"], "--replay"),
-            (["--calls", 0], "0"),
-            (["--calls", 1_000_001], "1000001"),
-            (["--tape"], "--tape"),
-            (["--replay", "run.tape", PLANNER], "--replay"),
-            (["--replay", "run.tape", "--tape", "other.tape"], "--replay"),
-            ([PLANNER] * 1_025, ""),
+        workers = "invalid value '{}' for '--workers <N>': it is not a number from 1 to 64"
+        calls = "invalid value '{}' for '--calls <N>': it is not a number from 1 to 1000000"
+        twice = "the argument '{}' cannot be used multiple times"
+        no_value = "a value is required for '{}' but none was supplied"
+        alone = "the argument '--replay <FILE>' cannot be used with scripts or with '--tape <FILE>'"
+        for words, why in (
+            (["--fast"], "unexpected argument '--fast' found"),
+            (["--workers", -1], "unexpected argument '-1' found"),
+            (["--workers", 0], workers.format(0)),
+            (["--workers", 65], workers.format(65)),
+            (["--workers", "two"], workers.format("two")),
+            (["--workers", ""], workers.format("")),
+            (["--calls", 0], calls.format(0)),
+            (["--calls", 1_000_001], calls.format(1_000_001)),
+            (["--workers", 1, "--workers", 2], twice.format("--workers <N>")),
+            (["--calls", 5, "--calls", 5], twice.format("--calls <N>")),
+            (["--tape", "run.tape", "--tape", "run.tape"], twice.format("--tape <FILE>")),
+            (["--replay", "run.tape", "--replay", "run.tape"], twice.format("--replay <FILE>")),
+            (["--workers"], no_value.format("--workers <N>")),
+            (["--replay"], no_value.format("--replay <FILE>")),
+            (["--tape"], no_value.format("--tape <FILE>")),
+            (["--replay", "run.tape", PLANNER], alone),
+            (["--replay", "run.tape", "--tape", "other.tape"], alone),
+            ([PLANNER] * 1_025, "more than 1024 scripts"),
         ):
             with self.subTest(words=words[:4]):
-                self.is_refused(words, what, "--help")
+                self.is_refused(words, why)
         self.assertEqual(list(self.folder.iterdir()), [])
 
     def test_a_word_that_is_no_utf_8(self):
         done = subprocess.run([PROGRAM, b"a\xffz"], input=b"", capture_output=True, timeout=60, cwd=self.folder, check=False)
-        self.assertEqual((done.returncode, done.stdout, done.stderr), (2, b"", b"streetsim: bad arguments\n"))
+        self.assertEqual((done.returncode, done.stdout, done.stderr), (2, b"", b"streetsim: bad arguments\na word is not UTF-8\n"))
 
 
 class Script(Case):

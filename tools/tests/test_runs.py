@@ -147,7 +147,7 @@ class Tables(Runs):
         self.given(enter([7]))
         _, told = self.run_tool("--until", 60, status=2)
         self.assertIn("run.jsonl: line 2 (enter) was refused: 8 BadPlan at 0", told)
-        self.assertFalse(list((self.folder / "out").iterdir()))
+        self.assertFalse((self.folder / "out").exists())
 
 
 class Reading(Runs):
@@ -178,19 +178,26 @@ class Reading(Runs):
         self.given()
         from streetsim.mapping import read_map
 
-        recorder = Recorder(
-            None, read_run(self.run_file), read_map(self.map_file), Settings(until=600_000, every=1), None, None
-        )
-        # Two lanes polled 600,000 times are above a million calls; every 2 s they are 600,000, and 10,001 minutes take
-        # 3 each.
-        with self.assertRaisesRegex(Fault, "try --every 2"):
-            recorder.check_budget(1_000_000)
-        recorder.check_budget(0)
+        def asking(most, **words):
+            settings = Settings(**words)
+            recorder = Recorder(None, read_run(self.run_file), read_map(self.map_file), settings, None, None)
+            return recorder.budget.asking(most)
+
+        # Two lanes polled 600,000 times are above a million calls; every 2 s they are 600,000.
+        with self.assertRaisesRegex(Fault, "the program takes 1,000,000: try --every 2$"):
+            asking(1_000_000, until=600_000, every=1)
+        self.assertEqual(asking(0, until=600_000, every=1).every, 1)
+        # A poll takes two lanes and an advance: 90,000 calls every 20 s, 60,000 every 30 s, beside 30,003 for minutes.
+        self.assertEqual(asking(1_000_000, until=600_000).every, 10)
+        self.assertEqual(asking(100_000, until=600_000).every, 30)
+        # A day takes 3 calls a minute for steps and counts.
+        with self.assertRaisesRegex(Fault, "the program takes 1,000: try a run up to"):
+            asking(1_000, until=86_400)
 
     def test_standing(self):
-        self.assertEqual(standing(((1, 9, 0), (2, 8, 0), (3, 6, 0)), 10), 2)
-        self.assertEqual(standing(((1, 9, 0), (2, 8, 1)), 10), 1)
-        self.assertEqual(standing(((1, 8, 0),), 10), 0)
+        self.assertEqual(standing(((1, 9, 0), (2, 8, 0), (3, 6, 0)), 10), (2, 2))
+        self.assertEqual(standing(((1, 9, 0), (2, 8, 1)), 10), (1, 1))
+        self.assertEqual(standing(((1, 8, 0),), 10), (0, 0))
 
     def test_interval(self):
         # Mean 2, standard deviation 1, three values: 4.303 / sqrt(3).

@@ -6,9 +6,10 @@ from streetsim import series
 from streetsim.client import Client
 from streetsim.files import Fault
 from streetsim.importing import convert
-from streetsim.network import Options
+from streetsim.network import Options, Turn
 from streetsim.report import Report
 from streetsim.sumo_signals import joined, run_lengths, shown_green
+from streetsim.yielding import gap_capacity
 
 
 def phases(*pairs):
@@ -37,14 +38,16 @@ class Signals(Case):
         return [second for second in range(seconds) if series.shows_green(command, second, [0], [1])]
 
     def test_offset_is_sumos(self):
-        # SUMO 1.15 shows red in 0 to 6, green in 7 to 16, yellow in 17 to 21, red in 22 to 36; yellow is red here.
+        # SUMO 1.15 shows red in 0 to 6, green in 7 to 16, yellow in 17 to 21, red in 22 to 36; yellow is red here, and
+        # the first two of ten seconds, in which SUMO's queue starts: (10 - 0.8) / (1.42 + 7.5 / 13.9) = 4.7 vehicles,
+        # for which 4.7 * 2.07 - 1.35 = 8.4 s are enough here.
         [command], _ = self.made(street(phases((10, "G"), (5, "y"), (15, "r")), offset=7))
-        self.assertEqual(self.greens(command, 37), list(range(7, 17)))
+        self.assertEqual(self.greens(command, 37), list(range(9, 17)))
         self.assertEqual(command["offset"], 23)
 
     @needs_simulator
     def test_offset_in_the_simulator(self):
-        # The vehicle stands in the only cell of the first link; it can leave in step 7, the first green one.
+        # The vehicle stands in the only cell of the first link; it can leave in step 9, the first green one.
         report = Report()
         _, _, commands, _ = convert(
             self.write("x.net.xml", street(phases((10, "G"), (5, "y"), (15, "r")), offset=7)),
@@ -56,29 +59,33 @@ class Signals(Case):
         with Client(PROGRAM) as sim:
             sim.batch(commands)
             sim.enter([0, 1], 0, 0)
-            sim.advance(7)
+            sim.advance(9)
             self.assertEqual(sim.vehicle(0).state, "cell")
             sim.advance(1)
-            self.assertEqual((sim.vehicle(0).state, sim.vehicle(0).ready), ("buffer", 7 + 3))
+            self.assertEqual((sim.vehicle(0).state, sim.vehicle(0).ready), ("buffer", 9 + 2))
 
     def test_last_program_of_a_light_counts(self):
         light = f'<tlLogic id="L" programID="1" type="static" offset="0">{phases((4, "G"), (6, "r"))}</tlLogic>'
         other = f"<additional>{light}</additional>"
         [command], _ = self.made(street(phases((10, "G"), (20, "r"))), additional=[other])
-        self.assertEqual([duration for duration, _ in command["phases"]], [4, 6])
+        self.assertEqual([duration for duration, _ in command["phases"]], [1, 3, 6])
 
     def test_permissive_green_is_shown_at_the_end_of_its_run(self):
-        self.assertEqual(shown_green("ggggggggggrrrrr", 0.7), [False] * 3 + [True] * 7 + [False] * 5)
+        turn = Turn(0, "L", 0, False, 13.9, 2)
+        self.assertEqual(shown_green("ggggggggggrrrrr", {0: 7}, turn, 1), [False] * 3 + [True] * 7 + [False] * 5)
         self.assertEqual(
-            shown_green("gggggrrrrrggggg", 0.7), [True] * 5 + [False] * 8 + [True] * 2
+            shown_green("gggggrrrrrggggg", {10: 7}, turn, 1), [True] * 5 + [False] * 8 + [True] * 2
         )  # the run goes round the cycle
-        self.assertEqual(shown_green("gggg", 0.7), [True] * 4)
-        self.assertEqual(shown_green("GsOyYurgo", 1.0), [True] * 3 + [False] * 4 + [True] * 2)
+        self.assertEqual(shown_green("gggg", {}, turn, 1), [True] * 4)
+
+    def test_gaps(self):
+        # 400 e^-0.5 / (1 - e^-0.2778) = 1,000 an hour.
+        self.assertAlmostEqual(gap_capacity(400), 1000, delta=2)
 
     def test_rounding_keeps_the_cycle(self):
-        # 10.4, 20.8 and 31.2 s are 10, 21 and 31.
+        # 10.4, 20.8 and 31.2 s are 10, 21 and 31; the green of 20 s round the cycle is shown a second later.
         [command], _ = self.made(street(phases((10.4, "G"), (10.4, "r"), (10.4, "G"))))
-        self.assertEqual([duration for duration, _ in command["phases"]], [10, 11, 10])
+        self.assertEqual([duration for duration, _ in command["phases"]], [10, 12, 9])
 
     def test_long_phase_is_cut(self):
         [command], warnings = self.made(street(phases((10_000_000, "G"), (5, "r"))))

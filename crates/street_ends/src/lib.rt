@@ -1,15 +1,22 @@
-//! Ends of a run: readers and writers that count their calls, bytes that go out in parts, lines that come in parts, and
-//! the tally of what was done.
+//! Ends of a run: readers and writers that count their calls, bytes that go out in parts, lines that come in parts, the loop
+//! that cuts reads into lines and hands them on, and the tally of what was done.
 //!
-//! Where a text is cut into lines stands in `specs/Lines`, what an end counts in `specs/Ends`.
+//! Where a text is cut into lines stands in `specs/Lines`, what an end counts in `specs/Ends`, what a run of lines gives and
+//! what one that broke leaves in `specs/Handling`, and what causes each fault in `specs/Faults`.
 #![tactic(auto)]
 
+mod answer;
 mod counted;
+mod driver;
+mod handler;
 mod part;
 mod tally;
 mod writing;
 
+pub use answer::{Answer, Cause, Halt};
 pub use counted::Counted;
+pub use driver::drive_lines;
+pub use handler::LineHandler;
 pub use part::PartialLine;
 pub use tally::{FaultKind, RunFault, Tally};
 pub use writing::{flush_out, write_reply, write_text};

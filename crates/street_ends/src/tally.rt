@@ -31,8 +31,6 @@ pub enum FaultKind {
     Starved,
     /// 1,000,000,000 reads did not come to the end.
     Endless,
-    /// A tape would have to tell the size of a vehicle, which its version does not.
-    OldTape,
 }
 
 /// A run that ended before its text did.

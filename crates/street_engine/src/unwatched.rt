@@ -2,8 +2,15 @@
 
 use street_tile::Gate;
 
-/// A gate that nobody watches.
+/// From how many vehicles in cells on threads make a step faster than one thread alone, as measured (bench/RESULTS.md).
+const LEAST_SHARED: u64 = 30_000;
+
+/// A gate that nobody watches. Workers share a step where there is enough to do.
 #[derive(Drop)]
 pub struct Unwatched;
 
-impl Gate for Unwatched {}
+impl Gate for Unwatched {
+    fn shares(&self, vehicles: u64) -> bool {
+        vehicles >= LEAST_SHARED
+    }
+}

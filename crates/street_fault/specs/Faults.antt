@@ -14,13 +14,12 @@ abbrev pub status_of : Fault → ℕ
 status_of BadArguments = 2
 status_of _ = 1
 
--- a run reads one thing and writes another; a tape whose version does not tell sizes is told as one that could not be written
+-- a run reads one thing and writes another
 abbrev pub fault_of_run : FaultKind → Bor (List ℕ) → Bor (List ℕ) → Fault
 fault_of_run kind.Read from to = Read from
 fault_of_run kind.Write from to = Write to
 fault_of_run kind.Starved from to = OutOfMemory
 fault_of_run kind.Endless from to = Endless
-fault_of_run kind.OldTape from to = Write to
 
 -- a replay reads a tape; what is no tape at all is wrong at its first line
 abbrev pub fault_of_tape : TapeFault → Bor (List ℕ) → Bor (List ℕ) → Fault

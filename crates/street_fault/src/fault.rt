@@ -56,7 +56,7 @@ impl<'a> Fault<'a> {
     {
         match kind {
             FaultKind::Read => Fault::Read(read),
-            FaultKind::Write | FaultKind::OldTape => Fault::Write(written),
+            FaultKind::Write => Fault::Write(written),
             FaultKind::Starved => Fault::OutOfMemory,
             FaultKind::Endless => Fault::Endless,
         }

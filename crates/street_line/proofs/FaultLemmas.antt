@@ -10,7 +10,7 @@ use Rattle.street_ends.proofs.Cutting.{lines_after, lines_more, cut_newline, one
 use Rattle.street_ends.proofs.Parts.{kept_none}
 use Rattle.street_ends.specs.Lines.{cut, lines_of, if_any, kept, IsPart}
 use Rattle.street_ends.specs.declared.tally.FaultKind.{FaultKind}
-use Rattle.street_ends.specs.declared.tally.FaultKind.TheVariants.{Read, Write, Starved, Endless, OldTape}
+use Rattle.street_ends.specs.declared.tally.FaultKind.TheVariants.{Read, Write, Starved, Endless}
 use Rattle.street_ends.specs.declared.tally.Tally.{Tally}
 use Rattle.street_line.proofs.LineLemmas.{some_reply}
 use Rattle.street_line.proofs.RunLemmas.{goes_more}
@@ -26,7 +26,6 @@ not_both Read line read = line
 not_both Endless line read = line
 not_both Write line read = read
 not_both Starved line read = read
-not_both OldTape line read = line
 
 module _ {S : Type 0} (serves : S → Command → Served → S → Type 0) where
   -- all that was counted is whole

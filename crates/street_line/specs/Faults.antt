@@ -8,7 +8,7 @@ use Rattle.street_ends.specs.Ends.{HasFailed}
 use Rattle.street_ends.specs.Lines.{cut, lines_of}
 use Rattle.street_ends.specs.declared.counted.Counted.{Counted}
 use Rattle.street_ends.specs.declared.tally.FaultKind.{FaultKind}
-use Rattle.street_ends.specs.declared.tally.FaultKind.TheVariants.{Read, Write, Starved, Endless, OldTape}
+use Rattle.street_ends.specs.declared.tally.FaultKind.TheVariants.{Read, Write, Starved, Endless}
 use Rattle.street_ends.specs.declared.tally.Tally.{Tally}
 use Rattle.street_line.specs.declared.service.Served.{Served}
 use Rattle.street_line.specs.Running.{is_call, has_reply, said, Goes, IsTally}
@@ -19,7 +19,6 @@ IsCaused Read reader writer reads = 0 < reader.failures
 IsCaused Write reader writer reads = HasFailed writer
 IsCaused Starved reader writer reads = ⊤
 IsCaused Endless reader writer reads = reader.calls ≡ reads
-IsCaused OldTape reader writer reads = ⊥
 
 -- a read that failed, and the last read that was allowed, come between lines and not in the midst of a reply
 abbrev pub IsAtRead : FaultKind → Type 0
@@ -27,7 +26,6 @@ IsAtRead Read = ⊤
 IsAtRead Endless = ⊤
 IsAtRead Write = ⊥
 IsAtRead Starved = ⊥
-IsAtRead OldTape = ⊥
 
 -- the first lines of the text were served, and of their output the first bytes are written; at a read these are the whole output of the lines read to their end
 pub record Breaks {S : Type 0} (serves : S → Command → Served → S → Type 0) (start : S) (before : Option (List ℕ)) (text : List ℕ)

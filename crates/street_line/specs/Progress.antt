@@ -7,7 +7,7 @@ use Rattle.street_ends.specs.Ends.{HasFailed}
 use Rattle.street_ends.specs.Lines.{cut, lines_of, IsPart}
 use Rattle.street_ends.specs.declared.counted.Counted.{Counted}
 use Rattle.street_ends.specs.declared.tally.FaultKind.{FaultKind}
-use Rattle.street_ends.specs.declared.tally.FaultKind.TheVariants.{Read, Write, Starved, Endless, OldTape}
+use Rattle.street_ends.specs.declared.tally.FaultKind.TheVariants.{Read, Write, Starved, Endless}
 use Rattle.street_ends.specs.declared.tally.Tally.{Tally}
 use Rattle.street_line.specs.declared.running.Progress.{Progress}
 use Rattle.street_line.specs.declared.service.Served.{Served}
@@ -49,7 +49,6 @@ IsAtLine Starved = ⊤
 IsAtLine Write = ⊤
 IsAtLine Read = ⊥
 IsAtLine Endless = ⊥
-IsAtLine OldTape = ⊥
 
 -- and a write only where it was counted
 abbrev pub IsCausedHere : {W : Type 0} → FaultKind → Counted W → Type 0
@@ -57,7 +56,6 @@ IsCausedHere Starved writer = ⊤
 IsCausedHere Write writer = HasFailed writer
 IsCausedHere Read writer = ⊥
 IsCausedHere Endless writer = ⊥
-IsCausedHere OldTape writer = ⊥
 
 module _ {S : Type 0} (serves : S → Command → Served → S → Type 0) where
   -- memory was wanting for a line's answer: its command was not called, or it was called and counted

@@ -3,7 +3,7 @@
 use std::alloc::{AllocError, Global};
 use std::process::Abort;
 use std::test::Fail;
-use street_options::{Options, WordsFault, options};
+use street_options::{Options, WordsFault, options, reason};
 
 /// The program's name and these words.
 fn words_of(alloc: Global, words: &[&str]) -> Result<Vec<String>, AllocError> {
@@ -93,42 +93,85 @@ fn told(alloc: Global, words: &[&str]) -> Result<String, Fail> {
     Ok(told_of(alloc, options(alloc, all.as_slice()))?)
 }
 
-/// The text tells that words are bad, and what is.
-fn check_told(rt: &impl Abort, text: &str, what: &str) {
-    assert!(rt; text.starts_with("bad "), "{text}");
-    assert!(rt; text.contains(what), "no {what} in {text}");
-    assert!(rt; text.contains("--help"), "{text}");
+/// What the program tells of these words: the line that says which is bad, and why.
+fn reason_of(alloc: Global, words: &[&str]) -> Result<String, Fail> {
+    let text = told(alloc, words)?;
+    let Some(bad) = text.as_str().strip_prefix("bad ") else {
+        return Ok(String::from_str(alloc, "they are not bad")?);
+    };
+    Ok(String::from_str(alloc, reason(bad))?)
 }
 
-/// These words are bad, and the text says what is.
+/// These words are bad, and the line says what is.
 fn check_bad(rt: &(impl Abort + AllocGlobal), words: &[&str], what: &str) -> Result<(), Fail> {
-    let text = told(rt.alloc(), words)?;
-    check_told(rt, text.as_str(), what);
+    let line = reason_of(rt.alloc(), words)?;
+    assert_eq!(rt; line.as_str(), what);
     Ok(())
 }
 
 #[test]
-fn other_words_are_bad(rt: HostRuntime) -> Result<(), Fail> {
-    let cases: [(&[&str], &str); 14] = [
-        (&["--workers", "0"], "'0'"),
-        (&["--workers", "65"], "'65'"),
-        (&["--workers", "4294967297"], "'4294967297'"),
-        (&["--workers", "-1"], "'-1'"),
-        (&["--workers", "many"], "'many'"),
-        (&["--workers"], "--workers"),
-        (&["--workers", "2", "--workers", "2"], "--workers"),
-        (&["--calls", "0"], "'0'"),
-        (&["--calls", "1000001"], "'1000001'"),
-        (&["--version"], "--version"),
-        (&["-x"], "'-x'"),
-        (&["--replay", "a.tape", "--tape", "b.tape"], "--replay"),
-        (&["--replay", "a.tape", "a.jsonl"], "--replay"),
-        (&["--tape"], "--tape"),
-    ];
-    for (words, what) in cases {
-        check_bad(&rt, words, what)?;
+fn numbers_out_of_range_are_bad(rt: HostRuntime) -> Result<(), Fail> {
+    for word in ["0", "65", "4294967297", "many", "", "1.0"] {
+        let what = format!(in rt.alloc();
+            "invalid value '{word}' for '--workers <N>': it is not a number from 1 to 64"
+        )?;
+        check_bad(&rt, &["--workers", word], what.as_str())?;
+    }
+    for word in ["0", "1000001"] {
+        let what = format!(in rt.alloc();
+            "invalid value '{word}' for '--calls <N>': it is not a number from 1 to 1000000"
+        )?;
+        check_bad(&rt, &["--calls", word], what.as_str())?;
     }
     Ok(())
+}
+
+#[test]
+fn unknown_words_are_bad(rt: HostRuntime) -> Result<(), Fail> {
+    check_bad(&rt, &["--version"], "unexpected argument '--version' found")?;
+    check_bad(&rt, &["--workers", "-1"], "unexpected argument '-1' found")?;
+    check_bad(&rt, &["-x"], "unexpected argument '-x' found")
+}
+
+#[test]
+fn an_option_has_one_value(rt: HostRuntime) -> Result<(), Fail> {
+    for (name, value) in [
+        ("workers", "<N>"),
+        ("calls", "<N>"),
+        ("tape", "<FILE>"),
+        ("replay", "<FILE>"),
+    ] {
+        let option = format!(in rt.alloc(); "--{name}")?;
+        let none = format!(in rt.alloc();
+            "a value is required for '--{name} {value}' but none was supplied"
+        )?;
+        let two = format!(in rt.alloc();
+            "the argument '--{name} {value}' cannot be used multiple times"
+        )?;
+        check_bad(&rt, &[option.as_str()], none.as_str())?;
+        check_bad(
+            &rt,
+            &[option.as_str(), "2", option.as_str(), "2"],
+            two.as_str(),
+        )?;
+    }
+    Ok(())
+}
+
+#[test]
+fn a_replay_stands_alone(rt: HostRuntime) -> Result<(), Fail> {
+    let what = "the argument '--replay <FILE>' cannot be used with scripts or with '--tape <FILE>'";
+    check_bad(&rt, &["--replay", "a.tape", "--tape", "b.tape"], what)?;
+    check_bad(&rt, &["--replay", "a.tape", "a.jsonl"], what)
+}
+
+/// A text of one line, and one without the parser's mark, come as they are.
+#[test]
+fn a_reason_is_one_line(rt: HostRuntime) {
+    assert_eq!(rt; reason("error: bad\n\nUsage: streetsim"), "bad");
+    assert_eq!(rt; reason("error: bad"), "bad");
+    assert_eq!(rt; reason("bad\nworse"), "bad");
+    assert_eq!(rt; reason(""), "");
 }
 
 /// How many scripts the words name.
@@ -148,7 +191,7 @@ fn many_scripts(rt: HostRuntime) -> Result<(), Fail> {
 #[test]
 fn too_many_scripts(rt: HostRuntime) -> Result<(), Fail> {
     let scripts = vec![in rt.alloc(); "a.jsonl"; 1_025]?;
-    check_bad(&rt, scripts.as_slice(), "1024")
+    check_bad(&rt, scripts.as_slice(), "more than 1024 scripts")
 }
 
 /// The text is the help, and names each option.

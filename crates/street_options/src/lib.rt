@@ -3,7 +3,9 @@
 
 mod command;
 mod parsing;
+mod reasons;
 mod words;
 
 pub use parsing::options;
+pub use reasons::reason;
 pub use words::{Options, WordsFault};

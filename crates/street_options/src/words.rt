@@ -24,7 +24,7 @@ pub struct Options<'a> {
     pub scripts: Vec<&'a str>,
 }
 
-/// Why there are no options. What is wrong is told by the parser's text, which ends with a pointer to `--help`.
+/// Why there are no options. The parser's text says what is wrong with the words; `reason` gives the line of it that names the word.
 #[derive(Debug, Drop, Error)]
 pub enum WordsFault {
     /// A word that the program does not know, a value that is missing or out of its range, or words that do not stand

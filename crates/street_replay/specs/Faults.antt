@@ -11,7 +11,7 @@ use Rattle.street_ends.specs.Ends.{HasFailed}
 use Rattle.street_ends.specs.Lines.{cut, lines_of}
 use Rattle.street_ends.specs.declared.counted.Counted.{Counted}
 use Rattle.street_ends.specs.declared.tally.FaultKind.{FaultKind}
-use Rattle.street_ends.specs.declared.tally.FaultKind.TheVariants.{Read, Write, Starved, Endless, OldTape}
+use Rattle.street_ends.specs.declared.tally.FaultKind.TheVariants.{Read, Write, Starved, Endless}
 use Rattle.street_ends.specs.declared.tally.Tally.{Tally}
 use Rattle.street_engine.specs.Refines.{View, StandsFor}
 use Rattle.street_replay.specs.declared.fault.TapeFault.{TapeFault}
@@ -81,7 +81,6 @@ IsCaused Read reader writer reads = 0 < reader.failures
 IsCaused Write reader writer reads = HasFailed writer
 IsCaused Starved reader writer reads = ⊤
 IsCaused Endless reader writer reads = reader.calls ≡ reads
-IsCaused OldTape reader writer reads = ⊥
 
 -- a read that failed, and the last read that was allowed, come between lines and not in the midst of a reply
 abbrev pub IsAtRead : FaultKind → Type 0
@@ -89,7 +88,6 @@ IsAtRead Read = ⊤
 IsAtRead Endless = ⊤
 IsAtRead Write = ⊥
 IsAtRead Starved = ⊥
-IsAtRead OldTape = ⊥
 
 -- of an advance perhaps the first steps were made
 abbrev pub HasBegun : State → Command → View → Type 0

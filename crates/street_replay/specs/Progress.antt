@@ -10,7 +10,7 @@ use Rattle.street_desk.specs.History.{state_from}
 use Rattle.street_ends.specs.Ends.{HasFailed}
 use Rattle.street_ends.specs.Lines.{cut, lines_of, IsPart}
 use Rattle.street_ends.specs.declared.counted.Counted.{Counted}
-use Rattle.street_ends.specs.declared.tally.FaultKind.TheVariants.{Read, Write, Starved, Endless, OldTape}
+use Rattle.street_ends.specs.declared.tally.FaultKind.TheVariants.{Read, Write, Starved, Endless}
 use Rattle.street_ends.specs.declared.tally.Tally.{Tally}
 use Rattle.street_engine.specs.Refines.{View, StandsFor}
 use Rattle.street_replay.specs.declared.replaying.Progress.{Progress}
@@ -41,7 +41,6 @@ IsCausedHere (Fault Starved) writer = ⊤
 IsCausedHere (Fault Write) writer = HasFailed writer
 IsCausedHere (Fault Read) writer = ⊥
 IsCausedHere (Fault Endless) writer = ⊥
-IsCausedHere (Fault OldTape) writer = ⊥
 
 -- no line was taken up so far
 pub record IsBlank (tally : Tally) : Type 0 where

@@ -4,7 +4,7 @@ use Rattle.std.specs.Prelude.{◌≡◌, ℕ, List, [], Option, Some, None}
 use Rattle.street_desk.specs.Passes.{PassView}
 use Rattle.street_ends.specs.Lines.{lines_of}
 use Rattle.street_ends.specs.declared.tally.FaultKind.{FaultKind}
-use Rattle.street_ends.specs.declared.tally.FaultKind.TheVariants.{Read, Write, Starved, Endless, OldTape}
+use Rattle.street_ends.specs.declared.tally.FaultKind.TheVariants.{Read, Write, Starved, Endless}
 use Rattle.street_ends.specs.declared.tally.Tally.{Tally}
 use Rattle.street_line.specs.Faults.{Breaks}
 use Rattle.street_line.specs.Running.{Goes}
@@ -17,7 +17,6 @@ in_memory Read = Read
 in_memory Write = Starved
 in_memory Starved = Starved
 in_memory Endless = Endless
-in_memory OldTape = OldTape
 
 -- the replies are the output of the lines of this text, or as far as a fault let them be served
 abbrev pub Served : PassView → List ℕ → List ℕ → Option FaultKind → PassView → Type 0

@@ -12,12 +12,13 @@ use std::sync::Wait;
 use std::thread::Threads;
 use std::{env, io};
 use street_fault::Fault;
-use street_options::{Options, WordsFault, options};
+use street_options::{Options, WordsFault, options, reason};
 use street_runs::{STANDARD_OUTPUT, replay_tape, serve_input, serve_scripts};
 
 fn main(rt: HostRuntime) -> ExitCode {
     match program_words(&rt) {
         Ok(words) => run(&rt, words.as_slice()),
+        Err(Fault::BadArguments) => tell_words(&rt, "a word is not UTF-8"),
         Err(fault) => tell(&rt, fault),
     }
 }
@@ -36,11 +37,10 @@ fn run<R: Threads + Wait + Sync + Input + Print + Eprint + AllocGlobal + Files<F
             Ok(()) => ExitCode::SUCCESS,
             Err(_) => tell(rt, Fault::Write(STANDARD_OUTPUT)),
         },
-        Err(WordsFault::Bad(error)) => {
-            let status = tell(rt, Fault::BadArguments);
-            let _ = error.print(rt);
-            status
-        }
+        Err(WordsFault::Bad(error)) => match format!(in rt.alloc(); "{error}") {
+            Ok(text) => tell_words(rt, reason(text.as_str())),
+            Err(_) => tell(rt, Fault::BadArguments),
+        },
         Err(WordsFault::Starved) => tell(rt, Fault::OutOfMemory),
     }
 }
@@ -49,6 +49,13 @@ fn run<R: Threads + Wait + Sync + Input + Print + Eprint + AllocGlobal + Files<F
 fn tell(rt: &impl Eprint, fault: Fault<'_>) -> ExitCode {
     let _ = eprintln!(rt; "streetsim: {fault}");
     ExitCode::from(fault.status())
+}
+
+/// Tells on standard error that the words are wrong, and in a line of its own which one and why.
+fn tell_words(rt: &impl Eprint, why: &str) -> ExitCode {
+    let status = tell(rt, Fault::BadArguments);
+    let _ = eprintln!(rt; "{why}");
+    status
 }
 
 /// Does what the words ask for: replays a tape, or serves scripts or standard input.

@@ -21,12 +21,18 @@ use street_net::{LaneId, Network};
 use street_tile::{Gate, Hints, Tile, View};
 
 /// Phase 0 of all tiles.
-fn all_lanes<R: Threads + Sync, G: Gate + Sync>(rt: &R, net: &Network, tiles: &mut [Tile], gate: &G)
+fn all_lanes<R: Threads + Sync, G: Gate + Sync>(
+    rt: &R,
+    net: &Network,
+    tiles: &mut [Tile],
+    gate: &G,
+    threads: usize,
+)
+    requires some { 0 < threads }
     requires few { length tiles.old ≤ 64 }
     requires tiles { All (IsTileOf net.now) tiles.old }
     ensures { Each (Changes net.now) tiles.old tiles.new }
 {
-    let threads = tiles.len().max(1);
     thread::for_each_mut(
         rt,
         tiles,
@@ -48,14 +54,15 @@ fn all_motion<R: Threads + Sync, G: Gate + Sync>(
     net: &Network,
     tiles: &mut [Tile],
     gate: &G,
+    threads: usize,
 )
+    requires some { 0 < threads }
     requires few { length tiles.old ≤ 64 }
     requires tiles { All (IsTileOf net.now) tiles.old }
     requires none { All (λ x. x.arrived ≡ []) tiles.old }
     requires in_time { All (λ x. x.clock < last_clock) tiles.old }
     ensures { Each (Moves net.now) tiles.old tiles.new }
 {
-    let threads = tiles.len().max(1);
     thread::for_each_mut(
         rt,
         tiles,
@@ -78,14 +85,15 @@ fn all_release<R: Threads + Sync, G: Gate + Sync>(
     tiles: &mut [Tile],
     view: &View,
     gate: &G,
+    threads: usize,
 )
+    requires some { 0 < threads }
     requires few { length tiles.old ≤ 64 }
     requires tiles { All (IsTileOf net.now) tiles.old }
     requires empty { All (λ x. x.handed ≡ []) tiles.old }
     requires view { length view.now ≡ 2 * length net.now.links }
     ensures { Each (Releases net.now view.now) tiles.old tiles.new }
 {
-    let threads = tiles.len().max(1);
     thread::for_each_mut(
         rt,
         tiles,
@@ -102,13 +110,19 @@ fn all_release<R: Threads + Sync, G: Gate + Sync>(
 }
 
 /// Phase 3 of all tiles.
-fn all_enter<R: Threads + Sync, G: Gate + Sync>(rt: &R, net: &Network, tiles: &mut [Tile], gate: &G)
+fn all_enter<R: Threads + Sync, G: Gate + Sync>(
+    rt: &R,
+    net: &Network,
+    tiles: &mut [Tile],
+    gate: &G,
+    threads: usize,
+)
+    requires some { 0 < threads }
     requires few { length tiles.old ≤ 64 }
     requires tiles { All (IsTileOf net.now) tiles.old }
     requires prepared { All IsPrepared tiles.old }
     ensures { Each (Enters net.now) tiles.old tiles.new }
 {
-    let threads = tiles.len().max(1);
     thread::for_each_mut(
         rt,
         tiles,
@@ -125,13 +139,19 @@ fn all_enter<R: Threads + Sync, G: Gate + Sync>(rt: &R, net: &Network, tiles: &m
 }
 
 /// Phase 4 of all tiles.
-fn all_meter<R: Threads + Sync, G: Gate + Sync>(rt: &R, net: &Network, tiles: &mut [Tile], gate: &G)
+fn all_meter<R: Threads + Sync, G: Gate + Sync>(
+    rt: &R,
+    net: &Network,
+    tiles: &mut [Tile],
+    gate: &G,
+    threads: usize,
+)
+    requires some { 0 < threads }
     requires few { length tiles.old ≤ 64 }
     requires tiles { All (IsTileOf net.now) tiles.old }
     requires in_time { All (λ x. x.clock < last_clock) tiles.old }
     ensures { Each (Ticks net.now) tiles.old tiles.new }
 {
-    let threads = tiles.len().max(1);
     thread::for_each_mut(
         rt,
         tiles,
@@ -223,8 +243,45 @@ fn move_all(net: &Network, tiles: &mut [Tile], hints: &mut Hints)
     }
 }
 
-/// One step: whatever state the tiles stood for, they then stand for the next one, and hold the numbers of those who
-/// arrived. The hints follow who enters another link. Takes no memory.
+/// One step, each phase by so many threads at most: whatever state the tiles stood for, they then stand for the next one, and
+/// hold the numbers of those who arrived. With one thread the caller's runs all tiles in turn and starts none. The hints follow
+/// who enters another link. Takes no memory.
+pub fn step_by<R: Threads + Sync, G: Gate + Sync>(
+    rt: &R,
+    net: &Network,
+    tiles: &mut [Tile],
+    view: &mut View,
+    hints: &mut Hints,
+    gate: &G,
+    threads: usize,
+)
+    requires some { 0 < threads }
+    requires tiles { AreTiles net.now tiles.old }
+    requires few { length tiles.old ≤ 64 }
+    requires idle { All IsIdle tiles.old }
+    requires prepared { All IsPrepared tiles.old }
+    requires view { length view.old ≡ 2 * length net.now.links }
+    requires stand { (m : Traffic) × AllStand net.now tiles.old m × (m.clock < last_clock) }
+    ensures machine { (m : Traffic) → AllStand net.now tiles.old m → AllStand net.now tiles.new (step m) }
+    ensures arrived { (m : Traffic) → AllStand net.now tiles.old m
+        → Each (λ x y. y.arrived ≡ filter_map (λ p. arrival (leaver_of (changed m) p)) x.own.places) tiles.old tiles.new }
+    ensures meters { (m : Traffic) → AllStand net.now tiles.old m → AllMetersStand tiles.old m
+        → AllMetersStand tiles.new (step m) }
+    ensures tiles { AreTiles net.now tiles.new }
+    ensures handed { All (λ x. (x.handed ≡ []) × (x.coming ≡ nobody x)) tiles.new }
+    ensures view { length view.new ≡ length view.old }
+    ensures hints { KeepsHints hints.old hints.new }
+{
+    all_lanes(rt, net, tiles, gate, threads);
+    all_motion(rt, net, tiles, gate, threads);
+    publish(net, tiles, view);
+    all_release(rt, net, tiles, view, gate, threads);
+    move_all(net, tiles, hints);
+    all_enter(rt, net, tiles, gate, threads);
+    all_meter(rt, net, tiles, gate, threads);
+}
+
+/// The step with a thread for each tile.
 pub fn step_all<R: Threads + Sync, G: Gate + Sync>(
     rt: &R,
     net: &Network,
@@ -249,11 +306,6 @@ pub fn step_all<R: Threads + Sync, G: Gate + Sync>(
     ensures view { length view.new ≡ length view.old }
     ensures hints { KeepsHints hints.old hints.new }
 {
-    all_lanes(rt, net, tiles, gate);
-    all_motion(rt, net, tiles, gate);
-    publish(net, tiles, view);
-    all_release(rt, net, tiles, view, gate);
-    move_all(net, tiles, hints);
-    all_enter(rt, net, tiles, gate);
-    all_meter(rt, net, tiles, gate);
+    let threads = tiles.len().max(1);
+    step_by(rt, net, tiles, view, hints, gate, threads);
 }

@@ -223,8 +223,8 @@ pub fn command_value(alloc: Global, command: &Command) -> Result<Value, AllocErr
     }
 }
 
-/// The text of a command: one JSON object with all its fields but a size of 1, its keys in byte order, and no line end. It reads as the
-/// command, if it is no longer than a line may be.
+/// The text of a command: one JSON object with all its fields but a size of 1, its keys in byte order, and no line end. It
+/// reads as the command, if it is no longer than a line may be.
 ///
 /// # Errors
 ///

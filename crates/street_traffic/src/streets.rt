@@ -10,7 +10,7 @@ ghost use Rattle.street_base.specs.Step.{step, steps};
 ghost use Rattle.street_base.specs.Closing.{with_closure};
 ghost use Rattle.street_base.specs.Effects.{signalled, taken_out, metered};
 ghost use Rattle.street_base.specs.Machine.{loaded, entered, plan_links, closed_after, seen};
-ghost use Rattle.street_base.specs.Shown.{shown_lane, shown_rows, census};
+ghost use Rattle.street_base.specs.Shown.{shown_lane, shown_rows, census, in_cells};
 ghost use Rattle.street_net.specs.Tables.{place_of};
 ghost use Rattle.street_net.specs.Refused.{TellsFault};
 ghost use Rattle.street_node.specs.Greens.{ShowsAs};
@@ -29,8 +29,11 @@ use street_base::{
 };
 use street_net::{LaneId, NetFault, Network};
 use street_node::SignalPlan;
-use street_step::step_all;
+use street_step::step_by;
 use street_tile::{Gate, Hints, Tile, View};
+
+/// For how many steps what the gate said of threads holds.
+const STEPS_BETWEEN_COUNTS: u64 = 16;
 
 /// A loaded network, its clock, its tiles, how each vehicle ended, on which link it was last put, and where each detector is.
 pub struct Streets {
@@ -336,20 +339,48 @@ impl Streets {
         stepping::prepare(&self.network, &mut self.tiles)
     }
 
-    /// One step. Takes no memory.
-    fn step<R: Threads + Sync, G: Gate + Sync>(&mut self, rt: &R, gate: &G)
+    /// How many vehicles are in cells.
+    fn in_cells(&self) -> u64
+        ensures { (m : Traffic) → StandsFor self.now m → result ≡ in_cells m }
+    {
+        // Its clause `few` bounds the sums.
+        let _admitted = self.ends.len();
+        finding::sizes(&self.network, &self.tiles).cells
+    }
+
+    /// How many threads the next step takes, after so many others of the same advance that took so many: one for each tile
+    /// where the gate lets the workers share it, else the caller's alone. The gate is asked once in 16 steps, since the count
+    /// looks at each lane.
+    fn threads<G: Gate>(&self, gate: &G, done: u64, before: usize) -> usize
+        requires { 0 < before }
+        ensures { 0 < result }
+    {
+        if done % STEPS_BETWEEN_COUNTS != 0 {
+            return before;
+        }
+        let tiles = self.tiles.len();
+        if tiles > 1 && gate.shares(self.in_cells()) {
+            return tiles;
+        }
+        1
+    }
+
+    /// One step, by so many threads at most. Takes no memory.
+    fn step<R: Threads + Sync, G: Gate + Sync>(&mut self, rt: &R, gate: &G, threads: usize)
+        requires some { 0 < threads }
         requires prepared { All IsPrepared self.old.tiles }
         requires in_time { self.old.clock < last_clock }
         ensures clock { self.new.clock ≡ self.old.clock + 1 }
         ensures step { Goes step self.old self.new }
     {
-        step_all(
+        step_by(
             rt,
             &self.network,
             &mut self.tiles,
             &mut self.view,
             &mut self.hints,
             gate,
+            threads,
         );
         stepping::note_arrivals(&mut self.tiles, &mut self.ends, self.clock);
         self.clock += 1;
@@ -361,11 +392,13 @@ impl Streets {
         ensures most { result ≤ count }
         ensures steps { Goes (steps result) self.old self.new }
     {
+        let mut threads = 1;
         for done in 0..count {
             if self.prepare().is_err() {
                 return done;
             }
-            self.step(rt, gate);
+            threads = self.threads(gate, done, threads);
+            self.step(rt, gate, threads);
         }
         count
     }

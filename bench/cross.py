@@ -1,0 +1,71 @@
+#!/usr/bin/python3
+"""Prints how many vehicles leave in each green of a lone cross, in SUMO and here; the cases are those of the tools' tests.
+
+Usage: bench/cross.py PROGRAM --work FOLDER [--seeds 1-3] [--import "WORDS"]
+
+Means over demands of several seeds. It needs Debian's sumo, and keeps what SUMO wrote in FOLDER.
+"""
+
+import argparse
+import os
+import re
+import shlex
+import subprocess
+import sys
+from pathlib import Path
+from statistics import fmean
+
+TOP = Path(__file__).resolve().parents[1]
+sys.path[:0] = [str(TOP / "tools"), str(TOP / "tools/tests")]
+from crosses import LAST, a_green, cases, demand  # noqa: E402
+from streetsim.compare import read_tripinfo, trips_of  # noqa: E402
+from streetsim.folder import read_folder  # noqa: E402
+
+
+def run(words, folder):
+    words, home = [str(word) for word in words], {"SUMO_HOME": "/usr/share/sumo", **os.environ}
+    done = subprocess.run(words, cwd=folder, env=home, capture_output=True, text=True, check=False)
+    if done.returncode:
+        raise SystemExit(f"{' '.join(words)}\n{done.stderr}")
+
+
+def in_sumo(net, routes, folder):
+    trips = folder / f"{routes.stem}.trips.xml"
+    if not trips.exists():
+        words = ["sumo", "-n", net, "-r", routes, "--end", LAST, "--no-step-log", "--no-warnings", "--time-to-teleport", -1]
+        run([*words, "--tripinfo-output", trips], folder)
+    return a_green(read_tripinfo(str(trips)))
+
+
+def here(net, routes, folder, args):
+    words = [net, "--routes", routes, "-o", "x.jsonl", "--map", "x.map.json", *shlex.split(args.words)]
+    run([TOP / "tools/streetsim-import", *words], folder)
+    words = ["x.jsonl", "--map", "x.map.json", "--until", LAST, "--every", 900, "--rescue", 0, "--out", "out"]
+    run([TOP / "tools/streetsim-run", *words, "--program", args.program], folder)
+    return a_green(trips_of(read_folder(str(folder / "out"))))
+
+
+def main():
+    parser = argparse.ArgumentParser(description=__doc__, formatter_class=argparse.RawTextHelpFormatter)
+    parser.add_argument("program")
+    parser.add_argument("--work", required=True)
+    parser.add_argument("--seeds", default="1-3")
+    parser.add_argument("--import", dest="words", default="", help="more words for the import")
+    args = parser.parse_args()
+    args.program, folder = str(Path(args.program).resolve()), Path(args.work).resolve()
+    folder.mkdir(parents=True, exist_ok=True)
+    first, _, last = args.seeds.partition("-")
+    print("| Vehicles from the west | SUMO | here |\n|---|---|---|")
+    for name, network, flows in cases():
+        net = TOP / f"tools/tests/data/{network}.net.xml.gz"
+        pairs = []
+        for seed in range(int(first), int(last or first) + 1):
+            routes = folder / f"{re.sub('[^a-z0-9]+', '-', name)}-{seed}.xml"
+            routes.write_text(demand(flows, seed), encoding="utf-8")
+            pairs.append((in_sumo(net, routes, folder), here(net, routes, folder, args)))
+        for way in sorted({way for arm, way in flows if arm == "w"}, reverse=True):
+            there, ours = (fmean(one[side].get(way, 0.0) for one in pairs) for side in (0, 1))
+            print(f"| {name}: {way} | {there:.1f} | {ours:.1f} ({(ours / there - 1) * 100:+.0f} %) |", flush=True)
+
+
+main()

@@ -1,0 +1,31 @@
+//! What is told of wrong words: one line of the parser's text.
+//!
+//! Source: this profile.
+ghost use Rattle.std.specs.List.{before_first};
+ghost use Rattle.std.specs.Prelude.{◌++◌, ◌≡◌, ◌≢◌, List, codes, eqb, ℕ};
+
+/// The word that the parser's texts begin with.
+const ERROR_WORD: &str = "error: ";
+
+/// Which word is wrong, and why: the first line of the parser's text, without the word `error: ` before it.
+pub fn reason(text: &str) -> &str
+    ensures marked { (rest : List ℕ) → text.now ≡ codes "error: " ++ rest
+        → result.now ≡ before_first (λ byte. eqb byte 10) rest }
+    ensures bare { ((rest : List ℕ) → text.now ≢ codes "error: " ++ rest)
+        → result.now ≡ before_first (λ byte. eqb byte 10) text.now }
+{
+    match text.strip_prefix(ERROR_WORD) {
+        Some(rest) => first_line(rest),
+        None => first_line(text),
+    }
+}
+
+/// What stands before the first newline, or all where there is none.
+fn first_line(text: &str) -> &str
+    ensures { result.now ≡ before_first (λ byte. eqb byte 10) text.now }
+{
+    match text.split_once('\n') {
+        Some((line, _rest)) => line,
+        None => text,
+    }
+}

@@ -1,0 +1,71 @@
+"""Which proved program is built: the sums of its sources and of its file, and the mark that holds both.
+
+./build and ./test write the mark once all is proved; ./streetsim reads it.
+"""
+import hashlib
+import os
+from pathlib import Path
+
+TOP = Path(__file__).resolve().parents[1]
+CRATE = "street_sim"
+# What a check of a crate reads.
+READ = ("src", "specs", "proofs")
+
+
+def program(top=TOP):
+    """The program's file, built or not."""
+    return top / "crates" / CRATE / "out" / CRATE
+
+
+def crates(top=TOP):
+    """The crates of the repository that the program stands on, each with what its line of crates.txt names; lowest first, the program's last."""
+    lines = (line.partition("#")[0].partition(":") for line in (top / "crates.txt").read_text().splitlines())
+    uses = {head.split()[0]: tail.split() for head, colon, tail in lines if colon}
+    found, left = {}, [CRATE]
+    while left:
+        name = left[-1]
+        lacking = [below for below in uses[name] if below in uses and below not in found]
+        if not lacking:
+            found[left.pop()] = uses[name]
+        left += lacking
+    return found
+
+
+def sources(top=TOP):
+    """The files that the program's check reads, in order."""
+    folders = [top / "crates" / name / part for name in crates(top) for part in READ]
+    return sorted(path for folder in folders for path in folder.rglob("*") if path.is_file())
+
+
+def sums(top=TOP):
+    """The sum of the sources, with the crates' lines, and that of the program's file."""
+    whole = hashlib.sha256(repr(crates(top)).encode())
+    for path in sources(top):
+        data = path.read_bytes()
+        whole.update(f"{path.relative_to(top)} {len(data)}\n".encode() + data)
+    return whole.hexdigest(), hashlib.sha256(program(top).read_bytes()).hexdigest()
+
+
+def mark_of(top=TOP):
+    return top / "out/streetsim.sums"
+
+
+def unmark(top=TOP):
+    mark_of(top).unlink(missing_ok=True)
+
+
+def mark(top=TOP):
+    """Notes that the program's file was proved and built from the present sources."""
+    mark_of(top).parent.mkdir(exist_ok=True)
+    made = mark_of(top).with_suffix(f".{os.getpid()}")
+    made.write_text("\n".join(sums(top)) + "\n")
+    made.replace(mark_of(top))
+
+
+def why_not(top=TOP):
+    """Why the proved program cannot be run, or none."""
+    if not mark_of(top).is_file() or not os.access(program(top), os.X_OK):
+        return "the proved program is not built"
+    if mark_of(top).read_text().split() != list(sums(top)):
+        return "the program that is built is not that of the present sources"
+    return None

@@ -1,0 +1,75 @@
+"""Packs the tools for pip, with the standard library alone: a build by setuptools would have to download it.
+
+pip calls these functions (PEP 517); nothing is written beside the sources.
+"""
+import base64
+import hashlib
+import tarfile
+import tomllib
+import zipfile
+from pathlib import Path
+
+TOP = Path(__file__).resolve().parent
+STAMP = (2020, 1, 1, 0, 0, 0)  # of each file, so that equal sources give equal bytes
+
+
+def build_wheel(wheel_directory, config_settings=None, metadata_directory=None):
+    """Writes the wheel and gives its name."""
+    project = read_project()
+    stem = stem_of(project)
+    files = {**sources(), **metadata(project, f"{stem}.dist-info")}
+    record = f"{stem}.dist-info/RECORD"
+    rows = [f"{name},sha256={digest(content)},{len(content)}" for name, content in files.items()]
+    files[record] = "\n".join([*rows, f"{record},,", ""]).encode()
+    name = f"{stem}-py3-none-any.whl"
+    with zipfile.ZipFile(Path(wheel_directory) / name, "w", zipfile.ZIP_DEFLATED) as wheel:
+        for path, content in files.items():
+            wheel.writestr(zipfile.ZipInfo(path, STAMP), content, zipfile.ZIP_DEFLATED)
+    return name
+
+
+def build_sdist(sdist_directory, config_settings=None):
+    """Writes an archive of the sources and gives its name."""
+    project = read_project()
+    name = f"{stem_of(project)}.tar.gz"
+    with tarfile.open(Path(sdist_directory) / name, "w:gz") as archive:
+        for path in (*sources(), "pyproject.toml", "packing.py", "README.md"):
+            archive.add(TOP / path, f"{stem_of(project)}/{path}")
+    return name
+
+
+def read_project():
+    return tomllib.loads((TOP / "pyproject.toml").read_text(encoding="utf-8"))["project"]
+
+
+def stem_of(project):
+    """The name and version, as file names have them."""
+    return f"{project['name'].replace('-', '_')}-{project['version']}"
+
+
+def sources():
+    """The package's files by their paths."""
+    paths = sorted(path for path in (TOP / "streetsim").rglob("*") if path.suffix in (".py", ".html"))
+    return {path.relative_to(TOP).as_posix(): path.read_bytes() for path in paths}
+
+
+def metadata(project, folder):
+    """The files that tell pip what the wheel is and which commands it has."""
+    extras = project["optional-dependencies"]
+    lines = [
+        "Metadata-Version: 2.1",
+        f"Name: {project['name']}",
+        f"Version: {project['version']}",
+        f"Summary: {project['description']}",
+        f"Requires-Python: {project['requires-python']}",
+        *(f"Provides-Extra: {extra}" for extra in extras),
+        *(f"Requires-Dist: {one}; extra == '{extra}'" for extra, names in extras.items() for one in names),
+    ]
+    wheel = ["Wheel-Version: 1.0", "Generator: packing", "Root-Is-Purelib: true", "Tag: py3-none-any"]
+    commands = ["[console_scripts]", *(f"{name} = {place}" for name, place in project["scripts"].items())]
+    texts = {"METADATA": lines, "WHEEL": wheel, "entry_points.txt": commands}
+    return {f"{folder}/{name}": "\n".join([*text, ""]).encode() for name, text in texts.items()}
+
+
+def digest(content):
+    return base64.urlsafe_b64encode(hashlib.sha256(content).digest()).rstrip(b"=").decode()

@@ -1,0 +1,111 @@
+"""Speeds and densities of edges by period, as SUMO's edgeData, from detectors at stop lines and polls of lanes."""
+from collections import Counter, defaultdict
+from math import floor
+
+GOLDEN = 0.6180339887498949
+
+
+class Samples:
+    """When lanes are sampled: so many times in each period, spread evenly but not at equal steps, which a signal's cycle
+    could fall in with."""
+
+    def __init__(self, start, period, count):
+        self.start, self.period, self.count = start, period, count
+
+    def after(self, clock):
+        """The next such clock, or none."""
+        if not self.count:
+            return None
+        at = (clock - self.start) // self.period
+        return min(time for part in (at, at + 1) for time in self.within(part) if time > clock)
+
+    def within(self, at):
+        """Those of a period, which rise and lie after its begin."""
+        size = self.period / self.count
+        shares = ((place + at * self.count) * GOLDEN % 1 for place in range(self.count))
+        return [self.start + at * self.period + 1 + floor((place + share) * size) for place, share in enumerate(shares)]
+
+
+class Edgedata:
+    """What was seen on links, by period: sums over samples until `finish`, then means, which can be added."""
+
+    def __init__(self, start, period):
+        self.start, self.period = start, period
+        self.samples = Counter()  # by period
+        self.vehicles, self.speeds = Counter(), Counter()  # by (period, link)
+        self.standing = defaultdict(Counter)  # by clock of a period's end: vehicles by link
+        self.taken = Counter()  # by (period, link): vehicles taken out
+        self.known = {}  # by (link, lane): the periods in which it was sampled
+
+    def sample(self, clock, seen):
+        """Notes vehicles and speeds; seen: (link, the cells of a lane's reply)."""
+        period = (clock - 1 - self.start) // self.period
+        self.samples[period] += 1
+        for link, cells in seen:
+            self.vehicles[period, link] += len(cells)
+            self.speeds[period, link] += sum(entry[2] for entry in cells)
+
+    def end(self, clock, seen):
+        """Notes the vehicles on links at a period's end."""
+        at_end = self.standing[clock]
+        for link, cells in seen:
+            at_end[link] += len(cells)
+
+    def take(self, clock, link):
+        """Notes a vehicle that is taken out of the cells of a link from this clock on."""
+        self.taken[(clock - self.start) // self.period, link] += 1
+
+    def finish(self, places):
+        """Makes means of sums; places: the (link, lane) that were sampled."""
+        for sums in (self.vehicles, self.speeds):
+            for period, link in sums:
+                sums[period, link] /= self.samples[period]
+        self.known = dict.fromkeys(places, frozenset(self.samples))
+        return self
+
+    def add(self, other):
+        """Takes what a run that repeats this one saw on other lanes."""
+        self.vehicles.update(other.vehicles)
+        self.speeds.update(other.speeds)
+        self.known.update(other.known)
+        for clock, links in other.standing.items():
+            self.standing[clock].update(links)
+
+
+def edge_rows(counts, data, mapping):
+    """(begin, end, edge, entered, left, vehicles a kilometre, km/h, travel time) of each period and edge of which all lanes
+    have counts; none for what is not known."""
+    periods = sorted({(row.start, row.steps) for rows in counts.values() for row in rows.values()})
+    lanes = {
+        edge: [(link, lane) for link in links for lane in range(len(mapping.links[link].lanes))]
+        for edge, links in mapping.links_of.items()
+    }
+    for begin, steps in periods:
+        for edge, places in lanes.items():
+            if all(begin in counts.get(place, ()) for place in places):
+                left = sum(counts[place][begin].passes for place in places)
+                entered = entered_on(data, mapping.links_of[edge], begin, begin + steps, left)
+                yield begin, begin + steps, edge, entered, left, *seen_on(data, mapping, places, begin)
+
+
+def entered_on(data, links, begin, end, left):
+    """Those who left, who are there at the end and were not at the begin, and who were taken out."""
+    if end not in data.standing or (begin != data.start and begin not in data.standing):
+        return None
+    before, after = (sum(data.standing[clock][link] for link in links) if clock in data.standing else 0 for clock in (begin, end))
+    return left + after - before + sum(data.taken[(begin - data.start) // data.period, link] for link in links)
+
+
+def seen_on(data, mapping, places, begin):
+    """Vehicles a kilometre, km/h and seconds of travel: the way at the mean speed of all who were seen."""
+    period = (begin - data.start) // data.period
+    if not all(period in data.known.get(place, ()) for place in places):
+        return None, None, None
+    links = {link for link, _ in places}
+    vehicles, speeds = (sum(means[period, link] for link in links) for means in (data.vehicles, data.speeds))
+    first = mapping.links[places[0][0]]
+    density = vehicles / (first.metres / 1000)
+    if not speeds:
+        return density, 0.0 if vehicles else None, None
+    seconds = first.cells * vehicles / speeds
+    return density, first.metres / seconds * 3.6, seconds

@@ -1,0 +1,233 @@
+"""Who gives way at signals: how much of a permissive green is shown, and how much later a green begins here, so that as
+many vehicles pass as in SUMO.
+
+Gaps are found as in the Highway Capacity Manual (2010, signalized intersections: permitted left turns), with its critical
+headway of 4.5 s and its follow-up headway of 2.5 s; the other values were measured in SUMO and here at a lone cross, under
+a queue that does not end. The seconds of a cycle are bits of a number, second 0 the lowest.
+"""
+import math
+from collections import Counter, defaultdict
+from dataclasses import dataclass, field
+from itertools import pairwise
+
+CRITICAL_GAP = 4.5  # seconds
+FOLLOW_UP = 2.5  # seconds between two that use one gap
+LOST = 2.0  # seconds until a queue of the other side moves
+SNEAKERS = 1  # vehicles that pass in a permissive green, whatever comes
+SPREAD = ((1 / 6, -(3**0.5)), (2 / 3, 0.0), (1 / 6, 3**0.5))  # weights of three cycles, and their standard deviations
+MOST_EQUIVALENT = 10.0  # vehicles, for one that waits
+ROUNDS, CLOSE = 30, 1.0  # of the search for flows that fit to each other, vehicles an hour
+BEHIND, ROOM, START = 1.42, 7.5, 0.8  # in SUMO (g - START) / (BEHIND + ROOM / speed) pass in a green of g seconds
+HEADWAYS, AHEAD = (3.0, 2.07, 1.89, 1.83, 1.83), 1.35  # here (g + AHEAD) / HEADWAYS, by the link's limit;
+SHORT = (0.8, 0.97, 1.68, 2.45, 2.82, 3.37)  # in 1 to 6 seconds so many
+USUAL_SPEED = 13.9  # metres a second, where a junction's is not known
+GREEN, PERMISSIVE = "GsO", "go"
+SHOWN = GREEN + PERMISSIVE
+
+
+def hourly_flows(vehicles):
+    """Vehicles an hour from each edge to each next one, over the time in which vehicles depart."""
+    flows = Counter()
+    for vehicle in vehicles:
+        flows.update(pairwise(vehicle.edges))
+    departs = [vehicle.depart for vehicle in vehicles]
+    hours = max(900.0, max(departs) - min(departs)) / 3600 if departs else 1.0
+    return {movement: count / hours for movement, count in flows.items()}
+
+
+@dataclass(slots=True, eq=False)
+class Movement:
+    """A connection over a light's cycle."""
+
+    way: tuple  # edge, next edge
+    lane: tuple  # edge, lane
+    index: int | None  # in the light's state
+    cycle: int  # seconds
+    sure: int  # the seconds in which it goes first
+    green: int  # these and those in which it gives way
+    begins: list  # of the greens: (second, seconds of red before it)
+    flow: float  # vehicles an hour that wish to pass
+    passing: float  # vehicles an hour that do
+    headway: float  # seconds between vehicles of a queue, in SUMO
+    limit: int  # of its link, cells a step
+    runs: dict  # first second of a permissive green: its length
+    foes: list = field(default_factory=list)  # movements that it gives way to
+    meets: dict = field(default_factory=dict)  # first second of a permissive green: [(seconds, foes that are green)]
+    shown: dict = field(default_factory=dict)  # first second of a permissive green: the seconds at its end that are shown
+
+
+def movements_of(connections, states, yields, flows, limits_of):
+    """The movements of a junction, by the connections' requests."""
+    sharing = Counter((connection.source, connection.target) for connection in connections)
+    found = {}
+    for connection in connections:
+        way = connection.source, connection.target
+        flow = flows.get(way, 0.0) / sharing[way]
+        found[connection.request] = movement_of(connection, states, flow, limits_of[connection.source])
+    for request, movement in found.items():
+        movement.foes = [found[foe] for foe in sorted(yields.get(request, ())) if foe in found and found[foe].flow]
+        movement.meets = {start: meetings(movement, start, length) for start, length in movement.runs.items()}
+    return found
+
+
+def movement_of(connection, states, flow, limit):
+    lit, cycle = connection.light is not None, len(states)
+    own = "".join(state[connection.index] for state in states) if lit else "G" * cycle
+    return Movement(
+        way=(connection.source, connection.target),
+        lane=(connection.source, connection.source_lane),
+        index=connection.index if lit else None,
+        cycle=cycle,
+        sure=seconds_of(own, GREEN),
+        green=seconds_of(own, SHOWN),
+        begins=[(start, red_before(own, start)) for start in runs_of(own, SHOWN) if own[start - 1] not in SHOWN],
+        flow=flow,
+        passing=flow,
+        headway=headway(connection.speed or USUAL_SPEED),
+        limit=limit,
+        runs=runs_of(own, PERMISSIVE),
+    )
+
+
+def seconds_of(states, shown):
+    return sum(1 << second for second, state in enumerate(states) if state in shown)
+
+
+def seconds_from(start, length, cycle):
+    """So many seconds from one on, round the cycle."""
+    bits = ((1 << min(length, cycle)) - 1) << start % cycle
+    return (bits | bits >> cycle) & ((1 << cycle) - 1)
+
+
+def runs_of(states, shown):
+    """The unbroken runs round the cycle of seconds that show one of some states: {first second: length}."""
+    count = len(states)
+    if all(state in shown for state in states):
+        return {0: count}
+    starts = [at for at in range(count) if states[at] in shown and states[at - 1] not in shown]
+    return {
+        start: next(steps for steps in range(1, count + 1) if states[(start + steps) % count] not in shown)
+        for start in starts
+    }
+
+
+def red_before(states, start):
+    """The seconds without green that end where a green begins."""
+    return next(steps for steps in range(len(states)) if states[start - steps - 1] in SHOWN)
+
+
+def meetings(movement, start, length):
+    """The seconds of a permissive green by those that are green then of whom it gives way to."""
+    found = defaultdict(int)
+    for second in range(start, start + length):
+        place = second % movement.cycle
+        found[tuple(foe for foe in movement.foes if foe.green >> place & 1)] |= 1 << place
+    return [(seconds, foes) for foes, seconds in found.items()]
+
+
+def headway(speed):
+    """Seconds between vehicles of a queue that pass a junction in SUMO at a speed."""
+    return BEHIND + ROOM / speed
+
+
+def green_here(vehicles, limit):
+    """The seconds of green in which so many leave a queue here."""
+    short = next((second for second, passing in enumerate(SHORT, 1) if passing >= vehicles - 0.1), None)
+    return short or round(vehicles * HEADWAYS[limit - 1] - AHEAD)
+
+
+def settle(movements):
+    """Finds the seconds shown of each permissive green, and the flows that get through, that fit to each other: a
+    vehicle that waits to turn blocks those behind it on its lane, and so makes room for those on the other side."""
+    lanes = defaultdict(list)
+    for movement in movements:
+        lanes[movement.lane].append(movement)
+    for _ in range(ROUNDS):
+        for movement in movements:
+            movement.shown = {start: seconds_shown(movement, start, length) for start, length in movement.runs.items()}
+        if max([pass_through(sharing) for sharing in lanes.values()]) < CLOSE:
+            return
+
+
+def pass_through(sharing):
+    """Goes half way to what the movements of a lane let pass; gives how far it is."""
+    wish = sum(movement.flow for movement in sharing)
+    share = min(1.0, capacity(sharing, wish) / wish) if wish else 1.0
+    most = max(abs(movement.flow * share - movement.passing) for movement in sharing)
+    for movement in sharing:
+        movement.passing += 0.5 * (movement.flow * share - movement.passing)
+    return most
+
+
+def seconds_shown(movement, start, length):
+    """The seconds at the end of a permissive green in which as many leave a queue as find a gap in all of it: the mean of
+    cycles with less and with more traffic than usual."""
+    vehicles, usual = 0.0, sum(foe.passing for foe in movement.foes) * movement.cycle / 3600
+    for weight, deviations in SPREAD:
+        factor = max(0.0, 1 + deviations / max(1.0, usual) ** 0.5)
+        vehicles += weight * max(SNEAKERS, finding_gaps(movement, start, factor))
+    return min(length, green_here(vehicles, movement.limit))
+
+
+def finding_gaps(movement, start, factor):
+    """How many find a gap in a permissive green when the traffic that they give way to is a factor of the usual."""
+    blocked, vehicles = 0, 0.0
+    for foe in movement.foes:
+        blocked |= queue_seconds(foe, factor)
+    for seconds, foes in movement.meets[start]:
+        against = sum(foe.passing for foe in foes) * factor
+        vehicles += (seconds & ~blocked).bit_count() * min(1 / movement.headway, gap_capacity(against) / 3600)
+    return vehicles
+
+
+def queue_seconds(foe, factor):
+    """The seconds of the cycle in which the queue leaves that has waited for a green."""
+    seconds, rate = 0, min(foe.passing * factor * foe.headway / 3600, 0.99)
+    for start, red in foe.begins if foe.passing else ():
+        seconds |= seconds_from(start, round(LOST + red * rate / (1 - rate)), foe.cycle)
+    return seconds
+
+
+def gap_capacity(flow):
+    """Vehicles an hour that find a gap in a flow of so many."""
+    if flow <= 0:
+        return math.inf
+    return flow * math.exp(-flow * CRITICAL_GAP / 3600) / (1 - math.exp(-flow * FOLLOW_UP / 3600))
+
+
+def capacity(sharing, wish):
+    """Vehicles an hour that a lane lets pass, by its movements: until the first comes that waits to turn, and then in
+    the seconds that are shown to it."""
+    cycle, green = sharing[0].cycle, 0
+    for movement in sharing:
+        green |= movement.green
+    each = sum(movement.flow * movement.headway for movement in sharing) / wish
+    whole = green.bit_count() / each
+    waiting = [movement for movement in sharing if movement.runs and movement.foes]
+    share = sum(movement.flow for movement in waiting) / wish
+    if not share:
+        return whole * 3600 / cycle
+    shown = max(sum(movement.shown.values()) / HEADWAYS[movement.limit - 1] for movement in waiting)
+    shown += waiting[0].sure.bit_count() / each
+    before = max(0.0, whole - shown)
+    passed = (1 - share) * (1 - (1 - share) ** before) / share if share < 1 else 0.0
+    return min(whole, passed + shown) * 3600 / cycle
+
+
+def hidden_start(length, speed, limit):
+    """The seconds at the begin of a green that are not shown, so that as many pass here as in SUMO, where a queue
+    starts later and turns are slower."""
+    return max(0, length - green_here(max(1.0, (length - START) / headway(speed)), limit))
+
+
+def equivalents(movements):
+    """In how many places a vehicle counts on its lane that waits for a gap, {(edge, next edge): vehicles}: as many others
+    could pass in the whole of its green for each that passes."""
+    found = {}
+    for movement in movements:
+        if movement.runs and movement.foes:
+            passing = sum(movement.shown.values()) / HEADWAYS[movement.limit - 1]
+            passing += movement.sure.bit_count() / movement.headway
+            most = min(MOST_EQUIVALENT, movement.green.bit_count() / movement.headway / max(passing, 0.5))
+            found[movement.way] = max(found.get(movement.way, 1.0), most)
+    return found

@@ -1,0 +1,138 @@
+"""Runs that need more calls than there are: late vehicles, sampled lanes, and runs that repeat others."""
+import csv
+import json
+import os
+import unittest
+from unittest.mock import patch
+
+from support import DATA, MAP, NUMBERED, PROGRAM, RED, Case, needs_simulator
+from streetsim import limits, running
+from streetsim.edgedata import Edgedata, Samples, edge_rows
+from streetsim.client import Row
+from streetsim.late import Late
+from streetsim.mapping import map_from
+
+
+class Schedules(Case):
+    def test_late(self):
+        """First 100 s after the expected arrival, then at steps that double."""
+        late = Late(100)
+        late.expect(7, 40)
+        asked = []
+        for clock in range(0, 2000, 20):
+            for wait, vehicle in late.due(clock):
+                asked.append(clock)
+                late.again(vehicle, clock, wait)
+        self.assertEqual(asked, [140, 240, 440, 840, 1640])
+
+    def test_samples(self):
+        """As many in each period, one in each equal part, and no two parts at the same place."""
+        samples = Samples(0, 900, 5)
+        times, clock = [], 0
+        while (clock := samples.after(clock)) <= 9000:
+            times.append(clock)
+        self.assertEqual([sum(begin < time <= begin + 180 for time in times) for begin in range(0, 9000, 180)], [1] * 50)
+        places = [(time - 1) % 180 for time in times]
+        # Spread over a cycle of 90 s: each third has about a third.
+        for third in range(3):
+            self.assertAlmostEqual(sum(30 * third <= place % 90 < 30 * third + 30 for place in places), 50 / 3, delta=2)
+
+    def test_edge_rows(self):
+        """One vehicle was there at the begin; nine left, one was taken out, three are there at the end: twelve entered.
+        Samples saw 2 and 4 vehicles on 75 m, which are 40 a kilometre, at 18 cells a step in all: 3 cells a step or 22.5 m/s,
+        so 75 m take 10 / 3 s."""
+        data = Edgedata(0, 900)
+        data.end(900, [(0, ((7, 3, 2),))])
+        data.sample(1000, [(0, ((7, 3, 2), (8, 2, 4)))])
+        data.sample(1100, [(0, ((7, 3, 3), (8, 2, 3), (9, 1, 3), (10, 0, 3)))])
+        data.take(950, 0)
+        data.end(1800, [(0, ((1, 1, 1), (2, 2, 2), (3, 3, 3)))])
+        data.finish([(0, 0)])
+        counts = {(0, 0): {900: Row(900, 900, 9, 0, 0)}}
+        [row] = edge_rows(counts, data, map_from("map", MAP))
+        self.assertEqual(row[:5], (900, 1800, "a", 12, 9))
+        self.assertEqual([round(value, 3) for value in row[5:]], [40.0, 81.0, 3.333])
+
+
+@needs_simulator
+class FewCalls(Case):
+    def given(self, *commands, cars):
+        lines = [{"cmd": "load", **NUMBERED}, *commands]
+        run = self.write("run.jsonl", "".join(json.dumps(line) + "\n" for line in lines))
+        return run, "--map", self.write("map.json", json.dumps({**MAP, "cars": cars})), "--program", PROGRAM
+
+    def table(self, name, out="out"):
+        with open(self.folder / out / name, encoding="utf-8") as file:
+            return list(csv.DictReader(file))
+
+    def test_a_late_vehicle_is_rescued(self):
+        """At red for ever. Free flow is 10 / 5 + 1 + 10 / 5 = 5 s, so it is asked at 180, the first minute 120 s after;
+        it stands, and is watched until 300, 120 s later; on the second link it arrives in step 304."""
+        words = self.given(RED, {"cmd": "enter", "plan": [0, 1], "lane": 0, "depart": 0}, cars=["v"])
+        told, _ = self.tool(
+            "run", *words, "--until", 600, "--rescue", 120, "--every", 600, "--calls", 60, "--out", self.folder / "out"
+        )
+        self.assertEqual(told, "1 vehicles, 1 arrived, mean trip 305.0 s, 1 rescues\n")
+
+    def test_edges_by_hand(self):
+        """Cells 0, 1, 3, 6 at clocks 1 to 4, then out: 4 of 60 polls see it on 75 m, at 1.5 cells a step or 40.5 km/h."""
+        words = self.given({"cmd": "enter", "plan": [0], "lane": 0, "depart": 0}, cars=["v"])
+        self.tool("run", *words, "--until", 60, "--every", 1, "--out", self.folder / "out")
+        row = self.table("edges.csv")[0]
+        self.assertEqual(
+            list(row.values()), ["0", "60", "a", "1", "1", f"{4 / 60 / 0.075:.2f}", "40.50", f"{10 / 1.5:.2f}"]
+        )
+
+    def test_what_helps_is_named(self):
+        words = self.given({"cmd": "enter", "plan": [0], "lane": 0, "depart": 0}, cars=["v"])
+        more = ["--until", 6000, "--out", self.folder / "out"]
+        for options, told in (
+            (["--every", 1, "--calls", 10_000], "try --every 2"),
+            (["--calls", 300], "try a run up to"),
+        ):
+            with self.subTest(told):
+                self.assertIn(told, self.tool("run", *words, *more, *options, status=2)[1])
+                self.assertFalse((self.folder / "out").exists())
+
+
+@needs_simulator
+class Repeated(Case):
+    def run_grid(self, out, *words):
+        run, mapped = self.folder / "run.jsonl", self.folder / "map.json"
+        if not run.exists():
+            words_ = [DATA / "grid.net.xml.gz", "--routes", DATA / "grid.rou.xml.gz", "-o", run, "--map", mapped]
+            self.tool("import", *words_)
+        arguments = [run, "--map", mapped, "--program", PROGRAM, "--until", 900, "--period", 300, "--rescue", 60]
+        with open(os.devnull, "w") as null, patch("sys.stdout", null), patch("sys.stderr", null):
+            running.main([str(word) for word in (*arguments, "--out", self.folder / out, *words)])
+
+    def test_further_runs_count_what_one_would(self):
+        """All 240 lanes in one run, and 100 in each of three, with rescues that are repeated at their clocks: equal counts."""
+        self.run_grid("one")
+        with patch.object(limits, "METERS", 100):
+            self.run_grid("three")
+        for name in ("counts.csv", "trips.csv", "queues.csv", "summary.csv"):
+            self.assertEqual((self.folder / "three" / name).read_bytes(), (self.folder / "one" / name).read_bytes(), name)
+        with open(self.folder / "one/trips.csv", encoding="utf-8") as file:
+            self.assertGreater(sum(int(row["rescues"]) for row in csv.DictReader(file)), 0)
+        tables = [self.edges(name) for name in ("one", "three")]
+        self.assertEqual(tables[0].keys(), tables[1].keys())
+        self.assertEqual(len(tables[0]), 3 * 120)
+        for key, row in tables[0].items():
+            self.assertEqual([row[name] for name in ("entered", "left")], [tables[1][key][name] for name in ("entered", "left")])
+        vehicles = [sum(float(row["density_per_km"]) for row in table.values()) for table in tables]
+        self.assertAlmostEqual(vehicles[1] / vehicles[0], 1, delta=0.05)
+
+    def edges(self, out):
+        with open(self.folder / out / "edges.csv", encoding="utf-8") as file:
+            return {(row["begin"], row["edge"]): row for row in csv.DictReader(file)}
+
+    def test_the_busiest_alone(self):
+        with patch.object(limits, "METERS", 100):
+            self.run_grid("busiest", "--counted", "busiest")
+        with open(self.folder / "busiest/counts.csv", encoding="utf-8") as file:
+            self.assertEqual(len({(row["link"], row["lane"]) for row in csv.DictReader(file)}), 100)
+
+
+if __name__ == "__main__":
+    unittest.main()

@@ -1,0 +1,62 @@
+"""SUMO's e1 and e2 of additional files: where they are placed, and their tables, reckoned by hand."""
+import csv
+import unittest
+
+from support import PROGRAM, Case, lane, needs_simulator, net
+from streetsim.detectors import longest_jam
+
+# One lane of 10 cells, 5 cells a step.
+STREET = net([("a", "A", "B", [lane("a", 0, speed=37.0)])], [])
+LOOPS = """<additional>
+<inductionLoop id="loop" lane="a_0" pos="29" freq="10" file="x.xml"/>
+<e1Detector id="end" lane="a_0" pos="-1" freq="60" file="x.xml"/>
+<laneAreaDetector id="area" lane="a_0" pos="0" endPos="75" freq="10" file="x.xml"/>
+<e2Detector id="part" lane="a_0" pos="15" length="15" freq="60" file="x.xml"/>
+</additional>"""
+
+
+class Detectors(Case):
+    def run_import(self, additional, status=0):
+        words = [self.write("x.net.xml", STREET), self.write("x.add.xml", additional), "--dawdle", 0]
+        routes = '<routes><vehicle id="v" depart="0"><route edges="a"/></vehicle></routes>'
+        words += ["--routes", self.write("x.rou.xml", routes), "-o", self.folder / "run.jsonl"]
+        return self.tool("import", *words, "--map", self.folder / "map.json", status=status)[1]
+
+    def test_longest_jam(self):
+        cells = ((1, 9, 0), (2, 8, 0, 2), (3, 6, 0), (4, 5, 1), (5, 4, 0), (6, 2, 0))
+        self.assertEqual((longest_jam(cells), longest_jam(())), (3, 0))
+
+    def test_faults(self):
+        for element, told in (
+            ('<inductionLoop id="x" lane="z_0" pos="0" freq="60" file="f"/>', "the network has no lane 'z_0'"),
+            ('<inductionLoop id="x" lane="a_0" pos="0" freq="0" file="f"/>', "freq='0' is no period"),
+            ('<inductionLoop id="x" lane="a_0" freq="60" file="f"/>', "no attribute 'pos'"),
+            ('<inductionLoop id="x" lane="a_0" pos="1"/><inductionLoop id="x" lane="a_0" pos="2"/>', "a second detector"),
+        ):
+            with self.subTest(told):
+                self.assertIn(told, self.run_import(f"<additional>{element}</additional>", status=2))
+        told = self.run_import('<additional><inductionLoop id="x" lane="a_7" pos="0"/></additional>')
+        self.assertIn("warning: detector x lies on a_7, which is left out", told)
+
+    @needs_simulator
+    def test_tables(self):
+        """The vehicle is in cells 0, 1, 3 and 6 at clocks 1 to 4 and out in the fifth step with speed 4. It stands in cell 3,
+        at 29 m, at clock 3 and goes on from it with speed 3; the area sees it four times in ten polls, at 0 to 3 cells a
+        step, on one of ten cells; cells 2 and 3 see it once in sixty, at 2 cells a step."""
+        self.run_import(LOOPS)
+        words = [self.folder / "run.jsonl", "--map", self.folder / "map.json", "--until", 60, "--every", 1]
+        self.tool("run", *words, "--program", PROGRAM, "--out", self.folder / "out")
+        loops, areas = self.table("detectors.csv"), self.table("areas.csv")
+        self.assertEqual(loops[0], ["0", "10", "loop", "1", "360.0", "81.0", "10.0"])
+        self.assertEqual(loops[1], ["10", "20", "loop", "0", "0.0", "", "0.0"])
+        self.assertEqual([row for row in loops if row[2] == "end"], [["0", "60", "end", "1", "60.0", "108.0", "0.0"]])
+        self.assertEqual(areas[0], ["0", "10", "area", "0.40", "1", "40.5", "4.0", "0.10", "1"])
+        self.assertEqual(areas[-1], ["0", "60", "part", "0.02", "1", "54.0", "0.8", "0.00", "0"])
+
+    def table(self, name):
+        with open(self.folder / "out" / name, encoding="utf-8") as file:
+            return list(csv.reader(file))[1:]
+
+
+if __name__ == "__main__":
+    unittest.main()

@@ -1,0 +1,163 @@
+"""Outputs: written whole or not at all, over regular files alone; inputs and words that do not fit are told in a line."""
+import json
+import os
+import signal
+import stat
+import subprocess
+import sys
+import time
+import unittest
+
+from support import FORK, MAP, NUMBERED, PROGRAM, TOOLS, Case, lane, needs_simulator, net
+from streetsim.files import Fault, refuse_equal, whole_file, whole_folder, whole_path
+
+STREET = net([("a", "A", "B", [lane("a", 0)])], [])
+
+
+class Written(Case):
+    def test_what_is_no_regular_file_is_refused_and_stays(self):
+        pipe = self.folder / "pipe"
+        os.mkfifo(pipe)
+        for path in ("/dev/full", "/dev/null", str(pipe), str(self.folder)):
+            with self.subTest(path), self.assertRaisesRegex(Fault, "exists and is no regular file"), whole_file(path) as file:
+                file.write("x")
+        self.assertTrue(stat.S_ISCHR(os.stat("/dev/full").st_mode) and stat.S_ISFIFO(os.stat(pipe).st_mode))
+
+    def test_a_link_is_followed(self):
+        target, link = self.folder / "target", self.folder / "link"
+        target.write_text("old")
+        link.symlink_to(target)
+        with whole_file(link) as file:
+            file.write("new")
+        self.assertTrue(link.is_symlink())
+        self.assertEqual(target.read_text(), "new")
+
+    def test_a_fault_leaves_the_file_as_it_was(self):
+        path = self.folder / "x.txt"
+        path.write_text("old")
+        with self.assertRaises(ZeroDivisionError), whole_file(path) as file:
+            file.write("new")
+            1 / 0
+        self.assertEqual((path.read_text(), [one.name for one in self.folder.iterdir()]), ("old", ["x.txt"]))
+
+    def test_a_picture_keeps_its_ending_while_it_is_written(self):
+        with whole_path(self.folder / "x.svg") as half:
+            self.assertTrue(half.endswith(".svg"))
+            with open(half, "w", encoding="utf-8") as file:
+                file.write("x")
+        self.assertEqual([one.name for one in self.folder.iterdir()], ["x.svg"])
+
+    def test_two_outputs_of_one_name(self):
+        one, link = self.folder / "one", self.folder / "link"
+        link.symlink_to(one)
+        with self.assertRaisesRegex(Fault, "-o and --map name the same file"):
+            refuse_equal({"-o": one, "--map": link})
+        with self.assertRaisesRegex(Fault, "-o names a file that is read"):
+            refuse_equal({"-o": one}, [link])
+        refuse_equal({"-o": one, "--map": self.folder / "other"}, [self.folder / "third"])
+
+
+class Folders(Case):
+    def fill(self, folder, text, fault=None):
+        with whole_folder(folder, "last") as half:
+            for name in ("one", "last"):
+                with open(f"{half}/{name}", "w", encoding="utf-8") as file:
+                    file.write(text)
+            if fault:
+                raise fault
+
+    def content(self, folder):
+        return {path.name: path.read_text() for path in folder.iterdir()}
+
+    def test_all_or_nothing(self):
+        folder = self.folder / "a/b"
+        with self.assertRaises(ZeroDivisionError):
+            self.fill(folder, "x", ZeroDivisionError())
+        self.assertFalse(folder.exists())
+        self.fill(folder, "old")
+        (folder / "mine").write_text("kept")
+        with self.assertRaises(SystemExit):
+            self.fill(folder, "new", SystemExit(143))
+        self.assertEqual(self.content(folder), {"one": "old", "last": "old", "mine": "kept"})
+        self.fill(folder, "new")
+        self.assertEqual(self.content(folder), {"one": "new", "last": "new", "mine": "kept"})
+
+    def test_a_place_that_is_taken(self):
+        folder = self.folder / "out"
+        (folder / "one").mkdir(parents=True)
+        with self.assertRaisesRegex(Fault, "exists and is no regular file"):
+            self.fill(folder, "x")
+        self.assertEqual([path.name for path in folder.iterdir()], ["one"])
+        self.write("file", "x")
+        with self.assertRaisesRegex(Fault, "file: File exists"):
+            self.fill(self.folder / "file", "x")
+
+
+class Ended(Case):
+    """A run that waits for a simulator which never answers, and is then ended."""
+
+    def test_sigterm_leaves_nothing(self):
+        program = self.write("fake", f"#!{sys.executable}\nimport sys\nif '--help' not in sys.argv: sys.stdin.read()\n")
+        os.chmod(program, 0o755)
+        run = self.write("run.jsonl", json.dumps({"cmd": "load", **NUMBERED}) + "\n")
+        words = [run, "--map", self.write("map.json", json.dumps(MAP)), "--until", "60", "--program", program]
+        for more in ([], ["--seeds", "1-3"]):
+            with self.subTest(more):
+                out = self.folder / "out"
+                running = subprocess.Popen([TOOLS / "streetsim-run", *words, *more, "--out", out], stderr=subprocess.PIPE)
+                while not (out.exists() and list(out.rglob("*half*"))):
+                    time.sleep(0.02)
+                time.sleep(0.3)
+                running.send_signal(signal.SIGTERM)
+                self.assertEqual(running.communicate(timeout=20), (None, b""))
+                self.assertEqual(running.returncode, 128 + signal.SIGTERM)
+                self.assertFalse(out.exists())
+
+
+@needs_simulator
+class Kept(Case):
+    def test_a_run_that_fails_leaves_the_folder_of_an_earlier_one(self):
+        load, enter = {"cmd": "load", **NUMBERED}, {"cmd": "enter", "plan": [0], "lane": 0, "depart": 0}
+        late = {"cmd": "close", "link": 0, "lane": 0, "first": 5, "last": 99, "at": 120}
+        mapped = self.write("map.json", json.dumps({**MAP, "cars": ["v"]}))
+        words = ["--map", mapped, "--until", 300, "--program", PROGRAM, "--out", self.folder / "out"]
+        good = self.write("good.jsonl", "".join(json.dumps(line) + "\n" for line in (load, enter)))
+        self.tool("run", good, *words)
+        before = {path.name: path.read_bytes() for path in (self.folder / "out").iterdir()}
+        self.assertIn("trips.csv", before)
+        bad = self.write("bad.jsonl", "".join(json.dumps(line) + "\n" for line in (load, enter, late)))
+        self.assertIn("line 3 (close) was refused: 7 BadRange", self.tool("run", bad, *words, status=2)[1])
+        self.assertEqual({path.name: path.read_bytes() for path in (self.folder / "out").iterdir()}, before)
+
+
+class Words(Case):
+    """What does not fit: one line, status 2, nothing written."""
+
+    def refused(self, *words):
+        outputs = ["-o", self.folder / "run.jsonl", "--map", self.folder / "map.json"]
+        told = self.tool("import", *words, *([] if "--map" in words else outputs), status=2)[1]
+        self.assertEqual(len(told.splitlines()), 1, told)
+        self.assertFalse(list(self.folder.glob("*.json*")))
+        return told
+
+    def test_import(self):
+        network, routes = self.write("x.net.xml", STREET), '<routes><vehicle id="v" depart="0"><route edges="a"/></vehicle></routes>'
+        self.assertIn("SUMO has no vehicle class 'foo'; it has private", self.refused(network, "--classes", "passenger,foo"))
+        told = self.refused(network, self.write("x.rou.xml", routes))
+        self.assertIn("x.rou.xml: <vehicle 'v'> in an additional file: give files of routes after --routes", told)
+        same = self.folder / "same.json"
+        self.assertIn("-o and --map name the same file", self.refused(network, "-o", same, "--map", same))
+        self.assertIn("exists and is no regular file", self.refused(network, "-o", "/dev/full", "--map", same))
+        self.assertIn("-o names a file that is read", self.refused(network, "-o", network, "--map", same))
+        self.assertEqual((self.folder / "x.net.xml").read_text(), STREET)
+
+    def test_a_link_to_a_device(self):
+        link = self.folder / "run.json"
+        link.symlink_to("/dev/full")
+        told = self.tool("import", self.write("x.net.xml", FORK), "-o", link, "--map", self.folder / "map.json", status=2)[1]
+        self.assertIn("run.json: exists and is no regular file", told)
+        self.assertFalse((self.folder / "map.json").exists())
+
+
+if __name__ == "__main__":
+    unittest.main()
