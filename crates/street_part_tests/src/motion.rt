@@ -1,9 +1,7 @@
 //! Motion with values reckoned by hand.
 
-ghost use Rattle.std.specs.Prelude.{◌≡◌, ◌-◌, ◌<◌, ℕ, IfOk, OnOk, length, true};
+ghost use Rattle.std.specs.Prelude.{◌≡◌, ◌-◌, ◌<◌, ℕ, IfOk, OnOk, length};
 ghost use Rattle.std.specs.List.{All};
-ghost use Rattle.street_base.specs.Faults.{is_within};
-ghost use Rattle.street_base.specs.Limits.{most_size};
 ghost use Rattle.street_rule.specs.Watching.{IsReady};
 ghost use Rattle.street_yard.specs.Yard.{list_at};
 ghost use Rattle.street_yard.specs.Listed.{rear_at, AllAbove, IsLane};
@@ -25,31 +23,36 @@ fn one_link(alloc: Global) -> Result<Network, Fail> {
     nets::network(alloc, &[node(1), node(2)], &[link(10, 1, 2, 40)], &[])
 }
 
-/// A vehicle of this size stands with its front here, with this speed.
+/// A vehicle stands with its front here, with this speed.
 #[derive(Clone, Copy)]
 struct Standing {
     cell: CellNo,
     speed: Speed,
-    size: Size,
 }
 
-/// The last cell that it covers.
-fn rear(standing: Standing) -> CellNo
-    ensures { result ≡ standing.cell - (standing.size - 1) }
+/// The last cell that a vehicle of this size covers.
+fn rear(standing: Standing, size: Size) -> CellNo
+    ensures { result ≡ standing.cell - (size - 1) }
 {
-    let tail = standing.size.cells() - 1;
+    let tail = size.cells() - 1;
     standing.cell.saturating_sub(CellNo::from(tail))
 }
 
-/// A vehicle comes last on list 0, with its front below the rears of all others.
-fn put(alloc: Global, yard: &mut Yard, number: CarNo, standing: Standing) -> Result<Key, Starved>
+/// A vehicle of this size comes last on list 0, with its front below the rears of all others.
+fn put(
+    alloc: Global,
+    yard: &mut Yard,
+    number: CarNo,
+    standing: Standing,
+    size: Size,
+) -> Result<Key, Starved>
     requires list { 0 < length yard.old.lists }
     requires lane { IsLane yard.old 0 40 }
     requires below { AllAbove (rear_at yard.old) standing.cell (list_at yard.old 0) }
     requires within { standing.cell < 40 }
     ensures list { OnOk result (length yard.new.lists ≡ length yard.old.lists) }
     ensures lane { OnOk result (IsLane yard.new 0 40) }
-    ensures below { OnOk result ((cell : ℕ) → cell < standing.cell - (standing.size - 1) → AllAbove (rear_at yard.new) cell (list_at yard.new 0)) }
+    ensures below { OnOk result ((cell : ℕ) → cell < standing.cell - (size - 1) → AllAbove (rear_at yard.new) cell (list_at yard.new 0)) }
 {
     yard.whole();
     let plan = Box::new(
@@ -64,7 +67,7 @@ fn put(alloc: Global, yard: &mut Yard, number: CarNo, standing: Standing) -> Res
         step: 0,
         at: 0,
         speed: standing.speed,
-        size: standing.size,
+        size,
     });
     yard.push_back(ListId(0), key);
     yard.whole();
@@ -90,17 +93,23 @@ fn closed(rt: &(impl Abort + AllocGlobal), first: CellNo, last: CellNo) -> Resul
 /// Three vehicles of a lane, the front first.
 type Three = (Standing, Standing, Standing);
 
-/// A vehicle comes last on list 0, for which there is memory.
-fn add(rt: &(impl Abort + AllocGlobal), yard: &mut Yard, number: CarNo, standing: Standing) -> Key
+/// A vehicle of this size comes last on list 0, for which there is memory.
+fn add(
+    rt: &(impl Abort + AllocGlobal),
+    yard: &mut Yard,
+    number: CarNo,
+    standing: Standing,
+    size: Size,
+) -> Key
     requires list { 0 < length yard.old.lists }
     requires lane { IsLane yard.old 0 40 }
     requires below { AllAbove (rear_at yard.old) standing.cell (list_at yard.old 0) }
     requires within { standing.cell < 40 }
     ensures list { length yard.new.lists ≡ length yard.old.lists }
     ensures lane { IsLane yard.new 0 40 }
-    ensures below { (cell : ℕ) → cell < standing.cell - (standing.size - 1) → AllAbove (rear_at yard.new) cell (list_at yard.new 0) }
+    ensures below { (cell : ℕ) → cell < standing.cell - (size - 1) → AllAbove (rear_at yard.new) cell (list_at yard.new 0) }
 {
-    match put(rt.alloc(), yard, number, standing) {
+    match put(rt.alloc(), yard, number, standing, size) {
         Ok(key) => key,
         Err(_) => panic!(rt; "no memory for vehicle {number}"),
     }
@@ -109,19 +118,32 @@ fn add(rt: &(impl Abort + AllocGlobal), yard: &mut Yard, number: CarNo, standing
 /// The keys of three vehicles, the front first.
 type Keys = (Key, Key, Key);
 
-/// A yard in which list 0 is a lane of three vehicles, and their keys.
-fn stand(rt: &(impl Abort + AllocGlobal), cars: Three) -> (Yard, Keys)
+/// How many cells each of the three covers: 1 to 4.
+type Sizes = (u64, u64, u64);
+
+/// A size of so many cells.
+fn size_of(rt: &impl Abort, cells: u64) -> Size {
+    match Size::new(cells) {
+        Some(size) => size,
+        None => panic!(rt; "no vehicle covers {cells} cells"),
+    }
+}
+
+/// A yard in which list 0 is a lane of three vehicles of these sizes, and their keys.
+fn stand(rt: &(impl Abort + AllocGlobal), cars: Three, sizes: Sizes) -> (Yard, Keys)
     ensures list { 0 < length result.0.lists }
     ensures lane { IsLane result.0 0 40 }
 {
     let (first, second, third) = cars;
-    assert!(rt; first.cell < 40 && second.cell < rear(first) && third.cell < rear(second));
+    let (long, short) = (size_of(rt, sizes.0), size_of(rt, sizes.1));
+    assert!(rt; first.cell < 40 && second.cell < rear(first, long));
+    assert!(rt; third.cell < rear(second, short));
     let Ok(mut yard) = Yard::new(rt.alloc(), 1) else {
         panic!(rt; "no memory for a yard")
     };
-    let front = add(rt, &mut yard, 0, first);
-    let middle = add(rt, &mut yard, 1, second);
-    let back = add(rt, &mut yard, 2, third);
+    let front = add(rt, &mut yard, 0, first, long);
+    let middle = add(rt, &mut yard, 1, second, short);
+    let back = add(rt, &mut yard, 2, third, size_of(rt, sizes.2));
     (yard, (front, middle, back))
 }
 
@@ -129,6 +151,7 @@ fn stand(rt: &(impl Abort + AllocGlobal), cars: Three) -> (Yard, Keys)
 #[derive(Clone, Copy)]
 struct Scene {
     cars: Three,
+    sizes: Sizes,
     exit: bool,
     watch: CellNo,
 }
@@ -213,7 +236,7 @@ fn move_once(
 ) -> Moved
     requires { IsWithin closures.now 40 }
 {
-    let (mut yard, keys) = stand(rt, scene.cars);
+    let (mut yard, keys) = stand(rt, scene.cars, scene.sizes);
     moved_lane(rt, network, closures, &mut yard, keys, dice, scene)
 }
 
@@ -232,25 +255,15 @@ fn check_moved(
     Ok(())
 }
 
-/// A vehicle of so many cells, 1 to 4, with its front here.
-fn long(cell: CellNo, speed: Speed, cells: u64) -> Standing
-    requires { is_within 1 most_size cells ≡ true }
-{
-    let Some(size) = Size::new(cells) else {
-        unreachable!();
-    };
-    Standing { cell, speed, size }
-}
-
-/// A vehicle of one cell.
 fn at(cell: CellNo, speed: Speed) -> Standing {
-    long(cell, speed, 1)
+    Standing { cell, speed }
 }
 
 /// With a closed stretch far away, and with one ahead of the first vehicle.
 fn check_old_cells(rt: &(impl Abort + AllocGlobal), network: &Network) -> Result<(), Fail> {
     let apart = Scene {
         cars: (at(10, 4), at(3, 2), at(0, 3)),
+        sizes: (1, 1, 1),
         exit: true,
         watch: 10,
     };
@@ -279,6 +292,7 @@ fn vehicles_move_by_the_old_cells(rt: HostRuntime) -> Result<(), Fail> {
 fn check_exit(rt: &(impl Abort + AllocGlobal), network: &Network) -> Result<(), Fail> {
     let shut = Scene {
         cars: (at(38, 4), at(30, 5), at(29, 0)),
+        sizes: (1, 1, 1),
         exit: false,
         watch: 38,
     };
@@ -307,11 +321,16 @@ fn an_open_exit_is_left_by(rt: HostRuntime) -> Result<(), Fail> {
     check_exit(&rt, &network)
 }
 
-/// Vehicles of 4, 2 and 1 cells: each stops for the rear of the one ahead, also where that lies over the begin of a closed
-/// stretch, nearer than it.
-fn check_rears(rt: &(impl Abort + AllocGlobal), network: &Network) -> Result<(), Fail> {
+/// Vehicles of 4, 2 and 1 cells, where these cells are closed: each stops for the rear of the one ahead.
+fn check_rears(
+    rt: &(impl Abort + AllocGlobal),
+    network: &Network,
+    first: CellNo,
+    last: CellNo,
+) -> Result<(), Fail> {
     let behind = Scene {
-        cars: (long(10, 4, 4), long(4, 2, 2), at(0, 3)),
+        cars: (at(10, 4), at(4, 2), at(0, 3)),
+        sizes: (4, 2, 1),
         exit: true,
         watch: 5,
     };
@@ -320,20 +339,27 @@ fn check_rears(rt: &(impl Abort + AllocGlobal), network: &Network) -> Result<(),
         left: None,
         noted: (1, 2),
     };
-    check_moved(rt, network, 39, 39, behind, moved)?;
-    check_moved(rt, network, 8, 12, behind, moved)
+    check_moved(rt, network, first, last, behind, moved)
 }
 
 #[test]
 fn vehicles_stop_for_rears(rt: HostRuntime) -> Result<(), Fail> {
     let network = one_link(rt.alloc())?;
-    check_rears(&rt, &network)
+    check_rears(&rt, &network, 39, 39)
+}
+
+/// The rear of the first lies over the begin of the stretch, and nearer than it.
+#[test]
+fn a_rear_may_lie_before_a_closed_stretch(rt: HostRuntime) -> Result<(), Fail> {
+    let network = one_link(rt.alloc())?;
+    check_rears(&rt, &network, 8, 12)
 }
 
 /// A vehicle of 4 cells leaves whole; who is behind it moves by where its rear was.
 fn check_leaves_whole(rt: &(impl Abort + AllocGlobal), network: &Network) -> Result<(), Fail> {
     let leaving = Scene {
-        cars: (long(38, 4, 4), long(30, 5, 3), at(20, 0)),
+        cars: (at(38, 4), at(30, 5), at(20, 0)),
+        sizes: (4, 3, 1),
         exit: true,
         watch: 38,
     };
