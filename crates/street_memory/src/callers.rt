@@ -1,7 +1,7 @@
 //! A caller at a desk, while at most one request for memory is refused.
 ghost use Rattle.std.specs.Prelude.{◌≡◌};
 
-use crate::texts::{read, text_of};
+use crate::texts::{as_text, read, text_of};
 use std::alloc::Global;
 use std::sync::Wait;
 use std::thread::Threads;
@@ -144,10 +144,10 @@ impl Caller {
     /// Whether the replies, those to starved calls apart, are these.
     fn are_replies(&self, wanted: &[&str]) -> bool {
         let mut found = 0usize;
-        for line in self.replies.split(|byte| *byte == b'\n') {
-            if !line.is_empty() && line != STARVED.as_bytes() {
+        for line in as_text(&self.replies).lines() {
+            if line != STARVED {
                 match wanted.get(found) {
-                    Some(want) if want.as_bytes() == line => found = found.saturating_add(1),
+                    Some(want) if *want == line => found = found.saturating_add(1),
                     _ => return false,
                 }
             }

@@ -2,14 +2,14 @@
 ghost use Rattle.std.specs.Prelude.{◌≡◌, IfSome};
 
 use crate::callers::{Caller, are_told, serve_caller};
+use crate::texts::as_text;
 use std::alloc::Global;
 use std::sync::Wait;
 use std::thread::{Threads, join};
 use street_base::{Command, Outcome, Reply};
 use street_desk::{Desk, Journal, Pass};
+use street_ends::Counted;
 use street_engine::{Engine, Unwatched};
-use street_line::Counted;
-use street_pair::Told;
 use street_replay::replay;
 use street_tape::write_tape;
 
@@ -141,27 +141,37 @@ fn replayed<R: Threads + Sync>(rt: &R, alloc: Global, tape: &[u8]) -> Option<(Ve
     }
 }
 
+/// Whether the lines of reply to a journal's calls are, call by call, what the session was answered that called.
+fn are_answers(journal: &Journal, replies: &[u8], one: &Caller, two: &Caller) -> bool {
+    let mut first = as_text(&one.replies).lines();
+    let mut second = as_text(&two.replies).lines();
+    let mut replies = as_text(replies).lines();
+    for at in 0..journal.len() {
+        let answer = match journal.entry(at) {
+            Some(entry) if entry.session == 0 => first.next(),
+            Some(_) => second.next(),
+            None => None,
+        };
+        match (answer, replies.next()) {
+            (Some(answer), Some(reply)) if answer == reply => {}
+            _ => return false,
+        }
+    }
+    first.next().is_none() && second.next().is_none() && replies.next().is_none()
+}
+
 /// Whether the tape of a journal replays to two vehicles that wait, and to the replies that each caller was answered, call
 /// by call; nothing where every request was refused.
 fn is_replayed<R: Threads + Sync>(
     rt: &R,
     alloc: Global,
     journal: &Journal,
-    one: Caller,
-    two: Caller,
+    one: &Caller,
+    two: &Caller,
 ) -> Option<bool> {
     let tape = tape_of(alloc, journal)?;
     let (replies, admitted, waiting) = replayed(rt, alloc, &tape)?;
-    let told = Told {
-        first: one.replies,
-        second: two.replies,
-        tape,
-    };
-    let agrees = match told.agrees(alloc, &replies) {
-        Ok(agrees) => agrees,
-        Err(_starved) => told.agrees(alloc, &replies).ok()?,
-    };
-    Some(agrees && (admitted, waiting) == (2, 2))
+    Some(are_answers(journal, &replies, one, two) && (admitted, waiting) == (2, 2))
 }
 
 /// Ends a desk. Whether its tape was replayed, else every request was refused from some point on; or what is wrong.
@@ -193,7 +203,7 @@ fn end_desk<R: Threads + Wait + Sync>(
     if !are_told(&one, &two) {
         return Err("told otherwise");
     }
-    match is_replayed(rt, alloc, &journal, one, two) {
+    match is_replayed(rt, alloc, &journal, &one, &two) {
         Some(false) => Err("replayed otherwise"),
         replayed => Ok(replayed.is_some()),
     }

@@ -3,7 +3,8 @@
 use crate::calls::Stop;
 use std::alloc::Global;
 use street_base::{Command, Reply};
-use street_line::{LineFault, read_command, reply_text};
+use street_printing::reply_text;
+use street_reading::{LineFault, read_command};
 
 /// The command of a line.
 pub(crate) fn read(alloc: Global, line: &str) -> Result<Command, Stop> {
@@ -30,6 +31,11 @@ pub(crate) fn text_of(alloc: Global, reply: &Reply) -> Result<Vec<u8>, Stop> {
         Ok(text) => Ok(text),
         Err(_starved) => Err(Stop::OutOfMemory),
     }
+}
+
+/// The text of lines, which are ASCII; of other bytes none.
+pub(crate) fn as_text(lines: &[u8]) -> &str {
+    str::from_utf8(lines).unwrap_or("")
 }
 
 /// Whether a line of reply is this, and its end.
