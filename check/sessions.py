@@ -30,6 +30,8 @@ WORKERS = (1, 3, 64)
 # So many calls the program has places for where nothing else is said.
 MOST_CALLS = 65536
 SMALLER_SECONDS = 120
+# So many sessions are given out at once.
+BATCH = 100
 
 
 @dataclass
@@ -168,11 +170,13 @@ def compare(program, top, seeds, until=None):
     """Compares the sessions of these seeds, until a time if one is given: how many sessions and lines, and the first fault shown, or none."""
     sessions = lines = 0
     with concurrent.futures.ProcessPoolExecutor(len(os.sched_getaffinity(0)), initializer=start_worker, initargs=(program, top)) as pool:
-        for seed, (fault, count) in zip(seeds, pool.map(fault_of_seed, seeds)):
-            sessions, lines = sessions + 1, lines + count
-            if fault or until is not None and time.monotonic() > until:
-                pool.shutdown(wait=False, cancel_futures=True)
-                return sessions, lines, f"seed {seed}:\n{fault}" if fault else None
+        for start in range(0, len(seeds), BATCH):
+            batch = seeds[start:start + BATCH]
+            for seed, (fault, count) in zip(batch, pool.map(fault_of_seed, batch)):
+                sessions, lines = sessions + 1, lines + count
+                if fault or until is not None and time.monotonic() > until:
+                    pool.shutdown(wait=False, cancel_futures=True)
+                    return sessions, lines, f"seed {seed}:\n{fault}" if fault else None
     return sessions, lines, None
 
 
