@@ -10,7 +10,6 @@ use Rattle.street_ends.specs.Lines.{cut, lines_of}
 use Rattle.street_ends.specs.declared.answer.Answer.{Answer}
 use Rattle.street_ends.specs.declared.answer.Cause.{Cause}
 use Rattle.street_ends.specs.declared.answer.Cause.TheVariants.{Run, Line}
-use Rattle.street_ends.specs.declared.tally.FaultKind.{FaultKind}
 use Rattle.street_ends.specs.declared.tally.Tally.{Tally}
 
 -- ---- one line

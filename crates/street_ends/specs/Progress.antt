@@ -9,7 +9,6 @@ use Rattle.street_ends.specs.declared.answer.Cause.{Cause}
 use Rattle.street_ends.specs.declared.answer.Cause.TheVariants.{Run, Line}
 use Rattle.street_ends.specs.declared.driver.Progress.{Progress}
 use Rattle.street_ends.specs.declared.part.PartialLine.{PartialLine}
-use Rattle.street_ends.specs.declared.tally.FaultKind.{FaultKind}
 use Rattle.street_ends.specs.declared.tally.Tally.{Tally}
 
 -- every count is bounded by that of lines

@@ -263,14 +263,7 @@ pub fn drive_lines<H: LineHandler, R: Read, W: Write>(
             bytes: 0,
         },
     };
-    match drive_all(
-        alloc,
-        handler,
-        reader,
-        writer,
-        limits.reads,
-        &mut progress,
-    ) {
+    match drive_all(alloc, handler, reader, writer, limits.reads, &mut progress) {
         Ok(()) => Ok(progress.tally),
         Err(cause) => Err(Halt {
             cause,
