@@ -11,9 +11,10 @@ use std::alloc::Global;
 
 /// What is done with the lines of a text, one after another.
 ///
-/// `longest` is the most bytes that a line may have; a longer one is handed on too, as far as it is kept. Its meaning is two relations. `takes` stands between the old state, a whole line, what the line gave and the new state;
-/// `stops` stands between the old state, a whole line that ended the run, why it did and the new state. `ready` is what it
-/// asks of its type parameters, as `Service` of street_line does.
+/// `longest` is the most bytes that a line may have; a longer one is handed on too, as far as it is kept. The meaning is two
+/// relations. `takes` stands between the old state, a whole line, what the line gave and the new state; `stops` between the
+/// old state, a whole line that ended the run, why it did and the new state. `ready` is what the handler asks of its type
+/// parameters, as that all threads may use its runtime: a function whose bounds say so has it.
 pub trait LineHandler {
     ghost use Rattle.std.specs.Prelude.{List, ℕ};
     ghost use Rattle.street_ends.specs.Handling.{Effect};

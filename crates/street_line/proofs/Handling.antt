@@ -1,5 +1,6 @@
 -- What a service is as a handler of lines.
 use Rattle.std.proofs.Common.{◌≡◌, ◌∙◌, ℕ, ◌+◌, ◌<◌, ◌⊎◌, length, arith, List, [], ◌∷◌, ◌++◌, true, false, Option, if◌then◌else◌, inl, inr, refl, sym, ap}
+use Rattle.std.proofs.lemmas.List.Sums.{sum_by-cons}
 use Rattle.std.specs.List.{count_by}
 use Rattle.street_base.specs.declared.command.Command.{Command}
 use Rattle.street_base.specs.declared.reply.Starved.{Starved as NoMemory}
@@ -48,8 +49,10 @@ module _ {S : Type 0} (serves : S → Command → Served → S → Type 0) where
   calls_same old [] es new h = ap calls_in h.1
   calls_same old (l ∷ ls) es new h =
       ap calls_in h.5
+      ∙ sum_by-cons (λ (e : Effect). (if e.is_call then 1 else 0)) h.1 h.2
       ∙ ap (λ (e : Effect). (if e.is_call then 1 else 0) + calls_in h.2) h.3.2
       ∙ ap (λ n. (if is_call (said l) then 1 else 0) + n) (calls_same h.0 ls h.2 new h.4)
+      ∙ sym (sum_by-cons (λ k. (if is_call (said k) then 1 else 0)) l ls)
 
   replies_same : (old : S) (ls : List (List ℕ)) (es : List Effect) (new : S) → Handles (IsServed serves) old ls es new → replies_in es ≡ count_by (λ l. has_reply (said l)) ls
   replies_same old [] es new h = ap replies_in h.1
@@ -57,8 +60,10 @@ module _ {S : Type 0} (serves : S → Command → Served → S → Type 0) where
       let first = h.3 in
       let one : effect_has_reply h.1 ≡ has_reply (said l) = ap effect_has_reply first.2 ∙ replied (said l) first.0 in
       ap replies_in h.5
+      ∙ sum_by-cons (λ (e : Effect). (if effect_has_reply e then 1 else 0)) h.1 h.2
       ∙ ap (λ b. (if b then 1 else 0) + replies_in h.2) one
       ∙ ap (λ n. (if has_reply (said l) then 1 else 0) + n) (replies_same h.0 ls h.2 new h.4)
+      ∙ sym (sum_by-cons (λ k. (if has_reply (said k) then 1 else 0)) l ls)
 
   tally_same : (old : S) (ls : List (List ℕ)) (es : List Effect) (new : S) (tally : Tally) → Handles (IsServed serves) old ls es new → IsTallyOf tally ls es → IsTally tally ls (output es)
   tally_same old ls es new tally h t =

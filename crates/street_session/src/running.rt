@@ -57,9 +57,11 @@ pub fn run_alone<R: Threads + Wait + Sync, D: Read, W: Write>(
     requires alone { IsAlone session.old }
     requires reader { IsFresh reader.old }
     requires writer { IsFresh writer.old }
-    ensures served { IfOk result (λ tally. ServedWhole (AloneServes session.old.desk.calls) session.old.seen (D.remaining reader.old.end) (W.contents writer.old.end)
+    ensures served { IfOk result (λ tally. ServedWhole (AloneServes session.old.desk.calls)
+        session.old.seen (D.remaining reader.old.end) (W.contents writer.old.end)
         session.new.seen (D.remaining reader.new.end) (W.contents writer.new.end) tally) }
-    ensures broken { IfErr result (λ fault. ServedInPart (AloneServes session.old.desk.calls) session.old.seen (D.remaining reader.old.end) (W.contents writer.old.end)
+    ensures broken { IfErr result (λ fault. ServedInPart (AloneServes session.old.desk.calls)
+        session.old.seen (D.remaining reader.old.end) (W.contents writer.old.end)
         session.new.seen (D.remaining reader.new.end) (W.contents writer.new.end) fault) }
     ensures caused { IfErr result (λ fault. IsCaused fault.kind reader.new writer.new 1000000000) }
     ensures bounded { reader.new.calls ≤ 1000000000 }

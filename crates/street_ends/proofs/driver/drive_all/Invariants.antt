@@ -1,4 +1,4 @@
-use Rattle.std.proofs.Common.{◌≡◌, ◌≤◌, List, ℕ, ◌*◌}
+use Rattle.std.proofs.Common.{◌≡◌, List, ℕ, ◌*◌}
 use Rattle.std.specs.Io.KnownBytes.{Consumes}
 use Rattle.street_ends.specs.Progress.{Feeds, Grows}
 use Rattle.street_ends.proofs.driver.drive_all.Given as goal

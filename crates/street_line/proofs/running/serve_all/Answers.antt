@@ -12,11 +12,11 @@ returns-in-Ok-clause-served g c =
     served_whole g.S.Service.serves _ _ _ _ _ _ _
     (whole_part (λ s. s.service.now) (λ s. s.service.ghost_name) (IsServed g.S.Service.serves) LeavesState c.args.serving.now _ _ c.drive_lines.new.handler _ _ _ c.in-Ok.ensures.whole).1
 
-pub returns-clause-same_reference : goal.returns-clause-same_reference
-returns-clause-same_reference g c =
+pub returns-in-Err-clause-same_reference : goal.returns-in-Err-clause-same_reference
+returns-in-Err-clause-same_reference g c =
     (broke_part (λ s. s.service.now) (λ s. s.service.ghost_name) (IsServed g.S.Service.serves) LeavesState c.args.serving.now _ _ c.drive_lines.new.handler _ _ _ _ c.in-Err.ensures.broken).0
 
-pub returns-clause-broken : goal.returns-clause-broken
-returns-clause-broken g c =
+pub returns-in-Err-clause-broken : goal.returns-in-Err-clause-broken
+returns-in-Err-clause-broken g c =
     rw c.kind_of.ensures (served_in_part g.S.Service.serves _ _ _ _ _ _ _ _
     (broke_part (λ s. s.service.now) (λ s. s.service.ghost_name) (IsServed g.S.Service.serves) LeavesState c.args.serving.now _ _ c.drive_lines.new.handler _ _ _ _ c.in-Err.ensures.broken).1)
