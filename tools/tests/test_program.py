@@ -5,7 +5,6 @@ What is wanted is told by docs/LINES.md, docs/help.txt and examples/ (stored ses
 import json
 import re
 import resource
-import shutil
 import socket
 import subprocess
 import unittest
@@ -326,16 +325,6 @@ class Words(ProgramCase):
     def test_a_word_that_is_no_utf_8(self):
         done = subprocess.run([PROGRAM, b"a\xffz"], input=b"", capture_output=True, timeout=60, cwd=self.folder, check=False)
         self.assertEqual((done.returncode, done.stdout, done.stderr), (2, b"", b"streetsim: bad arguments\na word is not UTF-8\n"))
-
-
-class Script(Case):
-    def test_help_is_told_where_nothing_is_built(self):
-        shutil.copy(TOP / "streetsim", self.folder)
-        shutil.copytree(TOP / "docs", self.folder / "docs")
-        (self.folder / "crates").mkdir()
-        (self.folder / "crates.txt").write_text("")
-        done = subprocess.run([self.folder / "streetsim", "--help"], capture_output=True, text=True, timeout=60, check=False)
-        self.assertEqual((done.returncode, done.stdout, done.stderr), (0, (TOP / "docs/help.txt").read_text(), ""))
 
 
 if __name__ == "__main__":
