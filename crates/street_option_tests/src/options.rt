@@ -74,11 +74,7 @@ fn all_at_once(rt: HostRuntime) -> Result<(), Fail> {
 #[test]
 fn replays(rt: HostRuntime) -> Result<(), Fail> {
     let words = ["--replay", "run.tape", "--workers", "2", "--calls", "1"];
-    check_good(
-        &rt,
-        &words,
-        ((2, 1), (None, Some("run.tape"), None), &[]),
-    )
+    check_good(&rt, &words, ((2, 1), (None, Some("run.tape"), None), &[]))
 }
 
 /// So does an upgrade.
