@@ -55,8 +55,8 @@ class Formulas(unittest.TestCase):
         self.assertEqual(gap_capacity(0), float("inf"))
 
     def test_starts(self):
-        # SUMO lets 21.1 straight on and 16.4 to the right (6.5 m/s) pass in 42 s: all of it is shown of the first, and of
-        # the second some three quarters.
+        # SUMO lets 21.1 straight on and 16.4 to the right (6.5 m/s) pass in 42 s: all of it is shown of the first, and
+        # of the second some three quarters.
         self.assertEqual(hidden_start(42, 13.89, 2), 0)
         self.assertEqual(42 - hidden_start(42, 6.5, 2), green_here((42 - 0.8) / headway(6.5), 2))
         self.assertTrue(30 <= 42 - hidden_start(42, 6.5, 2) <= 34)
@@ -105,15 +105,15 @@ class Lanes(Case):
         """The lanes of the links of edge a, which has so many lanes as are connected."""
         count = 1 + max(lane for lane, _ in connections)
         text = net(
-            [("a", "A", "B", [lane("a", at) for at in range(count)])] + [(one, "B", one, [lane(one, 0)]) for one in edges],
+            [("a", "A", "B", [lane("a", at) for at in range(count)])]
+            + [(one, "B", one, [lane(one, 0)]) for one in edges],
             [("a", source, target, 0, "") for source, target in connections],
         )
         routes = "".join(
             f'<vehicle id="{target}" depart="0"><route edges="a {target}"/></vehicle>' for target in flows
         )
-        network, *_ = convert(
-            self.write("x.net.xml", text), [], [self.write("x.rou.xml", f"<routes>{routes}</routes>")], Options(), Report()
-        )
+        paths = self.write("x.net.xml", text), self.write("x.rou.xml", f"<routes>{routes}</routes>")
+        network, *_ = convert(paths[0], [], [paths[1]], Options(), Report())
         return [link.lanes for link in network.links if link.edge == "a"]
 
     def test_lanes_that_lead_apart_are_links_of_their_own(self):
