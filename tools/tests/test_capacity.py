@@ -133,6 +133,18 @@ class Lanes(Case):
         self.assertEqual(self.links(four, "bcd", "bcd"), [(0,), (1, 2), (3,)])
         self.assertEqual(self.links([(at, "b") for at in range(5)], "b", "b"), [(0, 1), (2, 3), (4,)])
 
+    def test_turn_lanes_are_joined_where_links_would_be_too_many(self):
+        # 1,365 edges with two lanes that lead apart, to two edges each: 4,095 edges, and 5,460 links with turn lanes.
+        edges, turns = [], []
+        for at in range(1365):
+            edges.append((f"a{at}", "A", f"B{at}", [lane(f"a{at}", 0), lane(f"a{at}", 1)]))
+            edges += [(f"{to}{at}", f"B{at}", "C", [lane(f"{to}{at}", 0)]) for to in "bc"]
+            turns += [(f"a{at}", index, f"{to}{at}", 0, "") for index, to in enumerate("bc")]
+        report = Report()
+        network, *_ = convert(self.write("x.net.xml", net(edges, turns)), [], [], Options(), report)
+        self.assertEqual((len(network.links), list(network.over_limits())), (4095, []))
+        self.assertIn("turn lanes are joined with the lanes beside them", report.warnings[0])
+
 
 if __name__ == "__main__":
     unittest.main()
