@@ -1,5 +1,5 @@
 #!/usr/bin/python3
-"""Prints how many vehicles leave in each green of a lone cross, in SUMO and here; the cases are those of the tools' tests.
+"""Prints how many vehicles leave in each green of a lone cross, in SUMO and here; the cases are those of the tests.
 
 Usage: bench/cross.py PROGRAM --work FOLDER [--seeds 1-3] [--only WORD] [--import "WORDS"]
 
@@ -32,8 +32,8 @@ def run(words, folder):
 def in_sumo(net, routes, folder):
     trips = folder / f"{routes.stem}.trips.xml"
     if not trips.exists():
-        words = ["sumo", "-n", net, "-r", routes, "--end", LAST, "--no-step-log", "--no-warnings", "--time-to-teleport", -1]
-        run([*words, "--tripinfo-output", trips], folder)
+        words = ["sumo", "-n", net, "-r", routes, "--end", LAST, "--no-step-log", "--no-warnings"]
+        run([*words, "--time-to-teleport", -1, "--tripinfo-output", trips], folder)
     return a_green(read_tripinfo(str(trips)))
 
 

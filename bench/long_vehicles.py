@@ -3,8 +3,8 @@
 
 Usage: bench/long_vehicles.py PROGRAM --work FOLDER
 
-Two cases: one approach of one lane that is always full, green 42 s of 90, vehicles that pass in 900 s; and the sample grid
-with 15 % of its vehicles 18 m long. It needs Debian's sumo.
+Two cases: one approach of one lane that is always full, green 42 s of 90, vehicles that pass in 900 s; and the sample
+grid with 15 % of its vehicles 18 m long. It needs Debian's sumo.
 """
 
 import argparse
@@ -64,7 +64,8 @@ def sumo(folder, net, routes, more, end, freq):
 
 
 def here(folder, net, routes, more, end, freq, program):
-    run([TOP / "tools/streetsim-import", net, *more, "--routes", routes, "-o", "x.jsonl", "--map", "x.map.json"], folder)
+    words = [net, *more, "--routes", routes, "-o", "x.jsonl", "--map", "x.map.json"]
+    run([TOP / "tools/streetsim-import", *words], folder)
     words = ["x.jsonl", "--map", "x.map.json", "--until", end, "--every", 600, "--period", freq, "--out", "out"]
     run([TOP / "tools/streetsim-run", *words, "--rescue", 0, "--program", program], folder)
     return read_folder(str(folder / "out"))

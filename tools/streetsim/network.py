@@ -67,10 +67,10 @@ class Network:
         self.places = [net.junctions[name] for name in self.nodes]
         self.links, self.links_of, self.place_of = [], {}, {}
         following, waiting = next_edges(net, flows)
+        bundles = bundles_of(edges, following, waiting, report)
         for edge in edges:
-            bundles = parallel(edge, following, waiting)
-            self.links_of[edge.name] = list(range(len(self.links), len(self.links) + len(bundles)))
-            for lanes in bundles:
+            self.links_of[edge.name] = list(range(len(self.links), len(self.links) + len(bundles[edge.name])))
+            for lanes in bundles[edge.name]:
                 self.place_of.update({(edge.name, lane.index): (len(self.links), at) for at, lane in enumerate(lanes)})
                 self.links.append(link_of(edge, lanes, number, options))
         self.turns = {}  # (link, lane, next link): Turn
@@ -258,6 +258,15 @@ def may_wait(connection, net):
     return bool(yields) and not shown.isdisjoint("go")
 
 
+def bundles_of(edges, following, waiting, report):
+    """The lanes of each edge by its links. Turn lanes are no links of their own where there would be too many."""
+    bundles = {edge.name: parallel(edge, following, waiting) for edge in edges}
+    if sum(map(len, bundles.values())) <= limits.LINKS:
+        return bundles
+    report.warn(f"turn lanes are joined with the lanes beside them, as there may be {limits.LINKS:,} links at most")
+    return {edge.name: parallel(edge, following, None) for edge in edges}
+
+
 def parallel(edge, following, waiting):
     """The lanes of an edge in groups of one and two, from the right: as few groups as there may be, and of these the
     ones whose lanes share most next edges."""
@@ -276,8 +285,8 @@ def parallel(edge, following, waiting):
 
 def may_share(right, left, following, waiting):
     """Whether two lanes side by side may be one link: not where they lead to different edges, and not where one of them
-    has vehicles that wait for a gap and the other has not."""
-    if not following[right] or not following[left]:
+    has vehicles that wait for a gap and the other has not, if it is told where vehicles wait."""
+    if waiting is None or not following[right] or not following[left]:
         return True
     return bool(following[right] & following[left]) and waiting[right] == waiting[left]
 

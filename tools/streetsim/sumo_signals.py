@@ -8,7 +8,7 @@ from .report import some
 from .yielding import GREEN, PERMISSIVE, hidden_start, movements_of, places, runs_of, settle
 
 DEFAULT_SHARE = 0.7  # of a permissive green that is shown, where nothing is known of who gives way
-GRAINS = (1, 2, 3, 5, 8, 12, 20)  # seconds to which what is shown of a green is rounded: the first that gives few phases
+GRAINS = (1, 2, 3, 5, 8, 12, 20)  # seconds to which greens are rounded: the first that gives few phases
 
 
 def movements(net, network, flows, report):
@@ -118,11 +118,12 @@ def check_states(light, states, turns):
 
 def by_gaps(found):
     """For each index of a light's state the seconds of each permissive green that are shown and their parts, {index:
-    {first second: (seconds, parts)}}, by what was found of who gives way; of connections that share an index the most."""
+    {first second: (seconds, parts)}}, by what was found of who gives way; of those that share an index the most."""
     told = defaultdict(dict)
     for movement in found.values():
         own = told[movement.index]
-        own.update({start: max((seconds, movement.parts), own.get(start, (0, 1))) for start, seconds in movement.shown.items()})
+        for start, seconds in movement.shown.items():
+            own[start] = max((seconds, movement.parts), own.get(start, (0, 1)))
     return told
 
 

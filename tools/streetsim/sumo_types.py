@@ -39,7 +39,8 @@ class Types:
 
     def __init__(self, seed, report):
         self.report = report
-        self.metres = {DEFAULT: sum(USUAL), "DEFAULT_TAXITYPE": sum(USUAL), "DEFAULT_BIKETYPE": sum(BY_CLASS["bicycle"])}
+        self.metres = {DEFAULT: sum(USUAL), "DEFAULT_TAXITYPE": sum(USUAL)}
+        self.metres["DEFAULT_BIKETYPE"] = sum(BY_CLASS["bicycle"])
         self.mixes = {}  # distribution: types and their weights
         self.draws = random.Random(f"types {seed}")
         self.unknown = set()
@@ -114,8 +115,8 @@ class Sizes:
             report.warn(f"vehicle types that no file tells are taken for cars: {some(sorted(self.types.unknown))}")
         if self.too_long:
             report.warn(
-                f"{self.too_long.total()} vehicles are longer than {limits.SIZE} cells of {limits.CELL_METRES} m and take "
-                f"{limits.SIZE}: types {some(sorted(self.too_long))}"
+                f"{self.too_long.total()} vehicles are longer than {limits.SIZE} cells of {limits.CELL_METRES} m and "
+                f"take {limits.SIZE}: types {some(sorted(self.too_long))}"
             )
         if set(self.count) - {1}:
             sizes = ", ".join(f"{count:,} of {size}" for size, count in sorted(self.count.items()))

@@ -1,9 +1,9 @@
 """Who gives way at signals: how much of a permissive green is shown, and how much later a green begins here, so that as
 many vehicles pass as in SUMO.
 
-Gaps are found as in the Highway Capacity Manual (2010, signalized intersections: permitted left turns), with its critical
-headway of 4.5 s and its follow-up headway of 2.5 s; the other values were measured in SUMO and here at a lone cross, under
-a queue that does not end. The seconds of a cycle are bits of a number, second 0 the lowest.
+Gaps are found as in the Highway Capacity Manual (2010, signalized intersections: permitted left turns), with its
+critical headway of 4.5 s and its follow-up headway of 2.5 s; the other values were measured in SUMO and here at a lone
+cross, under a queue that does not end. The seconds of a cycle are bits of a number, second 0 the lowest.
 """
 import math
 from collections import Counter, defaultdict
@@ -170,8 +170,8 @@ def pass_through(sharing):
 
 
 def seconds_shown(movement, start, length):
-    """The seconds of a permissive green in which as many leave a queue as find a gap in all of it: the mean of cycles with
-    less and with more traffic than usual."""
+    """The seconds of a permissive green in which as many leave a queue as find a gap in all of it: the mean of cycles
+    with less and with more traffic than usual."""
     vehicles, usual = 0.0, sum(foe.passing for foe in movement.foes) * movement.cycle / 3600
     for weight, deviations in SPREAD:
         factor = max(0.0, 1 + deviations / max(1.0, usual) ** 0.5)
@@ -180,8 +180,8 @@ def seconds_shown(movement, start, length):
 
 
 def places(length, seconds, parts):
-    """Where so many seconds of a permissive green are shown, as (begin, end): at its end, for those that are given way to
-    go first; or in two parts with equal waits before them, so that a vehicle that waits holds its lane up for less long."""
+    """Where so many seconds of a permissive green are shown, as (begin, end): at its end, for those that are given way
+    to go first; or in parts with equal waits before them, so that a vehicle that waits holds its lane up for less long."""
     parts = parts if 2 * parts <= seconds <= 0.9 * length else 1
     wait, shown = (length - seconds) / parts, seconds / parts
     return [(round((at + 1) * wait + at * shown), round((at + 1) * (wait + shown))) for at in range(parts)]
@@ -239,8 +239,8 @@ def hidden_start(length, speed, limit):
 
 
 def equivalents(movements):
-    """In how many places a vehicle counts on its lane that waits for a gap, {(edge, next edge): vehicles}: as many others
-    could pass in the whole of its green for each that passes."""
+    """In how many places a vehicle counts on its lane that waits for a gap, {(edge, next edge): vehicles}: as many
+    others could pass in the whole of its green for each that passes."""
     found = {}
     for movement in movements:
         if movement.runs and movement.foes:

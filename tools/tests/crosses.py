@@ -1,8 +1,8 @@
 """A lone cross under more vehicles than can pass: how many leave in each green, in SUMO and here.
 
-The networks in data/cross*.net.xml.gz were made by netconvert 1.15 from four arms of 500 m at 50 km/h with the light's cycle
-at 90 s: 42 s of green and 3 s of yellow for each street, left turns against oncoming traffic. In cross1 each arm has one lane;
-in cross2 two, the left of which leads to the left alone; in cross3 also, and of 42 s the last 9 are an arrow for it.
+The networks in data/cross*.net.xml.gz were made by netconvert 1.15 from four arms of 500 m at 50 km/h with the light's
+cycle at 90 s: 42 s of green and 3 s of yellow for each street, left turns against oncoming traffic. In cross1 each arm
+has one lane; in cross2 two, the left of which leads to the left alone; in cross3 also, with an arrow of 9 s for it.
 """
 import random
 from collections import Counter
@@ -38,19 +38,21 @@ def demand(flows, seed=1):
         clock = 0.0
         while hourly and (clock := clock + draws.expovariate(hourly / 3600)) < LAST:
             found.append((clock, f"{arm}c c{target(arm, way)}", f"{arm}.{way}.{len(found)}"))
+    usual = 'departLane="best" departSpeed="max"'
     lines = [
-        f'<vehicle id="{name}" depart="{clock:.1f}" departLane="best" departSpeed="max"><route edges="{edges}"/></vehicle>'
+        f'<vehicle id="{name}" depart="{clock:.1f}" {usual}><route edges="{edges}"/></vehicle>'
         for clock, edges, name in sorted(found)
     ]
     return f"<routes>{''.join(lines)}</routes>"
 
 
 def target(arm, way):
-    """The arm to which a way leads: arms clockwise are n, e, s, w, and who comes from the west goes left to the north."""
+    """The arm to which a way leads: clockwise n, e, s, w, and who comes from the west goes left to the north."""
     return "nesw"[("nesw".index(arm) + {"left": 1, "straight": 2, "right": 3}[way]) % 4]
 
 
 def a_green(trips):
     """Vehicles a green by way, of those from the west, by {name: (departure, arrival)}."""
-    passed = Counter(name.split(".")[1] for name, (_, arrival) in trips.items() if name[0] == "w" and FIRST <= arrival < LAST)
+    own = [name for name, (_, arrival) in trips.items() if name[0] == "w" and FIRST <= arrival < LAST]
+    passed = Counter(name.split(".")[1] for name in own)
     return {way: count / (LAST - FIRST) * CYCLE for way, count in passed.items()}

@@ -55,8 +55,8 @@ class Formulas(unittest.TestCase):
         self.assertEqual(gap_capacity(0), float("inf"))
 
     def test_starts(self):
-        # SUMO lets 21.1 straight on and 16.4 to the right (6.5 m/s) pass in 42 s: all of it is shown of the first, and of
-        # the second some three quarters.
+        # SUMO lets 21.1 straight on and 16.4 to the right (6.5 m/s) pass in 42 s: all of it is shown of the first, and
+        # of the second some three quarters.
         self.assertEqual(hidden_start(42, 13.89, 2), 0)
         self.assertEqual(42 - hidden_start(42, 6.5, 2), green_here((42 - 0.8) / headway(6.5), 2))
         self.assertTrue(30 <= 42 - hidden_start(42, 6.5, 2) <= 34)
@@ -105,15 +105,15 @@ class Lanes(Case):
         """The lanes of the links of edge a, which has so many lanes as are connected."""
         count = 1 + max(lane for lane, _ in connections)
         text = net(
-            [("a", "A", "B", [lane("a", at) for at in range(count)])] + [(one, "B", one, [lane(one, 0)]) for one in edges],
+            [("a", "A", "B", [lane("a", at) for at in range(count)])]
+            + [(one, "B", one, [lane(one, 0)]) for one in edges],
             [("a", source, target, 0, "") for source, target in connections],
         )
         routes = "".join(
             f'<vehicle id="{target}" depart="0"><route edges="a {target}"/></vehicle>' for target in flows
         )
-        network, *_ = convert(
-            self.write("x.net.xml", text), [], [self.write("x.rou.xml", f"<routes>{routes}</routes>")], Options(), Report()
-        )
+        paths = self.write("x.net.xml", text), self.write("x.rou.xml", f"<routes>{routes}</routes>")
+        network, *_ = convert(paths[0], [], [paths[1]], Options(), Report())
         return [link.lanes for link in network.links if link.edge == "a"]
 
     def test_lanes_that_lead_apart_are_links_of_their_own(self):
@@ -132,6 +132,18 @@ class Lanes(Case):
         four = [(0, "b"), (1, "c"), (2, "c"), (3, "d")]
         self.assertEqual(self.links(four, "bcd", "bcd"), [(0,), (1, 2), (3,)])
         self.assertEqual(self.links([(at, "b") for at in range(5)], "b", "b"), [(0, 1), (2, 3), (4,)])
+
+    def test_turn_lanes_are_joined_where_links_would_be_too_many(self):
+        # 1,365 edges with two lanes that lead apart, to two edges each: 4,095 edges, and 5,460 links with turn lanes.
+        edges, turns = [], []
+        for at in range(1365):
+            edges.append((f"a{at}", "A", f"B{at}", [lane(f"a{at}", 0), lane(f"a{at}", 1)]))
+            edges += [(f"{to}{at}", f"B{at}", "C", [lane(f"{to}{at}", 0)]) for to in "bc"]
+            turns += [(f"a{at}", index, f"{to}{at}", 0, "") for index, to in enumerate("bc")]
+        report = Report()
+        network, *_ = convert(self.write("x.net.xml", net(edges, turns)), [], [], Options(), report)
+        self.assertEqual((len(network.links), list(network.over_limits())), (4095, []))
+        self.assertIn("turn lanes are joined with the lanes beside them", report.warnings[0])
 
 
 if __name__ == "__main__":

@@ -100,6 +100,20 @@ class Samples(Case):
             counts=False,
         )
 
+    @unittest.skipUnless(SCENARIOS.exists(), "Debian's sumo-tools is not installed")
+    def test_turn_lanes_keep_their_capacity(self):
+        """Two junctions, each with an approach over its capacity. SUMO's mean trips (three seeds) are 215 and 463 s; with
+        the lane of the left turns open to the straight stream the second is 184 s here."""
+        for number, mean in ((2, 215), (3, 463)):
+            folder, out = SCENARIOS / f"RiLSA_example{number}", self.folder / str(number)
+            run, mapped = self.folder / "run.jsonl", self.folder / "map.json"
+            more = folder / "vtypes.add.xml", folder / f"rilsa{number}_tls.add.xml"
+            words = [folder / f"rilsa{number}.net.xml", *more, "--routes", folder / "genroutes.rou.xml"]
+            self.tool("import", *words, "-o", run, "--map", mapped, "--strict")
+            self.tool("run", run, "--map", mapped, "--until", 9000, "--every", 600, "--out", out, "--program", PROGRAM)
+            trips = trips_of(read_folder(out)).values()
+            self.assertAlmostEqual(sum(arrival - depart for depart, arrival in trips) / len(trips) / mean, 1, delta=0.15)
+
 
 if __name__ == "__main__":
     unittest.main()

@@ -1,5 +1,5 @@
-"""Vehicles of 1 to 4 cells: the sizes that an import gives, and what the tools say and draw of long vehicles. Lengths and
-gaps of classes are SUMO 1.15's defaults."""
+"""Vehicles of 1 to 4 cells: the sizes that an import gives, and what the tools say and draw of long vehicles. Lengths
+and gaps of classes are SUMO 1.15's defaults."""
 import gzip
 import json
 import unittest
@@ -106,8 +106,8 @@ class Import(Case):
 @needs_simulator
 class InPython(Case):
     def test_client(self):
-        # A vehicle of three cells goes to cell 6 in four steps from standing (1, 3, 6 after the first, limit 5); the one
-        # behind it enters when its rear has left cell 0.
+        # A vehicle of three cells goes to cell 6 in four steps from standing (1, 3, 6 after the first, limit 5); the
+        # one behind it enters when its rear has left cell 0.
         with Client(PROGRAM) as sim:
             sim.load(**STREET)
             self.assertEqual([sim.enter([10], size=3), sim.enter([10])], [0, 1])
@@ -166,8 +166,9 @@ class Standing(unittest.TestCase):
 class Shown(Given):
     def setUp(self):
         super().setUp()
+        places = ((1, 4), (2, 6))
         self.write_polls(
-            [{"clock": clock, "lanes": [[0, 0, [[0, cell, 1, 3], [1, 0, 0]], [], []]]} for clock, cell in ((1, 4), (2, 6))]
+            [{"clock": clock, "lanes": [[0, 0, [[0, cell, 1, 3], [1, 0, 0]], [], []]]} for clock, cell in places]
         )
 
     def test_corridor(self):
@@ -189,8 +190,9 @@ class Played(Given):
     @unittest.skipUnless(CHROMIUM, "Debian's chromium is not installed")
     def test_covered_cells(self):
         # Three cells and one; at clock 2 the rear of the long one is at the begin of the lane: two cells and one.
+        places = ((1, 4), (2, 1))
         self.write_polls(
-            [{"clock": clock, "lanes": [[0, 0, [[0, cell, 1, 3], [1, 9, 0]], [], []]]} for clock, cell in ((1, 4), (2, 1))]
+            [{"clock": clock, "lanes": [[0, 0, [[0, cell, 1, 3], [1, 9, 0]], [], []]]} for clock, cell in places]
         )
         page = self.page()
         self.assertEqual([self.shown(page, clock)["covered"] for clock in (1, 2)], [4, 3])
