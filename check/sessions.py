@@ -36,13 +36,16 @@ BATCH = 100
 
 @dataclass
 class Difference:
-    """What differs in a session: who said it, to which line, and what the definitions say."""
+    """What differs in a session: the words of the command line, and those of a second run if it is that one's; to which line; what is wanted."""
 
     lines: list
     words: list
-    line: int
+    then: list
+    line: bytes
     wanted: bytes
     got: bytes
+    # The tape that the second run reads, where it was changed.
+    tape: list
 
 
 class Comparison:
@@ -55,50 +58,53 @@ class Comparison:
         """The first difference in a session that has places for so many calls, or none."""
         served = self.definitions.serve(lines, most)
         text = b"".join(line + b"\n" for line in lines)
+        places = [] if most == MOST_CALLS else ["--calls", str(most)]
         with tempfile.TemporaryDirectory() as folder:
             tape = Path(folder) / "tape"
+            writes = ["--tape", tape] if self.can_be_taped(served.calls) else []
             for workers in WORKERS:
-                words = ["--workers", str(workers), "--calls", str(most), "--tape", str(tape)]
-                found = self.first(lines, words, served.replies, self.run(words, text))
+                words = ["--workers", str(workers), *places]
+                found = first_difference(lines, served.replies, self.run([*words, *writes], text))
                 if found:
-                    return found
-            return self.of_tape(lines, served, tape) or self.of_replay(lines, served, tape)
+                    return Difference(lines, words, [], *found, [])
+            found = writes and (self.of_tape(served, tape) or self.of_replay(served, tape) or self.of_changed_tape(lines, tape))
+        return Difference(lines, [*places, "--tape", "FILE"], *found) if found else None
+
+    def can_be_taped(self, calls):
+        """Whether a tape tells all of these calls: one of version 1 has no sizes."""
+        sized = any(call.v_command.name == "Command.Enter" and call.v_command.parts[3] != 1 for call in calls)
+        return not (sized and self.definitions.tape([]).startswith(b'{"tape":1}'))
 
     def run(self, words, text=b""):
-        """What the program writes; its status stands behind it where that is not 0."""
+        """The lines that the program writes; its status and what it says of it stand behind them where the status is not 0."""
         done = subprocess.run([self.program, *words], input=text, capture_output=True, timeout=60, check=False)
         ended = b"" if done.returncode == 0 else b"status %d: %s\n" % (done.returncode, done.stderr.strip())
         return (done.stdout + ended).split(b"\n")
 
-    def first(self, lines, words, wanted, got):
-        """The first reply that differs; a blank line has none."""
-        got = iter(got)
-        for at, reply in enumerate(wanted):
-            if reply is not None:
-                told = next(got, b"(nothing)")
-                if told != reply:
-                    return Difference(lines, words, at, reply, told)
-        rest = b"\n".join(got)
-        return Difference(lines, words, len(lines), b"(nothing)", rest) if rest else None
-
-    def of_tape(self, lines, served, tape):
+    def of_tape(self, served, tape):
         """Whether the tape is that of the calls, and reads as these calls."""
         entries = self.definitions.tape(served.calls).split(b"\n")[:-1]
         if self.definitions.calls_of_tape(entries) != served.calls:
-            return Difference(lines, ["the tape read back, by the definitions alone"], 0, b"these calls", b"others")
-        return self.first(entries, ["--tape", "FILE"], entries, tape.read_bytes().split(b"\n"))
+            return ["(the definitions read their own tape)"], b"all lines", b"the calls", b"other calls", []
+        found = first_difference(entries, entries, tape.read_bytes().split(b"\n"))
+        return found and (["(the tape itself)"], *found, [])
 
-    def of_replay(self, lines, served, tape):
-        """Whether the tape is replayed to the replies of its calls and a count; a quarter of the tapes also with changes made at random."""
-        words = ["--workers", "3", "--replay", str(tape)]
-        found = self.first(lines, words, [*served.answers, self.definitions.count(served.state)], self.run(words))
-        if found or len(lines) % 4:
-            return found
+    def of_replay(self, served, tape):
+        """Whether the tape is replayed to the replies of its calls and a count."""
+        words = ["--workers", "3", "--replay"]
+        entries = tape.read_bytes().split(b"\n")[1:]
+        found = first_difference(entries, [*served.answers, self.definitions.count(served.state)], self.run([*words, tape]))
+        return found and ([*words, "FILE"], *found, [])
+
+    def of_changed_tape(self, lines, tape):
+        """Of a quarter of the sessions: whether the tape with changes made at random is replayed as defined, or refused at its bad line."""
+        if len(lines) % 4:
+            return None
         entries = tape.read_bytes().split(b"\n")[:-1]
         changed = changed_tape(random.Random(len(entries)), entries)
         tape.write_bytes(b"".join(line + b"\n" for line in changed))
-        words = ["--replay", "FILE"]
-        return self.first(changed, words, Replay(self.definitions).output(changed), self.run(["--replay", str(tape)]))
+        found = first_difference(changed[1:], Replay(self.definitions).output(changed), self.run(["--replay", tape]))
+        return found and (["--replay", "FILE"], *found, changed)
 
     # ---- making it small
 
@@ -112,6 +118,18 @@ class Comparison:
             tried.add(tuple(lines))
             best = self.difference(lines, most) or best
         return best
+
+
+def first_difference(lines, wanted, got):
+    """The first line whose reply differs, what is wanted and what it got, or none; a blank line has no reply."""
+    got = iter(got)
+    for at, reply in enumerate(wanted):
+        if reply is not None:
+            told = next(got, b"(nothing)")
+            if told != reply:
+                return lines[at] if at < len(lines) else b"the end", reply, told
+    rest = b"\n".join(got)
+    return (b"the end", b"(nothing)", rest) if rest else None
 
 
 def shorter(lines):
@@ -140,14 +158,19 @@ def shorter_lists(line):
 
 def shown(difference):
     """A difference as lines to paste, with both replies."""
-    lines = [line.decode(errors="backslashreplace")[:20000] for line in difference.lines]
-    told = "all lines" if difference.line >= len(lines) else lines[difference.line][:400]
-    return "\n".join([
-        f"./streetsim {shlex.join(difference.words)} <<'END'", *lines, "END",
-        f"to line {difference.line + 1}:       {told}",
-        f"the definitions: {difference.wanted.decode(errors='backslashreplace')}",
-        f"the program:     {difference.got.decode(errors='backslashreplace')}",
-    ])
+    parts = [f"./streetsim {shlex.join(difference.words)} <<'END'", *difference.lines, "END"]
+    if difference.tape:
+        parts += ["cat >FILE <<'END'", *difference.tape, "END"]
+    if difference.then:
+        parts.append(f"./streetsim {' '.join(difference.then)}" if difference.then[0][0] == "-" else difference.then[0])
+    parts += ["to the line:     " + plain(difference.line), "the definitions: " + plain(difference.wanted), "the program:     " + plain(difference.got)]
+    return "\n".join(map(plain, parts))
+
+
+def plain(line):
+    """A line as text; what is no UTF-8 is shown by its bytes, and of a very long line the beginning."""
+    text = line if isinstance(line, str) else line.decode(errors="backslashreplace")
+    return text if len(text) <= 20000 else text[:200] + f".. ({len(text)} characters)"
 
 
 # ---- many sessions, on all processors

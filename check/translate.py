@@ -276,6 +276,9 @@ class Translator:
         return f"[{', '.join(codes)}]"
 
     def record(self, base, fields):
+        names = [name for name, _ in fields]
+        if len(names) > len(set(names)):
+            raise Refused(f"{self.title}: a record with one field twice: {' '.join(names)}")
         body = "{" + ", ".join(f"{f'v_{name}'!r}: {self.code(tree)}" for name, tree in fields) + "}"
         return f"{self.code(base)}.updated({body})" if base else f"Record({body})"
 

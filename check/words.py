@@ -18,6 +18,8 @@ class Variant:
         self.name, self.parts = name, parts
 
     def __call__(self, part):
+        if self is NONE:
+            raise TypeError("None holds nothing")
         return Variant(self.name, (*self.parts, part))
 
     def __eq__(self, other):
