@@ -2,6 +2,7 @@
 import os
 import subprocess
 import threading
+from concurrent.futures import ThreadPoolExecutor
 
 from support import PROGRAM, Case, needs_simulator
 
@@ -41,7 +42,9 @@ class Scripts(Case):
         watch = threading.Timer(SECONDS, stop)
         watch.start()
         self.addCleanup(watch.cancel)
-        ends = [open(pipe, "w") for pipe in pipes]
+        # The program opens them in an order of its own.
+        with ThreadPoolExecutor(len(pipes)) as pool:
+            ends = list(pool.map(lambda pipe: open(pipe, "w"), pipes))
         for end in (ends[first], ends[1 - first]):
             end.write("\n" * 200_000 + COUNT)
             end.close()
