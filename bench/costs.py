@@ -116,8 +116,8 @@ def table(functions, tests, sums):
         edits = len(list((TOP / "crates" / crate / "must-fail").glob("*.edit")))
         numbers = [lines_of(crate, ".rt"), lines_of(crate, ".antt"), functions.get(crate, 0), tests.get(crate, 0), edits]
         rows.append((crate, *numbers, *(round(sums[crate, kind]) for kind in KINDS)))
-    rows.append(("all", *(sum(row[at] for row in rows) for at in range(1, 6 + len(KINDS)))))
-    return ["| " + " | ".join([f"`{row[0]}`", *(f"{number:,}" if number else "" for number in row[1:])]) + " |" for row in rows]
+    rows.append(("all crates", *(sum(row[at] for row in rows) for at in range(1, 6 + len(KINDS)))))
+    return ["| " + " | ".join([row[0], *(f"{number:,}" if number else "" for number in row[1:])]) + " |" for row in rows]
 
 
 def processor():
@@ -135,9 +135,11 @@ def write(output, watch, minutes):
     kit = subprocess.run(["rt", "version"], capture_output=True, text=True, check=False).stdout.strip()
     text = f"""# What the gate costs
 
-Written by [bench/costs.py](../bench/costs.py) from a run of `./test` that passed, on {processor()}, with {kit or "an unknown kit"}: {minutes:.0f} minutes by the clock,
-{sum(sums.values()) / 60:.0f} processor minutes of checks. Lines are those of `.rt` and `.antt` files; functions, tests and edits are those that were proved, passed and refused; the last four columns
-are processor seconds: of the proof, of the proof with its tests, of all edits, and of compiling programs. A crate is proved once more for its tests and once more under its edits.
+Written by [bench/costs.py](../bench/costs.py) from a run of `./test` that passed: {minutes:.0f} minutes by the clock and {sum(sums.values()) / 60:.0f} processor minutes of checks,
+on {processor()}, with {kit or "an unknown kit"}.
+
+Lines are those of `.rt` and of `.antt` files. Functions were proved, tests passed, edits were refused. The last four columns are processor seconds: of the
+proof, of the proof with its tests, of all edits, and of compiling programs. A crate is proved once more for its tests, and once more under its edits.
 
 | Crate | Code lines | Definition and proof lines | Functions | Tests | Edits | Proof, s | Tests, s | Edits, s | Compiling, s |
 |---|---|---|---|---|---|---|---|---|---|

@@ -1,7 +1,7 @@
 #!/usr/bin/python3
 """Prints how many vehicles leave in each green of a lone cross, in SUMO and here; the cases are those of the tools' tests.
 
-Usage: bench/cross.py PROGRAM --work FOLDER [--seeds 1-3] [--import "WORDS"]
+Usage: bench/cross.py PROGRAM --work FOLDER [--seeds 1-3] [--only WORD] [--import "WORDS"]
 
 Means over demands of several seeds. It needs Debian's sumo, and keeps what SUMO wrote in FOLDER.
 """
@@ -50,13 +50,14 @@ def main():
     parser.add_argument("program")
     parser.add_argument("--work", required=True)
     parser.add_argument("--seeds", default="1-3")
+    parser.add_argument("--only", default="", help="a word of the names of cases")
     parser.add_argument("--import", dest="words", default="", help="more words for the import")
     args = parser.parse_args()
     args.program, folder = str(Path(args.program).resolve()), Path(args.work).resolve()
     folder.mkdir(parents=True, exist_ok=True)
     first, _, last = args.seeds.partition("-")
     print("| Vehicles from the west | SUMO | here |\n|---|---|---|")
-    for name, network, flows in cases():
+    for name, network, flows in (one for one in cases() if args.only in one[0]):
         net = TOP / f"tools/tests/data/{network}.net.xml.gz"
         pairs = []
         for seed in range(int(first), int(last or first) + 1):

@@ -3,12 +3,13 @@
 
     check/definitions.py rows             evaluates every worked row; the status is 0 if all are true
     check/definitions.py serve < LINES    serves a session from nothing loaded, as the program does
-    check/definitions.py words            lists the words that the two stand on, file by file
+    check/definitions.py words            lists which words of which files are evaluated, and which are not
 
 `--top FOLDER` names another repository, or a copy of its folder `crates`. What is not understood is refused by file and line.
 """
 import argparse
 import sys
+from dataclasses import dataclass
 from pathlib import Path
 
 from antt import Parser, Refused, clause_parts
@@ -33,6 +34,16 @@ def without_end(line):
     return bytes(line[:-1])
 
 
+@dataclass
+class Served:
+    """The reply to each line of a session, none for a blank one; the calls that were made, the reply to each, and the state that they leave."""
+
+    replies: list
+    calls: list
+    answers: list
+    state: object
+
+
 class Definitions:
     """The definitions of a repository."""
 
@@ -45,27 +56,24 @@ class Definitions:
     # ---- sessions
 
     def serve(self, lines, most=65536):
-        """The reply to each line, none for a blank one, and the calls that were made; lines and replies are bytes without line ends.
-
-        A command after `most` calls has no place.
-        """
+        """What a session gives from nothing loaded; a command after `most` calls has no place."""
         said, served_line = self.word(RUNNING, "said"), self.word(RUNNING, "served_line")
         fault_line, entry = self.word("street_text.specs.FaultLines", "fault_line"), self.word("street_desk.specs.History", "entry")
-        state, replies, calls = NONE, [], []
+        served = Served([], [], [], NONE)
         for line in lines:
             what = said(list(line))
             if what.name == "silent":
-                replies.append(None)
+                served.replies.append(None)
             elif what.name == "faulty":
-                replies.append(without_end(fault_line(what.parts[0]).parts[0]))
-            elif len(calls) == most:
-                replies.append(without_end(served_line(Variant("Served.Full"))))
+                served.replies.append(without_end(fault_line(what.parts[0]).parts[0]))
+            elif len(served.calls) == most:
+                served.replies.append(without_end(served_line(Variant("Served.Full"))))
             else:
-                command = what.parts[0]
-                reply, state = self.call(state, command)
-                replies.append(without_end(served_line(Variant("Served.Answered", (reply,)))))
-                calls.append(entry(0, command, WHOLE))
-        return replies, calls
+                reply, served.state = self.call(served.state, what.parts[0])
+                served.answers.append(without_end(served_line(Variant("Served.Answered", (reply,)))))
+                served.replies.append(served.answers[-1])
+                served.calls.append(entry(0, what.parts[0], WHOLE))
+        return served
 
     def call(self, state, command):
         """The reply to a command, and the state after it."""
@@ -90,11 +98,14 @@ class Definitions:
         return None if found is NONE else found.parts[0]
 
     def replay(self, calls):
-        """The replies to these calls from nothing loaded, and then to a count."""
-        counted = [*calls, self.word("street_desk.specs.History", "entry")(0, Variant("Command.Count"), WHOLE)]
-        replies = self.word("street_desk.specs.History", "answers_of")(counted)
+        """The replies to these calls from nothing loaded."""
+        answers = self.word("street_desk.specs.History", "answers_of")(calls)
         self.program.forget()
-        return [without_end(self.word("street_printing.specs.Printing", "reply_line")(reply)) for reply, _ in replies]
+        return [without_end(self.word("street_printing.specs.Printing", "reply_line")(reply)) for reply, _ in answers]
+
+    def count(self, state):
+        """The reply to a count, with which a replay ends."""
+        return without_end(self.word("street_printing.specs.Printing", "reply_line")(self.call(state, Variant("Command.Count"))[0]))
 
     # ---- rows
 
@@ -173,10 +184,24 @@ def show_rows(definitions):
     return 1 if bad or not count else 0
 
 
+def show_words(definitions):
+    """Lists, file by file, how many words the rows and a session stand on, and which others are not evaluated."""
+    for path, _, statement in definitions.rows():
+        definitions.row_fault(path, statement)
+    definitions.tape(definitions.serve([b'{"cmd":"count"}', b"count"]).calls)
+    definitions.calls_of_tape([])
+    evaluated = definitions.program.functions
+    for path, source in sorted(definitions.program.sources.items()):
+        others = [name for name in [*source.definitions, *source.records] if (path, name) not in evaluated]
+        count = len(source.definitions) + len(source.records) - len(others)
+        print(f"{source.title}: {count} evaluated" + (f"; not: {' '.join(others)}" if others else ""))
+    return 0
+
+
 def serve_input(definitions):
     """Serves standard input."""
     lines = sys.stdin.buffer.read().split(b"\n")
-    for reply in definitions.serve(lines)[0]:
+    for reply in definitions.serve(lines).replies:
         if reply is not None:
             sys.stdout.buffer.write(reply + b"\n")
     return 0
@@ -184,11 +209,11 @@ def serve_input(definitions):
 
 def main():
     parser = argparse.ArgumentParser(description=__doc__, formatter_class=argparse.RawDescriptionHelpFormatter)
-    parser.add_argument("what", choices=["rows", "serve"])
+    parser.add_argument("what", choices=["rows", "serve", "words"])
     parser.add_argument("--top", type=Path, default=TOP)
     words = parser.parse_args()
     definitions = Definitions(words.top)
-    return {"rows": show_rows, "serve": serve_input}[words.what](definitions)
+    return {"rows": show_rows, "serve": serve_input, "words": show_words}[words.what](definitions)
 
 
 if __name__ == "__main__":

@@ -12,6 +12,7 @@ import argparse
 import concurrent.futures
 import json
 import os
+import random
 import shlex
 import subprocess
 import sys
@@ -22,12 +23,15 @@ from pathlib import Path
 
 from definitions import TOP, Definitions
 from making import Maker
+from tapes import Replay, changed_tape
 
 PROGRAM = Path(os.environ.get("STREETSIM_PROGRAM") or TOP / "crates/street_sim/out/street_sim")
 WORKERS = (1, 3, 64)
 # So many calls the program has places for where nothing else is said.
 MOST_CALLS = 65536
 SMALLER_SECONDS = 120
+# So many sessions are given out at once.
+BATCH = 100
 
 
 @dataclass
@@ -49,16 +53,16 @@ class Comparison:
 
     def difference(self, lines, most=MOST_CALLS):
         """The first difference in a session that has places for so many calls, or none."""
-        replies, calls = self.definitions.serve(lines, most)
+        served = self.definitions.serve(lines, most)
         text = b"".join(line + b"\n" for line in lines)
         with tempfile.TemporaryDirectory() as folder:
             tape = Path(folder) / "tape"
             for workers in WORKERS:
                 words = ["--workers", str(workers), "--calls", str(most), "--tape", str(tape)]
-                found = self.first(lines, words, replies, self.run(words, text))
+                found = self.first(lines, words, served.replies, self.run(words, text))
                 if found:
                     return found
-            return self.of_tape(lines, calls, tape)
+            return self.of_tape(lines, served, tape) or self.of_replay(lines, served, tape)
 
     def run(self, words, text=b""):
         """What the program writes; its status stands behind it where that is not 0."""
@@ -77,17 +81,24 @@ class Comparison:
         rest = b"\n".join(got)
         return Difference(lines, words, len(lines), b"(nothing)", rest) if rest else None
 
-    def of_tape(self, lines, calls, tape):
-        """Whether the tape is that of the calls, reads as these calls, and is replayed to their replies and a count."""
-        wanted = self.definitions.tape(calls)
-        entries = wanted.split(b"\n")[:-1]
-        found = self.first(entries, ["--tape", "FILE"], entries, tape.read_bytes().split(b"\n"))
-        if found:
-            return found
-        if self.definitions.calls_of_tape(entries) != calls:
-            return Difference(lines, ["reading the tape, by the definitions"], 0, repr(calls).encode(), b"other calls")
+    def of_tape(self, lines, served, tape):
+        """Whether the tape is that of the calls, and reads as these calls."""
+        entries = self.definitions.tape(served.calls).split(b"\n")[:-1]
+        if self.definitions.calls_of_tape(entries) != served.calls:
+            return Difference(lines, ["the tape read back, by the definitions alone"], 0, b"these calls", b"others")
+        return self.first(entries, ["--tape", "FILE"], entries, tape.read_bytes().split(b"\n"))
+
+    def of_replay(self, lines, served, tape):
+        """Whether the tape is replayed to the replies of its calls and a count; a quarter of the tapes also with changes made at random."""
         words = ["--workers", "3", "--replay", str(tape)]
-        return self.first(lines, words, self.definitions.replay(calls), self.run(words))
+        found = self.first(lines, words, [*served.answers, self.definitions.count(served.state)], self.run(words))
+        if found or len(lines) % 4:
+            return found
+        entries = tape.read_bytes().split(b"\n")[:-1]
+        changed = changed_tape(random.Random(len(entries)), entries)
+        tape.write_bytes(b"".join(line + b"\n" for line in changed))
+        words = ["--replay", "FILE"]
+        return self.first(changed, words, Replay(self.definitions).output(changed), self.run(["--replay", str(tape)]))
 
     # ---- making it small
 
@@ -159,11 +170,13 @@ def compare(program, top, seeds, until=None):
     """Compares the sessions of these seeds, until a time if one is given: how many sessions and lines, and the first fault shown, or none."""
     sessions = lines = 0
     with concurrent.futures.ProcessPoolExecutor(len(os.sched_getaffinity(0)), initializer=start_worker, initargs=(program, top)) as pool:
-        for seed, (fault, count) in zip(seeds, pool.map(fault_of_seed, seeds)):
-            sessions, lines = sessions + 1, lines + count
-            if fault or until is not None and time.monotonic() > until:
-                pool.shutdown(wait=False, cancel_futures=True)
-                return sessions, lines, f"seed {seed}:\n{fault}" if fault else None
+        for start in range(0, len(seeds), BATCH):
+            batch = seeds[start:start + BATCH]
+            for seed, (fault, count) in zip(batch, pool.map(fault_of_seed, batch)):
+                sessions, lines = sessions + 1, lines + count
+                if fault or until is not None and time.monotonic() > until:
+                    pool.shutdown(wait=False, cancel_futures=True)
+                    return sessions, lines, f"seed {seed}:\n{fault}" if fault else None
     return sessions, lines, None
 
 

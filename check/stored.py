@@ -12,16 +12,25 @@ MOST_CELLS = 100_000
 
 def stored_sessions():
     """Each session: its name, its lines, and the replies, all as bytes."""
-    page = next((TOP / path for path in LINES if (TOP / path).exists()), None)
-    if page is None:
-        raise FileNotFoundError(f"none of {', '.join(LINES)}")
-    found = list(sessions_of_page(page.read_text()))
+    found = list(sessions_of_page(page()))
     for folder in FOLDERS:
         for script in sorted((TOP / folder).glob("*.jsonl")):
             if script.with_suffix(".out").exists():
                 lines, replies = script.read_bytes().split(b"\n")[:-1], script.with_suffix(".out").read_bytes().split(b"\n")[:-1]
                 found.append((f"{folder}/{script.name}", lines, replies))
     return found
+
+
+def page():
+    """The text of LINES.md."""
+    return next(TOP / path for path in LINES if (TOP / path).exists()).read_text()
+
+
+def session_and_tape_of_page():
+    """The lines of the example whose tape stands on the page, and this tape."""
+    tape = re.search(r'^```\n(\{[^\n]*"tape":.*?)^```', page(), re.MULTILINE | re.DOTALL)[1].encode()
+    script = next(TOP / folder / "one-vehicle.jsonl" for folder in FOLDERS if (TOP / folder / "one-vehicle.jsonl").exists())
+    return script.read_bytes().split(b"\n")[:-1], tape
 
 
 def sessions_of_page(text):
@@ -44,7 +53,7 @@ def cells_of(lines):
 def session_fault(definitions, name, lines, wanted):
     """What is wrong with a session by the definitions, or none."""
     try:
-        replies = [reply for reply in definitions.serve(lines)[0] if reply is not None]
+        replies = [reply for reply in definitions.serve(lines).replies if reply is not None]
     except Exception as error:  # of a spoilt definition, or what is not understood
         return f"session {name}: {type(error).__name__} {error}"
     for at, (reply, right) in enumerate(zip(replies, wanted)):

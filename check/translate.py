@@ -34,7 +34,7 @@ def refuse(message):
 def remembered(f, answers):
     """The same function; for the very same arguments it returns again what it returned before."""
     def remembering(*arguments):
-        key = (f, *map(id, arguments))
+        key = tuple(map(id, arguments))
         found = answers.get(key)
         if found is None:
             # The arguments are kept, so that their identities stay theirs.
@@ -75,7 +75,8 @@ class Program:
 
     def forget(self):
         """Drops what was remembered for speed."""
-        self.answers.clear()
+        for answers in self.answers.values():
+            answers.clear()
 
     def function(self, path, name):
         """The Python name of a definition, and how many arguments it takes; it is translated soon."""
@@ -101,7 +102,8 @@ class Program:
             exec(compile("\n".join(lines), f"{source.title}: {name}", "exec"), self.world)
             if name in REMEMBERED:
                 function = self.functions[path, name][0]
-                self.world[function] = remembered(self.world[function], self.answers)
+                self.answers[function] = {}
+                self.world[function] = remembered(self.world[function], self.answers[function])
 
     def definition(self, path, definition):
         """The lines of a function for a definition."""

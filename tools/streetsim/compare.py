@@ -148,18 +148,17 @@ def main(arguments):
     words = parser().parse_args(arguments)
     if len(words.sumo) > 2:
         raise Fault("--sumo takes tripinfo.xml and at most one edgedata.xml")
-    folder, shown = read_folder(words.folder), Slow()
-    shown.show("reading the run's trips")
-    here, names = trips_of(folder), [row["id"] for row in folder.trips()]
-    shown.show("reading SUMO's trips")
-    there = read_tripinfo(words.sumo[0])
-    lines, common = list(compare_trips(here, there, names)), bool(here.keys() & there.keys())
-    if len(words.sumo) == 2:
-        shown.show("reading SUMO's edges")
-        edges, sumo = edges_of(folder), read_edges(words.sumo[1])
-        lines += compare_edges(edges, sumo, folder.period, len(folder.mapping.links_of))
-        common = common and any(key in sumo for key in edges)
-    shown.end()
+    with Slow(f"reading {words.folder}") as shown:
+        folder = read_folder(words.folder)
+        here, names = trips_of(folder), [row["id"] for row in folder.trips()]
+        shown.text = f"reading {words.sumo[0]}"
+        there = read_tripinfo(words.sumo[0])
+        lines, common = list(compare_trips(here, there, names)), bool(here.keys() & there.keys())
+        if len(words.sumo) == 2:
+            shown.text = f"reading {words.sumo[1]}"
+            edges, sumo = edges_of(folder), read_edges(words.sumo[1])
+            lines += compare_edges(edges, sumo, folder.period, len(folder.mapping.links_of))
+            common = common and any(key in sumo for key in edges)
     print(*lines, sep="\n")
     if not common:
         print("nothing is common to both", file=sys.stderr)

@@ -8,7 +8,7 @@ from . import limits
 from .files import Fault, place_of, refuse_equal, whole_file
 from .mapping import map_of
 from .network import Network, Options
-from .report import Report, some
+from .report import Report, Slow, some
 from .sumo_demand import Demand, enters
 from .sumo_detectors import placed
 from .sumo_net import CLASSES, read_additional, read_net
@@ -103,7 +103,8 @@ def main(arguments):
     refuse_equal({"-o": words.output, "--map": words.map}, [words.net, *words.additional, *words.routes])
     place_of(words.output), place_of(words.map)
     report, options = Report(), options_of(words)
-    network, lights, commands, names = convert(words.net, words.additional, words.routes, options, report)
+    with Slow(f"importing {words.net}"):
+        network, lights, commands, names = convert(words.net, words.additional, words.routes, options, report)
     mapping = map_of(network, lights, names, report)
     mapping.detectors = placed(network.detectors, mapping, network.dropped, report)
     mapping.warnings = list(report.lines())

@@ -15,7 +15,7 @@ def parser():
     made = argparse.ArgumentParser(
         prog="streetsim-play",
         description="Makes one HTML file, without anything from outside, that plays the vehicles of a run. "
-        "Open it at a step with page.html#300.",
+        "Open it at a step with page.html#300, and at a place (metres) with page.html#300,75,0.",
     )
     made.add_argument("folder", help="what streetsim-run wrote; with --every 1 vehicles move smoothly")
     made.add_argument("-o", "--output", required=True, help="the page (.html)")
@@ -27,7 +27,7 @@ def parser():
 def data_of(folder, first, last):
     """What the page plays: links, signal plans with the links that may go, and the polls."""
     links = [
-        {"points": link.shape, "lanes": len(link.lanes), "cells": link.cells, "end": link.end}
+        {"name": link.edge, "points": link.shape, "lanes": len(link.lanes), "cells": link.cells, "end": link.end}
         for link in folder.mapping.links
     ]
     signals = [

@@ -11,10 +11,11 @@ from .importing import within
 
 DPI, COLOURS = 95, 64
 DATES = {"svg": {"Date": None}, "pdf": {"CreationDate": None}}  # without: equal runs give equal bytes
-SPEEDS = (
+SPEEDS = (  # the least speed, in cells a step, its label, colour and width
     (0, "standing", "#a50026", 2.2),
-    (1, "1 cell a step (27 km/h)", "#f08000", 1.4),
-    (2, "2 and more (54 km/h and more)", "#3b7fc4", 0.8),
+    (1, "27 km/h", "#f08000", 1.4),
+    (2, "54 km/h", "#3b7fc4", 0.8),
+    (3, "81 km/h and more", "#1f4e79", 0.8),
 )
 MOST_LANES = 25
 MARKERS = "osd^v*"
@@ -149,6 +150,8 @@ def draw_corridor(pyplot, folder, words):
     figure, axes = pyplot.subplots(figsize=(10, 6))
     for least, label, colour, width in reversed(SPEEDS):
         shown = [piece for piece in pieces if piece[2] == least or (piece[2] > least and least == SPEEDS[-1][0])]
+        if least == SPEEDS[-1][0] and not shown:
+            continue
         fronts = [(begin, end) for begin, end, _, _ in shown]
         axes.add_collection(LineCollection(fronts, colors=colour, linewidths=width, label=label))
         axes.add_collection(PolyCollection(series.bands(shown), facecolors=colour, linewidths=0, alpha=0.6))
@@ -177,15 +180,15 @@ def draw_fundamental(pyplot, folder, words):
     figure, axes = pyplot.subplots(figsize=(7, 5))
     if words.ring:
         axes.set(
-            xlabel="density (vehicles a cell)",
-            ylabel="flow (vehicles a step)",
-            title=f"One lane in a ring, limit {words.limit} cells a step",
+            xlabel="density (vehicles/km and lane)",
+            ylabel="flow (vehicles/h and lane)",
+            title=f"One lane in a ring, limit {words.limit * limits.CELL_KMH} km/h",
         )
         for dawdle, marker in zip(words.ring, MARKERS):
             points = [ring.measure(words.program, count, words.limit, dawdle) for count in RING]
             axes.plot(
-                [point.density for point in points],
-                [point.flow for point in points],
+                [point.per_km for point in points],
+                [point.per_hour for point in points],
                 marker=marker,
                 markersize=4,
                 label=f"dawdle {dawdle}",
@@ -233,9 +236,21 @@ def draw_map(pyplot, folder, _words):
         ylabel="y (m)",
         title="Mean density: wider and darker is denser",
     )
+    scale_bar(axes, width)
     beside = {"orientation": "horizontal", "pad": 0.18} if wide else {}
     figure.colorbar(lines, ax=axes, label="vehicles/km and lane", extend="max", shrink=0.7, **beside)
     return figure
+
+
+def scale_bar(axes, width):
+    """A bar of a round number of metres, about a fifth of the width, below the left corner of what is shown."""
+    metres = series.round_length(max(width, 1) / 5)
+    low, high = axes.get_ylim()
+    left, _ = axes.get_xlim()
+    begin, place = left + 0.03 * max(width, 1), low + 0.03 * (high - low)
+    axes.plot((begin, begin + metres), (place, place), color="black", linewidth=4, solid_capstyle="butt")
+    text = f"{metres:g} m" if metres < 1000 else f"{metres / 1000:g} km"
+    axes.text(begin + metres / 2, place + 0.015 * (high - low), text, ha="center", va="bottom")
 
 
 def draw_queues(pyplot, folder, _words):
@@ -262,29 +277,25 @@ def draw_queues(pyplot, folder, _words):
 
 
 def draw_arrivals(pyplot, folder, words):
+    """Departures and arrivals, and below them the difference: to SUMO's arrivals, else between the two curves."""
     departs, arrivals = series.arrival_curves(folder)
-    figure, axes = pyplot.subplots(figsize=(8, 5))
+    figure, (axes, below) = pyplot.subplots(2, figsize=(8, 6.5), sharex=True, height_ratios=(3, 1))
     curves = [(departs, "wished departures", "#888888", "--"), (arrivals, "arrivals here", "#225588", "-")]
     if words.sumo:
-        curves.append(
-            (sorted(arrival for _, arrival in read_tripinfo(words.sumo).values()), "arrivals in SUMO", "#d06000", ":")
-        )
-    for times, label, colour, style in curves:
-        axes.step(
-            [time / 60 for time in times],
-            range(1, len(times) + 1),
-            where="post",
-            label=label,
-            color=colour,
-            linestyle=style,
-            linewidth=1.8,
-        )
-    axes.set(
-        xlabel="time (min)",
-        ylabel="vehicles",
-        title=f"{len(arrivals):,} of {len(departs):,} vehicles arrived",
-        xlim=(0, None),
-        ylim=(0, None),
-    )
+        sumo = sorted(arrival for _, arrival in read_tripinfo(words.sumo).values())
+        curves.append((sumo, "arrivals in SUMO", "#d06000", ":"))
+        times, values = series.difference(arrivals, sumo)
+        below.set(ylabel="here less SUMO")
+    else:
+        times, values = series.difference(departs, arrivals)
+        below.set(ylabel="on their way or\nwaiting to depart")
+    for moments, label, colour, style in curves:
+        minutes = [moment / 60 for moment in moments]
+        axes.step(minutes, range(1, len(minutes) + 1), where="post", label=label, color=colour, linestyle=style, linewidth=1.8)
+    below.step([time / 60 for time in times], values, where="post", color="#225588", linewidth=1.4)
+    below.axhline(0, color="black", linewidth=0.8)
+    title = f"{len(arrivals):,} of {len(departs):,} vehicles arrived"
+    axes.set(ylabel="vehicles", title=title, xlim=(0, None), ylim=(0, None))
+    below.set(xlabel="time (min)")
     axes.legend(frameon=False)
     return figure

@@ -219,7 +219,7 @@ class Recorder(Desk):
         asking, settings = self.records.asking, self.settings
         wanted, minute = bool(asking.every) and clock % asking.every == 0, clock % MINUTE == 0
         sampled, ended = self.wants_samples(clock)
-        rescuing = bool(settings.rescue) and minute
+        rescuing = bool(settings.rescue) and minute and clock < settings.until
         if rescuing and not asking.all_watched:
             self.ask_late(clock)
         polled = {*(self.polled if wanted else ()), *(self.watched if rescuing else ())}

@@ -1,5 +1,6 @@
 """What an import has to say: warnings, and things left out, counted by reason."""
 import sys
+import threading
 import time
 from collections import Counter
 
@@ -29,21 +30,27 @@ def some(names, most=5):
 
 
 class Slow:
-    """A line on a terminal that says what a tool does, once it has taken two seconds. Nothing elsewhere."""
+    """A line on a terminal that says what a tool does and since when, once that has taken two seconds. Nothing elsewhere."""
 
-    def __init__(self, stream=None, wait=2.0):
-        self.stream, self.wait, self.begin, self.width = stream or sys.stderr, wait, time.monotonic(), 0
+    def __init__(self, text, stream=None, wait=2.0):
+        self.text, self.stream, self.wait, self.width = text, stream or sys.stderr, wait, 0
+        self.ended = threading.Event()
+        self.thread = threading.Thread(target=self.show, daemon=True)
 
-    def show(self, text):
-        if self.stream.isatty() and time.monotonic() - self.begin >= self.wait:
-            self.write(f"{text} ..")
+    def __enter__(self):
+        if self.stream.isatty():
+            self.thread.start()
+        return self
 
-    def end(self):
-        """Clears the line."""
-        if self.width:
-            self.write("")
-            print("\r", end="", file=self.stream, flush=True)
+    def __exit__(self, *_):
+        self.ended.set()
+        if self.thread.ident is not None:
+            self.thread.join()
+            print(f"\r{'':{self.width}}\r" if self.width else "", end="", file=self.stream, flush=True)
 
-    def write(self, text):
-        print(f"\r{text:{self.width}}", end="", file=self.stream, flush=True)
-        self.width = len(text)
+    def show(self):
+        begin = time.monotonic()
+        while not self.ended.wait(self.wait if not self.width else 0.5):
+            line = f"{self.text}, {time.monotonic() - begin:.0f} s"
+            print(f"\r{line:{self.width}}", end="", file=self.stream, flush=True)
+            self.width = len(line)

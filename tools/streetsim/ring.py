@@ -1,6 +1,7 @@
 """One lane in a ring: the fundamental diagram of the rules themselves."""
 from dataclasses import dataclass
 
+from . import limits
 from .client import Client
 
 CELLS = 1_000
@@ -15,6 +16,14 @@ class Point:
     density: float  # vehicles a cell, of the whole ring
     flow: float  # vehicles a step, at a detector
     speed: float  # cells a step, of those who passed it
+
+    @property
+    def per_km(self):
+        return self.density / limits.CELL_METRES * 1000
+
+    @property
+    def per_hour(self):
+        return self.flow * 3600
 
 
 def measure(program, vehicles, limit=5, dawdle=0, seed=1):

@@ -1,5 +1,7 @@
 """The numbers behind the pictures, from what streetsim-run wrote; nothing here draws."""
+from bisect import bisect_right
 from collections import Counter, defaultdict
+from math import floor, log10
 
 from . import limits
 from .files import Fault
@@ -119,3 +121,15 @@ def arrival_curves(folder):
     """Sorted times of wished departures and of arrivals."""
     trips = folder.trips()
     return sorted(int(row["depart"]) for row in trips), sorted(int(row["arrival"]) for row in trips if row["arrival"])
+
+
+def difference(first, second):
+    """The times at which one of two curves of sorted times rises, and how far the first is then above the second."""
+    times = sorted({*first, *second})
+    return times, [bisect_right(first, time) - bisect_right(second, time) for time in times]
+
+
+def round_length(metres):
+    """The greatest 1, 2 or 5 times a power of ten that is at most so long."""
+    power = 10 ** floor(log10(metres))
+    return next(times * power for times in (5, 2, 1) if times * power <= metres)

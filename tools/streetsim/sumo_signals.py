@@ -5,7 +5,7 @@ from itertools import groupby
 from . import limits
 from .files import Fault
 from .report import some
-from .yielding import GREEN, PERMISSIVE, hidden_start, movements_of, runs_of, settle
+from .yielding import GREEN, PERMISSIVE, hidden_start, movements_of, places, runs_of, settle
 
 DEFAULT_SHARE = 0.7  # of a permissive green that is shown, where nothing is known of who gives way
 GRAINS = (1, 2, 3, 5, 8, 12, 20)  # seconds to which what is shown of a green is rounded: the first that gives few phases
@@ -65,9 +65,9 @@ def signal(node, turns, edges, light, program, permissive, report, found=None):
     links, and what was found of who gives way there; else the last share of each permissive green is shown."""
     states = each_second(light, program, report)
     check_states(light, states, [turn for *_, turn in turns])
-    ends = ends_by_gaps(found) if found else ends_by_share(light, turns, states, permissive)
+    told = by_gaps(found) if found else by_share(light, turns, states, permissive)
     for grain in GRAINS:
-        phases = run_lengths(green_seconds(light, turns, states, ends, grain))
+        phases = run_lengths(green_seconds(light, turns, states, told, grain))
         if len(phases) <= limits.PHASES:
             break
     if len(phases) > limits.PHASES:
@@ -116,31 +116,31 @@ def check_states(light, states, turns):
             raise Fault(f"light {light!r}: a state is shorter than link index {turn.index}")
 
 
-def ends_by_gaps(found):
-    """For each index of a light's state the seconds at the end of each permissive green that are shown, {index: {first
-    second: seconds}}, by what was found of who gives way; of connections that share an index the most."""
-    ends = defaultdict(dict)
+def by_gaps(found):
+    """For each index of a light's state the seconds of each permissive green that are shown and their parts, {index:
+    {first second: (seconds, parts)}}, by what was found of who gives way; of connections that share an index the most."""
+    told = defaultdict(dict)
     for movement in found.values():
-        own = ends[movement.index]
-        own.update({start: max(seconds, own.get(start, 0)) for start, seconds in movement.shown.items()})
-    return ends
+        own = told[movement.index]
+        own.update({start: max((seconds, movement.parts), own.get(start, (0, 1))) for start, seconds in movement.shown.items()})
+    return told
 
 
-def ends_by_share(light, turns, states, permissive):
-    """The same by a share of each permissive green, the usual one where none is given."""
-    share, ends = DEFAULT_SHARE if permissive is None else permissive, {}
+def by_share(light, turns, states, permissive):
+    """The same by the last share of each permissive green, the usual one where none is given."""
+    share, told = DEFAULT_SHARE if permissive is None else permissive, {}
     for index in {turn.index for *_, turn in turns if turn.light == light}:
         runs = runs_of("".join(state[index] for state in states), PERMISSIVE)
-        ends[index] = {start: length - round(length * (1 - share)) for start, length in runs.items()}
-    return ends
+        told[index] = {start: (length - round(length * (1 - share)), 1) for start, length in runs.items()}
+    return told
 
 
-def green_seconds(light, turns, states, ends, grain):
+def green_seconds(light, turns, states, told, grain):
     """The green turns of each second. Turns that the light does not control are always green."""
     greens = [set() for _ in states]
     for link, lane, following, turn in turns:
         shown = (
-            shown_green("".join(state[turn.index] for state in states), ends.get(turn.index, {}), turn, grain)
+            shown_green("".join(state[turn.index] for state in states), told.get(turn.index, {}), turn, grain)
             if turn.light == light
             else [True] * len(states)
         )
@@ -150,15 +150,18 @@ def green_seconds(light, turns, states, ends, grain):
     return [frozenset(green) for green in greens]
 
 
-def shown_green(states, ends, turn, grain):
-    """For each second whether a turn shows green. Of each permissive green only so many seconds at its end as are told:
-    those whom it gives way to go first. Of each other green that no permissive one goes before the begin is left out in
-    which SUMO's queues start. Begins are rounded down to a grain of seconds."""
+def shown_green(states, told, turn, grain):
+    """For each second whether a turn shows green. Of each permissive green only so many seconds as are told, in so many
+    parts. Of each other green that no permissive one goes before the begin is left out in which SUMO's queues start.
+    Begins are rounded down to a grain of seconds."""
     count = len(states)
     shown = [state in GREEN for state in states]
     for start, length in runs_of(states, PERMISSIVE).items():
-        for second in range((length - ends.get(start, length)) // grain * grain, length):
-            shown[(start + second) % count] = True
+        for begin, end in places(length, *told.get(start, (length, 1))):
+            begin = begin // grain * grain
+            end = length if end == length else max(begin + grain, end // grain * grain)
+            for second in range(begin, min(end, length)):
+                shown[(start + second) % count] = True
     for start, length in runs_of(states, GREEN).items():
         if length < count and states[start - 1] not in PERMISSIVE:
             for second in range(hidden_start(length, turn.speed, turn.limit) // grain * grain):

@@ -53,7 +53,8 @@ class Movement:
     runs: dict  # first second of a permissive green: its length
     foes: list = field(default_factory=list)  # movements that it gives way to
     meets: dict = field(default_factory=dict)  # first second of a permissive green: [(seconds, foes that are green)]
-    shown: dict = field(default_factory=dict)  # first second of a permissive green: the seconds at its end that are shown
+    shown: dict = field(default_factory=dict)  # first second of a permissive green: how many seconds of it are shown
+    parts: int = 1  # in which they are shown
 
 
 def movements_of(connections, states, yields, flows, limits_of):
@@ -67,7 +68,16 @@ def movements_of(connections, states, yields, flows, limits_of):
     for request, movement in found.items():
         movement.foes = [found[foe] for foe in sorted(yields.get(request, ())) if foe in found and found[foe].flow]
         movement.meets = {start: meetings(movement, start, length) for start, length in movement.runs.items()}
+    for movement in found.values():
+        movement.parts = 2 if is_mixed(movement, found.values()) else 1
     return found
+
+
+def is_mixed(movement, movements):
+    """Whether others on its lane need not wait, at an edge of several lanes."""
+    lanes = {other.lane for other in movements if other.way[0] == movement.way[0]}
+    free = any(other.lane == movement.lane and other.flow and not other.runs for other in movements)
+    return len(lanes) > 1 and free
 
 
 def movement_of(connection, states, flow, limit):
@@ -160,13 +170,21 @@ def pass_through(sharing):
 
 
 def seconds_shown(movement, start, length):
-    """The seconds at the end of a permissive green in which as many leave a queue as find a gap in all of it: the mean of
-    cycles with less and with more traffic than usual."""
+    """The seconds of a permissive green in which as many leave a queue as find a gap in all of it: the mean of cycles with
+    less and with more traffic than usual."""
     vehicles, usual = 0.0, sum(foe.passing for foe in movement.foes) * movement.cycle / 3600
     for weight, deviations in SPREAD:
         factor = max(0.0, 1 + deviations / max(1.0, usual) ** 0.5)
         vehicles += weight * max(SNEAKERS, finding_gaps(movement, start, factor))
     return min(length, green_here(vehicles, movement.limit))
+
+
+def places(length, seconds, parts):
+    """Where so many seconds of a permissive green are shown, as (begin, end): at its end, for those that are given way to
+    go first; or in two parts with equal waits before them, so that a vehicle that waits holds its lane up for less long."""
+    parts = parts if 2 * parts <= seconds <= 0.9 * length else 1
+    wait, shown = (length - seconds) / parts, seconds / parts
+    return [(round((at + 1) * wait + at * shown), round((at + 1) * (wait + shown))) for at in range(parts)]
 
 
 def finding_gaps(movement, start, factor):

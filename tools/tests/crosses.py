@@ -2,14 +2,14 @@
 
 The networks in data/cross*.net.xml.gz were made by netconvert 1.15 from four arms of 500 m at 50 km/h with the light's cycle
 at 90 s: 42 s of green and 3 s of yellow for each street, left turns against oncoming traffic. In cross1 each arm has one lane;
-in cross2 two, the left of which leads to the left alone; in cross3 also, and of 42 s the last 9 are an arrow for it; in cross4
-two, of which the left one leads straight on and to the left.
+in cross2 two, the left of which leads to the left alone; in cross3 also, and of 42 s the last 9 are an arrow for it.
 """
 import random
 from collections import Counter
 
 FIRST, LAST, CYCLE = 900, 4500, 90  # seconds of the count
 FULL = 2400  # vehicles an hour that are more than can pass
+
 
 def cases():
     """Name, network and vehicles an hour of each (from, way)."""
@@ -24,14 +24,11 @@ def cases():
     yield "turn lane, straight alone", "cross2", {("w", "straight"): FULL}
     for hourly in (300, 600):
         yield f"turn lane, 20 % left against {hourly}", "cross2", {**shared(20), ("e", "straight"): hourly}
-    yield "turn lane with arrow, 20 % left, both sides", "cross3", {**shared(20), **shared(20, "e")}
-    for share in (10, 20):
-        yield f"two lanes, {share} % left, both sides", "cross4", {**shared(share, full=4800), **shared(share, "e", 4800)}
 
 
-def shared(share, arm="w", full=FULL):
+def shared(share):
     """A full arm of which a share in percent goes left."""
-    return {(arm, "straight"): full * (100 - share) / 100, (arm, "left"): full * share / 100}
+    return {("w", "straight"): FULL * (100 - share) / 100, ("w", "left"): FULL * share / 100}
 
 
 def demand(flows, seed=1):

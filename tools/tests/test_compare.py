@@ -1,10 +1,13 @@
 """Comparing with SUMO: its files, GEH, correlation, arrival curves."""
 import io
+import json
+import time
 import unittest
 
-from support import Case
+from support import MAP, Case
 from streetsim import compare
 from streetsim.report import Slow
+from streetsim.tables import EDGES, TRIPS
 
 
 class Compare(Case):
@@ -66,20 +69,27 @@ class Compare(Case):
         [line] = compare.compare_edges(here, {(0, 300, "a"): (1, 1.0)}, 900, 4)
         self.assertEqual(line, "counts: no period of 900 s and edge in common")
 
-    def test_a_line_after_two_seconds_on_a_terminal(self):
+    def test_a_line_after_a_while_on_a_terminal(self):
         class Terminal(io.StringIO):
             def isatty(self):
                 return True
 
-        for wait, told in ((0, "\rreading ..\r          \r"), (2, "")):
-            stream = Terminal()
-            slow = Slow(stream, wait)
-            slow.show("reading")
-            slow.end()
+        for stream, wait, told in ((Terminal(), 0.01, "\rreading x, 0 s\r              \r"), (Terminal(), 9, ""), (io.StringIO(), 0.01, "")):
+            with Slow("reading x", stream, wait):
+                time.sleep(0.2)
             self.assertEqual(stream.getvalue(), told)
-        stream = io.StringIO()
-        Slow(stream, 0).show("reading")
-        self.assertEqual(stream.getvalue(), "")
+
+    def test_nothing_in_common(self):
+        self.write("setting.json", json.dumps({"map": MAP, "signals": [], "dawdle": 0, "every": 1, "period": 900}))
+        self.write("trips.csv", ",".join(TRIPS) + "\nv,0,30,30,4,26,2,0,arrived\n")
+        self.write("edges.csv", ",".join(EDGES) + "\n0,900,a,1,1,0.50,40.50,6.67\n")
+        trips = '<tripinfos><tripinfo id="{}" depart="0.00" arrival="40.00"/></tripinfos>'
+        edges = '<meandata><interval begin="0.00" end="{}.00"><edge id="a" left="1" sampledSeconds="9"/></interval></meandata>'
+        for name, end, status in (("v", 900, 0), ("other", 900, 1), ("v", 300, 1)):
+            files = self.write("t.xml", trips.format(name)), self.write("e.xml", edges.format(end))
+            told = self.tool("compare", self.folder, "--sumo", *files, status=status)
+            self.assertEqual(told[1], "nothing is common to both\n" if status else "")
+        self.assertIn("arrived: 1 here, 1 in SUMO, 1 in both", told[0])
 
 
 if __name__ == "__main__":

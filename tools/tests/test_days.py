@@ -102,6 +102,9 @@ class Repeated(Case):
         if not run.exists():
             words_ = [DATA / "grid.net.xml.gz", "--routes", DATA / "grid.rou.xml.gz", "-o", run, "--map", mapped]
             self.tool("import", *words_)
+            node = json.loads(mapped.read_text())["signals"][14][1]
+            with open(run, "a", encoding="utf-8") as file:  # a junction that is red from 60 s on
+                file.write(json.dumps({"cmd": "signal", "node": node, "offset": 0, "phases": [[600, []]], "at": 60}) + "\n")
         arguments = [run, "--map", mapped, "--program", PROGRAM, "--until", 900, "--period", 300, "--rescue", 60]
         with open(os.devnull, "w") as null, patch("sys.stdout", null), patch("sys.stderr", null):
             running.main([str(word) for word in (*arguments, "--out", self.folder / out, *words)])

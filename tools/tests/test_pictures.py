@@ -8,7 +8,7 @@ import subprocess
 import unittest
 
 from support import DATA, MAP, PROGRAM, Case, needs_simulator
-from streetsim import series
+from streetsim import ring, series
 from streetsim.folder import read_folder
 from streetsim.tables import COUNTS, QUEUES, TRIPS
 
@@ -72,6 +72,19 @@ class Numbers(Given):
     def test_fundamental(self):
         # 15 % of the time a vehicle of 7.5 m: 20 a kilometre. The short last period and the empty lane are left out.
         self.assertEqual(series.flows(self.given, []), [(20.0, 360.0)])
+
+    def test_difference(self):
+        # Two of the first curve at 1, one of the second at 2, one of each at 3.
+        self.assertEqual(series.difference([1, 1, 3], [2, 3]), ([1, 2, 3], [2, 1, 1]))
+
+    def test_scale(self):
+        self.assertEqual([series.round_length(metres) for metres in (1, 4.9, 50, 199, 1999, 2000)], [1, 2, 50, 100, 1000, 2000])
+
+    def test_ring_in_units_of_planners(self):
+        # 0.08 vehicles a cell of 7.5 m and 0.32 vehicles a second.
+        point = ring.Point(0.08, 0.32, 4.0)
+        self.assertAlmostEqual(point.per_km, 10.667, places=3)
+        self.assertAlmostEqual(point.per_hour, 1152)
 
     def test_arrivals(self):
         self.assertEqual(series.arrival_curves(self.given), ([0, 1], [30]))
@@ -140,14 +153,25 @@ class Player(Given):
         # At clock 3 one vehicle drives on the first link, one is in its buffer, and cells 8 and 9 are closed; the
         # signal is green. At clock 2 both drive, one of them stands.
         page = self.page()
+        # 150 m and 10 m on each side are 95 % of 800 pixels: 20 m are 89 pixels, and 50 m would be more than 200.
+        bar = {"scale": "20 m", "street": ""}
         self.assertEqual(
             self.shown(page, 3),
-            {"clock": 3, "vehicles": 1, "covered": 1, "buffered": 1, "standing": 0, "red": 0, "closed": 1},
+            {"clock": 3, "time": "00:00:03", **bar, "vehicles": 1, "covered": 1, "buffered": 1, "standing": 0, "red": 0, "closed": 1},
         )
         self.assertEqual(
             self.shown(page, 2),
-            {"clock": 2, "vehicles": 2, "covered": 2, "buffered": 0, "standing": 1, "red": 0, "closed": 0},
+            {"clock": 2, "time": "00:00:02", **bar, "vehicles": 2, "covered": 2, "buffered": 0, "standing": 1, "red": 0, "closed": 0},
         )
+
+    @unittest.skipUnless(CHROMIUM, "Debian's chromium is not installed")
+    def test_streets_and_times(self):
+        self.write_polls([{"clock": 3, "lanes": []}, {"clock": 45_296, "lanes": []}])
+        page = self.page()
+        # Street a is 2 m away from the first place, and nothing is near the third.
+        for place, street in (("3,30,-2", "a"), ("3,100,0", "b"), ("3,100,40", "")):
+            self.assertEqual(self.shown(page, place)["street"], street)
+        self.assertEqual(self.shown(page, 45_296)["time"], "12:34:56")
 
     @unittest.skipUnless(CHROMIUM, "Debian's chromium is not installed")
     def test_signals(self):

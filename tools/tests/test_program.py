@@ -5,7 +5,6 @@ What is wanted is told by docs/LINES.md, docs/help.txt and examples/ (stored ses
 import json
 import re
 import resource
-import shutil
 import socket
 import subprocess
 import unittest
@@ -17,6 +16,8 @@ EXAMPLES = TOP / "examples"
 PLANNER = EXAMPLES / "clients/planner.jsonl"
 COUNTER = EXAMPLES / "clients/counter.jsonl"
 ONE_VEHICLE = (EXAMPLES / "one-vehicle.out").read_text()
+HEAD = '{"calls":4,"tape":2}\n'
+OLD_HEAD = '{"tape":1}\n'
 FULL = '{"error":23,"name":"Full"}\n'
 NOT_LOADED = '{"error":1,"name":"NotLoaded"}\n'
 NO_VEHICLES = '{"admitted":0,"arrived":0,"buffers":0,"cells":0,"clock":0,"taken":0,"waiting":0}\n'
@@ -27,7 +28,7 @@ AFTER_ONE_VEHICLE = '{"admitted":1,"arrived":1,"buffers":0,"cells":0,"clock":5,"
 def tape_in_lines():
     """The tape of examples/one-vehicle.jsonl, as LINES.md has it."""
     text = (TOP / "docs/LINES.md").read_text()
-    return '{"tape":1}\n' + text.split('```\n{"tape":1}\n')[1].split("```")[0]
+    return HEAD + text.split(f"```\n{HEAD}")[1].split("```")[0]
 
 
 def calls_of(tape, session):
@@ -104,7 +105,7 @@ class Scripts(ProgramCase):
     def test_the_tape_has_each_scripts_calls_in_their_order(self):
         told = self.ends(["--tape", "run.tape", PLANNER, COUNTER]).splitlines(keepends=True)
         tape = (self.folder / "run.tape").read_text()
-        self.assertEqual(tape.splitlines()[0], '{"tape":1}')
+        self.assertEqual(tape.splitlines()[0], '{"calls":8,"tape":2}')
         self.assertEqual(len(tape.splitlines()), 9)
         self.assertEqual(calls_of(tape, 0), commands_of(PLANNER))
         self.assertEqual(calls_of(tape, 1), commands_of(COUNTER))
@@ -177,10 +178,10 @@ class Tapes(ProgramCase):
         self.assertEqual((self.folder / "run.tape").read_text(), tape_in_lines())
 
     def test_entries_that_starved_or_stopped_short_are_told_so(self):
-        first, load, enter, _advance, vehicle = tape_in_lines().splitlines()
+        _, load, enter, _advance, vehicle = tape_in_lines().splitlines()
         starved = enter.replace('"whole"', '"starved"')
         short = '{"command":{"cmd":"advance","steps":5},"outcome":2,"session":0}'
-        tape = self.write("run.tape", "\n".join([first, load, starved, enter, short, vehicle]))
+        tape = self.write("run.tape", "\n".join(['{"calls":5,"tape":2}', load, starved, enter, short, vehicle]))
         told = self.ends(["--replay", tape])
         # It departs in step 0, and comes to cell 1 in step 1.
         self.assertEqual(
@@ -192,11 +193,13 @@ class Tapes(ProgramCase):
 
     def test_no_tape_does_nothing(self):
         entries = "".join(tape_in_lines().splitlines(keepends=True)[1:])
-        for text in ("", "\n", "[1]\n", "{}\n", '{"tape":2}\n' + entries, entries):
-            with self.subTest(first=text[:12]):
-                tape = self.write("run.tape", text)
-                told = self.ends(["--replay", tape], status=1, error="streetsim: bad tape at line 1\n")
-                self.assertEqual(told, "")
+        heads = ('{"tape":2}', '{"calls":"4","tape":2}', '{"calls":-1,"tape":2}', '{"calls":4,"tape":3}', '{"calls":4}')
+        for text in ("", "\n", "[1]\n", "{}\n", entries, *(f"{head}\n{entries}" for head in heads)):
+            for word in ("--replay", "--upgrade"):
+                with self.subTest(first=text[:24], word=word):
+                    tape = self.write("run.tape", text)
+                    told = self.ends([word, tape], status=1, error="streetsim: bad tape at line 1\n")
+                    self.assertEqual(told, "")
 
     def test_a_line_of_a_tape_has_a_greatest_length(self):
         lines = tape_in_lines().splitlines()
@@ -224,7 +227,41 @@ class Tapes(ProgramCase):
                 self.assertEqual(told, "".join(ONE_VEHICLE.splitlines(keepends=True)[:2]))
 
     def test_a_tape_that_is_not_there(self):
-        self.assertEqual(self.ends(["--replay", "none.tape"], status=1, error="streetsim: cannot read none.tape\n"), "")
+        for word in ("--replay", "--upgrade"):
+            self.assertEqual(self.ends([word, "none.tape"], status=1, error="streetsim: cannot read none.tape\n"), "")
+
+    def test_a_tape_of_version_1(self):
+        tape = self.write("old.tape", OLD_HEAD + tape_in_lines().removeprefix(HEAD))
+        self.assertEqual(self.ends(["--replay", tape]), ONE_VEHICLE + AFTER_ONE_VEHICLE)
+        upgraded = self.ends(["--upgrade", tape])
+        self.assertEqual(upgraded, tape_in_lines())
+        self.assertEqual(self.ends(["--upgrade", self.write("new.tape", upgraded)]), upgraded)
+
+    def test_a_size_counts_on_a_tape_of_version_2_alone(self):
+        _, load, enter, _, vehicle = tape_in_lines().splitlines(keepends=True)
+        bus = enter.replace('"plan":[10]', '"plan":[10],"size":3')
+        waits = '{"car":0,"depart":0,"lane":0,"link":10,"plan":[10],%s"state":"waiting"}\n'
+        for head, size in ((OLD_HEAD, ""), ('{"calls":3,"tape":2}\n', '"size":3,')):
+            tape = self.write("run.tape", head + load + bus + vehicle)
+            told = self.ends(["--replay", tape])
+            self.assertEqual(told, '{"links":2,"nodes":3,"turns":1}\n{"car":0}\n' + waits % size + ONE_WAITS)
+        old = self.write("old.tape", OLD_HEAD + load + bus)
+        self.assertEqual(self.ends(["--upgrade", old]), '{"calls":2,"tape":2}\n' + load + enter)
+
+    def test_a_size_is_on_the_tape_where_it_is_not_1(self):
+        load = PLANNER.read_text().splitlines(keepends=True)[0]
+        self.ends(["--tape", "run.tape"], load + "".join(f'{{"cmd":"enter","plan":[10],"lane":0,"depart":0,"size":{size}}}\n' for size in (1, 4, 5)))
+        sizes = [command.get("size") for command in calls_of((self.folder / "run.tape").read_text(), 0)[1:]]
+        self.assertEqual(sizes, [None, 4, 5])
+
+    def test_fewer_and_more_calls_than_the_first_line_says(self):
+        _, load, enter, *_ = tape_in_lines().splitlines(keepends=True)
+        replies = ONE_VEHICLE.splitlines(keepends=True)
+        for calls, served, bad in ((3, 2, 4), (1, 1, 3), (0, 0, 2)):
+            tape = self.write("run.tape", f'{{"calls":{calls},"tape":2}}\n' + load + enter)
+            error = f"streetsim: bad tape at line {bad}\n"
+            self.assertEqual(self.ends(["--replay", tape], status=1, error=error), "".join(replies[:served]))
+            self.assertEqual(self.ends(["--upgrade", tape], status=1, error=error), "")
 
 
 @needs_simulator
@@ -264,7 +301,7 @@ class Faults(Case):
 
     def test_a_standard_output_that_takes_nothing(self):
         tape = self.write("given.tape", tape_in_lines())
-        for words in ([], [PLANNER], ["--replay", tape], ["--help"]):
+        for words in ([], [PLANNER], ["--replay", tape], ["--upgrade", tape], ["--help"]):
             self.fails(words, "cannot write standard output", stdout="/dev/full")
 
     def test_scripts_are_on_the_tape_also_where_their_replies_cannot_be_written(self):
@@ -298,6 +335,7 @@ class Words(ProgramCase):
         calls = "invalid value '{}' for '--calls <N>': it is not a number from 1 to 1000000"
         twice = "the argument '{}' cannot be used multiple times"
         no_value = "a value is required for '{}' but none was supplied"
+        upgrade_alone = "the argument '--upgrade <FILE>' cannot be used with scripts, '--tape <FILE>' or '--replay <FILE>'"
         alone = "the argument '--replay <FILE>' cannot be used with scripts or with '--tape <FILE>'"
         for words, why in (
             (["--fast"], "unexpected argument '--fast' found"),
@@ -315,6 +353,10 @@ class Words(ProgramCase):
             (["--workers"], no_value.format("--workers <N>")),
             (["--replay"], no_value.format("--replay <FILE>")),
             (["--tape"], no_value.format("--tape <FILE>")),
+            (["--upgrade"], no_value.format("--upgrade <FILE>")),
+            (["--upgrade", "run.tape", PLANNER], upgrade_alone),
+            (["--upgrade", "run.tape", "--tape", "other.tape"], upgrade_alone),
+            (["--upgrade", "run.tape", "--replay", "run.tape"], upgrade_alone),
             (["--replay", "run.tape", PLANNER], alone),
             (["--replay", "run.tape", "--tape", "other.tape"], alone),
             ([PLANNER] * 1_025, "more than 1024 scripts"),
@@ -326,16 +368,6 @@ class Words(ProgramCase):
     def test_a_word_that_is_no_utf_8(self):
         done = subprocess.run([PROGRAM, b"a\xffz"], input=b"", capture_output=True, timeout=60, cwd=self.folder, check=False)
         self.assertEqual((done.returncode, done.stdout, done.stderr), (2, b"", b"streetsim: bad arguments\na word is not UTF-8\n"))
-
-
-class Script(Case):
-    def test_help_is_told_where_nothing_is_built(self):
-        shutil.copy(TOP / "streetsim", self.folder)
-        shutil.copytree(TOP / "docs", self.folder / "docs")
-        (self.folder / "crates").mkdir()
-        (self.folder / "crates.txt").write_text("")
-        done = subprocess.run([self.folder / "streetsim", "--help"], capture_output=True, text=True, timeout=60, check=False)
-        self.assertEqual((done.returncode, done.stdout, done.stderr), (0, (TOP / "docs/help.txt").read_text(), ""))
 
 
 if __name__ == "__main__":

@@ -72,10 +72,13 @@ class Signals(Case):
 
     def test_permissive_green_is_shown_at_the_end_of_its_run(self):
         turn = Turn(0, "L", 0, False, 13.9, 2)
-        self.assertEqual(shown_green("ggggggggggrrrrr", {0: 7}, turn, 1), [False] * 3 + [True] * 7 + [False] * 5)
+        self.assertEqual(shown_green("ggggggggggrrrrr", {0: (7, 1)}, turn, 1), [False] * 3 + [True] * 7 + [False] * 5)
         self.assertEqual(
-            shown_green("gggggrrrrrggggg", {10: 7}, turn, 1), [True] * 5 + [False] * 8 + [True] * 2
+            shown_green("gggggrrrrrggggg", {10: (7, 1)}, turn, 1), [True] * 5 + [False] * 8 + [True] * 2
         )  # the run goes round the cycle
+        # Eight of 20 seconds in two parts: six seconds of waiting before each.
+        two = [False] * 6 + [True] * 4
+        self.assertEqual(shown_green("g" * 20 + "r", {0: (8, 2)}, turn, 1), two * 2 + [False])
         self.assertEqual(shown_green("gggg", {}, turn, 1), [True] * 4)
 
     def test_gaps(self):

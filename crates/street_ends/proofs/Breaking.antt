@@ -10,13 +10,12 @@ use Rattle.street_ends.proofs.Cutting.{lines_after, lines_more, cut_newline}
 use Rattle.street_ends.proofs.Feeding.{last_line}
 use Rattle.street_ends.proofs.Handled.{handles_more, output_more}
 use Rattle.street_ends.specs.Faults.{IsAtRead, IsAtLine}
-use Rattle.street_ends.specs.Handling.{Effect, has_reply, has_text, text_in, Handles, output, calls_in, replies_in, IsTally, EndsLine, IsNext, Leaves, Breaks}
+use Rattle.street_ends.specs.Handling.{Effect, has_reply, has_text, text_in, Handles, output, IsTally, EndsLine, IsNext, Leaves, Breaks}
 use Rattle.street_ends.specs.Lines.{cut, lines_of, if_any, kept, IsPart}
 use Rattle.street_ends.specs.Progress.{Stands, Feeds, Finishes, FeedBreaks, FinishBreaks, LineBreaks, IsUntouched, IsHalf}
 use Rattle.street_ends.specs.declared.answer.Cause.{Cause}
 use Rattle.street_ends.specs.declared.answer.Cause.TheVariants.{Run, Line}
 use Rattle.street_ends.specs.declared.driver.Progress.{Progress}
-use Rattle.street_ends.specs.declared.part.PartialLine.{PartialLine}
 use Rattle.street_ends.specs.declared.tally.FaultKind.{FaultKind}
 use Rattle.street_ends.specs.declared.tally.FaultKind.TheVariants.{Read, Write, Starved, Endless}
 use Rattle.street_ends.specs.declared.tally.Tally.{Tally}

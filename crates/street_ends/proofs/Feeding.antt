@@ -5,11 +5,10 @@ use Rattle.std.specs.Io.KnownBytes.{Appends, Consumes, IsAtEnd, Keeps}
 use Rattle.street_ends.proofs.Cutting.{cut_other, cut_newline, one_line}
 use Rattle.street_ends.proofs.Handled.{handles_more, output_more, one_more_line}
 use Rattle.street_ends.proofs.Parts.{kept_none, line_kept}
-use Rattle.street_ends.specs.Handling.{Effect, Handles, output, text_in, IsTally, Whole}
-use Rattle.street_ends.specs.Lines.{cut, lines_of, if_any, kept, IsPart}
-use Rattle.street_ends.specs.Progress.{Counts, Taken, Stands, Feeds, Finishes}
+use Rattle.street_ends.specs.Handling.{Effect, output, text_in, IsTally, Whole}
+use Rattle.street_ends.specs.Lines.{cut, if_any, kept, IsPart}
+use Rattle.street_ends.specs.Progress.{Taken, Stands, Feeds, Finishes}
 use Rattle.street_ends.specs.declared.driver.Progress.{Progress}
-use Rattle.street_ends.specs.declared.part.PartialLine.{PartialLine}
 use Rattle.street_ends.specs.declared.tally.Tally.{Tally}
 
 -- a read that gave nothing

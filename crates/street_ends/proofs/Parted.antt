@@ -1,6 +1,6 @@
 -- A handler that holds a reference, and changes no more than what stands behind it: its runs are those of what stands there, and it holds the same reference after them.
-use Rattle.std.proofs.Common.{◌≡◌, ◌∙◌, ℕ, List, [], ◌∷◌, Option, refl, ap}
-use Rattle.street_ends.specs.Handling.{Effect, Handles, Whole, IsNext, Leaves, Breaks, Broke}
+use Rattle.std.proofs.Common.{◌≡◌, ◌∙◌, ℕ, List, [], ◌∷◌, Option, ap}
+use Rattle.street_ends.specs.Handling.{Effect, Handles, Whole, Leaves, Broke}
 use Rattle.street_ends.specs.declared.answer.Cause.{Cause}
 use Rattle.street_ends.specs.declared.answer.Cause.TheVariants.{Run, Line}
 use Rattle.street_ends.specs.declared.tally.Tally.{Tally}

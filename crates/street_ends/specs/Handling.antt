@@ -10,7 +10,6 @@ use Rattle.street_ends.specs.Lines.{cut, lines_of}
 use Rattle.street_ends.specs.declared.answer.Answer.{Answer}
 use Rattle.street_ends.specs.declared.answer.Cause.{Cause}
 use Rattle.street_ends.specs.declared.answer.Cause.TheVariants.{Run, Line}
-use Rattle.street_ends.specs.declared.tally.FaultKind.{FaultKind}
 use Rattle.street_ends.specs.declared.tally.Tally.{Tally}
 
 -- ---- one line
@@ -96,7 +95,8 @@ pub record IsNext (at_end : Type 0) (text : List ℕ) (done : List (List ℕ)) (
 
 -- a line that ended the run is counted, and all before it is whole; a fault of the run leaves the state of the lines that were handled, and at a read
 -- these are all lines that were read to their end, and their replies are whole
-abbrev pub Leaves : {S Stop : Type 0} → (S → List ℕ → Stop → S → Type 0) → Type 0 → List ℕ → List (List ℕ) → List Effect → S → S → Cause Stop → Tally → Type 0
+abbrev pub Leaves : {S Stop : Type 0} → (S → List ℕ → Stop → S → Type 0)
+    → Type 0 → List ℕ → List (List ℕ) → List Effect → S → S → Cause Stop → Tally → Type 0
 Leaves stops at_end text done effects mid now (Run kind) tally =
     (now ≡ mid) × (tally.lines ≡ length done) × (IsAtRead kind → (done ≡ (cut text).0) × (tally.bytes ≡ length (output effects)))
 Leaves stops at_end text done effects mid now (Line stop) tally =
@@ -121,8 +121,8 @@ pub record Breaks {S Stop : Type 0} (takes : S → List ℕ → Effect → S →
   pub leaves : Leaves stops at_end text done effects mid now cause tally
 
 -- so of what was read
-pub record Broke {S Stop : Type 0} (takes : S → List ℕ → Effect → S → Type 0) (stops : S → List ℕ → Stop → S → Type 0) (start : S) (unread before : Option (List ℕ))
-    (now : S) (left after : Option (List ℕ)) (cause : Cause Stop) (tally : Tally) : Type 0 where
+pub record Broke {S Stop : Type 0} (takes : S → List ℕ → Effect → S → Type 0) (stops : S → List ℕ → Stop → S → Type 0)
+    (start : S) (unread before : Option (List ℕ)) (now : S) (left after : Option (List ℕ)) (cause : Cause Stop) (tally : Tally) : Type 0 where
   pub text : List ℕ
   pub read : Consumes unread left text
   pub breaks : Breaks takes stops (IsAtEnd left) start before text now after cause tally

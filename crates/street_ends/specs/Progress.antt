@@ -9,7 +9,6 @@ use Rattle.street_ends.specs.declared.answer.Cause.{Cause}
 use Rattle.street_ends.specs.declared.answer.Cause.TheVariants.{Run, Line}
 use Rattle.street_ends.specs.declared.driver.Progress.{Progress}
 use Rattle.street_ends.specs.declared.part.PartialLine.{PartialLine}
-use Rattle.street_ends.specs.declared.tally.FaultKind.{FaultKind}
 use Rattle.street_ends.specs.declared.tally.Tally.{Tally}
 
 -- every count is bounded by that of lines
@@ -63,7 +62,8 @@ module _ {S : Type 0} (takes : S → List ℕ → Effect → S → Type 0) (long
   -- the line of this part was handled, and counted
   abbrev pub Taken : S → Option (List ℕ) → PartialLine → Tally → S → Option (List ℕ) → Tally → Type 0
   Taken old before part tally new after counted =
-      (line : List ℕ) → IsPart longest part line → (effect : Effect) × takes old line effect new × Appends before after (text_in effect.reply) × Counts tally counted effect
+      (line : List ℕ) → IsPart longest part line
+      → (effect : Effect) × takes old line effect new × Appends before after (text_in effect.reply) × Counts tally counted effect
 
   -- the lines that have ended were handled and counted, and the part is of the line that has not
   abbrev pub Stands : S → Option (List ℕ) → List ℕ → S → Option (List ℕ) → Progress → Type 0

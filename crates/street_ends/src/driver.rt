@@ -18,6 +18,15 @@ use crate::writing::{flush_out, write_reply};
 use std::alloc::Global;
 use std::io::{Read, Write};
 
+/// What a run may come to.
+#[derive(Debug, Clone, Copy, PartialEq, Eq)]
+pub struct Limits {
+    /// The most bytes of a line, its LF not counted.
+    pub line: usize,
+    /// The most calls of `read`.
+    pub reads: u32,
+}
+
 /// A run as far as it has come: the line that has not ended, and the tally of those that have.
 #[derive(Drop)]
 struct Progress {
@@ -36,10 +45,10 @@ fn end_line<H: LineHandler, W: Write>(
     requires ready { H.ready }
     requires within { IsWithin tally.old }
     requires room { tally.old.lines < 2 ^ 62 }
-    ensures taken { OnOk result (Taken H.takes H.LONGEST handler.old (W.contents writer.old.end) part.now tally.old
+    ensures taken { OnOk result (Taken H.takes H.longest handler.old (W.contents writer.old.end) part.now tally.old
         handler.new (W.contents writer.new.end) tally.new) }
     ensures grows { OnOk result (Grows tally.old tally.new 1) }
-    ensures broken { IfErr result (λ cause. (line : List ℕ) → IsPart H.LONGEST part.now line
+    ensures broken { IfErr result (λ cause. (line : List ℕ) → IsPart H.longest part.now line
         → LineBreaks H.takes H.stops handler.old (W.contents writer.old.end) tally.old line
         handler.new (W.contents writer.new.end) cause tally.new) }
     ensures caused { IfErr result (λ cause. IsCausedByLine cause writer.new) }
@@ -70,10 +79,10 @@ fn take_byte<H: LineHandler, W: Write>(
     requires ready { H.ready }
     requires within { IsWithin progress.old.tally }
     requires room { progress.old.tally.lines < 2 ^ 62 }
-    ensures feeds { OnOk result (Feeds H.takes H.LONGEST handler.old (W.contents writer.old.end) progress.old (byte ∷ [])
+    ensures feeds { OnOk result (Feeds H.takes H.longest handler.old (W.contents writer.old.end) progress.old (byte ∷ [])
         handler.new (W.contents writer.new.end) progress.new) }
     ensures grows { OnOk result (Grows progress.old.tally progress.new.tally 1) }
-    ensures broken { IfErr result (λ cause. FeedBreaks H.takes H.stops H.LONGEST handler.old (W.contents writer.old.end)
+    ensures broken { IfErr result (λ cause. FeedBreaks H.takes H.stops H.longest handler.old (W.contents writer.old.end)
         progress.old (byte ∷ []) handler.new (W.contents writer.new.end) cause progress.new.tally) }
     ensures caused { IfErr result (λ cause. IsCausedByLine cause writer.new) }
 {
@@ -97,10 +106,10 @@ fn feed<H: LineHandler, W: Write>(
     requires ready { H.ready }
     requires within { IsWithin progress.old.tally }
     requires room { progress.old.tally.lines + length bytes.now < 2 ^ 62 }
-    ensures feeds { OnOk result (Feeds H.takes H.LONGEST handler.old (W.contents writer.old.end) progress.old bytes.now
+    ensures feeds { OnOk result (Feeds H.takes H.longest handler.old (W.contents writer.old.end) progress.old bytes.now
         handler.new (W.contents writer.new.end) progress.new) }
     ensures grows { OnOk result (Grows progress.old.tally progress.new.tally (length bytes.now)) }
-    ensures broken { IfErr result (λ cause. FeedBreaks H.takes H.stops H.LONGEST handler.old (W.contents writer.old.end)
+    ensures broken { IfErr result (λ cause. FeedBreaks H.takes H.stops H.longest handler.old (W.contents writer.old.end)
         progress.old bytes.now handler.new (W.contents writer.new.end) cause progress.new.tally) }
     ensures caused { IfErr result (λ cause. IsCausedByLine cause writer.new) }
 {
@@ -121,10 +130,10 @@ fn feed_through<H: LineHandler, W: Write>(
     requires ready { H.ready }
     requires within { IsWithin progress.old.tally }
     requires room { progress.old.tally.lines + length bytes.now < 2 ^ 62 }
-    ensures feeds { OnOk result (Feeds H.takes H.LONGEST handler.old (W.contents writer.old.end) progress.old bytes.now
+    ensures feeds { OnOk result (Feeds H.takes H.longest handler.old (W.contents writer.old.end) progress.old bytes.now
         handler.new (W.contents writer.new.end) progress.new) }
     ensures grows { OnOk result (Grows progress.old.tally progress.new.tally (length bytes.now)) }
-    ensures broken { IfErr result (λ cause. FeedBreaks H.takes H.stops H.LONGEST handler.old (W.contents writer.old.end)
+    ensures broken { IfErr result (λ cause. FeedBreaks H.takes H.stops H.longest handler.old (W.contents writer.old.end)
         progress.old bytes.now handler.new (W.contents writer.new.end) cause progress.new.tally) }
     ensures caused { IfErr result (λ cause. IsCausedByLine cause writer.new) }
 {
@@ -143,9 +152,10 @@ fn finish<H: LineHandler, W: Write>(
     requires ready { H.ready }
     requires within { IsWithin progress.old.tally }
     requires room { progress.old.tally.lines < 2 ^ 62 }
-    ensures finishes { OnOk result (Finishes H.takes H.LONGEST handler.old (W.contents writer.old.end) progress.old
+    ensures finishes { OnOk result (Finishes H.takes H.longest handler.old (W.contents writer.old.end) progress.old
         handler.new (W.contents writer.new.end) progress.new.tally) }
-    ensures broken { IfErr result (λ cause. FinishBreaks H.takes H.stops H.LONGEST handler.old (W.contents writer.old.end)
+    ensures grows { OnOk result (Grows progress.old.tally progress.new.tally 1) }
+    ensures broken { IfErr result (λ cause. FinishBreaks H.takes H.stops H.longest handler.old (W.contents writer.old.end)
         progress.old handler.new (W.contents writer.new.end) cause progress.new.tally) }
     ensures caused { IfErr result (λ cause. IsCausedByLine cause writer.new) }
 {
@@ -166,9 +176,10 @@ fn finish_through<H: LineHandler, W: Write>(
     requires ready { H.ready }
     requires within { IsWithin progress.old.tally }
     requires room { progress.old.tally.lines < 2 ^ 62 }
-    ensures finishes { OnOk result (Finishes H.takes H.LONGEST handler.old (W.contents writer.old.end) progress.old
+    ensures finishes { OnOk result (Finishes H.takes H.longest handler.old (W.contents writer.old.end) progress.old
         handler.new (W.contents writer.new.end) progress.new.tally) }
-    ensures broken { IfErr result (λ cause. FinishBreaks H.takes H.stops H.LONGEST handler.old (W.contents writer.old.end)
+    ensures grows { OnOk result (Grows progress.old.tally progress.new.tally 1) }
+    ensures broken { IfErr result (λ cause. FinishBreaks H.takes H.stops H.longest handler.old (W.contents writer.old.end)
         progress.old handler.new (W.contents writer.new.end) cause progress.new.tally) }
     ensures caused { IfErr result (λ cause. IsCausedByLine cause writer.new) }
 {
@@ -188,10 +199,11 @@ fn drive_all<H: LineHandler, R: Read, W: Write>(
 ) -> Result<(), Cause<H::Stop>>
     requires ready { H.ready }
     requires fresh { IsFresh reader.old }
-    requires part { IsPart H.LONGEST progress.old.part [] }
+    requires part { IsPart H.longest progress.old.part [] }
     requires tally { IsTally progress.old.tally [] [] }
     ensures whole { OnOk result (Whole H.takes handler.old (R.remaining reader.old.end) (W.contents writer.old.end)
         handler.new (R.remaining reader.new.end) (W.contents writer.new.end) progress.new.tally) }
+    ensures few { OnOk result (progress.new.tally.lines < 2 ^ 62) }
     ensures broken { IfErr result (λ cause. Broke H.takes H.stops handler.old (R.remaining reader.old.end) (W.contents writer.old.end)
         handler.new (R.remaining reader.new.end) (W.contents writer.new.end) cause progress.new.tally) }
     ensures caused { IfErr result (λ cause. IsCausedBy cause reader.new writer.new reads) }
@@ -228,20 +240,22 @@ pub fn drive_lines<H: LineHandler, R: Read, W: Write>(
     handler: &mut H,
     reader: &mut Counted<R>,
     writer: &mut Counted<W>,
-    reads: u32,
+    limits: Limits,
 ) -> Result<Tally, Halt<H::Stop>>
     requires ready { H.ready }
+    requires longest { limits.line ≡ H.longest }
     requires reader { IsFresh reader.old }
     requires writer { IsFresh writer.old }
     ensures whole { IfOk result (λ tally. Whole H.takes handler.old (R.remaining reader.old.end) (W.contents writer.old.end)
         handler.new (R.remaining reader.new.end) (W.contents writer.new.end) tally) }
+    ensures few { IfOk result (λ tally. tally.lines < 2 ^ 62) }
     ensures broken { IfErr result (λ halt. Broke H.takes H.stops handler.old (R.remaining reader.old.end) (W.contents writer.old.end)
         handler.new (R.remaining reader.new.end) (W.contents writer.new.end) halt.cause halt.tally) }
-    ensures caused { IfErr result (λ halt. IsCausedBy halt.cause reader.new writer.new reads) }
-    ensures bounded { reader.new.calls ≤ reads }
+    ensures caused { IfErr result (λ halt. IsCausedBy halt.cause reader.new writer.new limits.reads) }
+    ensures bounded { reader.new.calls ≤ limits.reads }
 {
     let mut progress = Progress {
-        part: PartialLine::new(alloc, H::LONGEST),
+        part: PartialLine::new(alloc, limits.line),
         tally: Tally {
             lines: 0,
             calls: 0,
@@ -249,7 +263,7 @@ pub fn drive_lines<H: LineHandler, R: Read, W: Write>(
             bytes: 0,
         },
     };
-    match drive_all(alloc, handler, reader, writer, reads, &mut progress) {
+    match drive_all(alloc, handler, reader, writer, limits.reads, &mut progress) {
         Ok(()) => Ok(progress.tally),
         Err(cause) => Err(Halt {
             cause,

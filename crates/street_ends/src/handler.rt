@@ -9,11 +9,12 @@ use crate::answer::Answer;
 use crate::part::PartialLine;
 use std::alloc::Global;
 
-/// What is done with the lines of a text, one after another. A line has no more than `LONGEST` bytes, or is seen as too long.
+/// What is done with the lines of a text, one after another.
 ///
-/// Its meaning is two relations. `takes` stands between the old state, a whole line, what the line gave and the new state;
-/// `stops` stands between the old state, a whole line that ended the run, why it did and the new state. `ready` is what it
-/// asks of its type parameters, as `Service` of street_line does.
+/// `longest` is the most bytes that a line may have; a longer one is handed on too, as far as it is kept. The meaning is two
+/// relations. `takes` stands between the old state, a whole line, what the line gave and the new state; `stops` between the
+/// old state, a whole line that ended the run, why it did and the new state. `ready` is what the handler asks of its type
+/// parameters, as that all threads may use its runtime: a function whose bounds say so has it.
 pub trait LineHandler {
     ghost use Rattle.std.specs.Prelude.{List, ℕ};
     ghost use Rattle.street_ends.specs.Handling.{Effect};
@@ -21,16 +22,13 @@ pub trait LineHandler {
     /// Why a line ends the run.
     type Stop: Drop;
 
-    ghost LONGEST: { ℕ };
+    ghost longest: { ℕ };
 
     ghost takes: { Self → List ℕ → Effect → Self → Type 0 };
 
     ghost stops: { Self → List ℕ → Self.Stop → Self → Type 0 };
 
     ghost ready: { Type 0 };
-
-    /// The most bytes that a line may have, its LF not counted.
-    const LONGEST: usize;
 
     /// Does what a whole line says. Blank lines and lines that are too long come too.
     ///
@@ -39,7 +37,7 @@ pub trait LineHandler {
     /// Why the run ends with this line: nothing was called or written of it.
     fn take(&mut self, alloc: Global, line: &PartialLine) -> Result<Answer, Self::Stop>
         requires { ready }
-        ensures taken { (whole : List ℕ) → IsPart LONGEST line.now whole → IfOk result (λ answer. (effect : Effect)
+        ensures taken { (whole : List ℕ) → IsPart longest line.now whole → IfOk result (λ answer. (effect : Effect)
             × takes self.old whole effect self.new × Gives answer effect) }
-        ensures stopped { (whole : List ℕ) → IsPart LONGEST line.now whole → IfErr result (λ stop. stops self.old whole stop self.new) };
+        ensures stopped { (whole : List ℕ) → IsPart longest line.now whole → IfErr result (λ stop. stops self.old whole stop self.new) };
 }

@@ -15,7 +15,7 @@ mod writing;
 
 pub use answer::{Answer, Cause, Halt};
 pub use counted::Counted;
-pub use driver::drive_lines;
+pub use driver::{Limits, drive_lines};
 pub use handler::LineHandler;
 pub use part::PartialLine;
 pub use tally::{FaultKind, RunFault, Tally};

@@ -1,5 +1,3 @@
 pub mod LineLemmas
-pub mod TallyLemmas
-pub mod RunLemmas
-pub mod FaultLemmas
+pub mod Handling
 pub mod EngineLemmas

@@ -1,9 +1,10 @@
 -- The output of a text of lines.
 -- Source: this profile.
 use Rattle.std.specs.Prelude.{◌≡◌, ℕ, List, [], ◌∷◌, ◌++◌, length, Bool, true, false, if◌then◌else◌, Option, Some, Result, Ok, Err, codes}
+use Rattle.std.specs.Io.KnownBytes.{Appends, Consumes, IsAtEnd}
 use Rattle.std.specs.List.{count_by}
 use Rattle.street_base.specs.declared.command.Command.{Command}
-use Rattle.street_ends.specs.Lines.{is_blank}
+use Rattle.street_ends.specs.Lines.{is_blank, lines_of}
 use Rattle.street_ends.specs.declared.tally.Tally.{Tally}
 use Rattle.street_line.specs.declared.service.Served.{Served}
 use Rattle.street_line.specs.declared.service.Served.TheVariants.{Answered, Full}
@@ -63,3 +64,14 @@ pub record IsTally (tally : Tally) (ls : List (List ℕ)) (out : List ℕ) : Typ
   pub calls : tally.calls ≡ count_by (λ l. is_call (said l)) ls
   pub replies : tally.replies ≡ count_by (λ l. has_reply (said l)) ls
   pub bytes : tally.bytes ≡ length out
+
+-- all lines of a text that was read to its end were served, and all of their output is written
+pub record ServedWhole {S : Type 0} (serves : S → Command → Served → S → Type 0) (start : S) (unread before : Option (List ℕ))
+    (now : S) (left after : Option (List ℕ)) (tally : Tally) : Type 0 where
+  pub text : List ℕ
+  pub out : List ℕ
+  pub read : Consumes unread left text
+  pub at_end : IsAtEnd left
+  pub served : Goes serves start (lines_of text) out now
+  pub written : Appends before after out
+  pub counted : IsTally tally (lines_of text) out

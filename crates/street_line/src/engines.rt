@@ -1,15 +1,14 @@
 //! Lines served by an engine.
 //!
 //! Source: this profile.
-ghost use Rattle.std.specs.Prelude.{◌≡◌, ℕ, List, IfOk, IfErr};
-ghost use Rattle.std.specs.Io.KnownBytes.{Appends, Consumes, IsAtEnd};
+ghost use Rattle.std.specs.Prelude.{◌≡◌, ◌≤◌, IfOk, IfErr};
 ghost use Rattle.street_base.specs.State.{State};
 ghost use Rattle.street_ends.specs.Ends.{IsFresh};
-ghost use Rattle.street_ends.specs.Lines.{lines_of};
+ghost use Rattle.street_ends.specs.Faults.{IsCaused};
 ghost use Rattle.street_engine.specs.Refines.{StandsFor};
 ghost use Rattle.street_line.specs.Engines.{MachineServes};
-ghost use Rattle.street_line.specs.Faults.{Breaks, IsCaused};
-ghost use Rattle.street_line.specs.Running.{Goes, IsTally};
+ghost use Rattle.street_line.specs.Faults.{ServedInPart};
+ghost use Rattle.street_line.specs.Running.{ServedWhole};
 
 use crate::running::run_lines;
 use crate::service::{Served, Service};
@@ -88,20 +87,15 @@ pub fn run_engine<R: Threads + Sync, D: Read, W: Write>(
     requires reader { IsFresh reader.old }
     requires writer { IsFresh writer.old }
     ensures served { IfOk result (λ tally. (old : State) → StandsFor session.old old
-        → (text : List ℕ) × (out : List ℕ) × (new : State)
-        × Consumes (D.remaining reader.old.end) (D.remaining reader.new.end) text
-        × IsAtEnd (D.remaining reader.new.end)
-        × Goes MachineServes old (lines_of text) out new
-        × StandsFor session.new new
-        × Appends (W.contents writer.old.end) (W.contents writer.new.end) out
-        × IsTally tally (lines_of text) out) }
+        → (new : State) × StandsFor session.new new
+        × ServedWhole MachineServes old (D.remaining reader.old.end) (W.contents writer.old.end)
+        new (D.remaining reader.new.end) (W.contents writer.new.end) tally) }
     ensures broken { IfErr result (λ fault. (old : State) → StandsFor session.old old
-        → (text : List ℕ) × (new : State)
-        × Consumes (D.remaining reader.old.end) (D.remaining reader.new.end) text
-        × Breaks MachineServes old (W.contents writer.old.end) text
-        new (W.contents writer.new.end) fault.kind fault.tally
-        × StandsFor session.new new) }
+        → (new : State) × StandsFor session.new new
+        × ServedInPart MachineServes old (D.remaining reader.old.end) (W.contents writer.old.end)
+        new (D.remaining reader.new.end) (W.contents writer.new.end) fault) }
     ensures caused { IfErr result (λ fault. IsCaused fault.kind reader.new writer.new 1000000000) }
+    ensures bounded { reader.new.calls ≤ 1000000000 }
 {
     run_lines(alloc, session, reader, writer)
 }

@@ -9,6 +9,7 @@ mod engines;
 mod laws;
 mod running;
 mod service;
+mod serving;
 mod writing;
 
 pub use engines::{EngineSession, run_engine};

@@ -4,6 +4,8 @@
 #![tactic(auto)]
 
 #[cfg(test)]
+mod driver;
+#[cfg(test)]
 mod ends;
 #[cfg(test)]
 mod reading;

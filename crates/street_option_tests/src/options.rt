@@ -15,20 +15,20 @@ fn words_of(alloc: Global, words: &[&str]) -> Result<Vec<String>, AllocError> {
     Ok(all)
 }
 
-/// The numbers of options, the files of their tape and of their replay, and their scripts.
-type Wanted<'a> = (
-    (u32, u64),
-    (Option<&'a str>, Option<&'a str>),
-    &'a [&'a str],
-);
+/// The files of the tape that is written, of the one that is replayed, and of the one that is upgraded.
+type Files<'a> = (Option<&'a str>, Option<&'a str>, Option<&'a str>);
+
+/// The numbers of options, the files of their tapes, and their scripts.
+type Wanted<'a> = ((u32, u64), Files<'a>, &'a [&'a str]);
 
 /// Whether the options are these.
 fn is_found(found: &Options<'_>, wanted: Wanted<'_>) -> bool {
-    let ((workers, calls), (tape, replay), scripts) = wanted;
+    let ((workers, calls), (tape, replay, upgrade), scripts) = wanted;
     found.workers == workers
         && found.calls == calls
         && found.tape == tape
         && found.replay == replay
+        && found.upgrade == upgrade
         && found.scripts.as_slice() == scripts
 }
 
@@ -46,7 +46,7 @@ fn check_good(
 
 #[test]
 fn defaults(rt: HostRuntime) -> Result<(), Fail> {
-    check_good(&rt, &[], ((1, 65_536), (None, None), &[]))
+    check_good(&rt, &[], ((1, 65_536), (None, None, None), &[]))
 }
 
 #[test]
@@ -66,7 +66,7 @@ fn all_at_once(rt: HostRuntime) -> Result<(), Fail> {
     check_good(
         &rt,
         &words,
-        ((64, 1_000_000), (Some("run.tape"), None), &scripts),
+        ((64, 1_000_000), (Some("run.tape"), None, None), &scripts),
     )
 }
 
@@ -74,7 +74,18 @@ fn all_at_once(rt: HostRuntime) -> Result<(), Fail> {
 #[test]
 fn replays(rt: HostRuntime) -> Result<(), Fail> {
     let words = ["--replay", "run.tape", "--workers", "2", "--calls", "1"];
-    check_good(&rt, &words, ((2, 1), (None, Some("run.tape")), &[]))
+    check_good(&rt, &words, ((2, 1), (None, Some("run.tape"), None), &[]))
+}
+
+/// So does an upgrade.
+#[test]
+fn upgrades(rt: HostRuntime) -> Result<(), Fail> {
+    let words = ["--upgrade", "run.tape", "--workers", "2"];
+    check_good(
+        &rt,
+        &words,
+        ((2, 65_536), (None, None, Some("run.tape")), &[]),
+    )
 }
 
 /// What is told of words that are no options, after the word `bad` or `help`.
@@ -110,18 +121,29 @@ fn check_bad(rt: &(impl Abort + AllocGlobal), words: &[&str], what: &str) -> Res
 }
 
 #[test]
-fn numbers_out_of_range_are_bad(rt: HostRuntime) -> Result<(), Fail> {
-    for word in ["0", "65", "4294967297", "many", "", "1.0"] {
-        let what = format!(in rt.alloc();
-            "invalid value '{word}' for '--workers <N>': it is not a number from 1 to 64"
-        )?;
-        check_bad(&rt, &["--workers", word], what.as_str())?;
-    }
-    for word in ["0", "1000001"] {
-        let what = format!(in rt.alloc();
-            "invalid value '{word}' for '--calls <N>': it is not a number from 1 to 1000000"
-        )?;
-        check_bad(&rt, &["--calls", word], what.as_str())?;
+fn other_words_are_bad(rt: HostRuntime) -> Result<(), Fail> {
+    let cases: [(&[&str], &str); 18] = [
+        (&["--workers", "0"], "'0'"),
+        (&["--workers", "65"], "'65'"),
+        (&["--workers", "4294967297"], "'4294967297'"),
+        (&["--workers", "-1"], "'-1'"),
+        (&["--workers", "many"], "'many'"),
+        (&["--workers"], "--workers"),
+        (&["--workers", "2", "--workers", "2"], "--workers"),
+        (&["--calls", "0"], "'0'"),
+        (&["--calls", "1000001"], "'1000001'"),
+        (&["--version"], "--version"),
+        (&["-x"], "'-x'"),
+        (&["--replay", "a.tape", "--tape", "b.tape"], "--replay"),
+        (&["--replay", "a.tape", "a.jsonl"], "--replay"),
+        (&["--upgrade", "a.tape", "--tape", "b.tape"], "--upgrade"),
+        (&["--upgrade", "a.tape", "--replay", "b.tape"], "--upgrade"),
+        (&["--upgrade", "a.tape", "a.jsonl"], "--upgrade"),
+        (&["--upgrade"], "--upgrade"),
+        (&["--tape"], "--tape"),
+    ];
+    for (words, what) in cases {
+        check_bad(&rt, words, what)?;
     }
     Ok(())
 }
@@ -202,6 +224,7 @@ fn check_help(rt: &impl Abort, text: &str) {
         "--calls <N>",
         "--tape <FILE>",
         "--replay <FILE>",
+        "--upgrade <FILE>",
         "[SCRIPT]...",
     ] {
         assert!(rt; text.contains(name), "no {name} in {text}");

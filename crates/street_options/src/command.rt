@@ -30,7 +30,7 @@ fn arguments<'a>(alloc: Global) -> Result<Vec<Arg<'a>>, AllocError> {
             alloc,
             "workers",
             "N",
-            "Threads that share each step, 1 to 64; the replies are the same for every number. More than one pays on grids of some 100000 vehicles [default: 1]",
+            "Threads that share each step, 1 to 64; the replies are the same for every number. Steps with fewer than 30000 vehicles in cells are made by one thread [default: 1]",
         ),
         option(
             alloc,
@@ -49,6 +49,12 @@ fn arguments<'a>(alloc: Global) -> Result<Vec<Arg<'a>>, AllocError> {
             "replay",
             "FILE",
             "Replays a tape from nothing loaded, and then counts; with neither scripts nor --tape",
+        ),
+        option(
+            alloc,
+            "upgrade",
+            "FILE",
+            "Writes a tape anew in version 2 to standard output; with neither scripts, --tape nor --replay",
         ),
         scripts(alloc),
     ]?)

@@ -1,5 +1,4 @@
-pub mod CallSteps
+pub mod Legal
 pub mod GoodTapes
-pub mod LineSteps
-pub mod Stopping
-pub mod TextSteps
+pub mod Replayed
+pub mod Upgraded

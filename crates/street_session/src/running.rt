@@ -1,13 +1,11 @@
 //! Lines served through a desk.
 //!
 //! Source: this profile.
-ghost use Rattle.std.specs.Prelude.{◌≡◌, ℕ, List, IfOk, IfErr};
-ghost use Rattle.std.specs.Io.KnownBytes.{Appends, Consumes, IsAtEnd};
-ghost use Rattle.street_desk.specs.declared.journal.Entry.{Entry};
+ghost use Rattle.std.specs.Prelude.{◌≡◌, ◌≤◌, IfOk, IfErr};
 ghost use Rattle.street_ends.specs.Ends.{IsFresh};
-ghost use Rattle.street_ends.specs.Lines.{lines_of};
-ghost use Rattle.street_line.specs.Faults.{Breaks, IsCaused};
-ghost use Rattle.street_line.specs.Running.{Goes, IsTally};
+ghost use Rattle.street_ends.specs.Faults.{IsCaused};
+ghost use Rattle.street_line.specs.Faults.{ServedInPart};
+ghost use Rattle.street_line.specs.Running.{ServedWhole};
 ghost use Rattle.street_session.specs.Sessions.{AloneServes, DeskServes, IsAlone};
 
 use crate::session::DeskSession;
@@ -32,17 +30,12 @@ pub fn run_session<R: Threads + Wait + Sync, D: Read, W: Write>(
 ) -> Result<Tally, RunFault>
     requires reader { IsFresh reader.old }
     requires writer { IsFresh writer.old }
-    ensures served { IfOk result (λ tally. (text : List ℕ) × (out : List ℕ)
-        × Consumes (D.remaining reader.old.end) (D.remaining reader.new.end) text
-        × IsAtEnd (D.remaining reader.new.end)
-        × Goes DeskServes session.old (lines_of text) out session.new
-        × Appends (W.contents writer.old.end) (W.contents writer.new.end) out
-        × IsTally tally (lines_of text) out) }
-    ensures broken { IfErr result (λ fault. (text : List ℕ)
-        × Consumes (D.remaining reader.old.end) (D.remaining reader.new.end) text
-        × Breaks DeskServes session.old (W.contents writer.old.end) text
-        session.new (W.contents writer.new.end) fault.kind fault.tally) }
+    ensures served { IfOk result (λ tally. ServedWhole DeskServes session.old (D.remaining reader.old.end) (W.contents writer.old.end)
+        session.new (D.remaining reader.new.end) (W.contents writer.new.end) tally) }
+    ensures broken { IfErr result (λ fault. ServedInPart DeskServes session.old (D.remaining reader.old.end) (W.contents writer.old.end)
+        session.new (D.remaining reader.new.end) (W.contents writer.new.end) fault) }
     ensures caused { IfErr result (λ fault. IsCaused fault.kind reader.new writer.new 1000000000) }
+    ensures bounded { reader.new.calls ≤ 1000000000 }
     ensures same { session.new.desk ≡ session.old.desk }
 {
     run_lines(alloc, session, reader, writer)
@@ -64,17 +57,14 @@ pub fn run_alone<R: Threads + Wait + Sync, D: Read, W: Write>(
     requires alone { IsAlone session.old }
     requires reader { IsFresh reader.old }
     requires writer { IsFresh writer.old }
-    ensures served { IfOk result (λ tally. (text : List ℕ) × (out : List ℕ)
-        × Consumes (D.remaining reader.old.end) (D.remaining reader.new.end) text
-        × IsAtEnd (D.remaining reader.new.end)
-        × Goes (AloneServes session.old.desk.calls) session.old.seen (lines_of text) out session.new.seen
-        × Appends (W.contents writer.old.end) (W.contents writer.new.end) out
-        × IsTally tally (lines_of text) out) }
-    ensures broken { IfErr result (λ fault. (text : List ℕ)
-        × Consumes (D.remaining reader.old.end) (D.remaining reader.new.end) text
-        × Breaks (AloneServes session.old.desk.calls) session.old.seen (W.contents writer.old.end) text
-        session.new.seen (W.contents writer.new.end) fault.kind fault.tally) }
+    ensures served { IfOk result (λ tally. ServedWhole (AloneServes session.old.desk.calls)
+        session.old.seen (D.remaining reader.old.end) (W.contents writer.old.end)
+        session.new.seen (D.remaining reader.new.end) (W.contents writer.new.end) tally) }
+    ensures broken { IfErr result (λ fault. ServedInPart (AloneServes session.old.desk.calls)
+        session.old.seen (D.remaining reader.old.end) (W.contents writer.old.end)
+        session.new.seen (D.remaining reader.new.end) (W.contents writer.new.end) fault) }
     ensures caused { IfErr result (λ fault. IsCaused fault.kind reader.new writer.new 1000000000) }
+    ensures bounded { reader.new.calls ≤ 1000000000 }
     ensures same { session.new.desk ≡ session.old.desk }
 {
     run_session(alloc, session, reader, writer)

@@ -10,7 +10,7 @@ use street_replay::TapeFault;
 
 /// Two calls with nothing loaded.
 static REFUSED: &str = concat!(
-    r#"{"tape":1}"#,
+    r#"{"calls":2,"tape":2}"#,
     "\n",
     r#"{"command":{"car":0,"cmd":"vehicle"},"outcome":"whole","session":0}"#,
     "\n",

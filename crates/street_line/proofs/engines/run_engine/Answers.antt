@@ -5,10 +5,13 @@ use Rattle.street_line.proofs.engines.run_engine.Goals as goal
 
 pub returns-clause-served : goal.returns-clause-served
 returns-clause-served g c = IfOk-weaker c.run_lines.result _ _ (λ tally run. λ old stands.
-    let told = goes-machine c.args.session.now (lines_of run.0) run.1 c.run_lines.new.service run.4 old stands in
-    (run.0, run.1, told.0, run.2, run.3, told.1, told.2, run.5, run.6)) c.run_lines.ensures.served
+    let told = goes-machine c.args.session.now (lines_of run.text) run.out c.run_lines.new.service run.served old stands in (
+      told.0,
+      told.2,
+      record { text = run.text; out = run.out; read = run.read; at_end = run.at_end; served = told.1; written = run.written; counted = run.counted },
+    )) c.run_lines.ensures.served
 
 pub returns-clause-broken : goal.returns-clause-broken
 returns-clause-broken g c = IfErr-weaker c.run_lines.result _ _ (λ fault run. λ old stands.
-    let told = breaks-machine c.args.session.now _ run.0 c.run_lines.new.service _ _ _ run.2 old stands in
-    (run.0, told.0, run.1, told.1, told.2)) c.run_lines.ensures.broken
+    let told = breaks-machine c.args.session.now _ run.text c.run_lines.new.service _ _ _ run.breaks old stands in
+    (told.0, told.2, record { text = run.text; read = run.read; breaks = told.1 })) c.run_lines.ensures.broken

@@ -4,9 +4,19 @@ use Rattle.street_session.proofs.Alone.{goes_alone, breaks_alone}
 use Rattle.street_session.proofs.running.run_alone.Goals as goal
 
 pub returns-clause-served : goal.returns-clause-served
-returns-clause-served g c = IfOk-weaker c.run_session.result _ _ (λ tally run.
-    (run.0, run.1, run.2, run.3, goes_alone c.args.session.now (lines_of run.0) run.1 c.run_session.new.session run.4 c.requires.alone, run.5, run.6)) c.run_session.ensures.served
+returns-clause-served g c = IfOk-weaker c.run_session.result _ _ (λ tally run. record {
+  text = run.text;
+  out = run.out;
+  read = run.read;
+  at_end = run.at_end;
+  served = goes_alone c.args.session.now (lines_of run.text) run.out c.run_session.new.session run.served c.requires.alone;
+  written = run.written;
+  counted = run.counted;
+}) c.run_session.ensures.served
 
 pub returns-clause-broken : goal.returns-clause-broken
-returns-clause-broken g c = IfErr-weaker c.run_session.result _ _ (λ fault run.
-    (run.0, run.1, breaks_alone c.args.session.now _ run.0 c.run_session.new.session _ _ _ run.2 c.requires.alone)) c.run_session.ensures.broken
+returns-clause-broken g c = IfErr-weaker c.run_session.result _ _ (λ fault run. record {
+  text = run.text;
+  read = run.read;
+  breaks = breaks_alone c.args.session.now _ run.text c.run_session.new.session _ _ _ run.breaks c.requires.alone;
+}) c.run_session.ensures.broken

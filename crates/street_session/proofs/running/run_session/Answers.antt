@@ -4,5 +4,5 @@ use Rattle.street_session.proofs.running.run_session.Goals as goal
 
 pub returns-clause-same : goal.returns-clause-same
 returns-clause-same g c = either c.run_lines.result _ _ _ c.run_lines.ensures.served c.run_lines.ensures.broken
-    (λ tally run. goes_desk c.args.session.now (lines_of run.0) run.1 c.run_lines.new.service run.4)
-    (λ fault run. goes_desk c.args.session.now run.2.done run.2.out c.run_lines.new.service run.2.served)
+    (λ tally run. goes_desk c.args.session.now (lines_of run.text) run.out c.run_lines.new.service run.served)
+    (λ fault run. goes_desk c.args.session.now run.breaks.done run.breaks.out c.run_lines.new.service run.breaks.served)

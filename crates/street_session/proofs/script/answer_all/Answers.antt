@@ -14,8 +14,8 @@ pub returns-in-Ok-clause-served : goal.returns-in-Ok-clause-served
 returns-in-Ok-clause-served g c =
     let run = c.in-Ok.ensures.served in
     let none : c.new-writer.result.end.items ≡ [] = search rules in
-    let whole = only _ c.run_session.new.writer.end.items run.1 none run.5 in
-    (run.0, subst (λ (l : List ℕ). Goes DeskServes c.args.session.now (lines_of run.0) l c.run_session.new.session) (sym whole) run.4)
+    let whole = only _ c.run_session.new.writer.end.items run.out none run.written in
+    (run.text, subst (λ (l : List ℕ). Goes DeskServes c.args.session.now (lines_of run.text) l c.run_session.new.session) (sym whole) run.served)
 
 pub returns-clause-served : goal.returns-clause-served
 returns-clause-served g c =
@@ -23,5 +23,5 @@ returns-clause-served g c =
     let none : c.new-writer.result.end.items ≡ [] = search rules in
     let kind = c.in-Err.fault.kind in
     let tally = c.in-Err.fault.tally in
-    let broken = subst (λ (l : List ℕ). Breaks DeskServes c.args.session.now (Some l) run.0 c.run_session.new.session (Some c.run_session.new.writer.end.items) kind tally) none run.2 in
-    (run.0, (kind, tally, c.in_memory.ensures, broken))
+    let broken = subst (λ (l : List ℕ). Breaks DeskServes c.args.session.now (Some l) run.text c.run_session.new.session (Some c.run_session.new.writer.end.items) kind tally) none run.breaks in
+    (run.text, (kind, tally, c.in_memory.ensures, broken))

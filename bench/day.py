@@ -1,0 +1,98 @@
+#!/usr/bin/python3
+"""A day of a city: 900 signals and 240,000 vehicles by the tools, and the processor time of both sides.
+
+Usage: bench/day.py PROGRAM [--vehicles N] [--folder FOLDER] [--until S] [WORDS for streetsim-run ..]
+
+Makes the network by SUMO's netgenerate (30 by 30 junctions 200 m apart, two lanes), and vehicles between random edges along
+the grid with two peaks, where the folder does not have them yet; imports them and runs them. Prints seconds.
+"""
+import argparse
+import random
+import resource
+import subprocess
+import sys
+import time
+from pathlib import Path
+
+TOP = Path(__file__).resolve().parents[1]
+sys.path.insert(0, str(TOP / "tools"))
+
+from streetsim import importing, running  # noqa: E402
+
+SIDE = 30
+# Vehicles of each hour, of 1,000.
+HOURS = (5, 3, 3, 3, 5, 15, 45, 80, 75, 55, 45, 45, 50, 50, 50, 55, 75, 85, 75, 55, 45, 35, 28, 18)
+
+
+def make_network(path):
+    words = ["netgenerate", "--grid", "--grid.number", SIDE, "--grid.length", 200, "-L", 2, "-j", "traffic_light"]
+    words += ["--no-turnarounds", "true", "--seed", 1, "-o", path]
+    subprocess.run([str(word) for word in words], check=True, stdout=subprocess.DEVNULL)
+
+
+def name_of(column, row):
+    """A junction as netgenerate names those of more than 26 columns: two letters for the column, a number for the row."""
+    letters = "ABCDEFGHIJKLMNOPQRSTUVWXYZ"
+    return f"{letters[column // 26]}{letters[column % 26]}{row}"
+
+
+def route(draws):
+    """Edges from one junction to another, some along the one street and then the other, some in steps."""
+    while True:
+        (x, y), (to_x, to_y) = ((draws.randrange(SIDE), draws.randrange(SIDE)) for _ in range(2))
+        if abs(x - to_x) + abs(y - to_y) >= 3:
+            break
+    moves = ["x"] * abs(x - to_x) + ["y"] * abs(y - to_y)
+    if draws.random() < 0.5:
+        draws.shuffle(moves)
+    edges = []
+    for move in moves:
+        before = name_of(x, y)
+        if move == "x":
+            x += 1 if to_x > x else -1
+        else:
+            y += 1 if to_y > y else -1
+        edges.append(before + name_of(x, y))
+    return edges
+
+
+def make_routes(path, vehicles):
+    draws = random.Random(1)
+    departs = sorted(3600 * hour + draws.randrange(3600) for hour in draws.choices(range(24), HOURS, k=vehicles))
+    with open(path, "w", encoding="utf-8") as file:
+        file.write("<routes>\n")
+        for number, depart in enumerate(departs):
+            file.write(f'<vehicle id="{number}" depart="{depart}"><route edges="{" ".join(route(draws))}"/></vehicle>\n')
+        file.write("</routes>\n")
+
+
+def spent(who):
+    used = resource.getrusage(who)
+    return used.ru_utime + used.ru_stime
+
+
+def main():
+    made = argparse.ArgumentParser(description=__doc__, formatter_class=argparse.RawDescriptionHelpFormatter)
+    made.add_argument("program")
+    made.add_argument("--vehicles", type=int, default=240_000)
+    made.add_argument("--until", type=int, default=86_400)
+    made.add_argument("--folder", default="/tmp/streetsim-day")
+    words, more = made.parse_known_args()
+    folder = Path(words.folder)
+    folder.mkdir(exist_ok=True)
+    network, routes, run, mapped = (folder / name for name in ("net.xml", "rou.xml", "run.jsonl", "map.json"))
+    if not run.exists():
+        make_network(network)
+        make_routes(routes, words.vehicles)
+        begin = spent(resource.RUSAGE_SELF)
+        importing.main([str(network), "--routes", str(routes), "-o", str(run), "--map", str(mapped)])
+        print(f"import: {spent(resource.RUSAGE_SELF) - begin:.1f} s of processor time", flush=True)
+    begin, here, there = time.monotonic(), spent(resource.RUSAGE_SELF), spent(resource.RUSAGE_CHILDREN)
+    arguments = [run, "--map", mapped, "--until", words.until, "--program", words.program, "--out", folder / "out", *more]
+    running.main([str(word) for word in arguments])
+    here, there = spent(resource.RUSAGE_SELF) - here, spent(resource.RUSAGE_CHILDREN) - there
+    print(f"{time.monotonic() - begin:.1f} s by the clock; processor: tools {here:.1f} s, streetsim and further runs {there:.1f} s")
+
+
+if __name__ == "__main__":
+    main()

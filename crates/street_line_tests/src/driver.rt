@@ -1,0 +1,111 @@
+//! Lines that are cut out of reads, handled and answered.
+
+use std::alloc::Global;
+use std::process::Abort;
+use std::test::Fail;
+use street_ends::{
+    Answer, Cause, Counted, FaultKind, Halt, Limits, LineHandler, PartialLine, Tally, drive_lines,
+};
+
+/// A line that ended a run: how many came before it.
+#[derive(Clone, Copy, PartialEq, Eq)]
+struct Stopped {
+    before: u8,
+}
+
+/// Answers each line that is not blank by `ok`, and ends with a line `x`. A line has three bytes at most.
+#[derive(Drop)]
+struct Answering {
+    lines: u8,
+}
+
+/// What is answered to a line.
+fn reply_to(alloc: Global, line: &PartialLine) -> Result<Option<Vec<u8>>, street_base::Starved> {
+    if line.is_blank() {
+        return Ok(None);
+    }
+    let mut text = Vec::new(alloc);
+    for byte in b"ok\n" {
+        text.push(*byte)?;
+    }
+    Ok(Some(text))
+}
+
+impl LineHandler for Answering {
+    type Stop = Stopped;
+
+    ghost longest = { 3 };
+
+    ghost takes = { λ old line effect new. Unit {0} };
+
+    ghost stops = { λ old line stop new. Unit {0} };
+
+    ghost ready = { Unit {0} };
+
+    fn take(&mut self, alloc: Global, line: &PartialLine) -> Result<Answer, Stopped> {
+        if line.as_slice() == b"x".as_slice() {
+            return Err(Stopped { before: self.lines });
+        }
+        self.lines = self.lines.saturating_add(1);
+        Ok(Answer {
+            is_call: line.as_slice().len() <= 3 && !line.is_blank(),
+            reply: reply_to(alloc, line),
+        })
+    }
+}
+
+/// The counts of a tally.
+fn counts(tally: &Tally) -> (u128, u128, u128, u128) {
+    (tally.lines, tally.calls, tally.replies, tally.bytes)
+}
+
+/// What a run of these lines came to, with so many reads at most, and what it wrote.
+fn drive(alloc: Global, text: &[u8], reads: u32) -> (Result<Tally, Halt<Stopped>>, Vec<u8>) {
+    let mut reader = Counted::new(text);
+    let mut writer = Counted::new(Vec::new(alloc));
+    let mut handler = Answering { lines: 0 };
+    let limits = Limits { line: 3, reads };
+    let run = drive_lines(alloc, &mut handler, &mut reader, &mut writer, limits);
+    (run, writer.end)
+}
+
+#[test]
+fn lines_are_answered(rt: HostRuntime) -> Result<(), Fail> {
+    let (run, out) = drive(rt.alloc(), b"a\n \nabc\nabcd\nlast", 2);
+    let Ok(tally) = run else {
+        return Err(Fail::from("the run broke"));
+    };
+    assert!(rt; counts(&tally) == (5, 2, 4, 12));
+    assert!(rt; out.as_slice() == b"ok\nok\nok\nok\n".as_slice());
+    Ok(())
+}
+
+#[test]
+fn a_line_ends_the_run(rt: HostRuntime) -> Result<(), Fail> {
+    let (run, out) = drive(rt.alloc(), b"a\n\nb\nx\nc\n", 9);
+    let Err(halt) = run else {
+        return Err(Fail::from("the run did not break"));
+    };
+    let Cause::Line(stopped) = halt.cause else {
+        return Err(Fail::from("the run failed"));
+    };
+    assert!(rt; stopped == Stopped { before: 3 });
+    assert!(rt; counts(&halt.tally) == (4, 2, 2, 6));
+    assert!(rt; out.as_slice() == b"ok\nok\n".as_slice());
+    Ok(())
+}
+
+#[test]
+fn reads_run_out(rt: HostRuntime) -> Result<(), Fail> {
+    let (run, out) = drive(rt.alloc(), b"a\nb", 1);
+    let Err(halt) = run else {
+        return Err(Fail::from("the run did not break"));
+    };
+    let Cause::Run(kind) = halt.cause else {
+        return Err(Fail::from("a line ended it"));
+    };
+    assert!(rt; kind == FaultKind::Endless);
+    assert!(rt; counts(&halt.tally) == (1, 1, 1, 3));
+    assert!(rt; out.as_slice() == b"ok\n".as_slice());
+    Ok(())
+}

@@ -1,0 +1,172 @@
+//! One command while at most one request for memory is refused.
+
+use std::thread::Threads;
+use street_base::{Command, Outcome, Reply};
+use street_engine::{Engine, Unwatched};
+
+/// Why a command has no answer.
+#[derive(Clone, Copy, Debug, PartialEq, Eq)]
+pub(crate) enum Stop {
+    /// Memory was refused again.
+    OutOfMemory,
+    /// Something was answered otherwise than it should be.
+    Wrong(&'static str),
+}
+
+/// How often a command was starved, and an advance stopped short.
+#[derive(Clone, Copy, Debug, PartialEq, Eq)]
+pub(crate) struct Met {
+    pub(crate) starved: u64,
+    pub(crate) short: u64,
+}
+
+/// What a command answers in the end.
+#[derive(Drop)]
+pub(crate) enum Answer {
+    /// It was done, at its second call where it was starved at the first.
+    Whole(Reply),
+    /// An advance made so many steps, and so many are left.
+    Short { made: u64, rest: u64 },
+}
+
+/// The clock and the counts of a census; nothing where nothing is loaded.
+type Counts = Option<(u64, u64, u64, u64, u64, u64, u64)>;
+
+/// What a count answers, which takes no memory.
+fn counts<R: Threads + Sync>(rt: &R, engine: &mut Engine<Unwatched>) -> Result<Counts, Stop> {
+    let (reply, outcome) = engine.apply(rt, &Command::Count);
+    if outcome != Outcome::Whole {
+        return Err(Stop::Wrong("a count was starved"));
+    }
+    match &reply {
+        Reply::Census {
+            admitted,
+            arrived,
+            buffers,
+            cells,
+            clock,
+            taken,
+            waiting,
+        } => Ok(Some((
+            *admitted, *arrived, *buffers, *cells, *clock, *taken, *waiting,
+        ))),
+        _ => Ok(None),
+    }
+}
+
+/// Whether a command that is to be answered by this line may be starved: what is refused, and who has ended, takes no memory.
+fn may_starve(command: &Command, want: &str) -> bool {
+    match command {
+        Command::TakeOut { .. } | Command::Count => false,
+        Command::Advance { steps } => *steps > 0,
+        Command::Vehicle { .. } => !want.contains(r#""step":"#),
+        _ => !want.starts_with(r#"{"error":"#),
+    }
+}
+
+/// What a command answers that is called when memory is there.
+pub(crate) fn call_with_memory<R: Threads + Sync>(
+    rt: &R,
+    engine: &mut Engine<Unwatched>,
+    command: &Command,
+) -> Result<Reply, Stop> {
+    let (reply, outcome) = engine.apply(rt, command);
+    match outcome {
+        Outcome::Whole => Ok(reply),
+        _ => Err(Stop::OutOfMemory),
+    }
+}
+
+/// What a command answers that is to be answered by this line. Where it was starved, nothing has changed, and it is called
+/// once more.
+pub(crate) fn call<R: Threads + Sync>(
+    rt: &R,
+    engine: &mut Engine<Unwatched>,
+    command: &Command,
+    want: &str,
+    met: &mut Met,
+) -> Result<Answer, Stop> {
+    let before = counts(rt, engine)?;
+    let (reply, outcome) = engine.apply(rt, command);
+    match outcome {
+        Outcome::Whole => Ok(Answer::Whole(reply)),
+        Outcome::Starved => {
+            met.starved = met.starved.saturating_add(1);
+            check_starved(may_starve(command, want), &reply)?;
+            if counts(rt, engine)? != before {
+                return Err(Stop::Wrong("a starved command changed something"));
+            }
+            Ok(Answer::Whole(call_with_memory(rt, engine, command)?))
+        }
+        Outcome::Short(made) => {
+            met.short = met.short.saturating_add(1);
+            let rest = rest_of(command, &reply, clock_of(before), made)?;
+            Ok(Answer::Short { made, rest })
+        }
+    }
+}
+
+/// A command that may be starved is answered so.
+fn check_starved(may: bool, reply: &Reply) -> Result<(), Stop> {
+    match reply {
+        Reply::Starved if may => Ok(()),
+        Reply::Starved => Err(Stop::Wrong("starved, and takes no memory")),
+        _ => Err(Stop::Wrong("starved, and answered")),
+    }
+}
+
+/// The clock of some counts.
+fn clock_of(counts: Counts) -> u64 {
+    match counts {
+        Some((_, _, _, _, clock, _, _)) => clock,
+        None => 0,
+    }
+}
+
+/// The steps that are left of an advance of which so many were made from this clock on.
+fn rest_of(command: &Command, reply: &Reply, before: u64, made: u64) -> Result<u64, Stop> {
+    let Command::Advance { steps } = command else {
+        return Err(Stop::Wrong("short, and no advance"));
+    };
+    let Reply::Short { clock, short } = reply else {
+        return Err(Stop::Wrong("short, and answered otherwise"));
+    };
+    if *short != made || *clock != before.saturating_add(made) {
+        return Err(Stop::Wrong("short, and of other steps or another clock"));
+    }
+    match steps.checked_sub(made) {
+        Some(rest) if made > 0 && rest > 0 => Ok(rest),
+        _ => Err(Stop::Wrong("short of no step or of all")),
+    }
+}
+
+/// A command that takes no memory is never starved.
+fn check_whole<R: Threads + Sync>(
+    rt: &R,
+    engine: &mut Engine<Unwatched>,
+    command: &Command,
+) -> Result<(), Stop> {
+    match engine.apply(rt, command) {
+        (Reply::Starved, _) => Err(Stop::Wrong("starved, and takes no memory")),
+        (_, Outcome::Whole) => Ok(()),
+        _ => Err(Stop::Wrong("not done whole, and takes no memory")),
+    }
+}
+
+/// Whatever takes no memory is done while every request is refused: what is refused, no steps, a count, and at last each
+/// vehicle is taken out, and told as ended.
+pub(crate) fn go_on_without<R: Threads + Sync>(
+    rt: &R,
+    engine: &mut Engine<Unwatched>,
+) -> Result<(), Stop> {
+    check_whole(rt, engine, &Command::Count)?;
+    check_whole(rt, engine, &Command::Advance { steps: 0 })?;
+    check_whole(rt, engine, &Command::Advance { steps: 10_001 })?;
+    check_whole(rt, engine, &Command::Vehicle { car: 1_000_000 })?;
+    check_whole(rt, engine, &Command::ReadMeter { meter: 1_024 })?;
+    for car in 0..8 {
+        check_whole(rt, engine, &Command::TakeOut { car })?;
+        check_whole(rt, engine, &Command::Vehicle { car })?;
+    }
+    check_whole(rt, engine, &Command::Count)
+}

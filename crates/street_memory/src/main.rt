@@ -1,0 +1,65 @@
+//! Worked sessions while memory is refused, as a program of the gate. `tools/tests/test_memory.py` runs it once for each of
+//! its requests for memory: that request is refused and no other, and once more that request and all after it.
+//!
+//! A command that was starved has changed nothing, and is answered as it should be when it is called again; an advance that
+//! stopped short has made just those steps, and is answered as it should be when the rest is made. What is written is the
+//! same whichever one request is refused. The status is 1 where anything is answered otherwise than it should be.
+#![tactic(auto)]
+
+mod callers;
+mod calls;
+mod desks;
+mod served;
+mod sessions;
+mod texts;
+
+use calls::Met;
+use desks::two_callers;
+use served::{Wrong, serve_session};
+use sessions::SESSIONS;
+use std::io;
+use std::process::ExitCode;
+use std::sync::Wait;
+use std::thread::Threads;
+
+/// Serves each session, and reports whether it was answered as it should be. Whether all were.
+fn serve_all<R: Threads + Wait + Sync + Print + Eprint + AllocGlobal>(rt: &R) -> io::Result<bool> {
+    let mut all = true;
+    let mut met = Met {
+        starved: 0,
+        short: 0,
+    };
+    for session in &SESSIONS {
+        match serve_session(rt, rt.alloc(), session, &mut met) {
+            Ok(true) => println!(rt; "{}: as it should be", session.name)?,
+            Ok(false) => println!(rt; "{}: as far as it should be without memory", session.name)?,
+            Err(Wrong { line, why }) => {
+                all = false;
+                println!(rt; "{}: line {line}: {why}", session.name)?;
+            }
+        }
+    }
+    match two_callers(rt, rt.alloc()) {
+        Ok(true) => println!(rt; "two callers: as it should be")?,
+        Ok(false) => println!(rt; "two callers: as far as it should be without memory")?,
+        Err(why) => {
+            all = false;
+            println!(rt; "two callers: {why}")?;
+        }
+    }
+    // Which request was refused differs from run to run, so this stands apart from what is compared.
+    eprintln!(rt; "starved {}, short {}", met.starved, met.short)?;
+    Ok(all)
+}
+
+fn main(rt: HostRuntime) -> ExitCode {
+    match serve_all(&rt) {
+        Ok(true) => ExitCode::SUCCESS,
+        Ok(false) => ExitCode::FAILURE,
+        Err(error) => {
+            // Where standard error fails too, the status alone reports the fault.
+            let _ = eprintln!(rt; "street_memory: {error}");
+            ExitCode::FAILURE
+        }
+    }
+}

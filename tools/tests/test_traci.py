@@ -1,0 +1,319 @@
+"""TraCI's calls: by hand on small streets, and three scripts as its users write them, beside SUMO's own."""
+import gzip
+import importlib.util
+import os
+import re
+import shutil
+import subprocess
+import sys
+import time
+import unittest
+from pathlib import Path
+
+from support import DATA, FORK, PROGRAM, TOOLS, Case, lane, needs_simulator, net
+import streetsim.traci as traci
+from streetsim.compare import geh
+from streetsim.traci import constants as tc
+from streetsim.traci.session import Endless, Light
+
+SCRIPTS = TOOLS / "examples/traci"
+SUMO = Path("/usr/share/sumo")
+needs_sumo = unittest.skipUnless(shutil.which("sumo") and (SUMO / "tools/traci").exists(), "Debian's sumo and sumo-tools are not installed")
+
+LIGHT = """<tlLogic id="L" type="static" programID="day" offset="5">
+<phase duration="10" state="Gr"/><phase duration="5" state="yr"/><phase duration="15" state="rG"/></tlLogic>"""
+SIGNALLED = FORK.replace("<junction", LIGHT + "<junction", 1)
+for index, name in enumerate("bc"):
+    SIGNALLED = SIGNALLED.replace(f'to="{name}" fromLane="{index}" toLane="0" state="M"', f'to="{name}" fromLane="{index}" toLane="0" state="M" tl="L" linkIndex="{index}"')
+ROUTES = """<routes><vehicle id="v" depart="0"><route edges="a b"/></vehicle>
+<vehicle id="later" depart="50"><route edges="a c"/></vehicle></routes>"""
+AREAS = """<additional><inductionLoop id="loop" lane="a_0" pos="29" freq="10" file="x"/>
+<laneAreaDetector id="area" lane="a_0" pos="60" endPos="75" freq="10" file="x"/></additional>"""
+
+
+@needs_simulator
+class Started(Case):
+    def setUp(self):
+        super().setUp()
+        os.environ["STREETSIM_PROGRAM"] = PROGRAM
+        self.addCleanup(lambda: traci.isLoaded() and traci.close())
+
+    def start(self, text=SIGNALLED, routes=ROUTES, additional=AREAS):
+        words = ["sumo", "-n", self.write("x.net.xml", text), "-r", self.write("x.rou.xml", routes)]
+        self.assertEqual(traci.start([*words, "-a", self.write("x.add.xml", additional), "--no-step-log"])[1], "streetsim")
+
+    def steps(self, count):
+        for _ in range(count):
+            traci.simulationStep()
+
+
+class Vehicles(Started):
+    def test_one_vehicle(self):
+        """It departs in the first step, whatever the draws, and stands in cell 0."""
+        self.start()
+        self.assertEqual((traci.vehicle.getIDList(), traci.simulation.getMinExpectedNumber()), ((), 2))
+        traci.simulationStep()
+        self.assertEqual(
+            (traci.vehicle.getIDList(), traci.vehicle.getIDCount(), traci.simulation.getDepartedIDList()), (("v",), 1, ("v",))
+        )
+        self.assertEqual(
+            (traci.vehicle.getRoadID("v"), traci.vehicle.getLaneID("v"), traci.vehicle.getLanePosition("v"), traci.vehicle.getSpeed("v")),
+            ("a", "a_0", 7.5, 0.0),
+        )
+        self.assertEqual((traci.vehicle.getPosition("v"), traci.vehicle.getRoute("v")), ((7.5, 0.0), ("a", "b")))
+        traci.simulationStep()
+        self.assertEqual((traci.simulation.getTime(), traci.simulation.getDepartedIDList()), (2.0, ()))
+        arrived = []
+        for _ in range(60):
+            traci.simulationStep()
+            arrived += traci.simulation.getArrivedIDList()
+        self.assertEqual((arrived, traci.vehicle.getIDList()), (["v"], ("later",)))
+        with self.assertRaisesRegex(traci.TraCIException, "Vehicle 'v' is not known."):
+            traci.vehicle.getSpeed("v")
+
+    def test_who_has_not_departed(self):
+        self.start()
+        traci.simulationStep()
+        self.assertEqual(traci.vehicle.getSpeed("later"), tc.INVALID_DOUBLE_VALUE)
+        self.assertEqual((traci.vehicle.getRoadID("later"), traci.vehicle.getRoute("later")), ("", ("a", "c")))
+        self.assertEqual(traci.vehicle.getIDList(), ("v",))
+
+    def test_waiting_at_red(self):
+        """The light is red for all; at the stop line the vehicle stands, and all that tells of it says so."""
+        self.start()
+        traci.trafficlight.setRedYellowGreenState("L", "rr")
+        self.steps(30)
+        before = traci.vehicle.getWaitingTime("v")
+        self.steps(10)
+        self.assertEqual(traci.vehicle.getWaitingTime("v") - before, 10)
+        self.assertEqual(
+            (traci.vehicle.getLanePosition("v"), traci.vehicle.getSpeed("v"), traci.edge.getLastStepHaltingNumber("a")), (75.0, 0.0, 1)
+        )
+        self.assertEqual((traci.lane.getLastStepVehicleIDs("a_0"), traci.lane.getLastStepMeanSpeed("a_0")), (("v",), 0.0))
+        self.assertEqual((traci.lanearea.getJamLengthVehicle("area"), traci.lanearea.getLastStepVehicleIDs("area")), (1, ("v",)))
+        self.assertEqual((traci.edge.getLastStepMeanSpeed("b"), traci.edge.getTraveltime("b")), (13.89, 75 / 13.89))
+        self.assertEqual(traci.vehicle.getWaitingTime("v"), traci.edge.getWaitingTime("a"))
+
+    def test_loop(self):
+        """Each vehicle is seen, and the time since counts from the step at which it last was."""
+        self.start()
+        seen = []
+        for _ in range(30):
+            traci.simulationStep()
+            if traci.inductionloop.getLastStepVehicleNumber("loop"):
+                seen.append(traci.simulation.getTime())
+                self.assertEqual(traci.inductionloop.getLastStepVehicleIDs("loop"), ("v",))
+                self.assertEqual(traci.inductionloop.getTimeSinceDetection("loop"), 0)
+        self.assertTrue(0 < len(seen) <= 4, seen)
+        self.assertEqual(traci.inductionloop.getTimeSinceDetection("loop"), 30 - seen[-1])
+        self.assertEqual(traci.inductionloop.getLastStepMeanSpeed("loop"), -1)
+
+    def test_added_and_removed(self):
+        self.start()
+        traci.route.add("way", ["a", "c"])
+        traci.vehicle.add("mine", "way")
+        self.steps(8)
+        self.assertIn("mine", traci.vehicle.getIDList())
+        traci.vehicle.remove("mine")
+        self.assertNotIn("mine", traci.vehicle.getIDList())
+        for call in (lambda: traci.vehicle.add("mine", "way"), lambda: traci.vehicle.add("v", "way"), lambda: traci.vehicle.add("x", "none")):
+            with self.assertRaises(traci.TraCIException):
+                call()
+
+    def test_subscriptions(self):
+        self.start()
+        traci.vehicle.subscribe("v", [tc.VAR_SPEED, tc.VAR_ROAD_ID])
+        traci.simulation.subscribe([tc.VAR_DEPARTED_VEHICLES_IDS, tc.VAR_TIME])
+        traci.simulationStep()
+        self.assertEqual(traci.vehicle.getSubscriptionResults("v"), {tc.VAR_SPEED: 0.0, tc.VAR_ROAD_ID: "a"})
+        self.assertEqual(traci.vehicle.getAllSubscriptionResults().keys(), {"v"})
+        self.assertEqual(traci.simulation.getSubscriptionResults(), {tc.VAR_DEPARTED_VEHICLES_IDS: ("v",), tc.VAR_TIME: 1.0})
+        with self.assertRaisesRegex(traci.TraCIException, "Vehicle 'z' is not known"):
+            traci.vehicle.subscribe("z")
+        with self.assertRaisesRegex(traci.NotHere, "variable 0x61 cannot be subscribed to"):
+            traci.vehicle.subscribe("v", [0x61])
+
+    def test_what_is_not_here(self):
+        self.start()
+        for call, told in (
+            (lambda: traci.vehicle.setSpeed("v", 3), "vehicle.setSpeed is not here: speeds follow the rules alone"),
+            (lambda: traci.gui.screenshot("View #0", "x.png"), "traci.gui is not here"),
+        ):
+            with self.assertRaisesRegex(traci.TraCIException, told):
+                call()
+        for domain, kind in ((traci.edge, "Edge"), (traci.lane, "Lane"), (traci.inductionloop, "Induction loop"), (traci.lanearea, "Lane area")):
+            with self.assertRaisesRegex(traci.TraCIException, f"{kind}.* 'z' is not known"):
+                domain.getLastStepVehicleNumber("z")
+        self.assertFalse(hasattr(traci.lane, "getCO2Emission"))
+
+    def test_one_run_at_a_time(self):
+        with self.assertRaisesRegex(traci.FatalTraCIError, "Not connected"):
+            traci.simulationStep()
+        self.start()
+        with self.assertRaisesRegex(traci.TraCIException, "one at a time"):
+            traci.start(["sumo", "-n", "x"])
+        traci.close()
+        for words, told in (([], "no network"), (["-n", "none.xml"], "No such file"), (["-n", "x", "--step-length", "0.5"], "steps are of one second")):
+            with self.assertRaisesRegex(traci.FatalTraCIError, told):
+                traci.start(["sumo", *words])
+
+    def test_configuration(self):
+        self.write("x.net.xml", SIGNALLED)
+        self.write("x.rou.xml", ROUTES)
+        text = '<configuration><input><net-file value="x.net.xml"/><route-files value="x.rou.xml"/></input></configuration>'
+        traci.start(["sumo", "-c", self.write("x.sumocfg", text)])
+        traci.simulationStep(60)
+        self.assertEqual((traci.simulation.getTime(), traci.vehicle.getIDList()), (60.0, ("later",)))
+
+    def test_more_calls_than_one_run_has(self):
+        """A run of 40 calls is begun anew each time that they are used up, and comes to the same."""
+
+        def places(calls):
+            sim = Endless(PROGRAM)
+            sim.calls = calls
+            with sim:
+                sim.load([[0, 1, 2]], [[0, 0, 0, 1, 90, 5]], [[0, 0, 0, 0]], dawdle=300, seed=3)
+                for _ in range(5):
+                    sim.enter([0] * 9)
+                found = []
+                for _ in range(9):
+                    sim.advance(3)
+                    found.append([sim.vehicle(car) for car in range(5)])
+                return found
+
+        self.assertEqual(places(40), places(1000))
+
+
+class Lights(Started):
+    def test_states(self):
+        """Offset 5: the first phase runs from 5 to 14, the second from 15 to 19, the third from 20 to 34 and so from 0 to 4."""
+        self.start()
+        told = []
+        for _ in range(35):
+            told.append((traci.trafficlight.getPhase("L"), traci.trafficlight.getRedYellowGreenState("L"), traci.trafficlight.getNextSwitch("L")))
+            traci.simulationStep()
+        third, first, second = (2, "rG"), (0, "Gr"), (1, "yr")
+        expected = [(*third, 5.0)] * 5 + [(*first, 15.0)] * 10 + [(*second, 20.0)] * 5 + [(*third, 35.0)] * 15
+        self.assertEqual(told, expected)
+        self.assertEqual((traci.trafficlight.getControlledLanes("L"), traci.trafficlight.getProgram("L")), (("a_0", "a_1"), "day"))
+
+    def test_phase(self):
+        self.start()
+        traci.simulationStep(7)
+        traci.trafficlight.setPhase("L", 2)
+        self.assertEqual((traci.trafficlight.getPhase("L"), traci.trafficlight.getNextSwitch("L")), (2, 22.0))
+        traci.simulationStep(22)
+        self.assertEqual(traci.trafficlight.getPhase("L"), 0)
+        traci.trafficlight.setPhaseDuration("L", 3)
+        self.assertEqual((traci.trafficlight.getPhase("L"), traci.trafficlight.getNextSwitch("L")), (0, 25.0))
+        traci.simulationStep(26)
+        self.assertEqual((traci.trafficlight.getPhase("L"), traci.trafficlight.getNextSwitch("L")), (1, 30.0))
+
+    def test_program(self):
+        self.start()
+        logic = traci.trafficlight.Logic("mine", 0, 1, [traci.trafficlight.Phase(20, "rr"), traci.trafficlight.Phase(8, "GG")])
+        traci.trafficlight.setProgramLogic("L", logic)
+        self.assertEqual(
+            (traci.trafficlight.getProgram("L"), traci.trafficlight.getRedYellowGreenState("L"), traci.trafficlight.getNextSwitch("L")),
+            ("mine", "GG", 8.0),
+        )
+        [shown] = traci.trafficlight.getAllProgramLogics("L")
+        self.assertEqual([(phase.duration, phase.state) for phase in shown.phases], [(20, "rr"), (8, "GG")])
+
+    def test_what_is_shown_is_driven(self):
+        self.start()
+        traci.trafficlight.setRedYellowGreenState("L", "rr")
+        self.steps(40)
+        self.assertEqual(traci.vehicle.getRoadID("v"), "a")
+        traci.trafficlight.setRedYellowGreenState("L", "gr")
+        self.steps(6)
+        self.assertNotEqual(traci.vehicle.getRoadID("v"), "a")
+
+    def test_refused(self):
+        self.start()
+        phase = traci.trafficlight.Phase
+        for call, told in (
+            (lambda: traci.trafficlight.setRedYellowGreenState("L", "Gx"), "'x' is no state of a signal"),
+            (lambda: traci.trafficlight.setRedYellowGreenState("L", "G"), "has 2 signals, the state 'G' has 1"),
+            (lambda: traci.trafficlight.setRedYellowGreenState("Z", "GG"), "Traffic light 'Z' is not known"),
+            (lambda: traci.trafficlight.setPhase("L", 3), "has no phase 3"),
+            (lambda: traci.trafficlight.setProgramLogic("L", traci.trafficlight.Logic("x", 0, 0, [phase(5, "GGG")])), "has 2 signals"),
+            (lambda: traci.trafficlight.setProgramLogic("L", traci.trafficlight.Logic("x", 0, 0, [phase(0, "GG")])), "a phase of 0.0 s"),
+            (lambda: traci.trafficlight.setProgramLogic("L", traci.trafficlight.Logic("x", 0, 0, [])), "without phases"),
+        ):
+            with self.subTest(told), self.assertRaisesRegex(traci.TraCIException, told):
+                call()
+        self.assertEqual(traci.trafficlight.getProgram("L"), "day")
+
+    def test_light(self):
+        light = Light([(10, "G"), (20, "r")], 95, "0")
+        self.assertEqual([light.at(clock) for clock in (95, 104, 105, 124, 125)], [(0, 10), (0, 1), (1, 20), (1, 1), (0, 10)])
+
+
+class Constants(unittest.TestCase):
+    @needs_sumo
+    def test_are_sumos(self):
+        spec = importlib.util.spec_from_file_location("constants", SUMO / "tools/traci/constants.py")
+        theirs = importlib.util.module_from_spec(spec)
+        spec.loader.exec_module(theirs)
+        for name, value in vars(tc).items():
+            if name.isupper():
+                self.assertEqual(value, getattr(theirs, name), name)
+
+
+@needs_simulator
+class Scripts(Case):
+    """The scripts of examples/traci, over streetsim and over SUMO's own traci: the line that imports is all that differs."""
+
+    def run_script(self, name, *words, sumo=False):
+        path = SCRIPTS / f"{name}.py"
+        text = path.read_text()
+        if sumo:
+            text = text.replace("import streetsim.traci as traci", "import traci").replace("from streetsim.traci import", "from traci import")
+        run = f"exec(compile({text!r}, {str(path)!r}, 'exec'), {{'__name__': '__main__', '__file__': {str(path)!r}}})"
+        paths = SUMO / "tools" if sumo else TOOLS
+        variables = {**os.environ, "PYTHONPATH": str(paths), "SUMO_HOME": str(SUMO), "STREETSIM_PROGRAM": PROGRAM}
+        begin = time.perf_counter()
+        done = subprocess.run([sys.executable, "-c", run, *map(str, words)], env=variables, capture_output=True, text=True, check=False)
+        self.assertEqual(done.returncode, 0, done.stderr)
+        return [line for line in done.stdout.splitlines() if "Retrying" not in line], time.perf_counter() - begin
+
+    def mean_trip(self, *words, sumo=False):
+        [line], _ = self.run_script("actuated", *words, sumo=sumo)
+        vehicles, mean = re.fullmatch(r"(\d+) vehicles, mean trip (.*) s", line).groups()
+        self.assertEqual(int(vehicles), 980)
+        return float(mean)
+
+    def test_actuated(self):
+        self.assertLess(self.mean_trip(), self.mean_trip("fixed"))
+
+    @needs_sumo
+    def test_actuated_as_in_sumo(self):
+        self.assertAlmostEqual(self.mean_trip() / self.mean_trip(sumo=True), 1, delta=0.15)
+
+    @needs_sumo
+    def test_bottleneck_as_in_sumo(self):
+        here, there = (self.run_script("bottleneck", sumo=sumo)[0] for sumo in (False, True))
+        self.assertEqual(len(here), 4)
+        for one, other in zip(here, there, strict=True):
+            counts = [int(line.split()[0]) for line in (one, other)]
+            self.assertLess(geh(4 * counts[0], 4 * counts[1]), 5, (one, other))
+
+    @needs_sumo
+    def test_speeds_within_twice_sumos_time(self):
+        """5,400 vehicles an hour on the grid, 900 steps; the mean speed is SUMO's within 10 %."""
+        with gzip.open(DATA / "grid.rou.xml.gz", "rt", encoding="utf-8") as file:
+            text = file.read()
+        vehicles = re.findall("<vehicle .*?</vehicle>", text, re.DOTALL)
+        vehicles = [copy for at, one in enumerate(vehicles) for copy in ([one, one.replace('id="', 'id="again', 1)] if at % 2 else [one])]
+        self.assertEqual(len(vehicles), 5400)
+        routes = self.write("more.rou.xml", f"<routes>{''.join(vehicles)}</routes>")
+        network = self.write("grid.net.xml", gzip.open(DATA / "grid.net.xml.gz", "rt", encoding="utf-8").read())
+        (here, time_here), (there, time_there) = (self.run_script("speeds", network, routes, sumo=sumo) for sumo in (False, True))
+        speeds = [float(told[0].split()[2]) for told in (here, there)]
+        self.assertAlmostEqual(speeds[0] / speeds[1], 1, delta=0.1, msg=f"{here} {there}")
+        self.assertLess(time_here, 2 * time_there)
+
+
+if __name__ == "__main__":
+    unittest.main()
