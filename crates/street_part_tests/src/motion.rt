@@ -1,6 +1,6 @@
 //! Motion with values reckoned by hand.
 
-ghost use Rattle.std.specs.Prelude.{◌≡◌, ◌-◌, ◌<◌, ℕ, IfOk, OnOk, length};
+ghost use Rattle.std.specs.Prelude.{◌≡◌, ◌-◌, ◌<◌, ℕ, [], IfOk, OnOk, length};
 ghost use Rattle.std.specs.List.{All};
 ghost use Rattle.street_rule.specs.Watching.{IsReady};
 ghost use Rattle.street_yard.specs.Yard.{list_at};
@@ -129,6 +129,18 @@ fn size_of(rt: &impl Abort, cells: u64) -> Size {
     }
 }
 
+/// A yard in which list 0 is a lane with nobody on it.
+fn empty(rt: &(impl Abort + AllocGlobal)) -> Yard
+    ensures list { 0 < length result.lists }
+    ensures nobody { list_at result 0 ≡ [] }
+    ensures lane { IsLane result 0 40 }
+{
+    match Yard::new(rt.alloc(), 1) {
+        Ok(yard) => yard,
+        Err(_) => panic!(rt; "no memory for a yard"),
+    }
+}
+
 /// A yard in which list 0 is a lane of three vehicles of these sizes, and their keys.
 fn stand(rt: &(impl Abort + AllocGlobal), cars: Three, sizes: Sizes) -> (Yard, Keys)
     ensures list { 0 < length result.0.lists }
@@ -136,11 +148,9 @@ fn stand(rt: &(impl Abort + AllocGlobal), cars: Three, sizes: Sizes) -> (Yard, K
 {
     let (first, second, third) = cars;
     let (long, short) = (size_of(rt, sizes.0), size_of(rt, sizes.1));
-    assert!(rt; first.cell < 40 && second.cell < rear(first, long));
-    assert!(rt; third.cell < rear(second, short));
-    let Ok(mut yard) = Yard::new(rt.alloc(), 1) else {
-        panic!(rt; "no memory for a yard")
-    };
+    let (long_rear, short_rear) = (rear(first, long), rear(second, short));
+    assert!(rt; first.cell < 40 && second.cell < long_rear && third.cell < short_rear);
+    let mut yard = empty(rt);
     let front = add(rt, &mut yard, 0, first, long);
     let middle = add(rt, &mut yard, 1, second, short);
     let back = add(rt, &mut yard, 2, third, size_of(rt, sizes.2));
