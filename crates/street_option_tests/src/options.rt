@@ -121,29 +121,18 @@ fn check_bad(rt: &(impl Abort + AllocGlobal), words: &[&str], what: &str) -> Res
 }
 
 #[test]
-fn other_words_are_bad(rt: HostRuntime) -> Result<(), Fail> {
-    let cases: [(&[&str], &str); 18] = [
-        (&["--workers", "0"], "'0'"),
-        (&["--workers", "65"], "'65'"),
-        (&["--workers", "4294967297"], "'4294967297'"),
-        (&["--workers", "-1"], "'-1'"),
-        (&["--workers", "many"], "'many'"),
-        (&["--workers"], "--workers"),
-        (&["--workers", "2", "--workers", "2"], "--workers"),
-        (&["--calls", "0"], "'0'"),
-        (&["--calls", "1000001"], "'1000001'"),
-        (&["--version"], "--version"),
-        (&["-x"], "'-x'"),
-        (&["--replay", "a.tape", "--tape", "b.tape"], "--replay"),
-        (&["--replay", "a.tape", "a.jsonl"], "--replay"),
-        (&["--upgrade", "a.tape", "--tape", "b.tape"], "--upgrade"),
-        (&["--upgrade", "a.tape", "--replay", "b.tape"], "--upgrade"),
-        (&["--upgrade", "a.tape", "a.jsonl"], "--upgrade"),
-        (&["--upgrade"], "--upgrade"),
-        (&["--tape"], "--tape"),
-    ];
-    for (words, what) in cases {
-        check_bad(&rt, words, what)?;
+fn numbers_out_of_range_are_bad(rt: HostRuntime) -> Result<(), Fail> {
+    for word in ["0", "65", "4294967297", "many", "", "1.0"] {
+        let what = format!(in rt.alloc();
+            "invalid value '{word}' for '--workers <N>': it is not a number from 1 to 64"
+        )?;
+        check_bad(&rt, &["--workers", word], what.as_str())?;
+    }
+    for word in ["0", "1000001"] {
+        let what = format!(in rt.alloc();
+            "invalid value '{word}' for '--calls <N>': it is not a number from 1 to 1000000"
+        )?;
+        check_bad(&rt, &["--calls", word], what.as_str())?;
     }
     Ok(())
 }
@@ -162,6 +151,7 @@ fn an_option_has_one_value(rt: HostRuntime) -> Result<(), Fail> {
         ("calls", "<N>"),
         ("tape", "<FILE>"),
         ("replay", "<FILE>"),
+        ("upgrade", "<FILE>"),
     ] {
         let option = format!(in rt.alloc(); "--{name}")?;
         let none = format!(in rt.alloc();
@@ -185,6 +175,15 @@ fn a_replay_stands_alone(rt: HostRuntime) -> Result<(), Fail> {
     let what = "the argument '--replay <FILE>' cannot be used with scripts or with '--tape <FILE>'";
     check_bad(&rt, &["--replay", "a.tape", "--tape", "b.tape"], what)?;
     check_bad(&rt, &["--replay", "a.tape", "a.jsonl"], what)
+}
+
+#[test]
+fn an_upgrade_stands_alone(rt: HostRuntime) -> Result<(), Fail> {
+    let what =
+        "the argument '--upgrade <FILE>' cannot be used with scripts, '--tape <FILE>' or '--replay <FILE>'";
+    check_bad(&rt, &["--upgrade", "a.tape", "--tape", "b.tape"], what)?;
+    check_bad(&rt, &["--upgrade", "a.tape", "--replay", "b.tape"], what)?;
+    check_bad(&rt, &["--upgrade", "a.tape", "a.jsonl"], what)
 }
 
 /// A text of one line, and one without the parser's mark, come as they are.
