@@ -1,5 +1,5 @@
 -- What is legal can be replayed.
-use Rattle.std.proofs.Common.{◌≡◌, ◌<◌, ◌≤◌, List, [], ◌∷◌, ◌++◌, true, All, arith}
+use Rattle.std.proofs.Common.{◌≡◌, ◌<◌, ◌≤◌, List, [], ◌∷◌, ◌++◌, true, All, refl, arith}
 use Rattle.std.proofs.lemmas.Bool.{lt-ltb, and_from}
 use Rattle.std.proofs.lemmas.List.Elements.{All-nil, All-cons}
 use Rattle.std.specs.Prelude.{nat_lt}
@@ -47,8 +47,30 @@ part_of m (ReadMeter meter) (Short k) h = absurd h
 part_of m (Vehicle car) (Short k) h = absurd h
 part_of m (Lane link lane) (Short k) h = absurd h
 part_of m Count (Short k) h = absurd h
-part_of m c Whole h = refl
-part_of m c Starved h = refl
+part_of m (Load net) Whole h = refl
+part_of m (Load net) Starved h = refl
+part_of m (Enter plan lane depart size) Whole h = refl
+part_of m (Enter plan lane depart size) Starved h = refl
+part_of m (Signal node offset phases) Whole h = refl
+part_of m (Signal node offset phases) Starved h = refl
+part_of m (Advance steps) Whole h = refl
+part_of m (Advance steps) Starved h = refl
+part_of m (CloseLane link lane first last) Whole h = refl
+part_of m (CloseLane link lane first last) Starved h = refl
+part_of m (ReopenLane link lane first last) Whole h = refl
+part_of m (ReopenLane link lane first last) Starved h = refl
+part_of m (TakeOut car) Whole h = refl
+part_of m (TakeOut car) Starved h = refl
+part_of m (PlaceMeter link lane cell period) Whole h = refl
+part_of m (PlaceMeter link lane cell period) Starved h = refl
+part_of m (ReadMeter meter) Whole h = refl
+part_of m (ReadMeter meter) Starved h = refl
+part_of m (Vehicle car) Whole h = refl
+part_of m (Vehicle car) Starved h = refl
+part_of m (Lane link lane) Whole h = refl
+part_of m (Lane link lane) Starved h = refl
+part_of m Count Whole h = refl
+part_of m Count Starved h = refl
 
 pub legal_parts : (m : State) (es : List Entry) → IsLegalFrom m es → All (λ e. is_part e.command e.outcome ≡ true) es
 legal_parts m [] h = All-nil (λ (e : Entry). is_part e.command e.outcome ≡ true)

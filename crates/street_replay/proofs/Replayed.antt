@@ -15,6 +15,7 @@ use Rattle.street_ends.specs.declared.tally.FaultKind.{FaultKind}
 use Rattle.street_ends.specs.declared.tally.Tally.{Tally}
 use Rattle.street_engine.specs.Refines.{View, StandsFor}
 use Rattle.street_printing.specs.Printing.{reply_line}
+use Rattle.street_replay.proofs.Counts.{calls_first, replies_first, none_more}
 use Rattle.street_replay.proofs.GoodTapes.{next_lines}
 use Rattle.street_replay.proofs.Legal.{replayable_last}
 use Rattle.street_replay.specs.BadTapes.{SaysCalls}
@@ -56,8 +57,8 @@ line_more m old mid new l ls None first rest takes applies stands later =
         good = r.good;
         state = r.state;
         out = ap (λ (out : List ℕ). out ++ output rest) text ∙ r.out;
-        calls = ap (λ b. (if b then 1 else 0) + calls_of_effects rest) none ∙ r.calls;
-        replies = ap (λ b. (if b then 1 else 0) + replies_in rest) silent ∙ r.replies;
+        calls = calls_first first rest 0 (length more.0) (ap (λ (b : Bool). if b then 1 else 0) none) r.calls ∙ none_more (length more.0);
+        replies = replies_first first rest 0 (length more.0) (ap (λ (b : Bool). if b then 1 else 0) silent) r.replies ∙ none_more (length more.0);
       },
     )
 line_more m old mid new l ls (Some e) first rest takes applies stands later =
@@ -74,8 +75,8 @@ line_more m old mid new l ls (Some e) first rest takes applies stands later =
         good = (did.0, r.good);
         state = r.state;
         out = ap (λ (out : List ℕ). out ++ output rest) text ∙ ap (λ (out : List ℕ). line ++ out) r.out;
-        calls = ap (λ b. (if b then 1 else 0) + calls_of_effects rest) applies.0 ∙ ap (λ n. 1 + n) r.calls ∙ count;
-        replies = ap (λ b. (if b then 1 else 0) + replies_in rest) loud ∙ ap (λ n. 1 + n) r.replies ∙ count;
+        calls = calls_first first rest 1 (length more.0) (ap (λ (b : Bool). if b then 1 else 0) applies.0) r.calls ∙ count;
+        replies = replies_first first rest 1 (length more.0) (ap (λ (b : Bool). if b then 1 else 0) loud) r.replies ∙ count;
       },
     )
 
@@ -97,16 +98,23 @@ replayed m old (l ∷ ls) effects new h stands =
     let all = line_more m old h.0 new l ls one.0 h.1 h.2 one.1 one.2 stands (λ k on. replayed k h.0 ls h.2 new h.4 on) in
     (all.0, subst (λ (es : List Effect). AreReplayed m old.0 (l ∷ ls) all.0 es new) (sym h.5) all.1)
 
+-- so from the first line on
+from_first : (start : Option Head × View) → start.0 ≡ None → StandsFor start.1 None → (ls : List (List ℕ)) (effects : List Effect) (new : Option Head × View) → Handles ReplaysLine start ls effects new
+    → (es : List Entry) × AreReplayed None None ls es effects new
+from_first start fresh stands ls effects new h =
+    let all = replayed None start ls effects new h stands in
+    (all.0, subst (λ (o : Option Head). AreReplayed None o ls all.0 effects new) fresh all.1)
+
 -- ---- a tape that was read to its end
 
 whole_replies : (bytes replies all n : ℕ) → ((bytes ≡ all) × (replies ≡ n)) ⊎ ((bytes < all) × (replies + 1 ≡ n)) → bytes ≡ all → replies ≡ n
 whole_replies bytes replies all n (inl is) same = is.1
 whole_replies bytes replies all n (inr less) same = absurd (omega (arith, less.0, same))
 
-module _ (view : View) (stands : StandsFor view None) (unread before : Option (List ℕ)) (now : Option Head × View) (left after : Option (List ℕ)) where
-  pub replays_whole : (tally : Tally) → Whole ReplaysLine (None, view) unread before now left after tally → may_end now.0 ≡ true → ReplaysWhole unread before now.1 left after tally
+module _ (start : Option Head × View) (fresh : start.0 ≡ None) (stands : StandsFor start.1 None) (unread before : Option (List ℕ)) (now : Option Head × View) (left after : Option (List ℕ)) where
+  pub replays_whole : (tally : Tally) → Whole ReplaysLine start unread before now left after tally → may_end now.0 ≡ true → ReplaysWhole unread before now.1 left after tally
   replays_whole tally h end =
-      let all = replayed None (None, view) (lines_of h.text) h.effects now h.handled stands in
+      let all = from_first start fresh stands (lines_of h.text) h.effects now h.handled in
       let r = all.1 in
       let counted = h.counted in
       record {
@@ -121,7 +129,7 @@ module _ (view : View) (stands : StandsFor view None) (unread before : Option (L
         counted = record { lines = counted.lines; calls = counted.calls ∙ r.calls; replies = counted.replies ∙ r.replies; bytes = counted.bytes ∙ ap length r.out };
       }
 
-  missing_by : (rest : Option Head) (tally : Tally) (fault : TapeFault) (h : Whole ReplaysLine (None, view) unread before now left after tally) (es : List Entry)
+  missing_by : (rest : Option Head) (tally : Tally) (fault : TapeFault) (h : Whole ReplaysLine start unread before now left after tally) (es : List Entry)
       → AreReplayed None None (lines_of h.text) es h.effects now → now.0 ≡ rest → Misses rest tally fault → ReplayStops unread before now.1 left after fault
   missing_by None tally fault.NotTape h es r is missing =
       let none = none_read (lines_of h.text) es (subst (TakesAll None (lines_of h.text) es) is r.taken) in
@@ -153,9 +161,9 @@ module _ (view : View) (stands : StandsFor view None) (unread before : Option (L
   missing_by (Some rest) tally (fault.Run f) h es r is missing = absurd missing
 
   -- it has no line, or too few
-  pub misses : (tally : Tally) (fault : TapeFault) → Whole ReplaysLine (None, view) unread before now left after tally → Misses now.0 tally fault → ReplayStops unread before now.1 left after fault
+  pub misses : (tally : Tally) (fault : TapeFault) → Whole ReplaysLine start unread before now left after tally → Misses now.0 tally fault → ReplayStops unread before now.1 left after fault
   misses tally fault h missing =
-      let all = replayed None (None, view) (lines_of h.text) h.effects now h.handled stands in
+      let all = from_first start fresh stands (lines_of h.text) h.effects now h.handled in
       missing_by now.0 tally fault h all.0 all.1 refl missing
 
 -- ---- a replay that was broken off
@@ -164,9 +172,9 @@ begun_none : (start : State) (done : List (List ℕ)) (es : List Entry) (rest : 
 begun_none start done es [] view h = h
 begun_none start done es (l ∷ ls) view h = inl h
 
-module _ (view : View) (stands : StandsFor view None) (at_end : Type 0) (before : Option (List ℕ)) (text : List ℕ) (now : Option Head × View) (after : Option (List ℕ)) (tally : Tally) where
+module _ (start : Option Head × View) (fresh : start.0 ≡ None) (stands : StandsFor start.1 None) (at_end : Type 0) (before : Option (List ℕ)) (text : List ℕ) (now : Option Head × View) (after : Option (List ℕ)) (tally : Tally) where
   abbrev Broken : Cause Stop → Type 0
-  Broken why = LinesBreak ReplaysLine StopsLine at_end (None, view) before text now after why tally
+  Broken why = LinesBreak ReplaysLine StopsLine at_end start before text now after why tally
 
   -- what is counted and written of the lines that were handled
   breaks_after : (why : Cause Stop) (h : Broken why) (es : List Entry) (r : AreReplayed None None h.done es h.effects h.mid) (rest : List (List ℕ)) → HasBegunNext None h.done es rest now.1
@@ -284,9 +292,10 @@ module _ (view : View) (stands : StandsFor view None) (at_end : Type 0) (before 
 
   breaks_by : (why : Cause Stop) → Broken why → TapeBreaks at_end None before text now.1 after (fault_of why tally)
   breaks_by why h =
-      let all = replayed None (None, view) h.done h.effects h.mid h.handled stands in
+      let all = from_first start fresh stands h.done h.effects h.mid h.handled in
       broken_by why h all.0 all.1
 
-pub replay_broke : (view : View) → StandsFor view None → (unread before : Option (List ℕ)) (now : Option Head × View) (left after : Option (List ℕ)) (why : Cause Stop) (tally : Tally)
-    → Broke ReplaysLine StopsLine (None, view) unread before now left after why tally → ReplayStops unread before now.1 left after (fault_of why tally)
-replay_broke view stands unread before now left after why tally h = record { text = h.text; read = h.read; breaks = breaks_by view stands _ before h.text now after tally why h.breaks }
+pub replay_broke : (start : Option Head × View) → start.0 ≡ None → StandsFor start.1 None → (unread before : Option (List ℕ)) (now : Option Head × View) (left after : Option (List ℕ)) (why : Cause Stop) (tally : Tally)
+    → Broke ReplaysLine StopsLine start unread before now left after why tally → ReplayStops unread before now.1 left after (fault_of why tally)
+replay_broke start fresh stands unread before now left after why tally h =
+    record { text = h.text; read = h.read; breaks = breaks_by start fresh stands _ before h.text now after tally why h.breaks }

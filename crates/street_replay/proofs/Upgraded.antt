@@ -10,12 +10,17 @@ use Rattle.street_ends.specs.Handling.{Effect, has_reply, text_in, Handles, outp
 use Rattle.street_ends.specs.Lines.{lines_of}
 use Rattle.street_ends.specs.declared.answer.Cause.{Cause}
 use Rattle.street_ends.specs.declared.answer.Cause.TheVariants as cause
+use Rattle.street_ends.specs.Faults.{IsCaused}
+use Rattle.street_ends.specs.declared.counted.Counted.{Counted}
 use Rattle.street_ends.specs.declared.tally.FaultKind.{FaultKind}
+use Rattle.street_ends.specs.declared.tally.FaultKind.TheVariants as kinds
 use Rattle.street_ends.specs.declared.tally.RunFault.{RunFault}
 use Rattle.street_ends.specs.declared.tally.Tally.{Tally}
+use Rattle.street_replay.proofs.Counts.{calls_first, replies_first, none_more}
 use Rattle.street_replay.proofs.GoodTapes.{next_lines}
+use Rattle.street_replay.specs.Faults.{IsTapeCaused}
 use Rattle.street_replay.specs.Handling.{fault_of, Misses}
-use Rattle.street_replay.specs.Upgrades.{Cuts, UpgradesWhole, UpgradeStops, UpgradeBreaks, UpgradesLine, RefusesLine, line_of_call, is_call, with_bytes}
+use Rattle.street_replay.specs.Upgrades.{Cuts, CutShort, IsCausedByWrite, UpgradesWhole, UpgradeStops, UpgradeBreaks, UpgradesLine, RefusesLine, line_of_call, is_call, with_bytes}
 use Rattle.street_replay.specs.declared.fault.TapeFault.{TapeFault}
 use Rattle.street_replay.specs.declared.fault.TapeFault.TheVariants as fault
 use Rattle.street_replay.specs.declared.upgrading.Upgrading.{Upgrading}
@@ -24,7 +29,7 @@ use Rattle.street_tape.proofs.Taken.{says, none_read, some_read, whole_read, mis
 use Rattle.street_tape.specs.Entries.{calls_in}
 use Rattle.street_tape.specs.Reading.{Takes, Refuses, TakesAll, calls_of, may_end}
 use Rattle.street_tape.specs.Tapes.{entry_data, entry_line, entry_lines, head_line, tape_text}
-use Rattle.street_tape.specs.Written.{IsPrefix}
+use Rattle.street_tape.specs.Written.{IsPrefix, IsCausedByWriting}
 use Rattle.street_tape.specs.declared.head.Head.{Head}
 use Rattle.street_tape.specs.declared.tape.Stop.{Stop}
 use Rattle.street_tape.specs.declared.tape.Stop.TheVariants.{NotTape, BadEntry, Starved}
@@ -84,11 +89,9 @@ upgraded old (l ∷ ls) effects new h =
         lines = all;
         out = ap output h.5 ∙ ap (λ (out : List ℕ). out ++ output h.2) text ∙ r.out;
         calls = ap calls_of_effects h.5
-            ∙ ap (λ b. (if b then 1 else 0) + calls_of_effects h.2) count
-            ∙ ap (λ n. n + calls_of_effects h.2) (one_call call)
-            ∙ ap (λ n. length (calls_of call) + n) r.calls
+            ∙ calls_first h.1 h.2 (length (calls_of call)) (length more.0) (ap (λ (b : Bool). if b then 1 else 0) count ∙ one_call call) r.calls
             ∙ sym (length-append (calls_of call) more.0);
-        replies = ap replies_in h.5 ∙ ap (λ b. (if b then 1 else 0) + replies_in h.2) silent ∙ r.replies;
+        replies = ap replies_in h.5 ∙ replies_first h.1 h.2 0 0 (ap (λ (b : Bool). if b then 1 else 0) silent) r.replies ∙ none_more 0;
       },
     )
 
@@ -153,13 +156,12 @@ module _ (start : Upgrading) (fresh : start.tape.rest ≡ None) (none : start.li
         counted = record { lines = h.counted.lines; calls = k.calls; replies = k.replies; bytes = ap length text };
       })
 
-  -- of the tape only the first bytes were written
-  pub upgrade_cut : (after : Option (List ℕ)) (fault : RunFault) → may_end now.tape.rest ≡ true → fault.tally ≡ with_bytes tally fault.tally.bytes
-      → IsPrefix mid 0 (head_line tally.calls ++ now.lines.items) after fault.tally.bytes → UpgradeStops unread before left after (fault.Run fault)
-  upgrade_cut after fault end is part =
+  cut_by : (after : Option (List ℕ)) (told : RunFault) → may_end now.tape.rest ≡ true → told.tally ≡ with_bytes tally told.tally.bytes
+      → IsPrefix mid 0 (head_line tally.calls ++ now.lines.items) after told.tally.bytes → UpgradeStops unread before left after (fault.Run told)
+  cut_by after told end is part =
       let k = kept.1 in
       let says_all = whole_read (lines_of h.text) kept.0 now.tape.rest k.taken end in
-      let bytes : ℕ = fault.tally.bytes in
+      let bytes : ℕ = told.tally.bytes in
       let prefix : IsPrefix before 0 (tape_text kept.0) after bytes = subst (λ (t : List ℕ). IsPrefix before 0 t after bytes) (text_is kept.0 k) (prefix_second before mid after 0 bytes [] _ k.written refl part) in
       record {
         text = h.text;
@@ -177,6 +179,12 @@ module _ (start : Upgrading) (fresh : start.tape.rest ≡ None) (none : start.li
           replies = ap (λ (t : Tally). t.replies) is ∙ k.replies;
         };
       }
+
+  -- of the tape only the first bytes were written
+  pub upgrade_cut : (after : Option (List ℕ)) (told : TapeFault) → may_end now.tape.rest ≡ true → CutShort tally mid (head_line tally.calls ++ now.lines.items) after told → UpgradeStops unread before left after told
+  upgrade_cut after fault.NotTape end cut = absurd cut
+  upgrade_cut after (fault.BadEntry line) end cut = absurd cut
+  upgrade_cut after (fault.Run told) end cut = cut_by after told end cut.0 cut.1
 
   missing_by : (rest : Option Head) (fault : TapeFault) (es : List Entry) → AreKept es → now.tape.rest ≡ rest → Misses rest tally fault → UpgradeStops unread before left mid fault
   missing_by None fault.NotTape es k is missing =
@@ -287,3 +295,15 @@ module _ (start : Upgrading) (fresh : start.tape.rest ≡ None) (at_end : Type 0
 pub upgrade_broke : (start : Upgrading) → start.tape.rest ≡ None → (unread before : Option (List ℕ)) (now : Upgrading) (left after : Option (List ℕ)) (why : Cause Stop) (tally : Tally)
     → Broke UpgradesLine RefusesLine start unread before now left after why tally → UpgradeStops unread before left after (fault_of why tally)
 upgrade_broke start fresh unread before now left after why tally h = record { text = h.text; read = h.read; breaks = breaks_by start fresh _ before h.text now after tally why h.breaks }
+
+-- what a write comes as it comes as of the whole
+pub caused_by : {R W : Type 0} → (told : TapeFault) (reader : Counted R) (writer : Counted W) (reads : ℕ) → IsCausedByWrite told writer → IsTapeCaused told reader writer reads
+caused_by fault.NotTape reader writer reads h = tt
+caused_by (fault.BadEntry line) reader writer reads h = tt
+caused_by (fault.Run told) reader writer reads h = by_kind told.kind reader writer reads h
+  where
+    by_kind : {R W : Type 0} → (kind : FaultKind) (reader : Counted R) (writer : Counted W) (reads : ℕ) → IsCausedByWriting kind writer → IsCaused kind reader writer reads
+    by_kind kinds.Write reader writer reads h = h
+    by_kind kinds.Starved reader writer reads h = tt
+    by_kind kinds.Read reader writer reads h = absurd h
+    by_kind kinds.Endless reader writer reads h = absurd h

@@ -5,6 +5,7 @@ use Rattle.std.specs.Io.KnownBytes.{Appends, Consumes, IsAtEnd}
 use Rattle.street_desk.specs.declared.journal.Entry.{Entry}
 use Rattle.street_ends.specs.Handling.{Effect}
 use Rattle.street_ends.specs.Lines.{lines_of}
+use Rattle.street_ends.specs.declared.counted.Counted.{Counted}
 use Rattle.street_ends.specs.declared.tally.Tally.{Tally}
 use Rattle.street_replay.specs.BadTapes.{IsNoTape, IsBadAt}
 use Rattle.street_replay.specs.declared.fault.TapeFault.{TapeFault}
@@ -13,7 +14,7 @@ use Rattle.street_replay.specs.declared.upgrading.Upgrading.{Upgrading}
 use Rattle.street_tape.specs.Entries.{calls_in, tape_reading}
 use Rattle.street_tape.specs.Reading.{Takes, Refuses}
 use Rattle.street_tape.specs.Tapes.{entry_line, tape_text}
-use Rattle.street_tape.specs.Written.{IsPrefix}
+use Rattle.street_tape.specs.Written.{IsPrefix, IsCausedByWriting}
 use Rattle.street_tape.specs.declared.tape.Stop.{Stop}
 
 -- the tally of a whole upgrade: no reply is written, but the tape of the calls
@@ -61,6 +62,19 @@ pub record UpgradeStops (unread before left after : Option (List ℕ)) (fault : 
   pub text : List ℕ
   pub read : Consumes unread left text
   pub breaks : UpgradeBreaks (IsAtEnd left) before text after fault
+
+-- ---- the end of an upgrade
+
+-- of the text only the first bytes were written, and counted
+abbrev pub CutShort : Tally → Option (List ℕ) → List ℕ → Option (List ℕ) → TapeFault → Type 0
+CutShort tally before text after NotTape = ⊥
+CutShort tally before text after (BadEntry line) = ⊥
+CutShort tally before text after (Run told) = (told.tally ≡ with_bytes tally told.tally.bytes) × IsPrefix before 0 text after told.tally.bytes
+
+abbrev pub IsCausedByWrite : {W : Type 0} → TapeFault → Counted W → Type 0
+IsCausedByWrite NotTape writer = ⊥
+IsCausedByWrite (BadEntry line) writer = ⊥
+IsCausedByWrite (Run told) writer = IsCausedByWriting told.kind writer
 
 -- ---- an upgrade as a handler of lines
 

@@ -1,18 +1,22 @@
 //! A tape, replayed line by line.
 //!
 //! Source: this profile. Replies are passed on before the next read.
-ghost use Rattle.std.specs.Prelude.{◌≡◌, ◌≤◌, None, IfOk, IfErr};
+ghost use Rattle.std.specs.Prelude.{◌≡◌, ◌≤◌, None, Some, IfOk, IfErr};
+ghost use Rattle.street_base.specs.State.{State};
 ghost use Rattle.street_ends.specs.Ends.{IsFresh};
+ghost use Rattle.street_ends.specs.Handling.{Effect, Gives};
 ghost use Rattle.street_engine.specs.Refines.{StandsFor};
 ghost use Rattle.street_replay.specs.Faults.{ReplaysWhole, ReplayStops, IsTapeCaused};
+ghost use Rattle.street_replay.specs.Handling.{Applies, CallStops};
 
 use crate::calls::call_again;
 use crate::fault::{TapeFault, check_end, fault_of};
 use std::alloc::Global;
 use std::io::{Read, Write};
 use std::thread::Threads;
-use street_ends::{Answer, Counted, LineHandler, PartialLine, Tally, drive_lines};
-use street_engine::{Engine, Gate};
+use street_desk::Entry;
+use street_ends::{Answer, Counted, Limits, LineHandler, PartialLine, Tally, drive_lines};
+use street_engine::{Engine, Unwatched};
 use street_printing::reply_text;
 use street_tape::{LONGEST_TAPE_LINE, Stop, Tape};
 
@@ -21,20 +25,21 @@ const MOST_READS: u32 = 1_000_000_000;
 
 /// An engine that a tape is replayed on, and the tape as far as it was read.
 #[derive(Drop)]
-struct Replaying<'a, R, G: Gate + Sync + Drop> {
+struct Replaying<'a, R> {
     rt: &'a R,
-    engine: &'a mut Engine<G>,
+    engine: &'a mut Engine<Unwatched>,
     tape: Tape,
 }
 
-impl<'a, R: Threads + Sync, G: Gate + Sync + Drop> LineHandler for Replaying<'a, R, G> {
-    ghost use Rattle.std.specs.Prelude.{◌≡◌, ⊤};
+impl<'a, R: Threads + Sync> LineHandler for Replaying<'a, R> {
+    ghost use Rattle.std.specs.Prelude.{◌≡◌};
+    ghost use Rattle.std.specs.Thread.{IsSync};
     ghost use Rattle.street_replay.specs.Handling.{ReplaysLine, StopsLine};
     ghost use Rattle.street_tape.specs.Entries.{longest_tape_line};
 
     type Stop = Stop;
 
-    ghost LONGEST = { longest_tape_line };
+    ghost longest = { longest_tape_line };
 
     ghost takes = { λ old line effect new. (new.engine.ghost_name ≡ old.engine.ghost_name)
         × ReplaysLine (old.tape.rest, old.engine.now) line effect (new.tape.rest, new.engine.now) };
@@ -42,34 +47,48 @@ impl<'a, R: Threads + Sync, G: Gate + Sync + Drop> LineHandler for Replaying<'a,
     ghost stops = { λ old line stop new. (new.engine.ghost_name ≡ old.engine.ghost_name)
         × StopsLine (old.tape.rest, old.engine.now) line stop (new.tape.rest, new.engine.now) };
 
-    ghost ready = { ⊤ };
-
-    const LONGEST: usize = LONGEST_TAPE_LINE;
+    ghost ready = { IsSync R.row };
 
     /// The first line tells the version; the call of a further line is applied as it went at the desk, and replied to.
     fn take(&mut self, alloc: Global, line: &PartialLine) -> Result<Answer, Stop> {
-        let Some(call) = self.tape.take(alloc, line.as_slice())? else {
-            return Ok(Answer {
+        let taken = self.tape.take(alloc, line.as_slice())?;
+        match taken {
+            None => Ok(Answer {
                 is_call: false,
                 reply: Ok(None),
-            });
-        };
-        let reply = call_again(self.rt, self.engine, &call)?;
-        let reply = match reply_text(alloc, &reply) {
-            Ok(text) => Ok(Some(text)),
-            Err(starved) => Err(starved),
-        };
-        Ok(Answer {
-            is_call: true,
-            reply,
-        })
+            }),
+            Some(call) => answer(self.rt, alloc, self.engine, &call),
+        }
     }
 }
 
-/// Replays a tape on the engine that is held.
-fn replay_lines<R: Threads + Sync, G: Gate + Sync + Drop, D: Read, W: Write>(
+/// Applies a call as it went at the desk, and replies to it.
+fn answer<R: Threads + Sync>(
+    rt: &R,
     alloc: Global,
-    replaying: &mut Replaying<'_, R, G>,
+    engine: &mut Engine<Unwatched>,
+    call: &Entry,
+) -> Result<Answer, Stop>
+    ensures answered { IfOk result (λ answer. (effect : Effect)
+        × Applies engine.old (Some call.now) effect engine.new × Gives answer effect) }
+    ensures stopped { IfErr result (λ stop. (m : State) → StandsFor engine.old m
+        → CallStops m call.now.command call.now.outcome engine.new stop) }
+{
+    let said = call_again(rt, engine, call)?;
+    let reply = match reply_text(alloc, &said) {
+        Ok(text) => Ok(Some(text)),
+        Err(starved) => Err(starved),
+    };
+    Ok(Answer {
+        is_call: true,
+        reply,
+    })
+}
+
+/// Replays a tape on the engine that is held.
+fn replay_lines<R: Threads + Sync, D: Read, W: Write>(
+    alloc: Global,
+    replaying: &mut Replaying<'_, R>,
     reader: &mut Counted<D>,
     writer: &mut Counted<W>,
     reads: u32,
@@ -86,7 +105,11 @@ fn replay_lines<R: Threads + Sync, G: Gate + Sync + Drop, D: Read, W: Write>(
     ensures caused { IfErr result (λ fault. IsTapeCaused fault reader.new writer.new reads) }
     ensures bounded { reader.new.calls ≤ reads }
 {
-    let tally = match drive_lines(alloc, replaying, reader, writer, reads) {
+    let limits = Limits {
+        line: LONGEST_TAPE_LINE,
+        reads,
+    };
+    let tally = match drive_lines(alloc, replaying, reader, writer, limits) {
         Ok(tally) => tally,
         Err(halt) => return Err(fault_of(halt.cause, halt.tally)),
     };
@@ -101,11 +124,11 @@ fn replay_lines<R: Threads + Sync, G: Gate + Sync + Drop, D: Read, W: Write>(
 /// # Errors
 ///
 /// Those of [`replay`]; `Endless` after so many reads.
-pub fn replay_within<R: Threads + Sync, G: Gate + Sync + Drop, D: Read, W: Write>(
+pub fn replay_within<R: Threads + Sync, D: Read, W: Write>(
     rt: &R,
     alloc: Global,
     reader: &mut Counted<D>,
-    engine: &mut Engine<G>,
+    engine: &mut Engine<Unwatched>,
     writer: &mut Counted<W>,
     reads: u32,
 ) -> Result<Tally, TapeFault>
@@ -144,11 +167,11 @@ pub fn replay_within<R: Threads + Sync, G: Gate + Sync + Drop, D: Read, W: Write
 /// flush failed or a write took no bytes, memory was wanting, or after 1,000,000,000 reads: the first `tally.calls` calls are
 /// applied, and of an advance after them perhaps the first steps, and of their replies the first `tally.bytes` bytes are
 /// written.
-pub fn replay<R: Threads + Sync, G: Gate + Sync + Drop, D: Read, W: Write>(
+pub fn replay<R: Threads + Sync, D: Read, W: Write>(
     rt: &R,
     alloc: Global,
     reader: &mut Counted<D>,
-    engine: &mut Engine<G>,
+    engine: &mut Engine<Unwatched>,
     writer: &mut Counted<W>,
 ) -> Result<Tally, TapeFault>
     requires reader { IsFresh reader.old }

@@ -5,16 +5,15 @@ ghost use Rattle.std.specs.Prelude.{◌≡◌, ◌≤◌, ◌<◌, ◌^◌, ◌+
 ghost use Rattle.std.specs.Io.KnownBytes.{Appends};
 ghost use Rattle.street_ends.specs.Ends.{IsFresh};
 ghost use Rattle.street_replay.specs.Faults.{IsTapeCaused};
-ghost use Rattle.street_replay.specs.Upgrades.{UpgradesWhole, UpgradeStops, with_bytes};
+ghost use Rattle.street_replay.specs.Upgrades.{UpgradesWhole, UpgradeStops, CutShort, IsCausedByWrite, with_bytes};
 ghost use Rattle.street_tape.specs.Tapes.{entry_line, head_line};
-ghost use Rattle.street_tape.specs.Written.{IsPrefix, IsCausedByWriting};
 
 use crate::fault::{TapeFault, check_end, fault_of};
 use std::alloc::Global;
 use std::io::{Read, Write};
 use street_base::Starved;
 use street_desk::Entry;
-use street_ends::{Answer, Counted, LineHandler, PartialLine, RunFault, Tally, drive_lines};
+use street_ends::{Answer, Counted, Limits, LineHandler, PartialLine, RunFault, Tally, drive_lines};
 use street_tape::{LONGEST_TAPE_LINE, Stop, Tape, entry_text, write_lines};
 
 /// The most calls of `read` in one upgrade.
@@ -43,7 +42,7 @@ impl LineHandler for Upgrading {
 
     type Stop = Stop;
 
-    ghost LONGEST = { longest_tape_line };
+    ghost longest = { longest_tape_line };
 
     ghost takes = { UpgradesLine };
 
@@ -51,21 +50,22 @@ impl LineHandler for Upgrading {
 
     ghost ready = { ⊤ };
 
-    const LONGEST: usize = LONGEST_TAPE_LINE;
-
     /// The first line tells the version; the line of each call is kept.
     fn take(&mut self, alloc: Global, line: &PartialLine) -> Result<Answer, Stop> {
-        let is_call = match self.tape.take(alloc, line.as_slice())? {
+        let taken = self.tape.take(alloc, line.as_slice())?;
+        match taken {
+            None => Ok(Answer {
+                is_call: false,
+                reply: Ok(None),
+            }),
             Some(call) => {
                 keep_line(alloc, &mut self.lines, &call)?;
-                true
+                Ok(Answer {
+                    is_call: true,
+                    reply: Ok(None),
+                })
             }
-            None => false,
-        };
-        Ok(Answer {
-            is_call,
-            reply: Ok(None),
-        })
+        }
     }
 }
 
@@ -78,19 +78,34 @@ fn write_kept<W: Write>(
     alloc: Global,
     lines: &[u8],
     writer: &mut Counted<W>,
-    mut tally: Tally,
-) -> Result<Tally, RunFault>
-    requires bytes { tally.bytes ≡ 0 }
-    requires calls { tally.calls < 2 ^ 64 }
-    ensures written { IfOk result (λ all. (all ≡ with_bytes tally.entry (length (head_line tally.entry.calls ++ lines.now)))
-        × Appends (W.contents writer.old.end) (W.contents writer.new.end) (head_line tally.entry.calls ++ lines.now)) }
-    ensures part { IfErr result (λ fault. (fault.tally ≡ with_bytes tally.entry fault.tally.bytes)
-        × IsPrefix (W.contents writer.old.end) 0 (head_line tally.entry.calls ++ lines.now) (W.contents writer.new.end) fault.tally.bytes) }
-    ensures caused { IfErr result (λ fault. IsCausedByWriting fault.kind writer.new) }
+    tally: Tally,
+) -> Result<Tally, TapeFault>
+    requires { tally.calls < 2 ^ 64 }
+    ensures written { IfOk result (λ all. (all ≡ with_bytes tally (length (head_line tally.calls ++ lines.now)))
+        × Appends (W.contents writer.old.end) (W.contents writer.new.end) (head_line tally.calls ++ lines.now)) }
+    ensures part { IfErr result (λ fault. CutShort tally (W.contents writer.old.end) (head_line tally.calls ++ lines.now)
+        (W.contents writer.new.end) fault) }
+    ensures caused { IfErr result (λ fault. IsCausedByWrite fault writer.new) }
 {
-    match write_lines(alloc, tally.calls as u64, lines, writer, &mut tally.bytes) {
-        Ok(()) => Ok(tally),
-        Err(kind) => Err(RunFault { kind, tally }),
+    let mut bytes = 0;
+    match write_lines(alloc, tally.calls as u64, lines, writer, &mut bytes) {
+        Ok(()) => Ok(with_bytes(tally, bytes)),
+        Err(kind) => Err(TapeFault::Run(RunFault {
+            kind,
+            tally: with_bytes(tally, bytes),
+        })),
+    }
+}
+
+/// The tally with so many bytes.
+fn with_bytes(tally: Tally, bytes: u128) -> Tally
+    ensures { result ≡ with_bytes tally bytes }
+{
+    Tally {
+        lines: tally.lines,
+        calls: tally.calls,
+        replies: tally.replies,
+        bytes,
     }
 }
 
@@ -114,20 +129,20 @@ pub fn upgrade_within<D: Read, W: Write>(
     ensures caused { IfErr result (λ fault. IsTapeCaused fault reader.new writer.new reads) }
     ensures bounded { reader.new.calls ≤ reads }
 {
-    let mut upgrading = Upgrading {
-        tape: Tape::new(),
-        lines: Vec::new(alloc),
+    let tape = Tape::new();
+    let lines = Vec::new(alloc);
+    let mut upgrading = Upgrading { tape, lines };
+    let limits = Limits {
+        line: LONGEST_TAPE_LINE,
+        reads,
     };
-    let tally = match drive_lines(alloc, &mut upgrading, reader, writer, reads) {
+    let tally = match drive_lines(alloc, &mut upgrading, reader, writer, limits) {
         Ok(tally) => tally,
         Err(halt) => return Err(fault_of(halt.cause, halt.tally)),
     };
-    if let Err(fault) = check_end(&upgrading.tape, &tally) {
-        return Err(fault);
-    }
-    match write_kept(alloc, upgrading.lines.as_slice(), writer, tally) {
-        Ok(all) => Ok(all),
-        Err(fault) => Err(TapeFault::Run(fault)),
+    match check_end(&upgrading.tape, &tally) {
+        Ok(()) => write_kept(alloc, upgrading.lines.as_slice(), writer, tally),
+        Err(fault) => Err(fault),
     }
 }
 

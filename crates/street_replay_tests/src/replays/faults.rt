@@ -106,7 +106,7 @@ fn each_read_fails_in_turn(rt: HostRuntime) {
 #[test]
 fn a_reader_without_end_is_told(rt: HostRuntime) {
     let alloc = rt.alloc();
-    let ran = replayed(&rt, alloc, REFUSED.as_bytes(), 20, Taking::all(alloc), 4);
+    let ran = replayed(&rt, alloc, REFUSED.as_bytes(), 20, Taking::all(alloc), 5);
     assert_eq!(rt;
         ran.fault,
         Some(run_fault(FaultKind::Endless, 2, 1, 1, REFUSAL.len()))
