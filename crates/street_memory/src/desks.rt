@@ -141,23 +141,34 @@ fn replayed<R: Threads + Sync>(rt: &R, alloc: Global, tape: &[u8]) -> Option<(Ve
     }
 }
 
+/// A line of replies by its number, if there is one.
+fn line_of(replies: &[u8], at: usize) -> Option<&str> {
+    as_text(replies).lines().nth(at)
+}
+
 /// Whether the lines of reply to a journal's calls are, call by call, what the session was answered that called.
 fn are_answers(journal: &Journal, replies: &[u8], one: &Caller, two: &Caller) -> bool {
-    let mut first = as_text(&one.replies).lines();
-    let mut second = as_text(&two.replies).lines();
-    let mut replies = as_text(replies).lines();
+    let mut first = 0usize;
+    let mut second = 0usize;
     for at in 0..journal.len() {
         let answer = match journal.entry(at) {
-            Some(entry) if entry.session == 0 => first.next(),
-            Some(_) => second.next(),
+            Some(entry) if entry.session == 0 => {
+                first = first.saturating_add(1);
+                line_of(&one.replies, first.saturating_sub(1))
+            }
+            Some(_) => {
+                second = second.saturating_add(1);
+                line_of(&two.replies, second.saturating_sub(1))
+            }
             None => None,
         };
-        match (answer, replies.next()) {
+        match (answer, line_of(replies, at)) {
             (Some(answer), Some(reply)) if answer == reply => {}
             _ => return false,
         }
     }
-    first.next().is_none() && second.next().is_none() && replies.next().is_none()
+    let all = line_of(replies, journal.len()).is_none();
+    all && line_of(&one.replies, first).is_none() && line_of(&two.replies, second).is_none()
 }
 
 /// Whether the tape of a journal replays to two vehicles that wait, and to the replies that each caller was answered, call
