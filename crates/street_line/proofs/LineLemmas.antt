@@ -1,5 +1,5 @@
 -- What a line says, from what is kept of it.
-use Rattle.std.proofs.Common.{◌≡◌, ℕ, ◌+◌, ◌<◌, ◌≤◌, List, [], ◌∷◌, length, take, true, false, Result, Ok, Err, Option, Some, refl, sym, ap, ◌∙◌, arith, inl, inr, lt-ltb, length-append, codes}
+use Rattle.std.proofs.Common.{◌≡◌, ℕ, ◌+◌, ◌<◌, List, [], ◌∷◌, length, true, false, Result, Ok, Err, Some, refl, sym, ap, ◌∙◌, arith, inl, inr, lt-ltb, length-append, codes}
 use Rattle.std.proofs.lemmas.List.{take_all, length-take-le}
 use Rattle.std.proofs.lemmas.Bool.{cases_lt}
 use Rattle.serde_json.specs.Data.{Data}
