@@ -1,5 +1,5 @@
 -- The value of a call: it has no float, prints no LF, is no deeper than the parser reads, and says that call.
-use Rattle.std.proofs.Common.{◌≡◌, ℕ, ◌≤◌, ◌==◌, List, [], ◌∷◌, true, false, Some, refl, sym, ◌∙◌, inl, inr, arith}
+use Rattle.std.proofs.Common.{◌≡◌, ℕ, ◌≤◌, ◌<◌, ◌^◌, ◌==◌, List, [], ◌∷◌, Bool, true, false, Some, refl, sym, ◌∙◌, inl, inr, arith}
 use Rattle.std.proofs.lemmas.Bool.{cases_Bool}
 use Rattle.json.proofs.Printed.Utf8.{IsUtf8-are_ascii}
 use Rattle.json.specs.Print.{escape_byte}
@@ -13,13 +13,15 @@ use Rattle.street_base.specs.declared.reply.Outcome.{Outcome}
 use Rattle.street_base.specs.declared.reply.Outcome.TheVariants.{Whole, Starved, Short}
 use Rattle.street_desk.specs.declared.journal.Entry.{Entry}
 use Rattle.street_printing.specs.Printing.{items_from, number_data, node_data, link_data, turn_data, green_data, phase_data}
-use Rattle.street_tape.specs.Entries.{outcome_in, entry_in, OutcomeFits, EntryFits}
-use Rattle.street_tape.specs.Tapes.{outcome_data, entry_data, head_data}
+use Rattle.street_tape.specs.Entries.{head_in, is_part, outcome_in, call_in, entry_in, OutcomeFits, EntryFits}
+use Rattle.street_tape.specs.Tapes.{outcome_data, entry_data, head_data, old_head_data}
+use Rattle.street_tape.specs.declared.head.Head.TheVariants.{Version1, Version2}
 use Rattle.street_tape.proofs.Unbroken.{is_clear, are_items_clear}
 use Rattle.street_text.proofs.Again.{command_again, command_plain}
 use Rattle.street_text.proofs.CommandData.{whole_command}
 use Rattle.street_text.proofs.Plain.{IsPlain}
 use Rattle.street_text.specs.CommandTexts.{command_data, tells_size}
+use Rattle.street_text.specs.Fits.{IsWord}
 
 -- ---- it has no float
 
@@ -39,9 +41,22 @@ outcome_again Whole = refl
 outcome_again Starved = refl
 outcome_again (Short k) = refl
 
-pub entry_again : (e : Entry) → tells_size e.command ≡ false → entry_in (entry_data e) ≡ Some e
+call_again : (sized : Bool) (e : Entry) → (tells_size e.command ≡ true → sized ≡ true) → call_in sized (entry_data e) ≡ Some e
+unfolding call_in
+call_again sized e told = rw (command_again sized e.command told, outcome_again e.outcome) refl
+
+-- where a size is told, sizes are read
+pub entry_again : (sized : Bool) (e : Entry) → is_part e.command e.outcome ≡ true → (tells_size e.command ≡ true → sized ≡ true) → entry_in sized (entry_data e) ≡ Some e
 unfolding entry_in
-entry_again e untold = rw (command_again false e.command (λ told. sym untold ∙ told), outcome_again e.outcome) refl
+entry_again sized e part told = rw (call_again sized e told, part) refl
+
+pub head_again : (calls : ℕ) → head_in (head_data calls) ≡ Some (Version2 calls)
+unfolding head_in
+head_again calls = refl
+
+pub old_head_again : head_in old_head_data ≡ Some Version1
+unfolding head_in
+old_head_again = refl
 
 -- ---- with numbers of 64 bits it is plain
 
@@ -54,8 +69,11 @@ pub entry_plain : (e : Entry) → EntryFits e → IsPlain (entry_data e)
 entry_plain e h =
     ((IsUtf8-are_ascii _ refl, command_plain e.command h.command, (IsUtf8-are_ascii _ refl, outcome_plain e.outcome h.outcome, (IsUtf8-are_ascii _ refl, h.session, tt))), refl)
 
-pub head_plain : IsPlain head_data
-head_plain = ((IsUtf8-are_ascii _ refl, omega arith, tt), refl)
+pub head_plain : (calls : ℕ) → IsWord calls → IsPlain (head_data calls)
+head_plain calls h = ((IsUtf8-are_ascii _ refl, h, (IsUtf8-are_ascii _ refl, omega arith, tt)), refl)
+
+pub old_head_plain : IsPlain old_head_data
+old_head_plain = ((IsUtf8-are_ascii _ refl, omega arith, tt), refl)
 
 -- ---- it prints no LF
 
@@ -94,9 +112,13 @@ pub clear_entry : (e : Entry) → is_clear (entry_data e) ≡ true
 unfolding escape_byte
 clear_entry e = rw (clear_command e.command, clear_outcome e.outcome) refl
 
-pub clear_head : is_clear head_data ≡ true
+pub clear_head : (calls : ℕ) → is_clear (head_data calls) ≡ true
 unfolding escape_byte
-clear_head = refl
+clear_head calls = refl
+
+pub clear_old_head : is_clear old_head_data ≡ true
+unfolding escape_byte
+clear_old_head = refl
 
 -- ---- it is no deeper than the parser reads
 

@@ -2,4 +2,4 @@ pub mod Unbroken
 pub mod EntryData
 pub mod Told
 pub mod Sending
-mod Sizes
+pub mod Taken

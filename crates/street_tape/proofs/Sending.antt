@@ -1,5 +1,5 @@
 -- A tape that is written line by line.
-use Rattle.std.proofs.Common.{◌≡◌, ℕ, ◌+◌, List, [], ◌∷◌, ◌++◌, take, drop, get_or, length, Option, Some, refl, sym, ap, ◌∙◌, append_assoc, append-nil, length-append, arith}
+use Rattle.std.proofs.Common.{◌≡◌, ℕ, ◌+◌, List, [], ◌∷◌, ◌++◌, take, drop, get_or, length, Option, Some, refl, sym, ap, subst, ◌∙◌, append_assoc, append-nil, length-append, arith}
 use Rattle.std.specs.List.{slice_get}
 use Rattle.std.proofs.KnownBytes.{Appends-nil, Appends-trans, Appends-kept}
 use Rattle.std.proofs.Math.Seq.{take-append-add, take-length}
@@ -7,7 +7,7 @@ use Rattle.std.proofs.lemmas.List.{take_more, take-append-drop, take-append-le}
 use Rattle.std.proofs.lemmas.Option.{get_or_from_slice_get, slice_get_within}
 use Rattle.std.specs.Io.KnownBytes.{Appends, Keeps}
 use Rattle.street_desk.specs.declared.journal.Entry.{Entry}
-use Rattle.street_tape.specs.Tapes.{entry_line, entry_lines, head_line, tape_text}
+use Rattle.street_tape.specs.Tapes.{entry_line, entry_lines}
 use Rattle.street_tape.specs.Written.{IsPrefix}
 
 -- ---- lines
@@ -17,23 +17,14 @@ lines_append [] ys = refl
 lines_append (x ∷ xs) ys = ap (λ (t : List ℕ). entry_line x ++ t) (lines_append xs ys) ∙ sym (append_assoc (entry_line x) (entry_lines xs) (entry_lines ys))
 
 -- one line more
-pub tape_more : (es : List Entry) (i : ℕ) (e : Entry) → slice_get es i ≡ Some e → tape_text (take (i + 1) es) ≡ tape_text (take i es) ++ entry_line e
-tape_more es i e h =
+pub lines_more : (es : List Entry) (i : ℕ) (e : Entry) → slice_get es i ≡ Some e → entry_lines (take (i + 1) es) ≡ entry_lines (take i es) ++ entry_line e
+lines_more es i e h =
     let more : take (i + 1) es ≡ take i es ++ get_or es i e ∷ [] = take_more es i e (slice_get_within es i e h) in
-    let lines : entry_lines (take (i + 1) es) ≡ entry_lines (take i es) ++ entry_line e =
     rw (more, get_or_from_slice_get es i e e h) (lines_append (take i es) (e ∷ []) ∙ ap (λ (t : List ℕ). entry_lines (take i es) ++ t) (append-nil (entry_line e)))
-    in
-    ap (λ (t : List ℕ). head_line ++ t) lines ∙ sym (append_assoc head_line (entry_lines (take i es)) (entry_line e))
 
--- the tape from a line on
-pub tape_split : (es : List Entry) (i : ℕ) → tape_text es ≡ tape_text (take i es) ++ entry_lines (drop i es)
-tape_split es i =
-    ap (λ (xs : List Entry). head_line ++ entry_lines xs) (sym (take-append-drop i es))
-    ∙ ap (λ (t : List ℕ). head_line ++ t) (lines_append (take i es) (drop i es))
-    ∙ sym (append_assoc head_line (entry_lines (take i es)) (entry_lines (drop i es)))
-
-pub tape_none : (es : List Entry) → head_line ≡ tape_text (take 0 es)
-tape_none es = sym (append-nil head_line)
+-- the lines from one on
+lines_split : (es : List Entry) (i : ℕ) → entry_lines es ≡ entry_lines (take i es) ++ entry_lines (drop i es)
+lines_split es i = ap entry_lines (sym (take-append-drop i es)) ∙ lines_append (take i es) (drop i es)
 
 -- ---- what is written of it
 
@@ -61,10 +52,19 @@ prefix_whole u v w new text wrote keeps counted = record {
   counted = omega arith;
 }
 
+-- of two texts the first was written, and of the second the first bytes
+pub prefix_second : (u v w : Option (List ℕ)) (mid new : ℕ) (a b : List ℕ) → Appends u v a → mid ≡ length a → IsPrefix v mid b w new → IsPrefix u 0 (a ++ b) w new
+prefix_second u v w mid new a b wrote counted p =
+    subst (λ (t : List ℕ). IsPrefix u 0 (a ++ t) w new) (append-nil b) (prefix_after u v w 0 mid new a b [] wrote (omega arith) p)
+
 -- a call more, or the first bytes of its line
-pub prefix_line : (u v w : Option (List ℕ)) (mid new : ℕ) (es : List Entry) (i : ℕ) (e : Entry) → slice_get es i ≡ Some e
-    → Appends u v (tape_text (take i es)) → mid ≡ length (tape_text (take i es)) → IsPrefix v mid (entry_line e) w new → IsPrefix u 0 (tape_text es) w new
-prefix_line u v w mid new es i e h wrote counted p =
-    let split : tape_text es ≡ (tape_text (take i es) ++ entry_line e) ++ entry_lines (drop (i + 1) es) = tape_split es (i + 1) ∙ ap (λ (t : List ℕ). t ++ entry_lines (drop (i + 1) es)) (tape_more es i e h) in
-    let whole : tape_text es ≡ tape_text (take i es) ++ (entry_line e ++ entry_lines (drop (i + 1) es)) = split ∙ append_assoc (tape_text (take i es)) (entry_line e) (entry_lines (drop (i + 1) es)) in
-    rw whole (prefix_after u v w 0 mid new (tape_text (take i es)) (entry_line e) (entry_lines (drop (i + 1) es)) wrote (omega arith) p)
+pub prefix_line : (u v w : Option (List ℕ)) (mid new : ℕ) (head : List ℕ) (es : List Entry) (i : ℕ) (e : Entry) → slice_get es i ≡ Some e
+    → Appends u v (head ++ entry_lines (take i es)) → mid ≡ length (head ++ entry_lines (take i es)) → IsPrefix v mid (entry_line e) w new → IsPrefix u 0 (head ++ entry_lines es) w new
+prefix_line u v w mid new head es i e h wrote counted p =
+    let before : List ℕ = entry_lines (take i es) in
+    let after : List ℕ = entry_lines (drop (i + 1) es) in
+    let lines : entry_lines es ≡ (before ++ entry_line e) ++ after = lines_split es (i + 1) ∙ ap (λ (t : List ℕ). t ++ after) (lines_more es i e h) in
+    let whole : head ++ entry_lines es ≡ (head ++ before) ++ (entry_line e ++ after) =
+    ap (λ (t : List ℕ). head ++ t) (lines ∙ append_assoc before (entry_line e) after) ∙ sym (append_assoc head before (entry_line e ++ after))
+    in
+    rw whole (prefix_after u v w 0 mid new (head ++ before) (entry_line e) after wrote (omega arith) p)

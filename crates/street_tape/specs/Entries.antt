@@ -1,12 +1,14 @@
 -- What the lines of a tape say.
 -- Source: this profile. Keys may stand in any order, and unknown ones are ignored, as in commands.
-use Rattle.std.specs.Prelude.{◌≡◌, ℕ, ◌==◌, ◌≤◌, List, [], ◌∷◌, length, nat_lt, if◌then◌else◌, Bool, false, Option, Some, None, option_map, Result, Ok, Err, codes, bytes_eq, ⊤}
+use Rattle.std.specs.Prelude.{◌≡◌, ℕ, ◌-◌, ◌==◌, ◌≤◌, List, [], ◌∷◌, length, nat_lt, nat_le, ◌&&◌, if◌then◌else◌, Bool, true, false, Option, Some, None, option_map, option_and_then, Result, Ok, Err, codes, bytes_eq, All, ⊤}
 use Rattle.std.specs.Option.{option_map_or}
 use Rattle.serde_json.specs.Data.{Data}
 use Rattle.serde_json.specs.Find.{as_str}
 use Rattle.serde_json.specs.View.{view}
 use Rattle.serde_json.specs.Written.{compact_text}
 use Rattle.serde_json.specs.declared.value.Value.{Value}
+use Rattle.street_base.specs.declared.command.Command.{Command}
+use Rattle.street_base.specs.declared.command.Command.TheVariants.{Advance}
 use Rattle.street_base.specs.declared.reply.Outcome.{Outcome}
 use Rattle.street_base.specs.declared.reply.Outcome.TheVariants.{Whole, Starved, Short}
 use Rattle.street_desk.specs.declared.journal.Entry.{Entry}
@@ -16,7 +18,8 @@ use Rattle.street_reading.specs.Reading.{number_in, field, number_field, command
 use Rattle.street_reading.specs.declared.fault.LineFault.{LineFault}
 use Rattle.street_reading.specs.declared.fault.LineFault.TheVariants.{LineTooLong, NotJson, BadCommand, Starved as NoMemory}
 use Rattle.street_tape.specs.Tapes.{entry_data}
-use Rattle.street_text.specs.CommandTexts.{tells_size}
+use Rattle.street_tape.specs.declared.head.Head.{Head}
+use Rattle.street_tape.specs.declared.head.Head.TheVariants.{Version1, Version2}
 use Rattle.street_text.specs.Fits.{IsWord, Fits}
 
 abbrev pub longest_tape_line : ℕ
@@ -47,17 +50,40 @@ abbrev pub GivesTapeValue : Result Value LineFault → Result Data LineFault →
 GivesTapeValue (Ok v) wanted = wanted ≡ Ok (view v)
 GivesTapeValue (Err e) wanted = FailsData e wanted
 
--- the version that a tape's first line tells
-unfoldable pub version_reading : List ℕ → Result ℕ LineFault
-version_reading line = and_then (λ d. or_fault BadCommand (number_field (codes "tape") d)) (tape_value line)
+-- ---- the first line
 
-abbrev pub is_one : Result ℕ LineFault → Bool
-is_one (Ok n) = n == 1
-is_one (Err e) = false
+-- version 2 also tells how many calls follow; no other version is known
+abbrev pub head_of : ℕ → Data → Option Head
+head_of version d = if version == 1 then Some Version1 else (if version == 2 then option_map Version2 (number_field (codes "calls") d) else None)
 
--- the line is the first of a tape whose version is known
-abbrev pub is_head : List ℕ → Bool
-is_head line = is_one (version_reading line)
+unfoldable pub head_in : Data → Option Head
+head_in d = option_and_then (λ version. head_of version d) (number_field (codes "tape") d)
+
+-- what the first line of a tape tells, or its first fault
+unfoldable pub head_reading : List ℕ → Result Head LineFault
+head_reading line = and_then (λ d. or_fault BadCommand (head_in d)) (tape_value line)
+
+-- sizes are read from version 2 on: in version 1 each vehicle that enters has size 1
+abbrev pub is_sized : Head → Bool
+is_sized Version1 = false
+is_sized (Version2 calls) = true
+
+-- what it tells of the lines after a call, if one may follow
+abbrev pub after_call : Head → Option Head
+after_call Version1 = Some Version1
+after_call (Version2 calls) = if calls == 0 then None else Some (Version2 (calls - 1))
+
+-- so many calls are not too many
+abbrev pub may_have : Head → ℕ → Bool
+may_have Version1 n = true
+may_have (Version2 calls) n = nat_le n calls
+
+-- nor too few
+abbrev pub is_whole : Head → ℕ → Bool
+is_whole Version1 n = true
+is_whole (Version2 calls) n = n == calls
+
+-- ---- a further line
 
 abbrev pub named_outcome : List ℕ → Option Outcome
 named_outcome name = if bytes_eq name (codes "whole") then Some Whole else (if bytes_eq name (codes "starved") then Some Starved else None)
@@ -66,17 +92,30 @@ named_outcome name = if bytes_eq name (codes "whole") then Some Whole else (if b
 unfoldable pub outcome_in : Data → Option Outcome
 outcome_in d = option_map_or named_outcome (as_str d) (option_map Short (number_in d))
 
--- sizes are not read: in this version each vehicle that enters has size 1
-unfoldable pub entry_in : Data → Option Entry
-entry_in d =
+-- a number of steps is that of a part of an advance
+abbrev pub is_part : Command → Outcome → Bool
+is_part (Advance steps) (Short k) = nat_lt 0 k && nat_lt k steps
+is_part c (Short k) = false
+is_part c o = true
+
+-- a call, where it can have its outcome
+abbrev pub if_part : Entry → Option Entry
+if_part e = if is_part e.command e.outcome then Some e else None
+
+-- sizes are read or not
+unfoldable pub call_in : Bool → Data → Option Entry
+call_in sized d =
     Some (λ command outcome session. entry session command outcome)
-    with field (command_in false) (codes "command") d
+    with field (command_in sized) (codes "command") d
     with field outcome_in (codes "outcome") d
     with number_field (codes "session") d
 
+unfoldable pub entry_in : Bool → Data → Option Entry
+entry_in sized d = option_and_then if_part (call_in sized d)
+
 -- what a further line says: a call, or its first fault
-unfoldable pub entry_reading : List ℕ → Result Entry LineFault
-entry_reading line = and_then (λ d. or_fault BadCommand (entry_in d)) (tape_value line)
+unfoldable pub entry_reading : Bool → List ℕ → Result Entry LineFault
+entry_reading sized line = and_then (λ d. or_fault BadCommand (entry_in sized d)) (tape_value line)
 
 -- ---- all lines
 
@@ -85,18 +124,28 @@ onto (Ok e) es = option_map (λ rest. e ∷ rest) es
 onto (Err f) es = None
 
 -- the calls that these lines say, where each says one
-abbrev pub entries_of : List (List ℕ) → Option (List Entry)
-entries_of [] = Some []
-entries_of (l ∷ ls) = onto (entry_reading l) (entries_of ls)
+abbrev pub entries_of : Bool → List (List ℕ) → Option (List Entry)
+entries_of sized [] = Some []
+entries_of sized (l ∷ ls) = onto (entry_reading sized l) (entries_of sized ls)
+
+-- the calls of the lines that follow a first line, of which there may be so many
+abbrev pub calls_after : Result Head LineFault → List (List ℕ) → Option (List Entry)
+calls_after (Ok head) ls = if may_have head (length ls) then entries_of (is_sized head) ls else None
+calls_after (Err f) ls = None
 
 -- the calls of the first lines of a tape: of no line none, and then those of the lines that follow the first
 abbrev pub calls_in : List (List ℕ) → Option (List Entry)
 calls_in [] = Some []
-calls_in (l ∷ ls) = if is_head l then entries_of ls else None
+calls_in (l ∷ ls) = calls_after (head_reading l) ls
+
+-- as many of them as the first line says
+abbrev pub all_after : Result Head LineFault → List (List ℕ) → Option (List Entry)
+all_after (Ok head) ls = if is_whole head (length ls) then entries_of (is_sized head) ls else None
+all_after (Err f) ls = None
 
 abbrev pub tape_in : List (List ℕ) → Option (List Entry)
 tape_in [] = None
-tape_in (l ∷ ls) = calls_in (l ∷ ls)
+tape_in (l ∷ ls) = all_after (head_reading l) ls
 
 -- the calls of a tape
 abbrev pub tape_reading : List ℕ → Option (List Entry)
@@ -109,10 +158,15 @@ OutcomeFits Whole = ⊤
 OutcomeFits Starved = ⊤
 OutcomeFits (Short k) = IsWord k
 
--- each number of the call is one of 64 bits, no size is told, and its line is no longer than a tape line may be
+-- each number of the call is one of 64 bits, it can have its outcome, and its line is no longer than a tape line may be
 pub record EntryFits (e : Entry) : Type 0 where
   pub session : IsWord e.session
   pub command : Fits e.command
   pub outcome : OutcomeFits e.outcome
-  pub untold : tells_size e.command ≡ false
+  pub part : is_part e.command e.outcome ≡ true
   pub line : length (compact_text (entry_data e)) ≤ longest_tape_line
+
+-- so of each call, and their number is one of 64 bits
+pub record TapeFits (es : List Entry) : Type 0 where
+  pub few : IsWord (length es)
+  pub each : All EntryFits es

@@ -1,3 +1,4 @@
 pub mod Tapes
 pub mod Entries
+pub mod Reading
 pub mod Written

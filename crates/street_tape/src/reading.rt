@@ -5,11 +5,12 @@ ghost use Rattle.std.specs.Prelude.{◌≡◌, ◌⊎◌};
 ghost use Rattle.serde_json.specs.Errors.{IsMemory};
 ghost use Rattle.serde_json.specs.View.{view};
 ghost use Rattle.street_reading.specs.Reading.{or_fault, field, number_field, Gives};
-ghost use Rattle.street_tape.specs.Entries.{tape_value, version_reading, outcome_in, entry_in, entry_reading, GivesTapeValue};
+ghost use Rattle.street_tape.specs.Entries.{tape_value, head_in, head_reading, is_part, outcome_in, call_in, entry_in, entry_reading, GivesTapeValue};
 
+use crate::head::Head;
 use serde_json::{Category, Error, Value};
 use std::alloc::Global;
-use street_base::Outcome;
+use street_base::{Command, Outcome};
 use street_desk::Entry;
 use street_text::{LineFault, command_of};
 
@@ -64,13 +65,24 @@ fn number_of(value: &Value, name: &str) -> Result<u64, LineFault>
     found.as_u64().ok_or(LineFault::BadCommand)
 }
 
-/// The call that a JSON value says. In this version of a tape sizes are not read.
-#[tactic(auto, unfolding(crate::specs::Entries::entry_in))]
-fn entry_of(alloc: Global, value: &Value) -> Result<Entry, LineFault>
-    ensures { Gives result (or_fault LineFault.BadCommand (entry_in (view value.now))) }
+/// Whether a command can have this outcome: a number of steps is that of a part of an advance.
+fn is_part(command: &Command, outcome: Outcome) -> bool
+    ensures { result ≡ is_part command.now outcome }
+{
+    match (command, outcome) {
+        (Command::Advance { steps }, Outcome::Short(made)) => 0 < made && made < *steps,
+        (_, Outcome::Short(_)) => false,
+        _ => true,
+    }
+}
+
+/// The call that a JSON value says. Sizes are read or not.
+#[tactic(auto, unfolding(crate::specs::Entries::call_in))]
+fn call_of(alloc: Global, value: &Value, sized: bool) -> Result<Entry, LineFault>
+    ensures { Gives result (or_fault LineFault.BadCommand (call_in sized (view value.now))) }
 {
     let command = value.get("command").ok_or(LineFault::BadCommand)?;
-    let command = command_of(alloc, command, false)?;
+    let command = command_of(alloc, command, sized)?;
     let outcome = value.get("outcome").ok_or(LineFault::BadCommand)?;
     let outcome = outcome_of(outcome)?;
     let session = number_of(value, "session")?;
@@ -81,30 +93,57 @@ fn entry_of(alloc: Global, value: &Value) -> Result<Entry, LineFault>
     })
 }
 
-/// The version that the first line of a tape tells, which stands without its LF.
-///
-/// # Errors
-///
-/// `LineTooLong` above 2,097,152 bytes, then `NotJson`, then `BadCommand` where it tells none; `Starved` where the reading
-/// found no memory.
-#[tactic(auto, unfolding(crate::specs::Entries::version_reading))]
-pub fn read_version(alloc: Global, line: &[u8]) -> Result<u64, LineFault>
-    ensures { Gives result (version_reading line.now) }
+/// The call that a JSON value says, where it can have its outcome.
+#[tactic(auto, unfolding(crate::specs::Entries::entry_in))]
+fn entry_of(alloc: Global, value: &Value, sized: bool) -> Result<Entry, LineFault>
+    ensures { Gives result (or_fault LineFault.BadCommand (entry_in sized (view value.now))) }
 {
-    let value = parse(alloc, line)?;
-    number_of(&value, "tape")
+    let call = call_of(alloc, value, sized)?;
+    if is_part(&call.command, call.outcome) {
+        return Ok(call);
+    }
+    Err(LineFault::BadCommand)
 }
 
-/// The call that a further line of a tape says, which stands without its LF. Whether it can be replayed is not tested.
+/// What a JSON value tells as the first line of a tape.
+#[tactic(auto, unfolding(crate::specs::Entries::head_in))]
+fn head_of(value: &Value) -> Result<Head, LineFault>
+    ensures { Gives result (or_fault LineFault.BadCommand (head_in (view value.now))) }
+{
+    match number_of(value, "tape")? {
+        1 => Ok(Head::Version1),
+        2 => Ok(Head::Version2 {
+            calls: number_of(value, "calls")?,
+        }),
+        _ => Err(LineFault::BadCommand),
+    }
+}
+
+/// What the first line of a tape tells, which stands without its LF.
 ///
 /// # Errors
 ///
-/// `LineTooLong` above 2,097,152 bytes, then `NotJson`, then `BadCommand` where it is no call; `Starved` where the reading
-/// found no memory.
-#[tactic(auto, unfolding(crate::specs::Entries::entry_reading))]
-pub fn read_entry(alloc: Global, line: &[u8]) -> Result<Entry, LineFault>
-    ensures { Gives result (entry_reading line.now) }
+/// `LineTooLong` above 2,097,152 bytes, then `NotJson`, then `BadCommand` where its version is not known, or one of version 2
+/// does not tell how many calls follow; `Starved` where the reading found no memory.
+#[tactic(auto, unfolding(crate::specs::Entries::head_reading))]
+pub fn read_head(alloc: Global, line: &[u8]) -> Result<Head, LineFault>
+    ensures { Gives result (head_reading line.now) }
 {
     let value = parse(alloc, line)?;
-    entry_of(alloc, &value)
+    head_of(&value)
+}
+
+/// The call that a further line of a tape says, which stands without its LF. The size of a vehicle is read only where `sized`
+/// is true, and is 1 otherwise. Whether the machine would refuse the command is not tested.
+///
+/// # Errors
+///
+/// `LineTooLong` above 2,097,152 bytes, then `NotJson`, then `BadCommand` where it is no call, or has a number as its outcome
+/// that is not that of a part of an advance; `Starved` where the reading found no memory.
+#[tactic(auto, unfolding(crate::specs::Entries::entry_reading))]
+pub fn read_entry(alloc: Global, line: &[u8], sized: bool) -> Result<Entry, LineFault>
+    ensures { Gives result (entry_reading sized line.now) }
+{
+    let value = parse(alloc, line)?;
+    entry_of(alloc, &value, sized)
 }

@@ -31,10 +31,10 @@ fn entry_value(alloc: Global, entry: &Entry) -> Result<Value, AllocError>
     json!(in alloc; {"command": command, "outcome": outcome, "session": entry.session})
 }
 
-fn head_value(alloc: Global) -> Result<Value, AllocError>
-    ensures { IfOk result (λ v. view v ≡ head_data) }
+fn head_value(alloc: Global, calls: u64) -> Result<Value, AllocError>
+    ensures { IfOk result (λ v. view v ≡ head_data calls) }
 {
-    json!(in alloc; {"tape": 1})
+    json!(in alloc; {"calls": calls, "tape": 2})
 }
 
 /// The text of a value without floats, and LF.
@@ -47,12 +47,12 @@ fn line_text(alloc: Global, value: &Value) -> Result<Vec<u8>, Starved>
     Ok(text)
 }
 
-/// The first line of a tape, with its LF.
+/// The first line of a tape of so many calls, with its LF.
 #[tactic(auto, unfolding(crate::specs::Tapes::head_line))]
-pub fn head_text(alloc: Global) -> Result<Vec<u8>, Starved>
-    ensures { IfOk result (λ text. text.items ≡ head_line) }
+pub fn head_text(alloc: Global, calls: u64) -> Result<Vec<u8>, Starved>
+    ensures { IfOk result (λ text. text.items ≡ head_line calls) }
 {
-    let value = head_value(alloc)?;
+    let value = head_value(alloc, calls)?;
     line_text(alloc, &value)
 }
 

@@ -1,18 +1,16 @@
 //! The tape of a journal.
 //!
 //! Source: this profile.
-ghost use Rattle.std.specs.Prelude.{◌≡◌, ◌≤◌, ◌+◌, ◌-◌, ◌^◌, true, Err, OnOk, IfOk, IfErr, length, take};
+ghost use Rattle.std.specs.Prelude.{◌≡◌, ◌≤◌, ◌+◌, ◌-◌, ◌^◌, ◌++◌, OnOk, IfOk, IfErr, length, take};
 ghost use Rattle.std.specs.Io.KnownBytes.{Appends};
 ghost use Rattle.street_ends.specs.Ends.{HasFailed, IsFresh};
 ghost use Rattle.street_ends.specs.declared.tally.FaultKind.TheVariants as kinds;
-ghost use Rattle.street_text.specs.CommandTexts.{tells_size};
-ghost use Rattle.street_tape.specs.Tapes.{tell_sizes, tape_text};
-ghost use Rattle.street_tape.specs.Written.{IsPrefix, IsCausedByWriting, old_tape};
+ghost use Rattle.street_tape.specs.Tapes.{head_line, tape_text};
+ghost use Rattle.street_tape.specs.Written.{IsPrefix, IsCausedByWriting};
 
 use crate::texts::{entry_text, head_text};
 use std::alloc::Global;
 use std::io::Write;
-use street_base::Command;
 use street_desk::Journal;
 use street_ends::{Counted, FaultKind, RunFault, Tally, flush_out, write_text};
 
@@ -40,8 +38,32 @@ fn write_line<W: Write>(
     }
 }
 
+/// Writes the tape of so many calls from the text of their lines, passes it on, and counts what went out of it.
+///
+/// # Errors
+///
+/// `Write` where a write or a flush failed, or a write took no bytes; `Starved` where memory was wanting for the first line.
+pub fn write_lines<W: Write>(
+    alloc: Global,
+    calls: u64,
+    lines: &[u8],
+    writer: &mut Counted<W>,
+    bytes: &mut u128,
+) -> Result<(), FaultKind>
+    requires { bytes.old ≡ 0 }
+    ensures written { OnOk result ((bytes.new ≡ length (head_line calls ++ lines.now))
+        × Appends (W.contents writer.old.end) (W.contents writer.new.end) (head_line calls ++ lines.now)) }
+    ensures part { IfErr result (λ kind. IsCausedByWriting kind writer.new
+        × IsPrefix (W.contents writer.old.end) 0 (head_line calls ++ lines.now) (W.contents writer.new.end) bytes.new) }
+{
+    write_line(writer, head_text(alloc, calls)?.as_slice(), bytes)?;
+    write_line(writer, lines, bytes)?;
+    flush_out(writer)?;
+    Ok(())
+}
+
 /// Writes the first line and the line of each call, and passes them on.
-fn write_lines<W: Write>(
+fn write_calls<W: Write>(
     alloc: Global,
     journal: &Journal,
     writer: &mut Counted<W>,
@@ -50,10 +72,10 @@ fn write_lines<W: Write>(
     requires { bytes.old ≡ 0 }
     ensures written { OnOk result ((bytes.new ≡ length (tape_text journal.now))
         × Appends (W.contents writer.old.end) (W.contents writer.new.end) (tape_text journal.now)) }
-    ensures part { IfErr result (λ kind. IsCausedByWriting kind journal.now writer.new
+    ensures part { IfErr result (λ kind. IsCausedByWriting kind writer.new
         × IsPrefix (W.contents writer.old.end) 0 (tape_text journal.now) (W.contents writer.new.end) bytes.new) }
 {
-    write_line(writer, head_text(alloc)?.as_slice(), bytes)?;
+    write_line(writer, head_text(alloc, journal.len() as u64)?.as_slice(), bytes)?;
     for at in 0..journal.len() {
         let Some(entry) = journal.entry(at) else {
             unreachable!();
@@ -79,38 +101,12 @@ fn fault_after(kind: FaultKind, bytes: u128) -> RunFault
     }
 }
 
-/// Whether a command tells the size of a vehicle.
-fn tells_size(command: &Command) -> bool
-    ensures { result ≡ tells_size command.now }
-{
-    match command {
-        Command::Enter { size, .. } => *size != 1,
-        _ => false,
-    }
-}
-
-/// Whether a call of a journal tells the size of a vehicle.
-fn tell_sizes(journal: &Journal) -> bool
-    ensures { result ≡ tell_sizes journal.now }
-{
-    for at in 0..journal.len() {
-        let Some(entry) = journal.entry(at) else {
-            unreachable!();
-        };
-        if tells_size(&entry.command) {
-            return true;
-        }
-    }
-    false
-}
-
-/// Writes the tape of a journal and nothing else, and answers its number of bytes: a first line with the version, and then
-/// a line for each call, in the journal's order. The writer is fresh: nothing was called of it yet.
+/// Writes the tape of a journal and nothing else, and answers its number of bytes: a first line with the version and the
+/// number of calls, and then a line for each call, in the journal's order. The writer is fresh: nothing was called of it yet.
 ///
 /// # Errors
 ///
-/// `OldTape` where a call tells the size of a vehicle: this version of a tape tells none, and nothing is written. `Write` where
-/// a write or a flush failed, or a write took no bytes; `Starved` where memory was wanting for a line. Of the
+/// `Write` where a write or a flush failed, or a write took no bytes; `Starved` where memory was wanting for a line. Of the
 /// tape the first `tally.bytes` bytes are then written; the other numbers of the tally are 0.
 pub fn write_tape<W: Write>(
     alloc: Global,
@@ -118,19 +114,15 @@ pub fn write_tape<W: Write>(
     writer: &mut Counted<W>,
 ) -> Result<u128, RunFault>
     requires writer { IsFresh writer.old }
-    ensures old { tell_sizes journal.now ≡ true → (result ≡ Err old_tape) × (writer.new ≡ writer.old) }
     ensures written { IfOk result (λ bytes. (bytes ≡ length (tape_text journal.now))
         × Appends (W.contents writer.old.end) (W.contents writer.new.end) (tape_text journal.now)) }
     ensures part { IfErr result (λ fault. IsPrefix (W.contents writer.old.end) 0 (tape_text journal.now)
         (W.contents writer.new.end) fault.tally.bytes) }
-    ensures caused { IfErr result (λ fault. IsCausedByWriting fault.kind journal.now writer.new) }
+    ensures caused { IfErr result (λ fault. IsCausedByWriting fault.kind writer.new) }
     ensures tally { IfErr result (λ fault. (fault.tally.lines ≡ 0) × (fault.tally.calls ≡ 0) × (fault.tally.replies ≡ 0)) }
 {
-    if tell_sizes(journal) {
-        return Err(fault_after(FaultKind::OldTape, 0));
-    }
     let mut bytes = 0;
-    match write_lines(alloc, journal, writer, &mut bytes) {
+    match write_calls(alloc, journal, writer, &mut bytes) {
         Ok(()) => Ok(bytes),
         Err(kind) => Err(fault_after(kind, bytes)),
     }

@@ -1,47 +1,26 @@
-use Rattle.std.proofs.Common.{◌≡◌, ◌≤◌, ◌-◌, ◌^◌, length, take, sym, ◌∙◌, append-nil, arith, length-append}
-use Rattle.std.proofs.KnownBytes.{Appends-trans, Appends-kept}
-use Rattle.std.proofs.lemmas.List.{take_all}
+use Rattle.std.proofs.Common.{◌∙◌, arith, length-append}
+use Rattle.std.proofs.KnownBytes.{Appends-trans}
 use Rattle.std.proofs.lemmas.Result.{err_from_is_err_and}
-use Rattle.street_tape.specs.Tapes.{entry_line, head_line, tape_text}
-use Rattle.street_tape.proofs.Sending.{tape_more, prefix_none, prefix_line}
+use Rattle.street_tape.specs.Tapes.{head_line}
+use Rattle.street_tape.proofs.Sending.{prefix_second, prefix_whole}
 use Rattle.street_tape.proofs.writing.write_lines.Goals as goal
-
-pub loop-at-init : goal.loop-at-init
-loop-at-init g c =
-    let line : c.as_slice.result.now ≡ head_line = c.as_slice.ensures.value ∙ c.in_ok-head_text.ensures in
-    let wrote = rw line at c.in_ok-write_line.ensures.written in
-    let few : length head_line ≤ 2 ^ 64 - 1 = rw (← line) (omega (arith, c.as_slice.ensures.len)) in
-    rw (append-nil head_line) (omega (arith, wrote.0), wrote.1, omega (arith, wrote.0, few))
-
-pub loop-at-preserved : goal.loop-at-preserved
-loop-at-preserved g c =
-    let before = c.loop-at.invariant in
-    let call = c.in-Some.entry.now in
-    let line : c.as_slice-in-loop-at.result.now ≡ entry_line call = c.as_slice-in-loop-at.ensures.value ∙ c.in_ok-entry_text.ensures in
-    let wrote = rw line at c.in_ok-write_line-2.ensures.written in
-    let few : length (entry_line call) ≤ 2 ^ 64 - 1 = rw (← line) (omega (arith, c.as_slice-in-loop-at.ensures.len)) in
-    rw (tape_more c.args.journal.now c.loop-at.at call (sym c.in-Some.ensures)) (
-      omega (arith, wrote.0, before.0, length-append (tape_text (take c.loop-at.at c.args.journal.now)) (entry_line call)),
-      Appends-trans _ _ _ _ _ before.1 wrote.1,
-      omega (arith, wrote.0, before.2, few),
-    )
-
-pub returns-clause-written : goal.returns-clause-written
-returns-clause-written g c =
-    let before = c.loop-at.invariant in
-    let whole = rw (take_all c.loop-at.at c.args.journal.now (omega (arith, c.len-at-end.ensures))) at before in
-    (whole.0, Appends-kept _ _ _ _ whole.1 c.in_ok-flush_out.ensures.kept)
-
-pub returns-in_err-entry_text-clause-part : goal.returns-in_err-entry_text-clause-part
-returns-in_err-entry_text-clause-part g c =
-    let before = c.loop-at.invariant in
-    let p = err_from_is_err_and c.from_residual-in_err-entry_text.result c.from_residual-in_err-entry_text.ensures.1 in
-    rw (p.1, p.2) (tt, prefix_line _ _ _ _ _ c.args.journal.now c.loop-at.at c.in-Some.entry.now (sym c.in-Some.ensures) before.1 before.0 (prefix_none _ _ _))
 
 pub returns-in_err-write_line-2-clause-part : goal.returns-in_err-write_line-2-clause-part
 returns-in_err-write_line-2-clause-part g c =
-    let before = c.loop-at.invariant in
-    let line = c.as_slice-in-loop-at.ensures.value ∙ c.in_ok-entry_text.ensures in
+    let head = c.as_slice.ensures.value ∙ c.in_ok-head_text.ensures in
+    let wrote = rw head at c.in_ok-write_line.ensures.written in
     let p = err_from_is_err_and c.from_residual-in_err-write_line-2.result c.from_residual-in_err-write_line-2.ensures.1 in
-    let part = rw line at c.in_err-write_line-2.ensures.part in
-    rw (p.1, p.2) (rw part.0 part.1, prefix_line _ _ _ _ _ c.args.journal.now c.loop-at.at c.in-Some.entry.now (sym c.in-Some.ensures) before.1 before.0 part.2)
+    let part = c.in_err-write_line-2.ensures.part in
+    rw (p.1, p.2) (rw part.0 part.1, prefix_second _ _ _ _ _ (head_line c.args.calls) c.args.lines.now wrote.1 (omega (arith, wrote.0)) part.2)
+
+pub returns-in_err-flush_out-clause-part : goal.returns-in_err-flush_out-clause-part
+returns-in_err-flush_out-clause-part g c =
+    let head = c.as_slice.ensures.value ∙ c.in_ok-head_text.ensures in
+    let wrote = rw head at c.in_ok-write_line.ensures.written in
+    let lines = c.in_ok-write_line-2.ensures.written in
+    let p = err_from_is_err_and c.from_residual-in_err-flush_out.result c.from_residual-in_err-flush_out.ensures.1 in
+    let failed = c.in_err-flush_out.ensures.failed in
+    rw (p.1, p.2) (
+      rw failed.0 failed.1,
+      prefix_whole _ _ _ _ _ (Appends-trans _ _ _ _ _ wrote.1 lines.1) c.in_err-flush_out.ensures.kept (omega (arith, wrote.0, lines.0, length-append (head_line c.args.calls) c.args.lines.now)),
+    )

@@ -1,0 +1,113 @@
+//! A tape, read line by line.
+//!
+//! Source: this profile.
+ghost use Rattle.std.specs.Prelude.{◌≡◌, None, Some, Ok, IfOk, IfErr, is_some};
+ghost use Rattle.street_tape.specs.Entries.{entry_reading};
+ghost use Rattle.street_tape.specs.Reading.{Takes, Refuses, IsNoCall, may_end};
+ghost use Rattle.street_tape.specs.declared.tape.Stop.TheVariants as stops;
+
+use crate::head::Head;
+use crate::reading::{read_entry, read_head};
+use std::alloc::Global;
+use street_base::Starved;
+use street_desk::Entry;
+use street_text::LineFault;
+
+/// Why a tape is read no further.
+#[derive(Debug, Clone, Copy, PartialEq, Eq)]
+pub enum Stop {
+    /// The first line is not that of a tape whose version is known.
+    NotTape,
+    /// A further line is no call, or all calls that the first line tells stand before it.
+    BadEntry,
+    /// Memory was wanting.
+    Starved,
+}
+
+impl From<Starved> for Stop {
+    ghost from_gives = { λ _ stop. stop ≡ stops.Starved };
+
+    fn from(_error: Starved) -> Stop {
+        Stop::Starved
+    }
+}
+
+/// A tape as far as it was read.
+#[derive(Debug, Clone, Copy, PartialEq, Eq)]
+pub struct Tape {
+    /// What the first line tells of the lines that follow here; nothing before it was read.
+    rest: Option<Head>,
+}
+
+impl Tape {
+    /// A tape of which no line was read.
+    pub fn new() -> Tape
+        ensures { result.rest ≡ None }
+    {
+        Tape { rest: None }
+    }
+
+    /// The next line, which stands without its LF: its call, or nothing where it is the first.
+    ///
+    /// # Errors
+    ///
+    /// Why it is not taken.
+    pub fn take(&mut self, alloc: Global, line: &[u8]) -> Result<Option<Entry>, Stop>
+        ensures taken { IfOk result (λ call. Takes self.old.rest line.now call self.new.rest) }
+        ensures refused { IfErr result (λ stop. Refuses self.old.rest line.now stop) }
+    {
+        match self.rest {
+            None => {
+                self.rest = Some(first_line(alloc, line)?);
+                Ok(None)
+            }
+            Some(rest) => {
+                let next = rest.after_call().ok_or(Stop::BadEntry)?;
+                let call = further_line(alloc, line, rest.is_sized())?;
+                self.rest = Some(next);
+                Ok(Some(call))
+            }
+        }
+    }
+
+    /// Whether any line was read.
+    pub fn is_begun(&self) -> bool
+        ensures { result ≡ is_some self.now.rest }
+    {
+        self.rest.is_some()
+    }
+
+    /// Whether all calls that the first line tells were read.
+    pub fn may_end(&self) -> bool
+        ensures { result ≡ may_end self.now.rest }
+    {
+        match self.rest {
+            None => false,
+            Some(rest) => rest.may_end(),
+        }
+    }
+}
+
+/// What the first line tells.
+fn first_line(alloc: Global, line: &[u8]) -> Result<Head, Stop>
+    ensures taken { IfOk result (λ head. Takes None line.now None (Some head)) }
+    ensures refused { IfErr result (λ stop. Refuses None line.now stop) }
+{
+    match read_head(alloc, line) {
+        Ok(head) => Ok(head),
+        Err(LineFault::Starved) => Err(Stop::Starved),
+        Err(_) => Err(Stop::NotTape),
+    }
+}
+
+/// The call of a further line.
+fn further_line(alloc: Global, line: &[u8], sized: bool) -> Result<Entry, Stop>
+    ensures read { IfOk result (λ call. entry_reading sized line.now ≡ Ok call) }
+    ensures refused { IfErr result (λ stop. IsNoCall sized line.now stop) }
+{
+    match read_entry(alloc, line, sized) {
+        Ok(call) => Ok(call),
+        Err(LineFault::Starved) => Err(Stop::Starved),
+        Err(_) => Err(Stop::BadEntry),
+    }
+}
