@@ -23,10 +23,17 @@ ONE_WAITS = '{"admitted":1,"arrived":0,"buffers":0,"cells":0,"clock":0,"taken":0
 AFTER_ONE_VEHICLE = '{"admitted":1,"arrived":1,"buffers":0,"cells":0,"clock":5,"taken":0,"waiting":0}\n'
 
 
+HEAD = '{"calls":4,"tape":2}\n'
+
+
+def calls_in_lines():
+    """The calls of the tape of examples/one-vehicle.jsonl, as LINES.md has it."""
+    return (DATA / "LINES.md").read_text().split("```\n" + HEAD)[1].split("```")[0]
+
+
 def tape_in_lines():
-    """The tape of examples/one-vehicle.jsonl, as LINES.md has it."""
-    text = (DATA / "LINES.md").read_text()
-    return '{"tape":1}\n' + text.split('```\n{"tape":1}\n')[1].split("```")[0]
+    """That tape."""
+    return HEAD + calls_in_lines()
 
 
 def calls_of(tape, session):
@@ -98,7 +105,7 @@ class Scripts(ProgramCase):
     def test_the_tape_has_each_scripts_calls_in_their_order(self):
         told = self.ends(["--tape", "run.tape", PLANNER, COUNTER]).splitlines(keepends=True)
         tape = (self.folder / "run.tape").read_text()
-        self.assertEqual(tape.splitlines()[0], '{"tape":1}')
+        self.assertEqual(tape.splitlines()[0], '{"calls":8,"tape":2}')
         self.assertEqual(len(tape.splitlines()), 9)
         self.assertEqual(calls_of(tape, 0), commands_of(PLANNER))
         self.assertEqual(calls_of(tape, 1), commands_of(COUNTER))
@@ -171,7 +178,8 @@ class Tapes(ProgramCase):
         self.assertEqual((self.folder / "run.tape").read_text(), tape_in_lines())
 
     def test_entries_that_starved_or_stopped_short_are_told_so(self):
-        first, load, enter, _advance, vehicle = tape_in_lines().splitlines()
+        load, enter, _advance, vehicle = calls_in_lines().splitlines()
+        first = '{"calls":5,"tape":2}'
         starved = enter.replace('"whole"', '"starved"')
         short = '{"command":{"cmd":"advance","steps":5},"outcome":2,"session":0}'
         tape = self.write("run.tape", "\n".join([first, load, starved, enter, short, vehicle]))
@@ -185,12 +193,14 @@ class Tapes(ProgramCase):
         )
 
     def test_no_tape_does_nothing(self):
-        entries = "".join(tape_in_lines().splitlines(keepends=True)[1:])
-        for text in ("", "\n", "[1]\n", "{}\n", '{"tape":2}\n' + entries, entries):
+        calls = calls_in_lines()
+        others = ['{"tape":2}', '{"calls":"4","tape":2}', '{"calls":4,"tape":3}']
+        for text in ("", "\n", "[1]\n", "{}\n", *[first + "\n" + calls for first in others], calls):
             with self.subTest(first=text[:12]):
                 tape = self.write("run.tape", text)
-                told = self.ends(["--replay", tape], status=1, error="streetsim: bad tape at line 1\n")
-                self.assertEqual(told, "")
+                for word in ("--replay", "--upgrade"):
+                    told = self.ends([word, tape], status=1, error="streetsim: bad tape at line 1\n")
+                    self.assertEqual(told, "")
 
     def test_a_line_of_a_tape_has_a_greatest_length(self):
         lines = tape_in_lines().splitlines()
@@ -218,7 +228,37 @@ class Tapes(ProgramCase):
                 self.assertEqual(told, "".join(ONE_VEHICLE.splitlines(keepends=True)[:2]))
 
     def test_a_tape_that_is_not_there(self):
-        self.assertEqual(self.ends(["--replay", "none.tape"], status=1, error="streetsim: cannot read none.tape\n"), "")
+        for word in ("--replay", "--upgrade"):
+            self.assertEqual(self.ends([word, "none.tape"], status=1, error="streetsim: cannot read none.tape\n"), "")
+
+    def test_a_tape_of_version_1_is_replayed_and_upgraded(self):
+        tape = self.write("old.tape", '{"tape":1}\n' + calls_in_lines())
+        self.assertEqual(self.ends(["--replay", tape]), ONE_VEHICLE + AFTER_ONE_VEHICLE)
+        self.assertEqual(self.ends(["--upgrade", tape]), tape_in_lines())
+
+    def test_a_tape_of_version_2_is_upgraded_to_itself(self):
+        tape = self.write("run.tape", tape_in_lines())
+        self.assertEqual(self.ends(["--upgrade", tape]), tape_in_lines())
+
+    def test_sizes_are_read_from_version_2_on(self):
+        load, enter, _advance, vehicle = calls_in_lines().splitlines(keepends=True)
+        long = enter.replace('"plan":[10]', '"plan":[10],"size":3')
+        waits = '{"links":2,"nodes":3,"turns":1}\n{"car":0}\n{"car":0,"depart":0,"lane":0,"link":10,"plan":[10],%s"state":"waiting"}\n'
+        old = self.write("old.tape", '{"tape":1}\n' + load + long + vehicle)
+        text = '{"calls":3,"tape":2}\n' + load + long + vehicle
+        new = self.write("new.tape", text)
+        self.assertEqual(self.ends(["--replay", old]), waits % "" + ONE_WAITS)
+        self.assertEqual(self.ends(["--replay", new]), waits % '"size":3,' + ONE_WAITS)
+        self.assertEqual(self.ends(["--upgrade", old]), '{"calls":3,"tape":2}\n' + load + enter + vehicle)
+        self.assertEqual(self.ends(["--upgrade", new]), text)
+
+    def test_missing_calls_and_calls_too_many_are_bad(self):
+        load, enter, _advance, _vehicle = calls_in_lines().splitlines(keepends=True)
+        for calls, line, told in ((3, 4, ONE_VEHICLE.splitlines(keepends=True)[:2]), (1, 3, ONE_VEHICLE.splitlines(keepends=True)[:1])):
+            tape = self.write("run.tape", f'{{"calls":{calls},"tape":2}}\n' + load + enter)
+            error = f"streetsim: bad tape at line {line}\n"
+            self.assertEqual(self.ends(["--replay", tape], status=1, error=error), "".join(told))
+            self.assertEqual(self.ends(["--upgrade", tape], status=1, error=error), "")
 
 
 @needs_simulator
@@ -254,11 +294,12 @@ class Faults(Case):
 
     def test_what_opens_and_cannot_be_read(self):
         self.assertEqual(self.fails([self.folder, PLANNER], f"cannot read {self.folder}"), ONE_VEHICLE)
-        self.assertEqual(self.fails(["--replay", self.folder], f"cannot read {self.folder}"), "")
+        for word in ("--replay", "--upgrade"):
+            self.assertEqual(self.fails([word, self.folder], f"cannot read {self.folder}"), "")
 
     def test_a_standard_output_that_takes_nothing(self):
         tape = self.write("given.tape", tape_in_lines())
-        for words in ([], [PLANNER], ["--replay", tape], ["--help"]):
+        for words in ([], [PLANNER], ["--replay", tape], ["--upgrade", tape], ["--help"]):
             self.fails(words, "cannot write standard output", stdout="/dev/full")
 
     def test_scripts_are_on_the_tape_also_where_their_replies_cannot_be_written(self):
@@ -306,6 +347,10 @@ class Words(ProgramCase):
             (["--tape"], "--tape"),
             (["--replay", "run.tape", PLANNER], "--replay"),
             (["--replay", "run.tape", "--tape", "other.tape"], "--replay"),
+            (["--upgrade"], "--upgrade"),
+            (["--upgrade", "run.tape", PLANNER], "--upgrade"),
+            (["--upgrade", "run.tape", "--tape", "other.tape"], "--upgrade"),
+            (["--upgrade", "run.tape", "--replay", "other.tape"], "--upgrade"),
             ([PLANNER] * 1_025, ""),
         ):
             with self.subTest(words=words[:4]):

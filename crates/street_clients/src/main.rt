@@ -4,8 +4,9 @@
 //! The status is 1 where anything is answered otherwise than it should be.
 #![tactic(auto)]
 
-ghost use Rattle.std.specs.Prelude.{◌++◌, ℕ, List, IfOk, Decides};
+ghost use Rattle.std.specs.Prelude.{IfOk, Decides};
 ghost use Rattle.street_pair.specs.Replies.{Agrees, IsRetold};
+ghost use Rattle.street_pair.specs.declared.tapes.Retold.{Retold};
 
 use std::alloc::{AllocError, Global};
 use std::fs::File;
@@ -14,7 +15,7 @@ use std::process::ExitCode;
 use std::rt::Files;
 use std::sync::Wait;
 use std::thread::Threads;
-use street_pair::{Told, retell, serve_both, serve_both_scripts, text_of};
+use street_pair::{Retold, Told, reply_text, retell, serve_both, serve_both_scripts, text_of};
 
 /// Two links, 10 and 20, one behind the other, and a vehicle.
 const LOAD_AND_ENTER: &str =
@@ -65,19 +66,20 @@ const COUNT_AND_FULL: &[u8] = br#"{"error":1,"name":"NotLoaded"}
 {"error":23,"name":"Full"}
 "#;
 
-/// Four counts with nothing loaded.
-const FOUR_COUNTS: &[u8] = br#"{"error":1,"name":"NotLoaded"}
-{"error":1,"name":"NotLoaded"}
+/// Three counts with nothing loaded.
+const THREE_COUNTS: &[u8] = br#"{"error":1,"name":"NotLoaded"}
 {"error":1,"name":"NotLoaded"}
 {"error":1,"name":"NotLoaded"}
 "#;
 
-/// A count, as a tape has it.
-const COUNT: &[u8] = br#"{"command":{"cmd":"count"},"outcome":"whole","session":2}"#;
-
 /// Clients were not served to the end.
 fn not_served() -> io::Error {
     io::Error::from(io::ErrorKind::InvalidData)
+}
+
+/// The line of reply to a count after a tape.
+fn count_text(alloc: Global, retold: &Retold) -> io::Result<Vec<u8>> {
+    reply_text(alloc, &retold.count).ok().ok_or(not_served())
 }
 
 /// Whether each reply is that of the tape; if so, this is said, with what a count answers after the tape.
@@ -86,18 +88,20 @@ fn compare<R: Threads + Sync + Print + AllocGlobal>(
     name: &str,
     told: &Told,
 ) -> io::Result<bool>
-    ensures { IfOk result (λ agrees. (last replies : List ℕ)
-        × IsRetold (told.now.tape.items ++ last) replies
-        × Decides agrees (Agrees told.now replies)) }
+    ensures { IfOk result (λ agrees. (retold : Retold)
+        × IsRetold told.now.tape.items retold
+        × Decides agrees (Agrees told.now retold.replies.items)) }
 {
     let alloc = rt.alloc();
-    let replies = retell(rt, alloc, &told.tape, COUNT)
+    let retold = retell(rt, alloc, &told.tape).ok().ok_or(not_served())?;
+    let agrees = told
+        .agrees(alloc, &retold.replies)
         .ok()
         .ok_or(not_served())?;
-    let agrees = told.agrees(alloc, &replies).ok().ok_or(not_served())?;
     if agrees {
         let calls = text_of(&told.tape).lines().skip(1).count();
-        let count = text_of(&replies).lines().last().unwrap_or("");
+        let text = count_text(alloc, &retold)?;
+        let count = text_of(&text).trim_end();
         println!(rt; "{name}: the replies to {calls} calls are those of the tape, then {count}")?;
     }
     Ok(agrees)
@@ -119,13 +123,11 @@ fn three_places<R: Threads + Wait + Sync + Print + AllocGlobal + Files<File = Fi
     let alloc = rt.alloc();
     let told = serve_both_scripts(rt, alloc, 3, "counts.jsonl", "counts.jsonl");
     let told = told.ok_or(not_served())?;
-    let replies = retell(rt, alloc, &told.tape, COUNT)
-        .ok()
-        .ok_or(not_served())?;
+    let retold = retell(rt, alloc, &told.tape).ok().ok_or(not_served())?;
     let (first, second) = (told.first.as_slice(), told.second.as_slice());
     let full = (first == TWO_COUNTS && second == COUNT_AND_FULL)
         || (first == COUNT_AND_FULL && second == TWO_COUNTS);
-    if full && replies.as_slice() == FOUR_COUNTS {
+    if full && retold.replies.as_slice() == THREE_COUNTS {
         println!(rt; "three places: three counts are answered, and one finds no place")?;
         return Ok(true);
     }

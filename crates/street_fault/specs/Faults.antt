@@ -21,7 +21,7 @@ fault_of_run kind.Write from to = Write to
 fault_of_run kind.Starved from to = OutOfMemory
 fault_of_run kind.Endless from to = Endless
 
--- a replay reads a tape; what is no tape at all is wrong at its first line
+-- a replay or an upgrade reads a tape; what is no tape at all is wrong at its first line
 abbrev pub fault_of_tape : TapeFault → Bor (List ℕ) → Bor (List ℕ) → Fault
 fault_of_tape tape.NotTape from to = BadTape 1
 fault_of_tape (tape.BadEntry line) from to = BadTape line

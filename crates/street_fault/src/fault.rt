@@ -62,7 +62,7 @@ impl<'a> Fault<'a> {
         }
     }
 
-    /// The fault of a replay, by the names of the tape and of what its replies go to.
+    /// The fault of a replay or an upgrade, by the names of the tape and of what is written.
     pub fn of_tape(fault: TapeFault, tape: &'a str, written: &'a str) -> Fault<'a>
         ensures { result ≡ fault_of_tape fault tape.entry written.entry }
     {

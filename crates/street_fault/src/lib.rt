@@ -1,4 +1,5 @@
-//! Faults of the program `streetsim`: their texts, the status that each ends with, and which one a run's or a replay's is.
+//! Faults of the program `streetsim`: their texts, the status that each ends with, and which one that of a run,
+//! a replay or an upgrade is.
 //!
 //! Which that is stands in `specs/Faults`.
 #![tactic(auto)]

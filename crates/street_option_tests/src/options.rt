@@ -15,20 +15,20 @@ fn words_of(alloc: Global, words: &[&str]) -> Result<Vec<String>, AllocError> {
     Ok(all)
 }
 
-/// The numbers of options, the files of their tape and of their replay, and their scripts.
-type Wanted<'a> = (
-    (u32, u64),
-    (Option<&'a str>, Option<&'a str>),
-    &'a [&'a str],
-);
+/// The files of the tape that is written, of the one that is replayed, and of the one that is upgraded.
+type Files<'a> = (Option<&'a str>, Option<&'a str>, Option<&'a str>);
+
+/// The numbers of options, the files of their tapes, and their scripts.
+type Wanted<'a> = ((u32, u64), Files<'a>, &'a [&'a str]);
 
 /// Whether the options are these.
 fn is_found(found: &Options<'_>, wanted: Wanted<'_>) -> bool {
-    let ((workers, calls), (tape, replay), scripts) = wanted;
+    let ((workers, calls), (tape, replay, upgrade), scripts) = wanted;
     found.workers == workers
         && found.calls == calls
         && found.tape == tape
         && found.replay == replay
+        && found.upgrade == upgrade
         && found.scripts.as_slice() == scripts
 }
 
@@ -46,7 +46,7 @@ fn check_good(
 
 #[test]
 fn defaults(rt: HostRuntime) -> Result<(), Fail> {
-    check_good(&rt, &[], ((1, 65_536), (None, None), &[]))
+    check_good(&rt, &[], ((1, 65_536), (None, None, None), &[]))
 }
 
 #[test]
@@ -66,7 +66,7 @@ fn all_at_once(rt: HostRuntime) -> Result<(), Fail> {
     check_good(
         &rt,
         &words,
-        ((64, 1_000_000), (Some("run.tape"), None), &scripts),
+        ((64, 1_000_000), (Some("run.tape"), None, None), &scripts),
     )
 }
 
@@ -74,7 +74,22 @@ fn all_at_once(rt: HostRuntime) -> Result<(), Fail> {
 #[test]
 fn replays(rt: HostRuntime) -> Result<(), Fail> {
     let words = ["--replay", "run.tape", "--workers", "2", "--calls", "1"];
-    check_good(&rt, &words, ((2, 1), (None, Some("run.tape")), &[]))
+    check_good(
+        &rt,
+        &words,
+        ((2, 1), (None, Some("run.tape"), None), &[]),
+    )
+}
+
+/// So does an upgrade.
+#[test]
+fn upgrades(rt: HostRuntime) -> Result<(), Fail> {
+    let words = ["--upgrade", "run.tape", "--workers", "2"];
+    check_good(
+        &rt,
+        &words,
+        ((2, 65_536), (None, None, Some("run.tape")), &[]),
+    )
 }
 
 /// What is told of words that are no options, after the word `bad` or `help`.
@@ -109,7 +124,7 @@ fn check_bad(rt: &(impl Abort + AllocGlobal), words: &[&str], what: &str) -> Res
 
 #[test]
 fn other_words_are_bad(rt: HostRuntime) -> Result<(), Fail> {
-    let cases: [(&[&str], &str); 14] = [
+    let cases: [(&[&str], &str); 18] = [
         (&["--workers", "0"], "'0'"),
         (&["--workers", "65"], "'65'"),
         (&["--workers", "4294967297"], "'4294967297'"),
@@ -123,6 +138,10 @@ fn other_words_are_bad(rt: HostRuntime) -> Result<(), Fail> {
         (&["-x"], "'-x'"),
         (&["--replay", "a.tape", "--tape", "b.tape"], "--replay"),
         (&["--replay", "a.tape", "a.jsonl"], "--replay"),
+        (&["--upgrade", "a.tape", "--tape", "b.tape"], "--upgrade"),
+        (&["--upgrade", "a.tape", "--replay", "b.tape"], "--upgrade"),
+        (&["--upgrade", "a.tape", "a.jsonl"], "--upgrade"),
+        (&["--upgrade"], "--upgrade"),
         (&["--tape"], "--tape"),
     ];
     for (words, what) in cases {
@@ -159,6 +178,7 @@ fn check_help(rt: &impl Abort, text: &str) {
         "--calls <N>",
         "--tape <FILE>",
         "--replay <FILE>",
+        "--upgrade <FILE>",
         "[SCRIPT]...",
     ] {
         assert!(rt; text.contains(name), "no {name} in {text}");

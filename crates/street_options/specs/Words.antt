@@ -16,9 +16,10 @@ pub record IsInRange (found : Options) : Type 0 where
   pub few_calls : found.calls ≤ 1000000
   pub few_scripts : vec_len found.scripts ≤ 1024
 
--- a replay stands with neither scripts nor a tape to write
-abbrev pub StandsTogether : Options → Type 0
-StandsTogether found = IsSome found.replay → (found.tape ≡ None) × (vec_len found.scripts ≡ 0)
+-- a replay stands with neither scripts nor a tape to write, and so does an upgrade; one of them stands without the other
+pub record StandsTogether (found : Options) : Type 0 where
+  pub replay : IsSome found.replay → (found.tape ≡ None) × (vec_len found.scripts ≡ 0)
+  pub upgrade : IsSome found.upgrade → (found.tape ≡ None) × (found.replay ≡ None) × (vec_len found.scripts ≡ 0)
 
 -- the fault that tells of the parser's error
 abbrev pub ToldOf : Error → WordsFault → Type 0

@@ -50,6 +50,12 @@ fn arguments<'a>(alloc: Global) -> Result<Vec<Arg<'a>>, AllocError> {
             "FILE",
             "Replays a tape from nothing loaded, and then counts; with neither scripts nor --tape",
         ),
+        option(
+            alloc,
+            "upgrade",
+            "FILE",
+            "Writes a tape anew in version 2 to standard output; with neither scripts, --tape nor --replay",
+        ),
         scripts(alloc),
     ]?)
 }

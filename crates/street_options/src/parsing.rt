@@ -111,6 +111,7 @@ fn matched<'a>(
         calls,
         tape: matches.get_str("tape"),
         replay: matches.get_str("replay"),
+        upgrade: matches.get_str("upgrade"),
         scripts: named_scripts(alloc, matches)?,
     };
     match misfit(&found) {
@@ -135,10 +136,17 @@ fn named_scripts<'a>(alloc: Global, matches: &ArgMatches<'a>) -> Result<Vec<&'a 
 fn misfit(found: &Options<'_>) -> Option<(ErrorKind, &'static str)>
     ensures { IsNone result → StandsTogether found.now × (vec_len found.now.scripts ≤ 1024) }
 {
-    if found.replay.is_some() && (found.tape.is_some() || !found.scripts.is_empty()) {
+    let serves = found.tape.is_some() || !found.scripts.is_empty();
+    if found.replay.is_some() && serves {
         return Some((
             ErrorKind::ArgumentConflict,
             "the argument '--replay <FILE>' cannot be used with scripts or with '--tape <FILE>'",
+        ));
+    }
+    if found.upgrade.is_some() && (serves || found.replay.is_some()) {
+        return Some((
+            ErrorKind::ArgumentConflict,
+            "the argument '--upgrade <FILE>' cannot be used with scripts, '--tape <FILE>' or '--replay <FILE>'",
         ));
     }
     if found.scripts.len() > MOST_SCRIPTS {

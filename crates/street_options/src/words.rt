@@ -20,6 +20,8 @@ pub struct Options<'a> {
     pub tape: Option<&'a str>,
     /// The tape to be replayed. It stands with neither scripts nor a tape to write.
     pub replay: Option<&'a str>,
+    /// The tape to be upgraded. It stands with neither scripts, a tape to write nor one to be replayed.
+    pub upgrade: Option<&'a str>,
     /// The files whose lines are served, at most 1,024. Where there are none, standard input is served.
     pub scripts: Vec<&'a str>,
 }

@@ -2,30 +2,50 @@
 use Rattle.std.proofs.Common.{◌≡◌, ◌∙◌, ℕ, List, [], ◌++◌, IfSome, Option, None, Some, ap, subst}
 use Rattle.std.proofs.KnownBytes.{Consumes-whole}
 use Rattle.std.specs.Io.KnownBytes.{Consumes, IsAtEnd}
+use Rattle.street_base.specs.declared.command.Command.TheVariants.{Count}
+use Rattle.street_base.specs.declared.reply.Outcome.{Outcome}
+use Rattle.street_base.specs.declared.reply.Outcome.TheVariants.{Whole, Starved, Short}
+use Rattle.street_base.specs.declared.reply.Reply.{Reply}
+use Rattle.street_base.specs.Outcomes.{Allows, Answers, reply_to}
+use Rattle.street_base.specs.State.{State}
 use Rattle.street_pair.specs.Replies.{IsRetold, IsStopped}
+use Rattle.street_pair.specs.declared.tapes.Retold.{Retold}
 use Rattle.street_desk.specs.declared.journal.Entry.{Entry}
-use Rattle.street_engine.specs.Refines.{View}
+use Rattle.street_desk.specs.History.{state_of}
+use Rattle.street_ends.specs.declared.tally.Tally.{Tally}
+use Rattle.street_engine.specs.Refines.{View, Serves}
 use Rattle.street_replay.specs.declared.fault.TapeFault.{TapeFault}
-use Rattle.street_replay.specs.Faults.{TapeBreaks}
-use Rattle.street_replay.specs.Replies.{AreReplayable, output_from}
+use Rattle.street_replay.specs.Faults.{ReplaysWhole, ReplayStops, TapeBreaks}
+use Rattle.street_replay.specs.Replies.{output_from}
 use Rattle.street_tape.specs.Entries.{tape_reading}
 
--- the reader had this text, and the writer nothing
-module _ (had left : Option (List ℕ)) (before text read : List ℕ) (from : had ≡ Some text) (none : before ≡ []) (consumed : Consumes had left read) where
-  pub retold : (entries : List Entry) (after : List ℕ) → IsAtEnd left → tape_reading read ≡ Some entries → AreReplayable None entries → after ≡ before ++ output_from None entries → IsRetold text after
-  retold entries after end says good grown = record {
-    entries = entries;
-    says = subst (λ (o : Option (List ℕ)). IfSome o (λ t. tape_reading t ≡ Some entries)) from (Consumes-whole had left read (λ t. tape_reading t ≡ Some entries) consumed end says);
-    replayable = good;
-    output = grown ∙ ap (λ (l : List ℕ). l ++ output_from None entries) none;
-  }
+-- a count is never starved, and never stops short
+counted : (m : State) (reply : Reply) (outcome : Outcome) → Allows m Count outcome → reply ≡ reply_to m Count outcome → reply ≡ reply_to m Count Whole
+counted m reply Whole h is = is
+counted m reply Starved h is = absurd h
+counted m reply (Short k) h is = absurd h
 
-  pub stopped : (view : View) (after : Option (List ℕ)) (fault : TapeFault) → TapeBreaks (IsAtEnd left) None (Some before) read view after fault → IsStopped text fault
-  stopped view after fault breaks = record {
-    read = read;
+-- the reader had this text, and the writer nothing
+module _ (had left : Option (List ℕ)) (before text : List ℕ) (from : had ≡ Some text) (none : before ≡ []) where
+  pub retold : (after : List ℕ) (view now : View) (tally : Tally) (count : Reply) (outcome : Outcome) (told : Retold) → ReplaysWhole had (Some before) view left (Some after) tally
+      → Serves view Count count outcome now → told.replies.items ≡ after → told.count ≡ count → IsRetold text told
+  retold after view now tally count outcome told run serves replies is =
+      let served = (serves (state_of run.entries) run.state).1 in
+      record {
+        entries = run.entries;
+        says = subst (λ (o : Option (List ℕ)). IfSome o (λ t. tape_reading t ≡ Some run.entries)) from
+            (Consumes-whole had left run.text (λ t. tape_reading t ≡ Some run.entries) run.read run.at_end run.says);
+        replayable = run.good;
+        output = replies ∙ run.written ∙ ap (λ (l : List ℕ). l ++ output_from None run.entries) none;
+        count = is ∙ counted (state_of run.entries) count outcome served.allowed served.reply_is;
+      }
+
+  pub stopped : (view : View) (after : Option (List ℕ)) (fault : TapeFault) → ReplayStops had (Some before) view left after fault → IsStopped text fault
+  stopped view after fault run = record {
+    read = run.text;
     left = left;
     view = view;
     after = after;
-    consumed = subst (λ (o : Option (List ℕ)). Consumes o left read) from consumed;
-    breaks = subst (λ (l : List ℕ). TapeBreaks (IsAtEnd left) None (Some l) read view after fault) none breaks;
+    consumed = subst (λ (o : Option (List ℕ)). Consumes o left run.text) from run.read;
+    breaks = subst (λ (l : List ℕ). TapeBreaks (IsAtEnd left) None (Some l) run.text view after fault) none run.breaks;
   }

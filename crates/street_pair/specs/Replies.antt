@@ -1,9 +1,14 @@
 -- What a replay replies, and which of it was a session's.
 -- Source: this profile.
-use Rattle.std.specs.Prelude.{◌≡◌, ℕ, ◌==◌, List, [], ◌∷◌, ◌++◌, drop, Bool, false, if◌then◌else◌, Option, Some, None, Result, Ok, Err}
+use Rattle.std.specs.Prelude.{◌≡◌, ℕ, ◌==◌, List, [], ◌∷◌, ◌++◌, drop, Bool, true, false, if◌then◌else◌, Option, Some, None, Result, Ok, Err}
 use Rattle.std.specs.Io.KnownBytes.{Consumes, IsAtEnd}
+use Rattle.street_base.specs.declared.command.Command.TheVariants.{Count}
+use Rattle.street_base.specs.declared.reply.Outcome.TheVariants.{Whole}
+use Rattle.street_base.specs.Outcomes.{reply_to}
+use Rattle.street_pair.specs.declared.tapes.Retold.{Retold}
 use Rattle.street_pair.specs.declared.tapes.Told.{Told}
 use Rattle.street_desk.specs.declared.journal.Entry.{Entry}
+use Rattle.street_desk.specs.History.{state_of}
 use Rattle.street_ends.specs.Lines.{cut}
 use Rattle.street_engine.specs.Refines.{View}
 use Rattle.street_reading.specs.declared.fault.LineFault.{LineFault}
@@ -14,12 +19,13 @@ use Rattle.street_tape.specs.Entries.{entry_reading, tape_reading}
 
 -- ---- a replay
 
--- the machine's replies to the calls that the text says, each of which can be replayed
-pub record IsRetold (text replies : List ℕ) : Type 0 where
+-- the machine's replies to the calls that the text says, each of which can be replayed, and its reply to a count after them
+pub record IsRetold (text : List ℕ) (told : Retold) : Type 0 where
   pub entries : List Entry
   pub says : tape_reading text ≡ Some entries
   pub replayable : AreReplayable None entries
-  pub output : replies ≡ output_from None entries
+  pub output : told.replies.items ≡ output_from None entries
+  pub count : told.count ≡ reply_to (state_of entries) Count Whole
 
 -- so much of the text was read until this fault
 pub record IsStopped (text : List ℕ) (fault : TapeFault) : Type 0 where
@@ -41,7 +47,7 @@ is_of session (Err f) = false
 abbrev pub own_lines : ℕ → List (List ℕ) → List (List ℕ) → List ℕ
 own_lines session [] replies = []
 own_lines session (c ∷ cs) [] = []
-own_lines session (c ∷ cs) (r ∷ rs) = if is_of session (entry_reading c) then (r ++ 10 ∷ []) ++ own_lines session cs rs else own_lines session cs rs
+own_lines session (c ∷ cs) (r ∷ rs) = if is_of session (entry_reading true c) then (r ++ 10 ∷ []) ++ own_lines session cs rs else own_lines session cs rs
 
 -- the first line of a tape is no call
 abbrev pub replies_to : ℕ → List ℕ → List ℕ → List ℕ

@@ -10,4 +10,5 @@ mod tapes;
 
 pub use callers::serve_both;
 pub use scripts::serve_both_scripts;
-pub use tapes::{Told, retell, text_of};
+pub use street_line::reply_text;
+pub use tapes::{Retold, Told, retell, text_of};

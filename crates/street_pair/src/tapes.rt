@@ -1,15 +1,14 @@
 //! What two clients were told, beside what a replay of their desk's tape answers.
 //! Source: this profile.
-ghost use Rattle.std.specs.Prelude.{◌≡◌, ◌<◌, [], ◌∷◌, ◌++◌, length, IfOk, IfErr, MatchOption, Decides, HoldsAt, IsUtf8, drop};
+ghost use Rattle.std.specs.Prelude.{◌≡◌, ◌<◌, [], ◌∷◌, length, IfOk, IfErr, MatchOption, Decides, HoldsAt, IsUtf8, drop};
 ghost use Rattle.std.specs.List.{AllWithin};
 ghost use Rattle.street_pair.specs.Replies.{Agrees, IsRetold, IsStopped, is_of, own_lines, replies_to};
 ghost use Rattle.street_ends.specs.Lines.{cut};
 ghost use Rattle.street_tape.specs.Entries.{entry_reading};
 
 use std::alloc::Global;
-use std::io::Read;
 use std::thread::Threads;
-use street_base::Starved;
+use street_base::{Command, Reply, Starved};
 use street_ends::Counted;
 use street_engine::{Engine, Unwatched};
 use street_reading::LineFault;
@@ -27,7 +26,16 @@ pub struct Told {
     pub tape: Vec<u8>,
 }
 
-/// The lines of reply to the calls of a tape that these lines end.
+/// What a replay of a tape answers.
+#[derive(Drop)]
+pub struct Retold {
+    /// The lines of reply to its calls.
+    pub replies: Vec<u8>,
+    /// The reply to a count after them.
+    pub count: Reply,
+}
+
+/// Replays a tape, and then counts.
 ///
 /// # Errors
 ///
@@ -36,16 +44,21 @@ pub fn retell<R: Threads + Sync>(
     rt: &R,
     alloc: Global,
     tape: &[u8],
-    last: &[u8],
-) -> Result<Vec<u8>, TapeFault>
-    ensures retold { IfOk result (λ replies. IsRetold (tape.now ++ last.now) replies.items) }
-    ensures stopped { IfErr result (λ fault. IsStopped (tape.now ++ last.now) fault) }
+) -> Result<Retold, TapeFault>
+    ensures retold { IfOk result (λ told. IsRetold tape.now told) }
+    ensures stopped { IfErr result (λ fault. IsStopped tape.now fault) }
 {
     let mut engine = Engine::new(alloc, 1, Unwatched);
-    let mut reader = Counted::new(tape.chain(last));
+    let mut reader = Counted::new(tape);
     let mut writer = Counted::new(Vec::new(alloc));
     match replay(rt, alloc, &mut reader, &mut engine, &mut writer) {
-        Ok(_tally) => Ok(writer.end),
+        Ok(_tally) => {
+            let (count, _outcome) = engine.apply(rt, &Command::Count);
+            Ok(Retold {
+                replies: writer.end,
+                count,
+            })
+        }
         Err(fault) => Err(fault),
     }
 }
@@ -79,9 +92,9 @@ fn first_line(text: &[u8]) -> Option<(&[u8], &[u8])>
 
 /// Whether the line of a tape is a call of the session.
 fn is_of(alloc: Global, line: &[u8], session: u64) -> Result<bool, Starved>
-    ensures { IfOk result (λ own. own ≡ is_of session (entry_reading line.now)) }
+    ensures { IfOk result (λ own. own ≡ is_of session (entry_reading true line.now)) }
 {
-    match read_entry(alloc, line) {
+    match read_entry(alloc, line, true) {
         Ok(call) => Ok(call.session == session),
         Err(LineFault::Starved) => Err(Starved),
         Err(_) => Ok(false),

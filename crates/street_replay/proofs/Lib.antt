@@ -1,5 +1,5 @@
-pub mod CallSteps
+pub mod Legal
+pub mod Counts
 pub mod GoodTapes
-pub mod LineSteps
-pub mod Stopping
-pub mod TextSteps
+pub mod Replayed
+pub mod Upgraded

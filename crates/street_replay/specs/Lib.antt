@@ -1,3 +1,5 @@
 pub mod Replies
+pub mod BadTapes
 pub mod Faults
-pub mod Progress
+pub mod Handling
+pub mod Upgrades

@@ -9,15 +9,14 @@ ghost use Rattle.street_base.specs.Machine.{refusal};
 ghost use Rattle.street_base.specs.Outcomes.{reply_to, state_after};
 ghost use Rattle.street_base.specs.State.{State};
 ghost use Rattle.street_engine.specs.Refines.{StandsFor};
-ghost use Rattle.street_replay.specs.Progress.{CallStops, IsOfCall};
+ghost use Rattle.street_replay.specs.Handling.{CallStops};
 ghost use Rattle.street_replay.specs.Replies.{IsReplayable, clock_in};
 
-use crate::stop::Stop;
 use std::thread::Threads;
 use street_base::{Command, LAST_CLOCK, Outcome, Reply};
 use street_desk::Entry;
-use street_ends::FaultKind;
 use street_engine::{Engine, Gate};
+use street_tape::Stop;
 
 /// The most steps of one advance.
 const MOST_STEPS: u64 = 10_000;
@@ -57,12 +56,11 @@ fn call_whole<R: Threads + Sync, G: Gate + Sync + Drop>(
         → (reply ≡ reply_to old command.now Whole) × StandsFor engine.new (state_after old command.now Whole)) }
     ensures stops { IfErr result (λ stop. (old : State) → StandsFor engine.old old
         → CallStops old command.now Whole engine.new stop) }
-    ensures kind { IfErr result (λ stop. IsOfCall stop) }
 {
     let (reply, outcome) = engine.apply(rt, command);
     match outcome {
         Outcome::Whole => Ok(reply),
-        _ => Err(Stop::Fault(FaultKind::Starved)),
+        _ => Err(Stop::Starved),
     }
 }
 
@@ -86,7 +84,6 @@ fn advance_whole<R: Threads + Sync, G: Gate + Sync + Drop>(
         → (clock ≡ clock_in (reply_to old (Advance steps) Whole)) × StandsFor engine.new (state_after old (Advance steps) Whole)) }
     ensures stops { IfErr result (λ stop. (old : State) → StandsFor engine.old old
         → CallStops old (Advance steps) Whole engine.new stop) }
-    ensures kind { IfErr result (λ stop. IsOfCall stop) }
 {
     let reply = call_whole(rt, engine, &Command::Advance { steps })?;
     Ok(clock_of(&reply))
@@ -104,7 +101,6 @@ fn call_short<R: Threads + Sync, G: Gate + Sync + Drop>(
         × (reply ≡ reply_to old command.now (Short made)) × StandsFor engine.new (state_after old command.now (Short made))) }
     ensures stops { IfErr result (λ stop. (old : State) → StandsFor engine.old old
         → CallStops old command.now (Short made) engine.new stop) }
-    ensures kind { IfErr result (λ stop. IsOfCall stop) }
 {
     let Command::Advance { steps } = command else {
         return Err(Stop::BadEntry);
@@ -133,7 +129,6 @@ pub(crate) fn call_again<R: Threads + Sync, G: Gate + Sync + Drop>(
         × StandsFor engine.new (state_after old call.now.command call.now.outcome)) }
     ensures stops { IfErr result (λ stop. (old : State) → StandsFor engine.old old
         → CallStops old call.now.command call.now.outcome engine.new stop) }
-    ensures kind { IfErr result (λ stop. IsOfCall stop) }
 {
     match call.outcome {
         Outcome::Whole => call_whole(rt, engine, &call.command),

@@ -1,223 +1,121 @@
 //! A tape, replayed line by line.
 //!
 //! Source: this profile. Replies are passed on before the next read.
-ghost use Rattle.std.specs.Prelude.{◌≡◌, ◌+◌, ◌^◌, ◌<◌, ℕ, List, [], ◌∷◌, None, Some, Option, IfOk, OnOk, IfErr, length};
-ghost use Rattle.std.specs.Io.KnownBytes.{Appends, Consumes, IsAtEnd};
+ghost use Rattle.std.specs.Prelude.{◌≡◌, ◌≤◌, None, Some, IfOk, IfErr};
 ghost use Rattle.street_base.specs.State.{State};
-ghost use Rattle.street_desk.specs.declared.journal.Entry.{Entry};
-ghost use Rattle.street_desk.specs.History.{state_from, state_of};
 ghost use Rattle.street_ends.specs.Ends.{IsFresh};
-ghost use Rattle.street_ends.specs.Lines.{lines_of, IsPart};
+ghost use Rattle.street_ends.specs.Handling.{Effect, Gives};
 ghost use Rattle.street_engine.specs.Refines.{StandsFor};
-ghost use Rattle.street_replay.specs.Faults.{TapeBreaks, IsTapeCaused};
-ghost use Rattle.street_replay.specs.Progress.{IsWithin, Grows, IsCausedHere, Feeds, FeedStops, Finishes, FinishStops, Stops, Stands, IsBlank, fault_of};
-ghost use Rattle.street_replay.specs.Replies.{AreReplayable, output_from, IsTapeTally};
-ghost use Rattle.street_tape.specs.Entries.{longest_tape_line, tape_reading};
+ghost use Rattle.street_replay.specs.Faults.{ReplaysWhole, ReplayStops, IsTapeCaused};
+ghost use Rattle.street_replay.specs.Handling.{Applies, CallStops};
 
-use crate::fault::TapeFault;
-use crate::lines::end_line;
-use crate::stop::Stop;
+use crate::calls::call_again;
+use crate::fault::{TapeFault, check_end, fault_of};
 use std::alloc::Global;
 use std::io::{Read, Write};
 use std::thread::Threads;
-use street_ends::{Counted, FaultKind, PartialLine, RunFault, Tally, flush_out};
-use street_engine::{Engine, Gate};
-use street_tape::LONGEST_TAPE_LINE;
+use street_desk::Entry;
+use street_ends::{Answer, Counted, Limits, LineHandler, PartialLine, Tally, drive_lines};
+use street_engine::{Engine, Unwatched};
+use street_printing::reply_text;
+use street_tape::{LONGEST_TAPE_LINE, Stop, Tape};
 
 /// The most calls of `read` in one replay.
 const MOST_READS: u32 = 1_000_000_000;
 
-/// A replay as far as it has come: the line that has not ended, and the tally of those that have.
+/// An engine that a tape is replayed on, and the tape as far as it was read.
 #[derive(Drop)]
-struct Progress {
-    part: PartialLine,
-    tally: Tally,
+struct Replaying<'a, R> {
+    rt: &'a R,
+    engine: &'a mut Engine<Unwatched>,
+    tape: Tape,
 }
 
-/// A byte more of the tape.
-fn take_byte<R: Threads + Sync, G: Gate + Sync + Drop, W: Write>(
-    rt: &R,
-    alloc: Global,
-    engine: &mut Engine<G>,
-    writer: &mut Counted<W>,
-    progress: &mut Progress,
-    byte: u8,
-) -> Result<(), Stop>
-    requires within { IsWithin progress.old.tally }
-    requires room { progress.old.tally.lines < 2 ^ 62 }
-    ensures feeds { OnOk result (Feeds engine.old (W.contents writer.old.end) progress.old (byte ∷ [])
-        engine.new (W.contents writer.new.end) progress.new) }
-    ensures grows { OnOk result (Grows progress.old.tally progress.new.tally 1) }
-    ensures stops { IfErr result (λ stop. FeedStops engine.old (W.contents writer.old.end) progress.old (byte ∷ [])
-        engine.new (W.contents writer.new.end) stop progress.new.tally) }
-    ensures caused { IfErr result (λ stop. IsCausedHere stop writer.new) }
-{
-    if byte == b'\n' {
-        end_line(
-            rt,
-            alloc,
-            engine,
-            writer,
-            &progress.part,
-            &mut progress.tally,
-        )?;
-        progress.part.clear();
-        return Ok(());
-    }
-    progress.part.push(byte)?;
-    Ok(())
-}
+impl<'a, R: Threads + Sync> LineHandler for Replaying<'a, R> {
+    ghost use Rattle.std.specs.Prelude.{◌≡◌};
+    ghost use Rattle.std.specs.Thread.{IsSync};
+    ghost use Rattle.street_replay.specs.Handling.{ReplaysLine, StopsLine};
+    ghost use Rattle.street_tape.specs.Entries.{longest_tape_line};
 
-/// Some bytes more of the tape.
-fn feed<R: Threads + Sync, G: Gate + Sync + Drop, W: Write>(
-    rt: &R,
-    alloc: Global,
-    engine: &mut Engine<G>,
-    writer: &mut Counted<W>,
-    progress: &mut Progress,
-    bytes: &[u8],
-) -> Result<(), Stop>
-    requires within { IsWithin progress.old.tally }
-    requires room { progress.old.tally.lines + length bytes.now < 2 ^ 62 }
-    ensures feeds { OnOk result (Feeds engine.old (W.contents writer.old.end) progress.old bytes.now
-        engine.new (W.contents writer.new.end) progress.new) }
-    ensures grows { OnOk result (Grows progress.old.tally progress.new.tally (length bytes.now)) }
-    ensures stops { IfErr result (λ stop. FeedStops engine.old (W.contents writer.old.end) progress.old bytes.now
-        engine.new (W.contents writer.new.end) stop progress.new.tally) }
-    ensures caused { IfErr result (λ stop. IsCausedHere stop writer.new) }
-{
-    for byte in bytes {
-        take_byte(rt, alloc, engine, writer, progress, *byte)?;
-    }
-    Ok(())
-}
+    type Stop = Stop;
 
-/// Some bytes more of the tape, and their replies passed on.
-fn take_bytes<R: Threads + Sync, G: Gate + Sync + Drop, W: Write>(
-    rt: &R,
-    alloc: Global,
-    engine: &mut Engine<G>,
-    writer: &mut Counted<W>,
-    progress: &mut Progress,
-    bytes: &[u8],
-) -> Result<(), Stop>
-    requires within { IsWithin progress.old.tally }
-    requires room { progress.old.tally.lines + length bytes.now < 2 ^ 62 }
-    ensures feeds { OnOk result (Feeds engine.old (W.contents writer.old.end) progress.old bytes.now
-        engine.new (W.contents writer.new.end) progress.new) }
-    ensures grows { OnOk result (Grows progress.old.tally progress.new.tally (length bytes.now)) }
-    ensures stops { IfErr result (λ stop. FeedStops engine.old (W.contents writer.old.end) progress.old bytes.now
-        engine.new (W.contents writer.new.end) stop progress.new.tally) }
-    ensures caused { IfErr result (λ stop. IsCausedHere stop writer.new) }
-{
-    feed(rt, alloc, engine, writer, progress, bytes)?;
-    flush_out(writer)?;
-    Ok(())
-}
+    ghost longest = { longest_tape_line };
 
-/// The tape has ended, perhaps within a line, and its last replies are passed on. A tape without a first line is none.
-fn finish<R: Threads + Sync, G: Gate + Sync + Drop, W: Write>(
-    rt: &R,
-    alloc: Global,
-    engine: &mut Engine<G>,
-    writer: &mut Counted<W>,
-    progress: &mut Progress,
-) -> Result<(), Stop>
-    requires within { IsWithin progress.old.tally }
-    requires room { progress.old.tally.lines < 2 ^ 62 }
-    ensures finishes { OnOk result (Finishes engine.old (W.contents writer.old.end) progress.old
-        engine.new (W.contents writer.new.end) progress.new) }
-    ensures stops { IfErr result (λ stop. FinishStops engine.old (W.contents writer.old.end) progress.old
-        engine.new (W.contents writer.new.end) stop progress.new.tally) }
-    ensures caused { IfErr result (λ stop. IsCausedHere stop writer.new) }
-{
-    if progress.part.as_slice().is_empty() {
-        if progress.tally.lines == 0 {
-            return Err(Stop::NotTape);
+    ghost takes = { λ old line effect new. (new.engine.ghost_name ≡ old.engine.ghost_name)
+        × ReplaysLine (old.tape.rest, old.engine.now) line effect (new.tape.rest, new.engine.now) };
+
+    ghost stops = { λ old line stop new. (new.engine.ghost_name ≡ old.engine.ghost_name)
+        × StopsLine (old.tape.rest, old.engine.now) line stop (new.tape.rest, new.engine.now) };
+
+    ghost ready = { IsSync R.row };
+
+    /// The first line tells the version; the call of a further line is applied as it went at the desk, and replied to.
+    fn take(&mut self, alloc: Global, line: &PartialLine) -> Result<Answer, Stop> {
+        let taken = self.tape.take(alloc, line.as_slice())?;
+        match taken {
+            None => Ok(Answer {
+                is_call: false,
+                reply: Ok(None),
+            }),
+            Some(call) => answer(self.rt, alloc, self.engine, &call),
         }
-        return Ok(());
     }
-    end_line(
-        rt,
-        alloc,
-        engine,
-        writer,
-        &progress.part,
-        &mut progress.tally,
-    )?;
-    Ok(())
 }
 
-/// The tape has ended, and its last replies are passed on.
-fn take_end<R: Threads + Sync, G: Gate + Sync + Drop, W: Write>(
+/// Applies a call as it went at the desk, and replies to it.
+fn answer<R: Threads + Sync>(
     rt: &R,
     alloc: Global,
-    engine: &mut Engine<G>,
-    writer: &mut Counted<W>,
-    progress: &mut Progress,
-) -> Result<(), Stop>
-    requires within { IsWithin progress.old.tally }
-    requires room { progress.old.tally.lines < 2 ^ 62 }
-    ensures finishes { OnOk result (Finishes engine.old (W.contents writer.old.end) progress.old
-        engine.new (W.contents writer.new.end) progress.new) }
-    ensures stops { IfErr result (λ stop. FinishStops engine.old (W.contents writer.old.end) progress.old
-        engine.new (W.contents writer.new.end) stop progress.new.tally) }
-    ensures caused { IfErr result (λ stop. IsCausedHere stop writer.new) }
+    engine: &mut Engine<Unwatched>,
+    call: &Entry,
+) -> Result<Answer, Stop>
+    ensures answered { IfOk result (λ answer. (effect : Effect)
+        × Applies engine.old (Some call.now) effect engine.new × Gives answer effect) }
+    ensures stopped { IfErr result (λ stop. (m : State) → StandsFor engine.old m
+        → CallStops m call.now.command call.now.outcome engine.new stop) }
 {
-    finish(rt, alloc, engine, writer, progress)?;
-    flush_out(writer)?;
-    Ok(())
+    let said = call_again(rt, engine, call)?;
+    let reply = match reply_text(alloc, &said) {
+        Ok(text) => Ok(Some(text)),
+        Err(starved) => Err(starved),
+    };
+    Ok(Answer {
+        is_call: true,
+        reply,
+    })
 }
 
-/// Reads the tape to its end, and replays its lines.
-fn replay_lines<R: Threads + Sync, G: Gate + Sync + Drop, D: Read, W: Write>(
-    rt: &R,
+/// Replays a tape on the engine that is held.
+fn replay_lines<R: Threads + Sync, D: Read, W: Write>(
     alloc: Global,
+    replaying: &mut Replaying<'_, R>,
     reader: &mut Counted<D>,
-    engine: &mut Engine<G>,
     writer: &mut Counted<W>,
     reads: u32,
-    progress: &mut Progress,
-) -> Result<(), Stop>
-    requires fresh { IsFresh reader.old }
-    requires part { IsPart longest_tape_line progress.old.part [] }
-    requires tally { IsBlank progress.old.tally }
-    ensures replayed { OnOk result ((text : List ℕ)
-        × Consumes (D.remaining reader.old.end) (D.remaining reader.new.end) text
-        × IsAtEnd (D.remaining reader.new.end)
-        × ((start : State) → StandsFor engine.old start
-        → Stands start (W.contents writer.old.end) (lines_of text) engine.new (W.contents writer.new.end) progress.new.tally
-        × (0 < length (lines_of text)))) }
-    ensures stops { IfErr result (λ stop. (text : List ℕ)
-        × Consumes (D.remaining reader.old.end) (D.remaining reader.new.end) text
-        × ((start : State) → StandsFor engine.old start
-        → Stops (IsAtEnd (D.remaining reader.new.end)) start (W.contents writer.old.end) text
-        engine.new (W.contents writer.new.end) stop progress.new.tally)) }
-    ensures caused { IfErr result (λ stop. IsTapeCaused (fault_of stop progress.new.tally) reader.new writer.new reads) }
+) -> Result<Tally, TapeFault>
+    requires reader { IsFresh reader.old }
+    requires writer { IsFresh writer.old }
+    requires engine { StandsFor replaying.old.engine.now None }
+    requires tape { replaying.old.tape.rest ≡ None }
+    ensures same_reference { replaying.new.engine.ghost_name ≡ replaying.old.engine.ghost_name }
+    ensures replayed { IfOk result (λ tally. ReplaysWhole (D.remaining reader.old.end) (W.contents writer.old.end)
+        replaying.new.engine.now (D.remaining reader.new.end) (W.contents writer.new.end) tally) }
+    ensures stops { IfErr result (λ fault. ReplayStops (D.remaining reader.old.end) (W.contents writer.old.end)
+        replaying.new.engine.now (D.remaining reader.new.end) (W.contents writer.new.end) fault) }
+    ensures caused { IfErr result (λ fault. IsTapeCaused fault reader.new writer.new reads) }
+    ensures bounded { reader.new.calls ≤ reads }
 {
-    let mut buffer = [0u8; 4096];
-    for _ in 0..reads {
-        let count = match reader.read(&mut buffer) {
-            Ok(count) => count,
-            Err(_) => return Err(Stop::Fault(FaultKind::Read)),
-        };
-        if count == 0 {
-            take_end(rt, alloc, engine, writer, progress)?;
-            return Ok(());
-        }
-        take_bytes(rt, alloc, engine, writer, progress, &buffer[..count])?;
-    }
-    Err(Stop::Fault(FaultKind::Endless))
-}
-
-/// The fault of a replay.
-fn fault_of(stop: Stop, tally: Tally) -> TapeFault
-    ensures { result ≡ fault_of stop tally }
-{
-    match stop {
-        Stop::NotTape => TapeFault::NotTape,
-        Stop::BadEntry => TapeFault::BadEntry { line: tally.lines },
-        Stop::Fault(kind) => TapeFault::Run(RunFault { kind, tally }),
+    let limits = Limits {
+        line: LONGEST_TAPE_LINE,
+        reads,
+    };
+    let tally = match drive_lines(alloc, replaying, reader, writer, limits) {
+        Ok(tally) => tally,
+        Err(halt) => return Err(fault_of(halt.cause, halt.tally)),
+    };
+    match check_end(&replaying.tape, &tally) {
+        Ok(()) => Ok(tally),
+        Err(fault) => Err(fault),
     }
 }
 
@@ -226,82 +124,65 @@ fn fault_of(stop: Stop, tally: Tally) -> TapeFault
 /// # Errors
 ///
 /// Those of [`replay`]; `Endless` after so many reads.
-pub fn replay_within<R: Threads + Sync, G: Gate + Sync + Drop, D: Read, W: Write>(
+pub fn replay_within<R: Threads + Sync, D: Read, W: Write>(
     rt: &R,
     alloc: Global,
     reader: &mut Counted<D>,
-    engine: &mut Engine<G>,
+    engine: &mut Engine<Unwatched>,
     writer: &mut Counted<W>,
     reads: u32,
 ) -> Result<Tally, TapeFault>
     requires reader { IsFresh reader.old }
     requires writer { IsFresh writer.old }
     requires engine { StandsFor engine.old None }
-    ensures replayed { IfOk result (λ tally. (text : List ℕ) × (es : List Entry)
-        × Consumes (D.remaining reader.old.end) (D.remaining reader.new.end) text
-        × IsAtEnd (D.remaining reader.new.end)
-        × (tape_reading text ≡ Some es) × AreReplayable None es
-        × StandsFor engine.new (state_of es)
-        × Appends (W.contents writer.old.end) (W.contents writer.new.end) (output_from None es)
-        × IsTapeTally tally (lines_of text) es (output_from None es)) }
-    ensures stops { IfErr result (λ fault. (text : List ℕ)
-        × Consumes (D.remaining reader.old.end) (D.remaining reader.new.end) text
-        × TapeBreaks (IsAtEnd (D.remaining reader.new.end)) None (W.contents writer.old.end) text
-        engine.new (W.contents writer.new.end) fault) }
+    ensures replayed { IfOk result (λ tally. ReplaysWhole (D.remaining reader.old.end) (W.contents writer.old.end)
+        engine.new (D.remaining reader.new.end) (W.contents writer.new.end) tally) }
+    ensures stops { IfErr result (λ fault. ReplayStops (D.remaining reader.old.end) (W.contents writer.old.end)
+        engine.new (D.remaining reader.new.end) (W.contents writer.new.end) fault) }
     ensures caused { IfErr result (λ fault. IsTapeCaused fault reader.new writer.new reads) }
+    ensures bounded { reader.new.calls ≤ reads }
 {
-    let mut progress = Progress {
-        part: PartialLine::new(alloc, LONGEST_TAPE_LINE),
-        tally: Tally {
-            lines: 0,
-            calls: 0,
-            replies: 0,
-            bytes: 0,
-        },
+    let mut replaying = Replaying {
+        rt,
+        engine,
+        tape: Tape::new(),
     };
-    match replay_lines(rt, alloc, reader, engine, writer, reads, &mut progress) {
-        Ok(()) => Ok(progress.tally),
-        Err(stop) => Err(fault_of(stop, progress.tally)),
-    }
+    replay_lines(alloc, &mut replaying, reader, writer, reads)
 }
 
-/// Replays a tape on an engine with nothing loaded: applies its calls in order, each as it went at the desk, and writes the
-/// reply to each. A call that was starved is not applied, and is answered so; an advance that stopped short makes the steps
-/// that were made, and is answered so; any other call is applied whole, also where the machine refuses it.
+/// Replays a tape of version 1 or 2 on an engine with nothing loaded: applies its calls in order, each as it went at the desk,
+/// and writes the reply to each. A call that was starved is not applied, and is answered so; an advance that stopped short
+/// makes the steps that were made, and is answered so; any other call is applied whole, also where the machine refuses it. In
+/// a tape of version 1 each vehicle that enters has size 1.
 ///
 /// A line ends with LF or where the tape ends, and may have 2,097,152 bytes. The ends are fresh: nothing was called of them
 /// yet. Replies are written in order, and passed on before each further read and at the end.
 ///
 /// # Errors
 ///
-/// `NotTape` where the first line is missing, too long, no JSON object, or of a version that is not known: nothing was
-/// applied or written. `BadEntry` at the first further line that is blank, too long or no call, or says a number of steps
-/// that the machine would not make there as a part of its advance: the calls before it are applied, and their replies
-/// written. `Run` where a read failed, a write or a flush failed or a write took no bytes, memory was wanting, or after
-/// 1,000,000,000 reads: the first `tally.calls` calls are applied, and of an advance after them perhaps the first steps, and
-/// of their replies the first `tally.bytes` bytes are written.
-pub fn replay<R: Threads + Sync, G: Gate + Sync + Drop, D: Read, W: Write>(
+/// `NotTape` where the first line is missing, too long, no JSON object, of a version that is not known, or of version 2 and
+/// does not say how many calls follow: nothing was applied or written. `BadEntry` at the first further line that is blank, too
+/// long or no call, says a number of steps that the machine would not make there as a part of its advance, comes after all
+/// calls, or is missing: the calls before it are applied, and their replies written. `Run` where a read failed, a write or a
+/// flush failed or a write took no bytes, memory was wanting, or after 1,000,000,000 reads: the first `tally.calls` calls are
+/// applied, and of an advance after them perhaps the first steps, and of their replies the first `tally.bytes` bytes are
+/// written.
+pub fn replay<R: Threads + Sync, D: Read, W: Write>(
     rt: &R,
     alloc: Global,
     reader: &mut Counted<D>,
-    engine: &mut Engine<G>,
+    engine: &mut Engine<Unwatched>,
     writer: &mut Counted<W>,
 ) -> Result<Tally, TapeFault>
     requires reader { IsFresh reader.old }
     requires writer { IsFresh writer.old }
     requires engine { StandsFor engine.old None }
-    ensures replayed { IfOk result (λ tally. (text : List ℕ) × (es : List Entry)
-        × Consumes (D.remaining reader.old.end) (D.remaining reader.new.end) text
-        × IsAtEnd (D.remaining reader.new.end)
-        × (tape_reading text ≡ Some es) × AreReplayable None es
-        × StandsFor engine.new (state_of es)
-        × Appends (W.contents writer.old.end) (W.contents writer.new.end) (output_from None es)
-        × IsTapeTally tally (lines_of text) es (output_from None es)) }
-    ensures stops { IfErr result (λ fault. (text : List ℕ)
-        × Consumes (D.remaining reader.old.end) (D.remaining reader.new.end) text
-        × TapeBreaks (IsAtEnd (D.remaining reader.new.end)) None (W.contents writer.old.end) text
-        engine.new (W.contents writer.new.end) fault) }
+    ensures replayed { IfOk result (λ tally. ReplaysWhole (D.remaining reader.old.end) (W.contents writer.old.end)
+        engine.new (D.remaining reader.new.end) (W.contents writer.new.end) tally) }
+    ensures stops { IfErr result (λ fault. ReplayStops (D.remaining reader.old.end) (W.contents writer.old.end)
+        engine.new (D.remaining reader.new.end) (W.contents writer.new.end) fault) }
     ensures caused { IfErr result (λ fault. IsTapeCaused fault reader.new writer.new 1000000000) }
+    ensures bounded { reader.new.calls ≤ 1000000000 }
 {
     replay_within(rt, alloc, reader, engine, writer, MOST_READS)
 }

@@ -1,7 +1,10 @@
 //! Tapes replayed over ends in memory. What is wanted was worked out by hand from the form of a tape and the rules of motion.
 
+mod cuts;
 mod faults;
 mod running;
+mod sizes;
+mod upgrades;
 
 use crate::ends::Taking;
 use crate::replays::running::{Ran, replayed};
@@ -140,13 +143,15 @@ fn each_outcome_is_replayed(rt: HostRuntime) {
 }
 
 /// First lines that are not those of a tape.
-static NO_TAPES: [&str; 8] = [
+static NO_TAPES: [&str; 10] = [
     "",
     "\n",
     " \t\r\n{\"tape\":1}\n",
     "x",
     "[1]\n",
     "{\"tape\":2}\n",
+    "{\"calls\":\"1\",\"tape\":2}\n",
+    "{\"calls\":1,\"tape\":3}\n",
     "{\"tape\":\"1\"}\n",
     "{\"command\":{\"cmd\":\"count\"},\"outcome\":\"whole\",\"session\":0}\n",
 ];

@@ -1,4 +1,4 @@
-//! A tape, replayed.
+//! A tape, replayed or upgraded.
 //!
 //! Source: this profile.
 ghost use Rattle.std.specs.Prelude.{◌≤◌};
@@ -12,7 +12,7 @@ use street_base::Command;
 use street_engine::{Engine, Unwatched};
 use street_fault::Fault;
 use street_line::{Counted, reply_text};
-use street_replay::replay;
+use street_replay::{replay, upgrade};
 
 /// Replays a tape from nothing loaded, writes its replies in the tape's order, and then what a count answers.
 ///
@@ -37,4 +37,21 @@ pub fn replay_tape<'a, R: Threads + Sync + Print + AllocGlobal + Files<File = Fi
     let (reply, _outcome) = engine.apply(rt, &Command::Count);
     let text = reply_text(alloc, &reply)?;
     print_text(&mut writer, text.as_slice())
+}
+
+/// Writes a tape anew in version 2 to standard output.
+///
+/// # Errors
+///
+/// That of the upgrade.
+pub fn upgrade_tape<'a, R: Print + AllocGlobal + Files<File = File>>(
+    rt: &R,
+    name: &'a str,
+) -> Result<(), Fault<'a>> {
+    let mut reader = Counted::new(open_file(rt, name)?);
+    let mut writer = Counted::new(io::writer(rt));
+    match upgrade(rt.alloc(), &mut reader, &mut writer) {
+        Ok(_tally) => Ok(()),
+        Err(fault) => Err(Fault::of_tape(fault, name, STANDARD_OUTPUT)),
+    }
 }

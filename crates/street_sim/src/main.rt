@@ -1,6 +1,7 @@
 //! The program `streetsim`: commands come as lines of JSON from standard input or from scripts, and replies go out as lines.
 //!
-//! All calls go through a desk, which keeps a journal of them; the journal can be kept as a tape, and a tape replayed.
+//! All calls go through a desk, which keeps a journal of them; the journal can be kept as a tape, and a tape replayed or
+//! upgraded.
 #![tactic(auto)]
 
 ghost use Rattle.street_options.specs.Words.{IsInRange};
@@ -13,7 +14,7 @@ use std::thread::Threads;
 use std::{env, io};
 use street_fault::Fault;
 use street_options::{Options, WordsFault, options};
-use street_runs::{STANDARD_OUTPUT, replay_tape, serve_input, serve_scripts};
+use street_runs::{STANDARD_OUTPUT, replay_tape, serve_input, serve_scripts, upgrade_tape};
 
 fn main(rt: HostRuntime) -> ExitCode {
     match program_words(&rt) {
@@ -51,13 +52,16 @@ fn tell(rt: &impl Eprint, fault: Fault<'_>) -> ExitCode {
     ExitCode::from(fault.status())
 }
 
-/// Does what the words ask for: replays a tape, or serves scripts or standard input.
+/// Does what the words ask for: upgrades or replays a tape, or serves scripts or standard input.
 fn carry_out<'a, R: Threads + Wait + Sync + Input + Print + AllocGlobal + Files<File = File>>(
     rt: &R,
     options: &Options<'a>,
 ) -> Result<(), Fault<'a>>
     requires { IsInRange options.now }
 {
+    if let Some(tape) = options.upgrade {
+        return upgrade_tape(rt, tape);
+    }
     match options.replay {
         Some(tape) => replay_tape(rt, options.workers, tape),
         None if options.scripts.is_empty() => serve_input(rt, options),

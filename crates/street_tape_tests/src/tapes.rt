@@ -12,7 +12,7 @@ use street_base::{Command, Outcome};
 use street_desk::{Desk, Entry, Journal, Pass};
 use street_ends::{Counted, FaultKind, RunFault, Tally};
 use street_engine::{Engine, Unwatched};
-use street_tape::{entry_text, head_text, read_entry, read_version, write_tape};
+use street_tape::{Head, Stop, Tape, entry_text, head_text, read_entry, read_head, write_tape};
 use street_text::{LineFault, read_command};
 
 /// One vehicle that drives along one link and arrives.
@@ -25,7 +25,7 @@ static LINES: [&str; 4] = [
 
 /// Its tape.
 static TAPE: &str = concat!(
-    r#"{"tape":1}"#,
+    r#"{"calls":4,"tape":2}"#,
     "\n",
     r#"{"command":{"change":0,"cmd":"load","dawdle":0,"links":[[10,1,2,1,10,5],[20,2,3,1,10,5]],"nodes":[[1,1,2],[2,1,2],[3,1,2]],"seed":0,"start":0,"turns":[[10,0,20,0]],"zone":0},"outcome":"whole","session":0}"#,
     "\n",
@@ -139,7 +139,7 @@ fn check_room(rt: &impl Abort, fault: Option<RunFault>, taken: &[u8], room: usiz
 #[test]
 fn a_fault_leaves_the_first_bytes(rt: HostRuntime) {
     let journal = journal_of(&rt);
-    for room in [0, 1, 10, 11, 12, 200, TAPE.len() - 1, TAPE.len()] {
+    for room in [0, 1, 20, 21, 22, 200, TAPE.len() - 1, TAPE.len()] {
         let (fault, taken) = taped_in(rt.alloc(), &journal, room);
         check_room(&rt, fault, taken.as_slice(), room);
     }
@@ -163,7 +163,7 @@ const OUTCOMES: [(Outcome, &str); 3] = [
 
 /// The session, the steps and the outcome of a line of an advance.
 fn advance_in(alloc: Global, line: &str) -> Option<(u64, u64, Outcome)> {
-    let Ok(entry) = read_entry(alloc, line.as_bytes()) else {
+    let Ok(entry) = read_entry(alloc, line.as_bytes(), true) else {
         return None;
     };
     match entry.command {
@@ -175,8 +175,8 @@ fn advance_in(alloc: Global, line: &str) -> Option<(u64, u64, Outcome)> {
 #[test]
 fn each_outcome_has_its_line(rt: HostRuntime) -> Result<(), Fail> {
     assert_eq!(rt;
-        head_text(rt.alloc())?.as_slice(),
-        b"{\"tape\":1}\n".as_slice()
+        head_text(rt.alloc(), 12)?.as_slice(),
+        b"{\"calls\":12,\"tape\":2}\n".as_slice()
     );
     for (outcome, line) in OUTCOMES {
         let entry = Entry {
@@ -191,7 +191,7 @@ fn each_outcome_has_its_line(rt: HostRuntime) -> Result<(), Fail> {
 }
 
 /// Lines that are no calls, and why.
-static BAD_LINES: [(&str, LineFault); 14] = [
+static BAD_LINES: [(&str, LineFault); 18] = [
     ("", LineFault::NotJson),
     (" \t\r", LineFault::NotJson),
     ("x", LineFault::NotJson),
@@ -227,12 +227,28 @@ static BAD_LINES: [(&str, LineFault); 14] = [
         r#"{"command":[],"outcome":"whole","session":0}"#,
         LineFault::BadCommand,
     ),
+    (
+        r#"{"command":{"cmd":"count"},"outcome":1,"session":0}"#,
+        LineFault::BadCommand,
+    ),
+    (
+        r#"{"command":{"cmd":"advance","steps":5},"outcome":0,"session":0}"#,
+        LineFault::BadCommand,
+    ),
+    (
+        r#"{"command":{"cmd":"advance","steps":5},"outcome":5,"session":0}"#,
+        LineFault::BadCommand,
+    ),
+    (
+        r#"{"command":{"cmd":"enter","depart":0,"lane":0,"plan":[10],"size":"x"},"outcome":"whole","session":0}"#,
+        LineFault::BadCommand,
+    ),
 ];
 
 #[test]
 fn bad_lines_have_their_faults(rt: HostRuntime) {
     for (line, want) in &BAD_LINES {
-        match read_entry(rt.alloc(), line.as_bytes()) {
+        match read_entry(rt.alloc(), line.as_bytes(), true) {
             Ok(_) => panic!(rt; "a call: {line}"),
             Err(fault) => assert_eq!(rt; fault, *want, "at {line}"),
         }
@@ -243,8 +259,17 @@ fn bad_lines_have_their_faults(rt: HostRuntime) {
 #[test]
 fn first_lines_tell_their_version(rt: HostRuntime) {
     for (line, want) in [
-        (r#"{"tape":1}"#, Ok(1)),
-        (r#" {"x":[],"tape":2}"#, Ok(2)),
+        (r#"{"tape":1}"#, Ok(Head::Version1)),
+        (r#"{"calls":"x","tape":1}"#, Ok(Head::Version1)),
+        (
+            r#" {"x":[],"tape":2,"calls":7}"#,
+            Ok(Head::Version2 { calls: 7 }),
+        ),
+        (r#"{"tape":2}"#, Err(LineFault::BadCommand)),
+        (r#"{"calls":"7","tape":2}"#, Err(LineFault::BadCommand)),
+        (r#"{"calls":-7,"tape":2}"#, Err(LineFault::BadCommand)),
+        (r#"{"calls":7,"tape":3}"#, Err(LineFault::BadCommand)),
+        (r#"{"calls":7,"tape":0}"#, Err(LineFault::BadCommand)),
         (r#"{"tape":1.0}"#, Err(LineFault::BadCommand)),
         (r#"{"tape":"1"}"#, Err(LineFault::BadCommand)),
         (r#"{"Tape":1}"#, Err(LineFault::BadCommand)),
@@ -252,7 +277,7 @@ fn first_lines_tell_their_version(rt: HostRuntime) {
         ("", Err(LineFault::NotJson)),
     ] {
         assert_eq!(rt;
-            read_version(rt.alloc(), line.as_bytes()),
+            read_head(rt.alloc(), line.as_bytes()),
             want,
             "at {line}"
         );
@@ -263,11 +288,85 @@ fn first_lines_tell_their_version(rt: HostRuntime) {
 fn a_line_may_have_2_097_152_bytes(rt: HostRuntime) -> Result<(), Fail> {
     let mut line = Vec::from_slice(rt.alloc(), br#"{"tape":1}"#)?;
     line.extend_from_slice(vec![in rt.alloc(); b' '; 2_097_152 - 10]?.as_slice())?;
-    assert_eq!(rt; read_version(rt.alloc(), line.as_slice()), Ok(1));
+    assert_eq!(rt; read_head(rt.alloc(), line.as_slice()), Ok(Head::Version1));
     line.push(b' ')?;
     assert_eq!(rt;
-        read_version(rt.alloc(), line.as_slice()),
+        read_head(rt.alloc(), line.as_slice()),
         Err(LineFault::LineTooLong)
     );
     Ok(())
+}
+
+/// A vehicle of three cells enters; its line on a tape, and what stands there where the size is no number.
+static LONG_VEHICLE: &str = r#"{"command":{"cmd":"enter","depart":0,"lane":0,"plan":[10],"size":3},"outcome":"whole","session":0}"#;
+
+static NO_SIZE: &str = r#"{"command":{"cmd":"enter","depart":0,"lane":0,"plan":[10],"size":"x"},"outcome":"whole","session":0}"#;
+
+/// The size of the vehicle that a line of a tape has enter.
+fn size_in(alloc: Global, line: &str, sized: bool) -> Option<u64> {
+    let Ok(entry) = read_entry(alloc, line.as_bytes(), sized) else {
+        return None;
+    };
+    match entry.command {
+        Command::Enter { size, .. } => Some(size),
+        _ => None,
+    }
+}
+
+#[test]
+fn sizes_are_read_or_not(rt: HostRuntime) {
+    let alloc = rt.alloc();
+    assert_eq!(rt; size_in(alloc, LONG_VEHICLE, true), Some(3));
+    assert_eq!(rt; size_in(alloc, LONG_VEHICLE, false), Some(1));
+    assert_eq!(rt; size_in(alloc, NO_SIZE, true), None);
+    assert_eq!(rt; size_in(alloc, NO_SIZE, false), Some(1));
+}
+
+#[test]
+fn a_size_is_told(rt: HostRuntime) -> Result<(), Fail> {
+    let alloc = rt.alloc();
+    let Ok(entry) = read_entry(alloc, LONG_VEHICLE.as_bytes(), true) else {
+        panic!(&rt; "no call")
+    };
+    let text = entry_text(alloc, &entry)?;
+    assert_eq!(rt; text.as_slice().strip_suffix(b"\n"), Some(LONG_VEHICLE.as_bytes()));
+    Ok(())
+}
+
+/// What is told of these lines, one after another, and whether the tape may end after each.
+fn check_lines(
+    rt: &(impl Abort + AllocGlobal),
+    lines: &[(&str, Result<bool, Stop>, bool)],
+) {
+    let mut tape = Tape::new();
+    for (line, want, ends) in lines {
+        let told = tape.take(rt.alloc(), line.as_bytes());
+        assert_eq!(rt; told.map(|call| call.is_some()), *want, "at {line}");
+        assert_eq!(rt; tape.may_end(), *ends, "after {line}");
+    }
+}
+
+#[test]
+fn calls_are_counted(rt: HostRuntime) {
+    let count = r#"{"command":{"cmd":"count"},"outcome":"whole","session":0}"#;
+    check_lines(
+        &rt,
+        &[
+            (count, Err(Stop::NotTape), false),
+            (r#"{"calls":2,"tape":2}"#, Ok(false), false),
+            (count, Ok(true), false),
+            ("{}", Err(Stop::BadEntry), false),
+            (count, Ok(true), true),
+            (count, Err(Stop::BadEntry), true),
+        ],
+    );
+    check_lines(
+        &rt,
+        &[
+            (r#"{"tape":1}"#, Ok(false), true),
+            (count, Ok(true), true),
+            ("", Err(Stop::BadEntry), true),
+            (count, Ok(true), true),
+        ],
+    );
 }

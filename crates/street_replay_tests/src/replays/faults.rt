@@ -10,7 +10,7 @@ use street_replay::TapeFault;
 
 /// Two calls with nothing loaded.
 static REFUSED: &str = concat!(
-    r#"{"tape":1}"#,
+    r#"{"calls":2,"tape":2}"#,
     "\n",
     r#"{"command":{"car":0,"cmd":"vehicle"},"outcome":"whole","session":0}"#,
     "\n",
@@ -106,7 +106,7 @@ fn each_read_fails_in_turn(rt: HostRuntime) {
 #[test]
 fn a_reader_without_end_is_told(rt: HostRuntime) {
     let alloc = rt.alloc();
-    let ran = replayed(&rt, alloc, REFUSED.as_bytes(), 20, Taking::all(alloc), 4);
+    let ran = replayed(&rt, alloc, REFUSED.as_bytes(), 20, Taking::all(alloc), 5);
     assert_eq!(rt;
         ran.fault,
         Some(run_fault(FaultKind::Endless, 2, 1, 1, REFUSAL.len()))

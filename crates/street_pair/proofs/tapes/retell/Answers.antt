@@ -1,20 +1,16 @@
-use Rattle.std.proofs.Common.{◌∙◌, Some, ap}
-use Rattle.std.specs.Io.Chain.{chain_remaining}
+use Rattle.std.proofs.Common.{◌∙◌, Some, ap, refl}
 use Rattle.street_pair.proofs.Stopped.{retold, stopped}
 use Rattle.street_pair.proofs.tapes.retell.Goals as goal
 
 pub returns-in-Ok-clause-retold : goal.returns-in-Ok-clause-retold
 returns-in-Ok-clause-retold g c =
     let run = c.in-Ok.ensures.replayed in
-    let rest = chain_remaining (λ s. Some s.now) (λ s. Some s.now) in
-    let from = ap rest c.new-reader.ensures.end ∙ c.chain.ensures.bytes in
+    let from = ap (λ s. Some s.now) c.new-reader.ensures.end in
     let none = ap (λ v. v.items) c.new-writer.ensures.end ∙ c.new.ensures.items in
-    retold _ (rest c.replay.new.reader.end) c.new-writer.result.end.items _ run.0 from none run.2 run.1 c.replay.new.writer.end.items run.3 run.4 run.5 run.7
+    retold _ (Some c.replay.new.reader.end.now) c.new-writer.result.end.items _ from none c.replay.new.writer.end.items c.replay.new.engine _ _ _ _ _ run c.apply.ensures refl refl
 
 pub returns-clause-stopped : goal.returns-clause-stopped
 returns-clause-stopped g c =
-    let run = c.in-Err.ensures.stops in
-    let rest = chain_remaining (λ s. Some s.now) (λ s. Some s.now) in
-    let from = ap rest c.new-reader.ensures.end ∙ c.chain.ensures.bytes in
+    let from = ap (λ s. Some s.now) c.new-reader.ensures.end in
     let none = ap (λ v. v.items) c.new-writer.ensures.end ∙ c.new.ensures.items in
-    stopped _ (rest c.replay.new.reader.end) c.new-writer.result.end.items _ run.0 from none run.1 c.replay.new.engine (Some c.replay.new.writer.end.items) c.in-Err.fault run.2
+    stopped _ (Some c.replay.new.reader.end.now) c.new-writer.result.end.items _ from none c.replay.new.engine (Some c.replay.new.writer.end.items) c.in-Err.fault c.in-Err.ensures.stops

@@ -1,8 +1,0 @@
-use Rattle.std.proofs.Common.{take}
-use Rattle.street_replay.specs.Progress.{Feeds, Grows}
-use Rattle.street_replay.proofs.replaying.feed.Given as goal
-
-abbrev pub invariant-loop-byte : goal.invariant-loop-byte
-invariant-loop-byte g l =
-    Feeds l.fn.engine (g.W.Write.contents l.fn.writer.end) l.fn.progress (take l.byte-index l.bytes) l.engine (g.W.Write.contents l.writer.end) l.progress
-    × Grows l.fn.progress.tally l.progress.tally l.byte-index
