@@ -40,11 +40,7 @@ pub struct Retold {
 /// # Errors
 ///
 /// That of the replay.
-pub fn retell<R: Threads + Sync>(
-    rt: &R,
-    alloc: Global,
-    tape: &[u8],
-) -> Result<Retold, TapeFault>
+pub fn retell<R: Threads + Sync>(rt: &R, alloc: Global, tape: &[u8]) -> Result<Retold, TapeFault>
     ensures retold { IfOk result (λ told. IsRetold tape.now told) }
     ensures stopped { IfErr result (λ fault. IsStopped tape.now fault) }
 {

@@ -13,7 +13,9 @@ use std::alloc::Global;
 use std::io::{Read, Write};
 use street_base::Starved;
 use street_desk::Entry;
-use street_ends::{Answer, Counted, Limits, LineHandler, PartialLine, RunFault, Tally, drive_lines};
+use street_ends::{
+    Answer, Counted, Limits, LineHandler, PartialLine, RunFault, Tally, drive_lines,
+};
 use street_tape::{LONGEST_TAPE_LINE, Stop, Tape, entry_text, write_lines};
 
 /// The most calls of `read` in one upgrade.

@@ -13,7 +13,7 @@ use std::sync::Wait;
 use std::thread::Threads;
 use std::{env, io};
 use street_fault::Fault;
-use street_options::{Options, WordsFault, options};
+use street_options::{Options, WordsFault, options, reason};
 use street_runs::{STANDARD_OUTPUT, replay_tape, serve_input, serve_scripts, upgrade_tape};
 
 fn main(rt: HostRuntime) -> ExitCode {
@@ -50,6 +50,13 @@ fn run<R: Threads + Wait + Sync + Input + Print + Eprint + AllocGlobal + Files<F
 fn tell(rt: &impl Eprint, fault: Fault<'_>) -> ExitCode {
     let _ = eprintln!(rt; "streetsim: {fault}");
     ExitCode::from(fault.status())
+}
+
+/// Tells on standard error that the words are wrong, and in a line of its own which one and why.
+fn tell_words(rt: &impl Eprint, why: &str) -> ExitCode {
+    let status = tell(rt, Fault::BadArguments);
+    let _ = eprintln!(rt; "{why}");
+    status
 }
 
 /// Does what the words ask for: upgrades or replays a tape, or serves scripts or standard input.

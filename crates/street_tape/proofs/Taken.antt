@@ -180,6 +180,7 @@ end_is (Version2 calls) n t = end_at (n == calls) refl
   where
     fits : n ≤ calls
     fits = leb-true n calls t
+
     end_at : (b : Bool) → (n == calls) ≡ b → (0 == calls - n) ≡ (n == calls)
     end_at true is = let same : n ≡ calls = eqb-true n calls is in rw is (eq-eqb 0 (calls - n) (omega arith))
     end_at false is = let other = eqb-false n calls is in rw is (ne_eqb 0 (calls - n) (λ e. other (omega (arith, e, fits))))

@@ -75,7 +75,11 @@ fn write_calls<W: Write>(
     ensures part { IfErr result (λ kind. IsCausedByWriting kind writer.new
         × IsPrefix (W.contents writer.old.end) 0 (tape_text journal.now) (W.contents writer.new.end) bytes.new) }
 {
-    write_line(writer, head_text(alloc, journal.len() as u64)?.as_slice(), bytes)?;
+    write_line(
+        writer,
+        head_text(alloc, journal.len() as u64)?.as_slice(),
+        bytes,
+    )?;
     for at in 0..journal.len() {
         let Some(entry) = journal.entry(at) else {
             unreachable!();

@@ -276,11 +276,7 @@ fn first_lines_tell_their_version(rt: HostRuntime) {
         ("[1]", Err(LineFault::BadCommand)),
         ("", Err(LineFault::NotJson)),
     ] {
-        assert_eq!(rt;
-            read_head(rt.alloc(), line.as_bytes()),
-            want,
-            "at {line}"
-        );
+        assert_eq!(rt; read_head(rt.alloc(), line.as_bytes()), want, "at {line}");
     }
 }
 
@@ -298,9 +294,11 @@ fn a_line_may_have_2_097_152_bytes(rt: HostRuntime) -> Result<(), Fail> {
 }
 
 /// A vehicle of three cells enters; its line on a tape, and what stands there where the size is no number.
-static LONG_VEHICLE: &str = r#"{"command":{"cmd":"enter","depart":0,"lane":0,"plan":[10],"size":3},"outcome":"whole","session":0}"#;
+static LONG_VEHICLE: &str =
+    r#"{"command":{"cmd":"enter","depart":0,"lane":0,"plan":[10],"size":3},"outcome":"whole","session":0}"#;
 
-static NO_SIZE: &str = r#"{"command":{"cmd":"enter","depart":0,"lane":0,"plan":[10],"size":"x"},"outcome":"whole","session":0}"#;
+static NO_SIZE: &str =
+    r#"{"command":{"cmd":"enter","depart":0,"lane":0,"plan":[10],"size":"x"},"outcome":"whole","session":0}"#;
 
 /// The size of the vehicle that a line of a tape has enter.
 fn size_in(alloc: Global, line: &str, sized: bool) -> Option<u64> {
@@ -329,15 +327,15 @@ fn a_size_is_told(rt: HostRuntime) -> Result<(), Fail> {
         panic!(&rt; "no call")
     };
     let text = entry_text(alloc, &entry)?;
-    assert_eq!(rt; text.as_slice().strip_suffix(b"\n"), Some(LONG_VEHICLE.as_bytes()));
+    assert_eq!(rt;
+        text.as_slice().strip_suffix(b"\n"),
+        Some(LONG_VEHICLE.as_bytes())
+    );
     Ok(())
 }
 
 /// What is told of these lines, one after another, and whether the tape may end after each.
-fn check_lines(
-    rt: &(impl Abort + AllocGlobal),
-    lines: &[(&str, Result<bool, Stop>, bool)],
-) {
+fn check_lines(rt: &(impl Abort + AllocGlobal), lines: &[(&str, Result<bool, Stop>, bool)]) {
     let mut tape = Tape::new();
     for (line, want, ends) in lines {
         let told = tape.take(rt.alloc(), line.as_bytes());

@@ -82,7 +82,13 @@ pub(super) fn upgraded_from(reader: Given<'_>, alloc: Global, writer: Taking, re
 }
 
 /// Upgrades a text that is read in pieces.
-pub(super) fn upgraded(alloc: Global, text: &[u8], piece: usize, writer: Taking, reads: u32) -> Ran {
+pub(super) fn upgraded(
+    alloc: Global,
+    text: &[u8],
+    piece: usize,
+    writer: Taking,
+    reads: u32,
+) -> Ran {
     let reader = Given {
         text,
         at: 0,

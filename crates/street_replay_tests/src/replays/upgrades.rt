@@ -60,7 +60,10 @@ fn it_replays_as_before(rt: HostRuntime) -> Result<(), Fail> {
 #[test]
 fn a_tape_of_no_calls_is_upgraded(rt: HostRuntime) {
     let (told, written) = upgraded_whole(rt.alloc(), b"{\"tape\":1}");
-    assert_eq!(rt; written.as_slice(), b"{\"calls\":0,\"tape\":2}\n".as_slice());
+    assert_eq!(rt;
+        written.as_slice(),
+        b"{\"calls\":0,\"tape\":2}\n".as_slice()
+    );
     assert_eq!(rt;
         told,
         Some(Tally {
@@ -137,7 +140,11 @@ fn run_fault(kind: FaultKind, lines: u128, calls: u128, bytes: usize) -> Option<
 fn check_write(rt: &(impl Abort + AllocGlobal), wanted: &[u8], room: usize) {
     let writer = Taking::new(rt.alloc(), 5, room, room % 2 == 0);
     let ran = upgraded(rt.alloc(), ARRIVES.as_bytes(), 30, writer, 100);
-    assert_eq!(rt; ran.fault, run_fault(FaultKind::Write, 5, 4, room), "at {room}");
+    assert_eq!(rt;
+        ran.fault,
+        run_fault(FaultKind::Write, 5, 4, room),
+        "at {room}"
+    );
     assert_eq!(rt; Some(ran.taken.as_slice()), wanted.get(..room), "at {room}");
 }
 
