@@ -25,17 +25,10 @@ ONE_WAITS = '{"admitted":1,"arrived":0,"buffers":0,"cells":0,"clock":0,"taken":0
 AFTER_ONE_VEHICLE = '{"admitted":1,"arrived":1,"buffers":0,"cells":0,"clock":5,"taken":0,"waiting":0}\n'
 
 
-HEAD = '{"calls":4,"tape":2}\n'
-
-
-def calls_in_lines():
-    """The calls of the tape of examples/one-vehicle.jsonl, as LINES.md has it."""
-    return (DATA / "LINES.md").read_text().split("```\n" + HEAD)[1].split("```")[0]
-
-
 def tape_in_lines():
-    """That tape."""
-    return HEAD + calls_in_lines()
+    """The tape of examples/one-vehicle.jsonl, as LINES.md has it."""
+    text = (TOP / "docs/LINES.md").read_text()
+    return HEAD + text.split(f"```\n{HEAD}")[1].split("```")[0]
 
 
 def calls_of(tape, session):
@@ -185,8 +178,7 @@ class Tapes(ProgramCase):
         self.assertEqual((self.folder / "run.tape").read_text(), tape_in_lines())
 
     def test_entries_that_starved_or_stopped_short_are_told_so(self):
-        load, enter, _advance, vehicle = calls_in_lines().splitlines()
-        first = '{"calls":5,"tape":2}'
+        _, load, enter, _advance, vehicle = tape_in_lines().splitlines()
         starved = enter.replace('"whole"', '"starved"')
         short = '{"command":{"cmd":"advance","steps":5},"outcome":2,"session":0}'
         tape = self.write("run.tape", "\n".join(['{"calls":5,"tape":2}', load, starved, enter, short, vehicle]))
@@ -200,12 +192,12 @@ class Tapes(ProgramCase):
         )
 
     def test_no_tape_does_nothing(self):
-        calls = calls_in_lines()
-        others = ['{"tape":2}', '{"calls":"4","tape":2}', '{"calls":4,"tape":3}']
-        for text in ("", "\n", "[1]\n", "{}\n", *[first + "\n" + calls for first in others], calls):
-            with self.subTest(first=text[:12]):
-                tape = self.write("run.tape", text)
-                for word in ("--replay", "--upgrade"):
+        entries = "".join(tape_in_lines().splitlines(keepends=True)[1:])
+        heads = ('{"tape":2}', '{"calls":"4","tape":2}', '{"calls":-1,"tape":2}', '{"calls":4,"tape":3}', '{"calls":4}')
+        for text in ("", "\n", "[1]\n", "{}\n", entries, *(f"{head}\n{entries}" for head in heads)):
+            for word in ("--replay", "--upgrade"):
+                with self.subTest(first=text[:24], word=word):
+                    tape = self.write("run.tape", text)
                     told = self.ends([word, tape], status=1, error="streetsim: bad tape at line 1\n")
                     self.assertEqual(told, "")
 
@@ -238,33 +230,37 @@ class Tapes(ProgramCase):
         for word in ("--replay", "--upgrade"):
             self.assertEqual(self.ends([word, "none.tape"], status=1, error="streetsim: cannot read none.tape\n"), "")
 
-    def test_a_tape_of_version_1_is_replayed_and_upgraded(self):
-        tape = self.write("old.tape", '{"tape":1}\n' + calls_in_lines())
+    def test_a_tape_of_version_1(self):
+        tape = self.write("old.tape", OLD_HEAD + tape_in_lines().removeprefix(HEAD))
         self.assertEqual(self.ends(["--replay", tape]), ONE_VEHICLE + AFTER_ONE_VEHICLE)
-        self.assertEqual(self.ends(["--upgrade", tape]), tape_in_lines())
+        upgraded = self.ends(["--upgrade", tape])
+        self.assertEqual(upgraded, tape_in_lines())
+        self.assertEqual(self.ends(["--upgrade", self.write("new.tape", upgraded)]), upgraded)
 
-    def test_a_tape_of_version_2_is_upgraded_to_itself(self):
-        tape = self.write("run.tape", tape_in_lines())
-        self.assertEqual(self.ends(["--upgrade", tape]), tape_in_lines())
+    def test_a_size_counts_on_a_tape_of_version_2_alone(self):
+        _, load, enter, _, vehicle = tape_in_lines().splitlines(keepends=True)
+        bus = enter.replace('"plan":[10]', '"plan":[10],"size":3')
+        waits = '{"car":0,"depart":0,"lane":0,"link":10,"plan":[10],%s"state":"waiting"}\n'
+        for head, size in ((OLD_HEAD, ""), ('{"calls":3,"tape":2}\n', '"size":3,')):
+            tape = self.write("run.tape", head + load + bus + vehicle)
+            told = self.ends(["--replay", tape])
+            self.assertEqual(told, '{"links":2,"nodes":3,"turns":1}\n{"car":0}\n' + waits % size + ONE_WAITS)
+        old = self.write("old.tape", OLD_HEAD + load + bus)
+        self.assertEqual(self.ends(["--upgrade", old]), '{"calls":2,"tape":2}\n' + load + enter)
 
-    def test_sizes_are_read_from_version_2_on(self):
-        load, enter, _advance, vehicle = calls_in_lines().splitlines(keepends=True)
-        long = enter.replace('"plan":[10]', '"plan":[10],"size":3')
-        waits = '{"links":2,"nodes":3,"turns":1}\n{"car":0}\n{"car":0,"depart":0,"lane":0,"link":10,"plan":[10],%s"state":"waiting"}\n'
-        old = self.write("old.tape", '{"tape":1}\n' + load + long + vehicle)
-        text = '{"calls":3,"tape":2}\n' + load + long + vehicle
-        new = self.write("new.tape", text)
-        self.assertEqual(self.ends(["--replay", old]), waits % "" + ONE_WAITS)
-        self.assertEqual(self.ends(["--replay", new]), waits % '"size":3,' + ONE_WAITS)
-        self.assertEqual(self.ends(["--upgrade", old]), '{"calls":3,"tape":2}\n' + load + enter + vehicle)
-        self.assertEqual(self.ends(["--upgrade", new]), text)
+    def test_a_size_is_on_the_tape_where_it_is_not_1(self):
+        load = PLANNER.read_text().splitlines(keepends=True)[0]
+        self.ends(["--tape", "run.tape"], load + "".join(f'{{"cmd":"enter","plan":[10],"lane":0,"depart":0,"size":{size}}}\n' for size in (1, 4, 5)))
+        sizes = [command.get("size") for command in calls_of((self.folder / "run.tape").read_text(), 0)[1:]]
+        self.assertEqual(sizes, [None, 4, 5])
 
-    def test_missing_calls_and_calls_too_many_are_bad(self):
-        load, enter, _advance, _vehicle = calls_in_lines().splitlines(keepends=True)
-        for calls, line, told in ((3, 4, ONE_VEHICLE.splitlines(keepends=True)[:2]), (1, 3, ONE_VEHICLE.splitlines(keepends=True)[:1])):
+    def test_fewer_and_more_calls_than_the_first_line_says(self):
+        _, load, enter, *_ = tape_in_lines().splitlines(keepends=True)
+        replies = ONE_VEHICLE.splitlines(keepends=True)
+        for calls, served, bad in ((3, 2, 4), (1, 1, 3), (0, 0, 2)):
             tape = self.write("run.tape", f'{{"calls":{calls},"tape":2}}\n' + load + enter)
-            error = f"streetsim: bad tape at line {line}\n"
-            self.assertEqual(self.ends(["--replay", tape], status=1, error=error), "".join(told))
+            error = f"streetsim: bad tape at line {bad}\n"
+            self.assertEqual(self.ends(["--replay", tape], status=1, error=error), "".join(replies[:served]))
             self.assertEqual(self.ends(["--upgrade", tape], status=1, error=error), "")
 
 
@@ -301,8 +297,7 @@ class Faults(Case):
 
     def test_what_opens_and_cannot_be_read(self):
         self.assertEqual(self.fails([self.folder, PLANNER], f"cannot read {self.folder}"), ONE_VEHICLE)
-        for word in ("--replay", "--upgrade"):
-            self.assertEqual(self.fails([word, self.folder], f"cannot read {self.folder}"), "")
+        self.assertEqual(self.fails(["--replay", self.folder], f"cannot read {self.folder}"), "")
 
     def test_a_standard_output_that_takes_nothing(self):
         tape = self.write("given.tape", tape_in_lines())
@@ -336,29 +331,35 @@ class Words(ProgramCase):
         self.assertEqual(self.ends(["-h"]), wanted)
 
     def test_bad_words(self):
-        for words, what in (
-            (["--fast"], "--fast"),
-            (["--workers", 0], "0"),
-            (["--workers", 65], "65"),
-            (["--workers", "two"], "two"),
-            (["--workers", 1, "--workers", 2], "--workers"),
-            (["--workers"], "--workers"),
-            (["--workers", -1], "-1"),
-            (["--workers", ""], "--workers"),
-            (["--calls", 5, "--calls", 5], "--calls"),
-            (["--tape", "run.tape", "--tape", "run.tape"], "--tape"),
-            (["--replay"], "--replay"),
-            (["--replay", "run.tape", "--replay", "run.tape"], "--replay"),
-            (["--calls", 0], "0"),
-            (["--calls", 1_000_001], "1000001"),
-            (["--tape"], "--tape"),
-            (["--replay", "run.tape", PLANNER], "--replay"),
-            (["--replay", "run.tape", "--tape", "other.tape"], "--replay"),
-            (["--upgrade"], "--upgrade"),
-            (["--upgrade", "run.tape", PLANNER], "--upgrade"),
-            (["--upgrade", "run.tape", "--tape", "other.tape"], "--upgrade"),
-            (["--upgrade", "run.tape", "--replay", "other.tape"], "--upgrade"),
-            ([PLANNER] * 1_025, ""),
+        workers = "invalid value '{}' for '--workers <N>': it is not a number from 1 to 64"
+        calls = "invalid value '{}' for '--calls <N>': it is not a number from 1 to 1000000"
+        twice = "the argument '{}' cannot be used multiple times"
+        no_value = "a value is required for '{}' but none was supplied"
+        upgrade_alone = "the argument '--upgrade <FILE>' cannot be used with scripts, '--tape <FILE>' or '--replay <FILE>'"
+        alone = "the argument '--replay <FILE>' cannot be used with scripts or with '--tape <FILE>'"
+        for words, why in (
+            (["--fast"], "unexpected argument '--fast' found"),
+            (["--workers", -1], "unexpected argument '-1' found"),
+            (["--workers", 0], workers.format(0)),
+            (["--workers", 65], workers.format(65)),
+            (["--workers", "two"], workers.format("two")),
+            (["--workers", ""], workers.format("")),
+            (["--calls", 0], calls.format(0)),
+            (["--calls", 1_000_001], calls.format(1_000_001)),
+            (["--workers", 1, "--workers", 2], twice.format("--workers <N>")),
+            (["--calls", 5, "--calls", 5], twice.format("--calls <N>")),
+            (["--tape", "run.tape", "--tape", "run.tape"], twice.format("--tape <FILE>")),
+            (["--replay", "run.tape", "--replay", "run.tape"], twice.format("--replay <FILE>")),
+            (["--workers"], no_value.format("--workers <N>")),
+            (["--replay"], no_value.format("--replay <FILE>")),
+            (["--tape"], no_value.format("--tape <FILE>")),
+            (["--upgrade"], no_value.format("--upgrade <FILE>")),
+            (["--upgrade", "run.tape", PLANNER], upgrade_alone),
+            (["--upgrade", "run.tape", "--tape", "other.tape"], upgrade_alone),
+            (["--upgrade", "run.tape", "--replay", "run.tape"], upgrade_alone),
+            (["--replay", "run.tape", PLANNER], alone),
+            (["--replay", "run.tape", "--tape", "other.tape"], alone),
+            ([PLANNER] * 1_025, "more than 1024 scripts"),
         ):
             with self.subTest(words=words[:4]):
                 self.is_refused(words, why)

@@ -1,6 +1,6 @@
 //! What two clients were told, beside what a replay of their desk's tape answers.
 //! Source: this profile.
-ghost use Rattle.std.specs.Prelude.{◌≡◌, ◌<◌, [], ◌∷◌, length, IfOk, IfErr, MatchOption, Decides, HoldsAt, IsUtf8, drop};
+ghost use Rattle.std.specs.Prelude.{◌≡◌, ◌<◌, [], ◌∷◌, length, IfOk, IfErr, MatchOption, Decides, HoldsAt, IsUtf8, drop, true};
 ghost use Rattle.std.specs.List.{AllWithin};
 ghost use Rattle.street_pair.specs.Replies.{Agrees, IsRetold, IsStopped, is_of, own_lines, replies_to};
 ghost use Rattle.street_ends.specs.Lines.{cut};

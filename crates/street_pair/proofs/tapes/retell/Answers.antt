@@ -7,7 +7,7 @@ returns-in-Ok-clause-retold g c =
     let run = c.in-Ok.ensures.replayed in
     let from = ap (λ s. Some s.now) c.new-reader.ensures.end in
     let none = ap (λ v. v.items) c.new-writer.ensures.end ∙ c.new.ensures.items in
-    retold _ (Some c.replay.new.reader.end.now) c.new-writer.result.end.items _ from none c.replay.new.writer.end.items c.replay.new.engine _ _ _ _ _ run c.apply.ensures refl refl
+    retold _ (Some c.replay.new.reader.end.now) c.new-writer.result.end.items _ from none c.replay.new.writer.end.items c.replay.new.engine _ _ _ _ _ run c.apply-count.ensures refl refl
 
 pub returns-clause-stopped : goal.returns-clause-stopped
 returns-clause-stopped g c =
