@@ -3,7 +3,7 @@
 
 Usage: bench/day.py PROGRAM [--vehicles N] [--folder FOLDER] [--until S] [WORDS for streetsim-run ..]
 
-Makes the network by SUMO's netgenerate (30 by 30 junctions 200 m apart, two lanes), and vehicles between random edges along
+Makes the network by SUMO's netgenerate (30 by 30 junctions 200 m apart, one lane), and vehicles between random edges along
 the grid with two peaks, where the folder does not have them yet; imports them and runs them. Prints seconds.
 """
 import argparse
@@ -25,7 +25,7 @@ HOURS = (5, 3, 3, 3, 5, 15, 45, 80, 75, 55, 45, 45, 50, 50, 50, 55, 75, 85, 75, 
 
 
 def make_network(path):
-    words = ["netgenerate", "--grid", "--grid.number", SIDE, "--grid.length", 200, "-L", 2, "-j", "traffic_light"]
+    words = ["netgenerate", "--grid", "--grid.number", SIDE, "--grid.length", 200, "-L", 1, "-j", "traffic_light"]
     words += ["--no-turnarounds", "true", "--seed", 1, "-o", path]
     subprocess.run([str(word) for word in words], check=True, stdout=subprocess.DEVNULL)
 

@@ -9,8 +9,9 @@ from .files import Fault
 MINUTE = 60
 INTERVALS = (10, 20, 30, 60, 120, 300, 600, 900, 1800, 3600, 0)  # between polls, seconds; 0: never
 SAMPLES = 30  # polls of a lane in a period are enough for its mean speed and density
+SLACK = 100  # calls
 FEW = 4  # below so many polls of a period a lane is left to a further run
-SPARE = 0.9  # of what is left goes to samples; the rest is for rescues
+SPARE = 0.9  # of what is left goes to samples where all lanes are watched; else half, the rest is for rescues
 
 
 @dataclass(slots=True)
@@ -42,6 +43,16 @@ class Budget:
         reads += sum(self.steps // (one.period * limits.ROWS) + 3 for one in self.detectors)
         lines = 2 + len(self.run.first) + 2 * len(self.run.timed)
         return vehicles + reads + lines + 3 * self.minutes + self.periods + self.steps // limits.STEPS
+
+    def owed(self, clock, entered, ended):
+        """Calls that a run still needs at a clock: lines, vehicles, steps, counts, detectors, and some to spare."""
+        left = self.settings.until - clock
+        reads = sum(left // (period * limits.ROWS) + 2 for period in self.meter_periods())
+        vehicles = 2 * (len(self.run.enters) - entered) + entered - ended
+        return vehicles + reads + 2 * len(self.run.timed) + 3 * (left // MINUTE + 1) + left // limits.STEPS + SLACK
+
+    def meter_periods(self):
+        return [self.settings.period] * min(limits.METERS, len(self.places)) + [one.period for one in self.detectors]
 
     def polls(self, every):
         return self.steps // every * (len(self.polled) + 1) if every else 0
@@ -84,14 +95,15 @@ class Budget:
     def share(self, asking, left):
         """Deals the lanes to this run and further ones, and how often each is sampled."""
         free = limits.METERS - len(self.detectors)
+        spare = SPARE if asking.all_watched else 0.5
         use = Counter(link for line in self.run.enters for link in line.command["plan"])
         lanes = sorted(self.places, key=lambda place: -use[place[0]]) if len(self.places) > free else list(self.places)
         rich = asking.every and self.settings.period >= 10 * asking.every and len(self.polled) == len(self.places)
         here = min(free, len(lanes))
         if not rich:
-            each = SAMPLES + 1 if left is None else int(left * SPARE) // self.periods // max(1, here)
+            each = SAMPLES + 1 if left is None else int(left * spare) // self.periods // max(1, here)
             if each < FEW + 1 and here < len(lanes) and self.settings.all_counted:
-                here = max(1, int(left * SPARE) // self.periods // (FEW + 1))
+                here = max(1, int(left * spare) // self.periods // (FEW + 1))
                 each = FEW + 1
             asking.samples = max(0, min(SAMPLES, each - 1, self.settings.period // 2))
         asking.measured = lanes[:here]

@@ -243,9 +243,11 @@ def draw_map(pyplot, folder, _words):
 
 
 def scale_bar(axes, width):
-    """A bar of a round number of metres, about a fifth of the width, below the left corner of what is shown."""
+    """A bar of a round number of metres, about a fifth of the width, below all that is shown."""
     metres = series.round_length(max(width, 1) / 5)
     low, high = axes.get_ylim()
+    low -= 0.06 * (high - low)
+    axes.set_ylim(low, high)
     left, _ = axes.get_xlim()
     begin, place = left + 0.03 * max(width, 1), low + 0.03 * (high - low)
     axes.plot((begin, begin + metres), (place, place), color="black", linewidth=4, solid_capstyle="butt")

@@ -37,6 +37,7 @@ class Records:
     censuses: list = field(default_factory=list)
     ends: list = field(default_factory=list)  # for each vehicle of the file its last reply, or none if it never entered
     unsent: int = 0  # timed lines whose clock did not come
+    unpolled: int = 0  # polls that were left out, as the calls went to rescues
     rescues: Counter = field(default_factory=Counter)  # by vehicle
     rescued: list = field(default_factory=list)  # (clock, car, enter command), in the order in which they were done
     asking: object = None  # budget.Asking
@@ -179,13 +180,15 @@ class Recorder(Desk):
         self.owners, self.cars = [], {}  # the vehicle of the file by car number, and its last number
         self.standing = {}  # (car, link): the clock since which it stands at that link's end
         self.watched = set()  # lanes that are polled each minute for rescues
+        self.polled_at = {}  # when they last were
+        self.most = 0  # calls
         self.free_flow = FreeFlow(mapping, run.load.command.get("dawdle", 0) / 1000)
         self.late, self.ended = Late(settings.rescue), {}  # those who have ended, by vehicle of the file
 
     def record(self):
         """Makes the whole run."""
-        most = self.sim.calls if self.settings.calls is None else self.settings.calls
-        asking = self.budget.asking(most)
+        self.most = self.sim.calls if self.settings.calls is None else self.settings.calls
+        asking = self.budget.asking(self.most)
         self.records.areas = Areas([one for one in self.detectors if one.kind == E2], self.start)
         self.areas = {(one.link, one.lane) for one in self.records.areas.detectors}
         self.begin(asking)
@@ -222,8 +225,13 @@ class Recorder(Desk):
         rescuing = bool(settings.rescue) and minute and clock < settings.until
         if rescuing and not asking.all_watched:
             self.ask_late(clock)
-        polled = {*(self.polled if wanted else ()), *(self.watched if rescuing else ())}
+        watched = self.watched_now(clock) if rescuing else ()
+        polled = {*(self.polled if wanted else ()), *watched}
         polled |= {*(self.measured if sampled or ended else ()), *(self.areas if sampled else ())}
+        if (wanted or sampled or ended) and self.spare(clock) < len(polled):
+            self.records.unpolled += 1
+            wanted = sampled = ended = False
+            polled = set(watched)
         lanes = self.lanes(place for place in self.places if place in polled) if polled else {}
         if wanted:
             self.note_lanes(clock, lanes)
@@ -232,8 +240,28 @@ class Recorder(Desk):
             self.records.censuses.append(self.sim.count())
             self.records.calls += 1
         if rescuing:
-            self.rescue(clock, lanes)
+            self.rescue(clock, lanes, set(watched))
         self.read_meters(clock)
+
+    def spare(self, clock):
+        """Calls that are left beside those that the run needs."""
+        if not self.most:
+            return limits.CALLS
+        return self.most - self.records.calls - self.budget.owed(clock, self.entered, len(self.ended))
+
+    def allowance(self, clock):
+        """Calls for rescues at this minute: thrice what a minute can have if all are alike."""
+        if self.records.asking.all_watched:
+            return limits.CALLS
+        return max(0, 3 * self.spare(clock) // ((self.settings.until - clock) // MINUTE + 1))
+
+    def watched_now(self, clock):
+        """The watched lanes that are polled now: all, or as many as may be, those first that were not for longest."""
+        if self.records.asking.all_watched:
+            return list(self.watched)
+        chosen = sorted(self.watched, key=lambda place: (self.polled_at.get(place, 0), place))[: self.allowance(clock)]
+        self.polled_at.update(dict.fromkeys(chosen, clock))
+        return chosen
 
     def note_lanes(self, clock, lanes):
         shown = []
@@ -250,7 +278,10 @@ class Recorder(Desk):
 
     def ask_late(self, clock):
         """Asks late vehicles where they are, and watches the lanes where they stand."""
-        due = self.late.due(clock)
+        due, most = self.late.due(clock), self.allowance(clock)
+        for wait, owner in due[most:]:
+            self.late.again(owner, clock, max(MINUTE, wait // 2))
+        due = due[:most]
         for (wait, owner), reply in zip(due, self.vehicles(owner for _, owner in due), strict=True):
             if reply.state in ("arrived", "taken"):
                 self.ended[owner] = reply
@@ -267,13 +298,15 @@ class Recorder(Desk):
             raise Fault(f"asking for a vehicle was refused: {refused[0]}")
         return replies
 
-    def rescue(self, clock, lanes):
+    def rescue(self, clock, lanes, watched):
         """Takes out who has stood at a stop line, or in front of a buffer, for too long, and enters it on the rest of
-        its plan."""
-        standing_now, still = {}, set()
+        its plan. watched: the lanes that were polled for it."""
+        seen = {link for link, _ in watched}
+        standing_now = {key: since for key, since in self.standing.items() if key[1] not in seen}
+        still = self.watched - watched
         for place, reply in lanes.items():
             link = place[0]
-            if place not in self.watched:
+            if place not in watched:
                 continue
             if reply.buffer:
                 standing_now[reply.buffer[0][0], link] = reply.buffer[0][2]
@@ -285,8 +318,9 @@ class Recorder(Desk):
         self.standing = standing_now
         if not self.records.asking.all_watched:
             self.watched = still
-        for car in [car for (car, _), since in standing_now.items() if clock - since >= self.settings.rescue]:
-            self.take_and_enter(clock, car)
+        for key in [key for key, since in standing_now.items() if clock - since >= self.settings.rescue and key[1] in seen]:
+            self.standing.pop(key)
+            self.take_and_enter(clock, key[0])
 
     def take_and_enter(self, clock, car):
         """Takes a vehicle out and enters it anew on the next link of its plan."""

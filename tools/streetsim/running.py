@@ -227,6 +227,8 @@ def notes(records, settings):
     if settings.every is None and records.asking.every != INTERVALS[0]:
         often = f"every {records.asking.every:,} s" if records.asking.every else "never"
         yield f"lanes are polled {often}, as the program takes no more calls"
+    if records.unpolled:
+        yield f"{records.unpolled:,} polls of the lanes were left out, as rescues took the calls"
     if records.unsent:
         yield f"{records.unsent:,} lines were not sent, as their clock is after --until"
 

@@ -1,4 +1,6 @@
 """A run under SUMO's names and units (metres, metres a second, seconds), with TraCI's calls where one fits."""
+from heapq import heappop, heappush
+
 from . import limits
 from .client import Client
 from .mapping import read_map
@@ -48,6 +50,7 @@ class Scenario:
         self.client = Client(program, workers)
         self.clock = source.start()
         self.cars, self.plans, self.sizes = {}, {}, {}  # by name: number, links, cells
+        self.later = []  # (depart, number, name) of vehicles that may not have departed, the earliest first
         self.going = {}  # number: name, of vehicles that may be on their way
         self.routes, self.detectors = {}, {}
         self.lane_of = {self.map.lane_name(link, lane): (link, lane) for link, lane in self.map.lanes()}
@@ -83,7 +86,7 @@ class Scenario:
             raise ValueError(f"there is a vehicle {name!r} already")
         self.cars[name] = self.client.enter(plan, lane, depart, size)
         self.plans[name], self.sizes[name] = tuple(plan), size
-        self.going[self.cars[name]] = name
+        heappush(self.later, (depart, self.cars[name], name))
 
     def plan(self, edges):
         """Links along edges, each with a turn to the next; ValueError where there are none."""
@@ -149,6 +152,9 @@ class Vehicle(Part):
     def getIDList(self):
         """Vehicles on lanes or in buffers."""
         scenario = self.scenario
+        while scenario.later and scenario.later[0][0] < scenario.clock:
+            _, car, name = heappop(scenario.later)
+            scenario.going[car] = name
         replies = scenario.client.batch({"cmd": "vehicle", "car": car} for car in scenario.going)
         for reply in replies:
             if reply.state in ("arrived", "taken"):

@@ -66,11 +66,11 @@ class FewCalls(Case):
             return list(csv.DictReader(file))
 
     def test_a_late_vehicle_is_rescued(self):
-        """At red for ever. Free flow is 10 / 5 + 1 + 10 / 5 = 5 s, so it is asked at 180, the first minute 120 s after;
+        """At red for ever; two lanes a minute do not fit. Free flow is 10 / 5 + 1 + 10 / 5 = 5 s, so it is asked at 180, the first minute 120 s after;
         it stands, and is watched until 300, 120 s later; on the second link it arrives in step 304."""
         words = self.given(RED, {"cmd": "enter", "plan": [0, 1], "lane": 0, "depart": 0}, cars=["v"])
         told, _ = self.tool(
-            "run", *words, "--until", 600, "--rescue", 120, "--every", 600, "--calls", 60, "--out", self.folder / "out"
+            "run", *words, "--until", 6000, "--rescue", 120, "--every", 6000, "--calls", 500, "--out", self.folder / "out"
         )
         self.assertEqual(told, "1 vehicles, 1 arrived, mean trip 305.0 s, 1 rescues\n")
 

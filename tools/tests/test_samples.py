@@ -3,9 +3,10 @@ import csv
 import gzip
 import re
 import unittest
+from collections import defaultdict
 
 from support import DATA, PROGRAM, SCENARIOS, Case, needs_simulator
-from streetsim.compare import counts_of, geh, trips_of
+from streetsim.compare import correlation, counts_of, geh, trips_of
 from streetsim.folder import read_folder
 
 QUARTERS = (900, 1800, 2700, 3600, 4500, 5400)
@@ -27,6 +28,7 @@ class Samples(Case):
         self.check_trips(name, trips_of(folder))
         if counts:
             self.check_counts(name, counts_of(folder))
+        return folder
 
     def check_trips(self, name, trips):
         vehicles, mean, arrived = arrivals_of(name)
@@ -49,7 +51,26 @@ class Samples(Case):
         self.assertGreaterEqual(good / len(pairs), 0.85)
 
     def test_grid(self):
-        self.compare("grid", DATA / "grid.net.xml.gz", DATA / "grid.rou.xml.gz")
+        folder = self.compare("grid", DATA / "grid.net.xml.gz", DATA / "grid.rou.xml.gz")
+        self.check_edges(folder)
+
+    def check_edges(self, folder):
+        """SUMO's edgeData of the first hour: time on all edges within 10 %, entered within GEH 5 for 85 %, and edges that are
+        slow there are slow here."""
+        here = {(row["edge"], row["begin"]): row for row in folder.edges()}
+        with open(DATA / "sumo-edges-grid.csv", encoding="utf-8") as file:
+            pairs = [(here[row["edge"], row["begin"]], row) for row in csv.DictReader(file)]
+        self.assertEqual(len(pairs), 480)
+        good = sum(geh(4 * int(one["entered"]), 4 * int(other["entered"])) < 5 for one, other in pairs)
+        self.assertGreaterEqual(good / len(pairs), 0.85)
+        metres = {edge: folder.mapping.links[links[0]].metres for edge, links in folder.mapping.links_of.items()}
+        on_edges = sum(float(one["density_per_km"]) * metres[one["edge"]] / 1000 * 900 for one, _ in pairs)
+        self.assertAlmostEqual(on_edges / sum(float(other["sampled_seconds"]) for _, other in pairs), 1, delta=0.1)
+        travel = defaultdict(lambda: [0.0, 0.0])
+        for one, other in pairs:
+            for at, row in enumerate((one, other)):
+                travel[other["edge"]][at] += int(other["left"]) * float(row["travel_time_s"] or 0)
+        self.assertGreater(correlation(*zip(*travel.values())), 0.8)
 
     def test_town(self):
         self.compare("town", DATA / "town.net.xml.gz", DATA / "town.rou.xml.gz")

@@ -260,10 +260,12 @@ class Vehicle(Domain):
 
     def getWaitingTime(self, name):
         """Seconds for which it has stood; from the first call on that looks at vehicles."""
-        return float(self.now().waiting.get(self.where(name)[0], 0))
+        car, _ = self.where(name)
+        return float(self.now().waiting.get(car, 0))
 
     def getAccumulatedWaitingTime(self, name):
-        return float(self.now().waited.get(self.where(name)[0], 0))
+        car, _ = self.where(name)
+        return float(self.now().waited.get(car, 0))
 
     def getRoute(self, name):
         self.where(name)
@@ -360,7 +362,8 @@ class Lane(Domain):
 
     def getWaitingTime(self, name):
         """The sum over the vehicles."""
-        return float(sum(self.now().waiting.get(car, 0) for car in self.cars(name)))
+        cars = self.cars(name)
+        return float(sum(self.now().waiting.get(car, 0) for car in cars))
 
     def getTraveltime(self, name):
         """Seconds for the length at the mean speed."""
