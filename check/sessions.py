@@ -61,19 +61,13 @@ class Comparison:
         places = [] if most == MOST_CALLS else ["--calls", str(most)]
         with tempfile.TemporaryDirectory() as folder:
             tape = Path(folder) / "tape"
-            writes = ["--tape", tape] if self.can_be_taped(served.calls) else []
             for workers in WORKERS:
                 words = ["--workers", str(workers), *places]
-                found = first_difference(lines, served.replies, self.run([*words, *writes], text))
+                found = first_difference(lines, served.replies, self.run([*words, "--tape", tape], text))
                 if found:
                     return Difference(lines, words, [], *found, [])
-            found = writes and (self.of_tape(served, tape) or self.of_replay(served, tape) or self.of_changed_tape(lines, tape))
+            found = self.of_tape(served, tape) or self.of_replay(served, tape) or self.of_changed_tape(lines, tape)
         return Difference(lines, [*places, "--tape", "FILE"], *found) if found else None
-
-    def can_be_taped(self, calls):
-        """Whether a tape tells all of these calls: one of version 1 has no sizes."""
-        sized = any(call.v_command.name == "Command.Enter" and call.v_command.parts[3] != 1 for call in calls)
-        return not (sized and self.definitions.tape([]).startswith(b'{"tape":1}'))
 
     def run(self, words, text=b""):
         """The lines that the program writes; its status and what it says of it stand behind them where the status is not 0."""
