@@ -2,7 +2,7 @@
 
 use street_tile::Gate;
 
-/// From how many vehicles in cells on threads make a step faster than one thread alone, as measured (bench/RESULTS.md).
+/// From about how many vehicles in cells on threads save more time than it takes to start them.
 const LEAST_SHARED: u64 = 30_000;
 
 /// A gate that nobody watches. Workers share a step where there is enough to do.

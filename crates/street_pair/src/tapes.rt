@@ -27,12 +27,20 @@ pub struct Told {
 }
 
 /// What a replay of a tape answers.
-#[derive(Drop)]
 pub struct Retold {
     /// The lines of reply to its calls.
     pub replies: Vec<u8>,
     /// The reply to a count after them.
     pub count: Reply,
+}
+
+impl Drop for Retold {
+    fn drop(self) {
+        let Retold {
+            replies: _,
+            count: _,
+        } = self;
+    }
 }
 
 /// Replays a tape, and then counts.
