@@ -82,6 +82,26 @@ fn count_text(alloc: Global, retold: &Retold) -> io::Result<Vec<u8>> {
     reply_text(alloc, &retold.count).ok().ok_or(not_served())
 }
 
+/// The replies of a replay of the clients' tape, and to a count after it.
+fn retold_from<R: Threads + Sync + AllocGlobal>(rt: &R, told: &Told) -> io::Result<Retold>
+    ensures { IfOk result (λ retold. IsRetold told.now.tape.items retold) }
+{
+    match retell(rt, rt.alloc(), &told.tape) {
+        Ok(retold) => Ok(retold),
+        Err(_fault) => Err(not_served()),
+    }
+}
+
+/// Whether each reply is that of the tape.
+fn agrees_with(alloc: Global, told: &Told, replies: &[u8]) -> io::Result<bool>
+    ensures { IfOk result (λ agrees. Decides agrees (Agrees told.now replies.now)) }
+{
+    match told.agrees(alloc, replies) {
+        Ok(agrees) => Ok(agrees),
+        Err(_starved) => Err(not_served()),
+    }
+}
+
 /// Whether each reply is that of the tape; if so, this is said, with what a count answers after the tape.
 fn compare<R: Threads + Sync + Print + AllocGlobal>(
     rt: &R,
@@ -93,11 +113,8 @@ fn compare<R: Threads + Sync + Print + AllocGlobal>(
         × Decides agrees (Agrees told.now retold.replies.items)) }
 {
     let alloc = rt.alloc();
-    let retold = retell(rt, alloc, &told.tape).ok().ok_or(not_served())?;
-    let agrees = told
-        .agrees(alloc, &retold.replies)
-        .ok()
-        .ok_or(not_served())?;
+    let retold = retold_from(rt, told)?;
+    let agrees = agrees_with(alloc, told, &retold.replies)?;
     if agrees {
         let calls = text_of(&told.tape).lines().skip(1).count();
         let text = count_text(alloc, &retold)?;
@@ -123,7 +140,7 @@ fn three_places<R: Threads + Wait + Sync + Print + AllocGlobal + Files<File = Fi
     let alloc = rt.alloc();
     let told = serve_both_scripts(rt, alloc, 3, "counts.jsonl", "counts.jsonl");
     let told = told.ok_or(not_served())?;
-    let retold = retell(rt, alloc, &told.tape).ok().ok_or(not_served())?;
+    let retold = retold_from(rt, &told)?;
     let (first, second) = (told.first.as_slice(), told.second.as_slice());
     let full = (first == TWO_COUNTS && second == COUNT_AND_FULL)
         || (first == COUNT_AND_FULL && second == TWO_COUNTS);
