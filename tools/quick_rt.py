@@ -1,7 +1,8 @@
-"""The kit's rt, with the sum of each crate's sources made once in a run.
+"""The kit's rt, with the sum of each crate's sources made once in a run, and a lock on the crate alone.
 
-rt makes it anew on each way by which one crate uses another, some 1,600,000 times a file for the program: minutes, in which
-nothing is proved. The sources must not change while it runs, as in the copy of ./build. With a kit in which rt is made
+rt makes the sum anew on each way by which one crate uses another, some 1,600,000 times a file for the program: minutes, in which
+nothing is proved. It also keeps every other rt out of the crates below, so that no two crates are proved at once. The sources must
+not change while this runs, and the crates below must be proved, as in the copy of ./build. With a kit in which rt is made
 otherwise, rt runs as it is.
 """
 import os
@@ -19,7 +20,7 @@ def library():
         import rtlib
     except ImportError:
         return None
-    return rtlib if hasattr(rtlib, "main") and hasattr(getattr(rtlib, "Crate", None), "stamp") else None
+    return rtlib if hasattr(rtlib, "main") and hasattr(rtlib, "lock") and hasattr(getattr(rtlib, "Crate", None), "stamp") else None
 
 
 def keep_stamps(crate_type):
@@ -34,11 +35,18 @@ def keep_stamps(crate_type):
     crate_type.stamp = stamp
 
 
+def lock_last(rtlib):
+    """Has a run lock the last of its crates, which it proves, and not those below."""
+    plain = rtlib.lock
+    rtlib.lock = lambda crates: plain(crates[-1:])
+
+
 def main(words):
     rtlib = library()
     if rtlib is None:
         os.execvp("rt", ["rt", *words])
     keep_stamps(rtlib.Crate)
+    lock_last(rtlib)
     return rtlib.main(*words)
 
 
