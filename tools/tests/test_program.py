@@ -3,10 +3,15 @@
 What is wanted is told by docs/LINES.md, docs/help.txt and examples/ (stored sessions with their replies).
 """
 import json
+import os
 import re
 import resource
+import shutil
+import signal
 import socket
 import subprocess
+import sys
+import time
 import unittest
 
 from support import PROGRAM, TOOLS, Case, needs_simulator
@@ -23,6 +28,12 @@ NOT_LOADED = '{"error":1,"name":"NotLoaded"}\n'
 NO_VEHICLES = '{"admitted":0,"arrived":0,"buffers":0,"cells":0,"clock":0,"taken":0,"waiting":0}\n'
 ONE_WAITS = '{"admitted":1,"arrived":0,"buffers":0,"cells":0,"clock":0,"taken":0,"waiting":1}\n'
 AFTER_ONE_VEHICLE = '{"admitted":1,"arrived":1,"buffers":0,"cells":0,"clock":5,"taken":0,"waiting":0}\n'
+NOT_JSON = '{"error":20,"name":"NotJson"}\n'
+BAD_COMMAND = '{"error":21,"name":"BadCommand"}\n'
+TOO_LONG = '{"error":22,"name":"LineTooLong"}\n'
+BAD_RANGE = '{"error":7,"name":"BadRange"}\n'
+TOO_MANY = '{"error":13,"name":"TooMany"}\n'
+BAD_COUNT = '{"error":14,"name":"BadCount"}\n'
 
 
 def tape_in_lines():
@@ -89,6 +100,17 @@ class Input(ProgramCase):
         self.assertEqual((self.folder / "run.tape").read_text(), tape_in_lines())
 
 
+    def test_without_a_number_there_is_a_place_for_65536_calls(self):
+        self.assertEqual(self.ends([], '{"cmd":"count"}\n' * 65_538), NOT_LOADED * 65_536 + FULL * 2)
+
+    def test_a_million_calls_admit_all_vehicles_but_one(self):
+        # The load takes a place.
+        load, enter = PLANNER.read_text().splitlines(keepends=True)[:2]
+        told = self.ends(["--calls", 1_000_000], load + enter * 1_000_001)
+        self.assertTrue(told.endswith('{"car":999997}\n{"car":999998}\n' + FULL * 2))
+        self.assertEqual(told.count("\n"), 1_000_002)
+
+
 class Scripts(ProgramCase):
     def test_replies_come_in_the_order_of_the_words(self):
         planner, queue = PLANNER, EXAMPLES / "queue.jsonl"
@@ -137,6 +159,37 @@ class Scripts(ProgramCase):
         self.addCleanup(resource.setrlimit, resource.RLIMIT_NOFILE, (soft, hard))
         resource.setrlimit(resource.RLIMIT_NOFILE, (hard, hard))
         self.assertEqual(self.ends([COUNTER] * 1_024), NOT_LOADED * 4 * 1_024)
+
+    def test_scripts_are_opened_in_the_order_of_the_words(self):
+        # The writing end of a FIFO opens once the program opens it too, and the program waits there.
+        names = ("first", "second", "third")
+        for name in names:
+            os.mkfifo(self.folder / name)
+        with subprocess.Popen([PROGRAM, *names], stdout=subprocess.PIPE, text=True, cwd=self.folder) as process:
+            self.addCleanup(process.kill)
+            try:
+                for name, script in zip(names, (PLANNER, COUNTER, COUNTER)):
+                    self.write_to_reader(self.folder / name, script.read_bytes())
+            except TimeoutError:
+                process.kill()
+                raise
+            told = process.communicate(timeout=60)[0].splitlines(keepends=True)
+        self.assertEqual("".join(told[:4]), ONE_VEHICLE)
+        self.assertEqual((process.returncode, len(told)), (0, 12))
+
+    def write_to_reader(self, fifo, data):
+        """Writes to a FIFO, when a reader has come to it."""
+        until = time.monotonic() + 20
+        while time.monotonic() < until:
+            try:
+                end = os.open(fifo, os.O_WRONLY | os.O_NONBLOCK)
+            except OSError:
+                time.sleep(0.01)
+                continue
+            with open(end, "wb") as writer:
+                writer.write(data)
+            return
+        raise TimeoutError(f"nobody opens {fifo.name}")
 
     def test_a_script_that_is_not_there_is_told_and_the_others_are_printed(self):
         told = self.ends([PLANNER, "none.jsonl"], status=1, error="streetsim: cannot read none.jsonl\n")
@@ -262,6 +315,205 @@ class Tapes(ProgramCase):
             error = f"streetsim: bad tape at line {bad}\n"
             self.assertEqual(self.ends(["--replay", tape], status=1, error=error), "".join(replies[:served]))
             self.assertEqual(self.ends(["--upgrade", tape], status=1, error=error), "")
+
+
+    def test_a_replay_admits_a_million_vehicles(self):
+        _, load, enter, *_ = tape_in_lines().splitlines(keepends=True)
+        last = '{"command":{"cmd":"enter","depart":0,"lane":7,"plan":[]},"outcome":"whole","session":0}\n'
+        with open(self.folder / "run.tape", "w") as tape:
+            tape.write('{"calls":1000002,"tape":2}\n' + load)
+            tape.writelines([enter] * 1_000_000)
+            tape.write(last)
+        told = self.ends(["--replay", "run.tape"])
+        count = ONE_WAITS.replace(":1,", ":1000000,").replace(":1}", ":1000000}")
+        self.assertTrue(told.endswith('{"car":999998}\n{"car":999999}\n' + TOO_MANY + count))
+
+
+class LastNumbers(ProgramCase):
+    """The numbers up to which LINES.md says that something goes, and what is answered one beyond."""
+
+    LOAD = '{"cmd":"load","nodes":[[1,1,2]],"links":[[10,1,1,1,10,5]],"turns":[[10,0,10,0]],"zone":0,"dawdle":0,"change":0,"seed":0}\n'
+    LOADED = '{"links":1,"nodes":1,"turns":1}\n'
+
+    def answers(self, *pairs):
+        """In one session on a link that runs in a circle, each line gets its reply."""
+        self.assertEqual(self.ends([], self.LOAD + "".join(f"{line}\n" for line, _ in pairs)), self.LOADED + "".join(reply for _, reply in pairs))
+
+    def test_the_greatest_network(self):
+        greatest = 4_294_967_295
+        nodes = [[id, 60, 64] for id in (*range(4_095), greatest)]
+        links = [[id, 0, 0, 2, 1_000_000, 5] for id in range(128)] + [[id, 0, greatest, 1, 1, 1] for id in (*range(128, 4_095), greatest)]
+        turns = [[link, lane, next, 0] for link in range(128) for lane in (0, 1) for next in range(128)]
+        network = {"nodes": nodes, "links": links, "turns": turns, "zone": 1_000, "dawdle": 1_000, "change": 1_000, "seed": 2**64 - 1, "start": 10**9}
+        another = [4_095, 0, 0, 1, 1, 1]
+        faults = [
+            ("nodes", 4_096, {"nodes": [*nodes, [4_095, 1, 1]]}),
+            ("links", 4_096, {"links": [*links, another]}),
+            ("turns", 32_768, {"links": [*links[:-1], another], "turns": [*turns, [4_095, 0, 0, 0]]}),
+            *(("nodes", 4_095, {"nodes": [*nodes[:-1], node]}) for node in ([greatest + 1, 1, 1], [4_095, 0, 1], [4_095, 61, 1], [4_095, 1, 0], [4_095, 1, 65])),
+            *(
+                ("links", 4_095, {"links": [*links[:-1], link]})
+                for link in ([greatest + 1, 0, 0, 1, 1, 1], *([4_095, 0, 0, *rest] for rest in ([0, 1, 1], [3, 1, 1], [1, 0, 1], [1, 1_000_001, 1], [1, 1, 0], [1, 1, 6])))
+            ),
+            *(("values", at, {name: network[name] + 1}) for at, name in enumerate(("zone", "dawdle", "change", "start"))),
+        ]
+        loads = [{"cmd": "load", **network, **other} for *_, other in faults] + [{"cmd": "load", **network}]
+        told = self.ends([], "".join(json.dumps(load, separators=(",", ":")) + "\n" for load in loads))
+        wanted = [f'{{"at":{at},"error":3,"name":"BadNetwork","part":"{part}"}}' for part, at, _ in faults]
+        self.assertEqual(told.splitlines(), [*wanted, '{"links":4096,"nodes":4096,"turns":32768}'])
+
+    def test_the_longest_plan_and_the_last_depart(self):
+        enter = '{"cmd":"enter","plan":[%s],"lane":0,"depart":%d,"size":%d}'
+        plan = ",".join(["10"] * 1_024)
+        self.answers(
+            (enter % (f"{plan},10", 0, 1), '{"at":1024,"error":8,"name":"BadPlan"}\n'),
+            (enter % (plan, 10**9 + 1, 1), BAD_RANGE),
+            (enter % (plan, 10**9, 5), BAD_RANGE),
+            (enter % (plan, 10**9, 4), '{"car":0}\n'),
+        )
+
+    def test_the_most_steps_and_the_last_clock(self):
+        advance = '{"cmd":"advance","steps":%d}'
+        self.answers((advance % 10_001, BAD_COUNT), (advance % 10_000, '{"clock":10000}\n'))
+        ended = '{"error":15,"name":"ClockEnd"}\n'
+        late = self.LOAD.replace('"seed":0', f'"seed":0,"start":{10**9 - 10_000}')
+        told = self.ends([], late + f"{advance % 1}\n{advance % 10_000}\n{advance % 9_999}\n{advance % 1}\n")
+        self.assertEqual(told, f'{self.LOADED}{{"clock":999990001}}\n{ended}{{"clock":1000000000}}\n{ended}')
+
+    def test_the_longest_signal_plan(self):
+        def signal_of(offset, *phases):
+            return json.dumps({"cmd": "signal", "node": 1, "offset": offset, "phases": phases}, separators=(",", ":"))
+
+        def refused(at):
+            return f'{{"at":{at},"error":9,"name":"BadSignal"}}\n'
+
+        greens = [[10, 0, 10]] * 32_768
+        phase = [600, []]
+        self.answers(
+            (signal_of(0, *[phase] * 17), refused(16)),
+            (signal_of(0, phase, [601, []]), refused(1)),
+            (signal_of(0, [0, []]), refused(0)),
+            (signal_of(0, [1, [*greens, [10, 0, 10]]]), refused(0)),
+            (signal_of(9_600, *[phase] * 16), refused(16)),
+            (signal_of(9_599, *[phase] * 15, [600, greens]), '{"cycle":9600}\n'),
+        )
+
+    def test_the_most_detectors_and_rows(self):
+        meter = '{"cmd":"meter","link":10,"lane":0,"cell":9,"period":%d}'
+        rows = ",".join(f"[{start},0,0,0]" for start in range(2, 34))
+        self.answers(
+            (meter % 100_001, BAD_COUNT),
+            (meter % 1, '{"meter":0}\n'),
+            *((meter % 100_000, f'{{"meter":{number}}}\n') for number in range(1, 1_024)),
+            (meter % 1, TOO_MANY),
+            (meter % 100_001, BAD_COUNT),
+            ('{"cmd":"advance","steps":34}', '{"clock":34}\n'),
+            ('{"cmd":"read","meter":0}', f'{{"now":[34,0,0,0,0],"rows":[{rows}]}}\n'),
+            ('{"cmd":"read","meter":1023}', '{"now":[0,34,0,0,0],"rows":[]}\n'),
+            ('{"cmd":"read","meter":1024}', '{"error":12,"name":"NoMeter"}\n'),
+        )
+
+    def test_the_longest_line(self):
+        count = '{"cmd":"count"}'
+        told = self.ends([], f"{count:1048576}\n{count:1048577}\n{' ' * 3_000_000}\n{'x' * 1_048_576}\n{'x' * 1_048_577}\n{count}")
+        self.assertEqual(told, NOT_LOADED + TOO_LONG + NOT_JSON + TOO_LONG + NOT_LOADED)
+
+    def test_the_deepest_line_and_the_greatest_number(self):
+        # The command itself is the first level.
+        for begin, end in (("[", "]"), ('{"x":', "}")):
+            deep = ['{"cmd":"count","x":' + begin * levels + "1" + end * levels + "}" for levels in (126, 127)]
+            self.assertEqual(self.ends([], "\n".join(deep)), NOT_LOADED + NOT_JSON)
+        self.answers(
+            ('{"cmd":"advance","steps":18446744073709551615}', BAD_COUNT),
+            ('{"cmd":"advance","steps":18446744073709551616}', BAD_COMMAND),
+        )
+
+
+class Limits(ProgramCase):
+    """Under limits that the system sets."""
+
+    def limited(self, words, text, limit, value, **more):
+        """What a run under a limit wrote to standard output, and how it ended."""
+        def set_limit():
+            resource.setrlimit(limit, (value, value))
+
+        with open(self.folder / "replies", "w+") as output:
+            done = subprocess.run(
+                [PROGRAM, *map(str, words)], input=text, stdout=output, stderr=subprocess.PIPE, text=True, timeout=60,
+                cwd=self.folder, check=False, preexec_fn=set_limit, **more
+            )
+        return (self.folder / "replies").read_text(), done.returncode, done.stderr
+
+    def test_128_kib_of_stack_are_enough(self):
+        lines = ['{"cmd":"count","x":' + begin * 126 + "1" + end * 126 + "}\n" for begin, end in (("[", "]"), ('{"x":', "}"))]
+        script = self.write("deep.jsonl", "".join(lines))
+        for words, text in (([], "".join(lines)), ([script], "")):
+            told = self.limited(words, text, resource.RLIMIT_STACK, 128 << 10, env={})
+            self.assertEqual(told, (NOT_LOADED * 2, 0, ""))
+        for session in sorted(EXAMPLES.glob("*.jsonl")):
+            told = self.limited(["--workers", 2], session.read_text(), resource.RLIMIT_STACK, 128 << 10, env={})
+            self.assertEqual(told, (session.with_suffix(".out").read_text(), 0, ""))
+
+    def test_a_file_that_may_not_grow_is_a_failed_write(self):
+        # Python ignores SIGXFSZ, and a program that it starts so does too, as ./streetsim does.
+        lines = PLANNER.read_text() + '{"cmd":"count"}\n' * 100
+        wanted = ONE_VEHICLE + AFTER_ONE_VEHICLE * 100
+        for words, text, error in (
+            ([], lines, "cannot write standard output"),
+            ([self.write("long.jsonl", lines)], "", "cannot write standard output"),
+            (["--tape", "run.tape"], "x\n" + PLANNER.read_text() * 12, "cannot write run.tape"),
+        ):
+            with self.subTest(words=words):
+                told, status, said = self.limited(words, text, resource.RLIMIT_FSIZE, 4_096, restore_signals=False)
+                self.assertEqual((status, said), (1, f"streetsim: {error}\n"))
+                if "tape" in error:
+                    self.assertEqual((self.folder / "run.tape").stat().st_size, 4_096)
+                else:
+                    self.assertEqual(told, wanted[:4_096])
+
+    def test_a_program_that_is_started_otherwise_is_ended_by_the_signal(self):
+        _, status, said = self.limited([], '{"cmd":"count"}\n' * 400, resource.RLIMIT_FSIZE, 4_096)
+        self.assertEqual((status, said), (-signal.SIGXFSZ, ""))
+
+    def test_the_script_at_the_top_starts_the_program_with_the_signal_ignored(self):
+        top = self.folder / "clone"
+        for name in ("streetsim", "tools/built.py"):
+            (top / name).parent.mkdir(parents=True, exist_ok=True)
+            shutil.copy(TOP / name, top / name)
+        (top / "crates.txt").write_text("street_sim:\n")
+        (top / "crates/street_sim/out").mkdir(parents=True)
+        shutil.copy(PROGRAM, top / "crates/street_sim/out/street_sim")
+        subprocess.run([sys.executable, "-c", "import built; built.mark()"], cwd=top / "tools", check=True)
+
+        def set_limit():
+            resource.setrlimit(resource.RLIMIT_FSIZE, (4_096, 4_096))
+
+        with open(self.folder / "replies", "wb") as output:
+            done = subprocess.run(
+                [top / "streetsim"], input=b'{"cmd":"count"}\n' * 400, stdout=output, stderr=subprocess.PIPE, timeout=60,
+                check=False, preexec_fn=set_limit
+            )
+        self.assertEqual((done.returncode, done.stderr), (1, b"streetsim: cannot write standard output\n"))
+
+
+class Workers(ProgramCase):
+    def test_more_workers_make_no_run_slow(self):
+        """A network with nobody in it: ten times the seconds of one worker would be a start of threads in each step."""
+        nodes = [[id, 1, 1] for id in range(7)]
+        links = [[id, id, (id + 1) % 7, 1, 10, 5] for id in range(7)]
+        turns = [[id, 0, (id + 1) % 7, 0] for id in range(7)]
+        load = json.dumps({"cmd": "load", "nodes": nodes, "links": links, "turns": turns, "zone": 0, "dawdle": 0, "change": 0, "seed": 0})
+        text = f'{load}\n{{"cmd":"advance","steps":10000}}\n'
+
+        def seconds(workers):
+            began = time.monotonic()
+            self.assertEqual(self.ends(["--workers", workers], text), '{"links":7,"nodes":7,"turns":7}\n{"clock":10000}\n')
+            return time.monotonic() - began
+
+        alone = min(seconds(1) for _ in range(3))
+        for workers in (4, 64):
+            with self.subTest(workers=workers):
+                self.assertLess(min(seconds(workers) for _ in range(3)), 10 * alone + 0.2)
 
 
 @needs_simulator

@@ -32,7 +32,10 @@ impl<T: Entry + Drop> Entry for Listing<T> {
 
     fn of_value(alloc: Global, value: &Value) -> Result<Listing<T>, LineFault> {
         let list = value.as_array().ok_or(LineFault::BadCommand)?;
-        let mut found = Vec::new(alloc);
+        // As long as it will be: a journal keeps it.
+        let Ok(mut found) = Vec::with_capacity(alloc, list.len()) else {
+            return Err(LineFault::Starved);
+        };
         for item in list {
             let entry = T::of_value(alloc, item)?;
             if found.push(entry).is_err() {

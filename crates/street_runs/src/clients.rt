@@ -68,44 +68,63 @@ pub fn serve_scripts<'a, R: Threads + Wait + Sync + Print + AllocGlobal + Files<
     run_scripts(rt, alloc, &mut scripts);
     let served = first_fault(scripts.as_slice(), names);
     let printed = print_replies(&mut Counted::new(io::writer(rt)), scripts.as_slice());
-    let pass = first_pass(scripts);
+    let pass = last_pass(scripts);
     let taped = keep_tape(rt, alloc, desk, pass, options.tape);
     served.and(printed).and(taped)
 }
 
-/// The scripts with their files opened and a session for each, the last first: the session of each has its place among the
-/// names as its number.
+/// A pass for each session, the last first, as a pass gives away the greatest of its sessions.
+fn passes_of(
+    alloc: Global,
+    desk: &Desk<Unwatched>,
+    mut pass: Pass<Unwatched>,
+    sessions: usize,
+) -> Result<Vec<Pass<Unwatched>>, Starved>
+    requires desk { pass.desk ≡ desk.now }
+    requires some { 0 < sessions }
+    ensures each { IfOk result (λ passes. vec_len passes ≡ sessions) }
+    ensures desk { IfOk result (λ passes. All (λ p. p.desk ≡ desk.now) passes.items) }
+{
+    let mut passes = Vec::new(alloc);
+    while passes.len() + 1 < sessions {
+        let Ok(last) = desk.split(&mut pass) else {
+            return Err(Starved);
+        };
+        passes.push(last)?;
+    }
+    passes.push(pass)?;
+    Ok(passes)
+}
+
+/// The scripts, their files opened in the order of the names. The session of each has its place among them as its number.
 fn open_scripts<'a, R: Threads + Wait + Sync + Files<File = File>>(
     rt: &'a R,
     alloc: Global,
     desk: &'a Desk<Unwatched>,
-    mut pass: Pass<Unwatched>,
+    pass: Pass<Unwatched>,
     names: &[&str],
 ) -> Result<Vec<Script<'a, R>>, Starved>
     requires desk { pass.desk ≡ desk.now }
     requires some { 0 < length names.now }
-    ensures some { IfOk result (λ scripts. 0 < vec_len scripts) }
+    ensures each { IfOk result (λ scripts. vec_len scripts ≡ length names.now) }
     ensures desk { IfOk result (λ scripts. All (λ s. s.session.desk ≡ desk.now) scripts.items) }
 {
+    let mut passes = passes_of(alloc, desk, pass, names.len())?;
     let mut scripts = Vec::new(alloc);
-    for name in names[1..].iter().rev() {
-        let Ok(last) = desk.split(&mut pass) else {
-            return Err(Starved);
-        };
-        let session = DeskSession::new(rt, desk, last);
-        scripts.push(Script::open(rt, alloc, name, session))?;
+    while let Some(pass) = passes.pop() {
+        let session = DeskSession::new(rt, desk, pass);
+        let script = Script::open(rt, alloc, names[scripts.len()], session);
+        scripts.push(script)?;
     }
-    let session = DeskSession::new(rt, desk, pass);
-    scripts.push(Script::open(rt, alloc, names[0], session))?;
     Ok(scripts)
 }
 
-/// The first fault in the order of the names; the last script stands first.
+/// The first fault in the order of the names.
 fn first_fault<'a, R: Threads + Wait + Sync>(
     scripts: &[Script<'_, R>],
     names: &[&'a str],
 ) -> Result<(), Fault<'a>> {
-    for (script, name) in scripts.iter().rev().zip(names) {
+    for (script, name) in scripts.iter().zip(names) {
         if let Some(kind) = script.fault {
             return Err(Fault::of_run(kind, name, name));
         }
@@ -113,19 +132,19 @@ fn first_fault<'a, R: Threads + Wait + Sync>(
     Ok(())
 }
 
-/// Writes the replies of scripts in the order of their names; the last script stands first.
+/// Writes the replies of scripts in their order.
 fn print_replies<R: Threads + Wait + Sync, W: Write>(
     writer: &mut Counted<W>,
     scripts: &[Script<'_, R>],
 ) -> Result<(), Fault<'static>> {
-    for script in scripts.iter().rev() {
+    for script in scripts {
         print_text(writer, script.replies.as_slice())?;
     }
     Ok(())
 }
 
-/// The pass of the first script, which stands last.
-fn first_pass<R: Threads + Wait + Sync>(mut scripts: Vec<Script<'_, R>>) -> Pass<Unwatched>
+/// The pass of the last script.
+fn last_pass<R: Threads + Wait + Sync>(mut scripts: Vec<Script<'_, R>>) -> Pass<Unwatched>
     requires { 0 < vec_len scripts }
     ensures { (desk : DeskView) → All (λ s. s.session.desk ≡ desk) scripts.entry.items → result.desk ≡ desk }
 {

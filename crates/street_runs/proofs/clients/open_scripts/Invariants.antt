@@ -1,10 +1,12 @@
-use Rattle.std.proofs.Common.{◌≡◌, All}
+use Rattle.std.proofs.Common.{◌≡◌, ◌+◌, All, length, vec_len}
 use Rattle.street_runs.proofs.clients.open_scripts.Given as goal
 
-abbrev pub invariant-loop-name : goal.invariant-loop-name
-invariant-loop-name g l = record {
-  can_next : (goal.iterator-loop-name g).can_next l.name-iterator;
-  is_finite : (goal.iterator-loop-name g).is_finite l.name-iterator;
-  desk : l.pass.desk ≡ l.desk;
-  all : All (λ s. s.session.desk ≡ l.desk) l.scripts.items;
+abbrev pub invariant-loop-pass : goal.invariant-loop-pass
+invariant-loop-pass g l = record {
+  each : vec_len l.scripts + vec_len l.passes ≡ length l.names;
+  passes : All (λ p. p.desk ≡ l.desk) l.passes.items;
+  scripts : All (λ s. s.session.desk ≡ l.desk) l.scripts.items;
 }
+
+abbrev pub decreases-loop-pass : goal.decreases-loop-pass
+decreases-loop-pass g l = vec_len l.passes

@@ -12,5 +12,5 @@ keep_tape-taped-requires g c =
     let long : c.in_ok-scripts.scripts.len ≡ length c.in_ok-scripts.scripts.items = sym c.deref_mut.ensures.len ∙ ap length c.deref_mut.ensures.value in
     let all : length c.in_ok-scripts.scripts.items ≡ length new = ap length (sym c.deref_mut.ensures.value) ∙ sym c.run_scripts.ensures.same in
     let kept : take c.in_ok-scripts.scripts.len (new ++ rest) ≡ new = ap (λ n. take n (new ++ rest)) (long ∙ all) ∙ take-append_seam new rest in
-    c.first_pass-pass.ensures desk (subst (λ (scripts : List (Script g.row.R.Denot)). All (λ s. s.session.desk ≡ desk) scripts) (sym kept)
+    c.last_pass-pass.ensures desk (subst (λ (scripts : List (Script g.row.R.Denot)). All (λ s. s.session.desk ≡ desk) scripts) (sym kept)
     (c.run_scripts.ensures.desks desk (subst (λ (scripts : List (Script g.row.R.Denot)). All (λ s. s.session.desk ≡ desk) scripts) (sym c.deref_mut.ensures.value) c.in_ok-scripts.ensures.desk)))

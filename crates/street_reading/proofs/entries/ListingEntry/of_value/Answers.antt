@@ -7,7 +7,7 @@ use Rattle.street_reading.proofs.entries.ListingEntry.of_value.Goals as goal
 pub loop-item-init : goal.loop-item-init
 loop-item-init g c =
     let is : as_array (view c.args.value.now) ≡ Some (items_view c.in_ok-list.list.now.items) = search rules in
-    rw (c.new-found.ensures.items, c.deref-item-items.ensures.value, is) (no_front _)
+    rw (c.in-Ok.ensures.items, c.deref-item-items.ensures.value, is) (no_front _)
 
 pub loop-item-preserved : goal.loop-item-preserved
 loop-item-preserved g c =
