@@ -4,6 +4,7 @@ mod cuts;
 mod faults;
 mod running;
 mod sizes;
+mod texts;
 mod upgrades;
 
 use crate::ends::Taking;

@@ -1,32 +1,14 @@
-//! Tapes that are cut off after each byte.
+//! The tape of the vehicle that arrives, cut off after each byte.
 
 use crate::ends::Taking;
 use crate::replays::running::{Ran, replayed, upgraded};
+use crate::replays::texts::{HEAD, OLD_HEAD, arrives_after, calls, first, first_lines, replies_to};
+use std::alloc::{AllocError, Global};
 use std::process::Abort;
+use std::test::Fail;
 use std::thread::Threads;
+use street_ends::Tally;
 use street_replay::TapeFault;
-
-/// Two calls with nothing loaded, of each version.
-static VERSION_1: &str = concat!(
-    r#"{"tape":1}"#,
-    "\n",
-    r#"{"command":{"car":0,"cmd":"vehicle"},"outcome":"whole","session":0}"#,
-    "\n",
-    r#"{"command":{"cmd":"advance","steps":5},"outcome":"whole","session":1}"#,
-    "\n",
-);
-
-static VERSION_2: &str = concat!(
-    r#"{"calls":2,"tape":2}"#,
-    "\n",
-    r#"{"command":{"car":0,"cmd":"vehicle"},"outcome":"whole","session":0}"#,
-    "\n",
-    r#"{"command":{"cmd":"advance","steps":5},"outcome":"whole","session":1}"#,
-    "\n",
-);
-
-/// How many bytes the reply to each has.
-const REPLY: usize = 31;
 
 /// How many whole lines the first bytes of a tape have, and whether they are all; a line is whole without its LF too.
 fn whole_lines(text: &[u8], cut: usize) -> (usize, bool) {
@@ -41,12 +23,13 @@ fn whole_lines(text: &[u8], cut: usize) -> (usize, bool) {
     (lines, all)
 }
 
-/// What is told of a tape that is cut there.
+/// What is told of a tape that is cut there; where its first line does not count the calls, a cut between two lines is not
+/// noticed.
 fn fault_at(text: &[u8], counts: bool, cut: usize) -> Option<TapeFault> {
     let (lines, all) = whole_lines(text, cut);
     match lines {
         0 => Some(TapeFault::NotTape),
-        3 => None,
+        5 => None,
         _ if all && !counts => None,
         _ => Some(TapeFault::BadEntry {
             line: lines.saturating_add(1) as u128,
@@ -54,46 +37,88 @@ fn fault_at(text: &[u8], counts: bool, cut: usize) -> Option<TapeFault> {
     }
 }
 
-/// The fault is told, and the calls before it were done.
-fn check_replay(rt: &impl Abort, ran: &Ran, text: &[u8], counts: bool, cut: usize) {
-    let calls = whole_lines(text, cut).0.saturating_sub(1);
-    assert_eq!(rt; ran.fault, fault_at(text, counts, cut), "at {cut}");
-    assert_eq!(rt; ran.taken.len(), calls.saturating_mul(REPLY), "at {cut}");
+/// The tally of so many lines, replies and bytes.
+fn tally_of(lines: usize, replies: usize, bytes: usize) -> Tally {
+    Tally {
+        lines: lines as u128,
+        calls: lines.saturating_sub(1) as u128,
+        replies: replies as u128,
+        bytes: bytes as u128,
+    }
 }
 
-/// So with an upgrade; where a fault is told nothing is written.
-fn check_upgrade(rt: &impl Abort, ran: &Ran, text: &[u8], counts: bool, cut: usize) {
-    let fault = fault_at(text, counts, cut);
-    assert_eq!(rt; ran.fault, fault, "at {cut}");
-    assert_eq!(rt; ran.taken.is_empty(), fault.is_some(), "at {cut}");
+/// The fault is told, or this tally, and exactly this text was written and flushed.
+fn check(
+    rt: &impl Abort,
+    ran: &Ran,
+    fault: Option<TapeFault>,
+    tally: Tally,
+    text: &[u8],
+    cut: usize,
+) {
+    let told = match fault {
+        Some(_) => None,
+        None => Some(tally),
+    };
+    let holds = ran.fault == fault && ran.tally == told && ran.taken.as_slice() == text;
+    assert!(rt; holds && ran.flushed == text.len(), "at {cut}");
 }
 
-/// The tape is cut off after so many bytes.
+/// The tape of version 2 of so many first calls.
+fn tape_of(alloc: Global, lines: usize) -> Result<Vec<u8>, AllocError> {
+    let heads = [
+        "{\"calls\":0,\"tape\":2}\n",
+        "{\"calls\":1,\"tape\":2}\n",
+        "{\"calls\":2,\"tape\":2}\n",
+        "{\"calls\":3,\"tape\":2}\n",
+    ];
+    let count = lines.saturating_sub(1);
+    let head = heads.get(count).copied().unwrap_or(HEAD);
+    let mut tape = Vec::from_slice(alloc, head.as_bytes())?;
+    tape.extend_from_slice(first_lines(calls(), count))?;
+    Ok(tape)
+}
+
+/// The tape is cut off after so many bytes: the calls of the whole lines are done, and replied to; an upgrade writes nothing
+/// where a fault is told.
 fn check_cut(
     rt: &(impl Threads + Abort + AllocGlobal + Sync),
     text: &[u8],
     counts: bool,
     cut: usize,
-) {
+) -> Result<(), AllocError> {
     let alloc = rt.alloc();
-    let part = text.get(..cut).unwrap_or(text);
-    let ran = replayed(rt, alloc, part, 40, Taking::all(alloc), 1000);
-    check_replay(rt, &ran, text, counts, cut);
-    let ran = upgraded(alloc, part, 40, Taking::all(alloc), 1000);
-    check_upgrade(rt, &ran, text, counts, cut);
+    let (fault, lines) = (fault_at(text, counts, cut), whole_lines(text, cut).0);
+    let ran = replayed(rt, alloc, first(text, cut), 40, Taking::all(alloc), 1000);
+    let want = replies_to(lines);
+    let tally = tally_of(lines, lines.saturating_sub(1), want.len());
+    check(rt, &ran, fault, tally, want, cut);
+    let ran = upgraded(alloc, first(text, cut), 40, Taking::all(alloc), 1000);
+    let mut want = tape_of(alloc, lines)?;
+    if fault.is_some() {
+        want.clear();
+    }
+    let tally = tally_of(lines, 0, want.len());
+    check(rt, &ran, fault, tally, want.as_slice(), cut);
+    Ok(())
 }
 
-/// A tape of version 1 that is cut off between two lines is not noticed.
-#[test]
-fn version_1_is_cut_after_each_byte(rt: HostRuntime) {
-    for cut in 0..=VERSION_1.len() {
-        check_cut(&rt, VERSION_1.as_bytes(), false, cut);
+/// The tape with this first line is cut off after each byte.
+fn check_cuts(
+    rt: &(impl Threads + Abort + AllocGlobal + Sync),
+    head: &str,
+    counts: bool,
+) -> Result<(), AllocError> {
+    let text = arrives_after(rt.alloc(), head)?;
+    for cut in 0..=text.len() {
+        check_cut(rt, text.as_slice(), counts, cut)?;
     }
+    Ok(())
 }
 
 #[test]
-fn version_2_is_cut_after_each_byte(rt: HostRuntime) {
-    for cut in 0..=VERSION_2.len() {
-        check_cut(&rt, VERSION_2.as_bytes(), true, cut);
-    }
+fn a_tape_is_cut_after_each_byte(rt: HostRuntime) -> Result<(), Fail> {
+    check_cuts(&rt, OLD_HEAD, false)?;
+    check_cuts(&rt, HEAD, true)?;
+    Ok(())
 }

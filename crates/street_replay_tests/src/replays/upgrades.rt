@@ -1,24 +1,14 @@
 //! Tapes upgraded over ends in memory.
 
-use crate::ends::{Given, Taking};
-use crate::replays::running::{Ran, replayed, upgraded, upgraded_from};
+use crate::ends::Taking;
+use crate::replays::running::{Ran, replayed, upgraded};
+use crate::replays::texts::{HEAD, arrives_after};
 use crate::replays::{ARRIVES, ARRIVES_OUTPUT, BAD_ENTRIES, NO_TAPES, begun_with};
-use std::alloc::{AllocError, Global};
+use std::alloc::Global;
 use std::process::Abort;
 use std::test::Fail;
-use street_ends::{Counted, FaultKind, RunFault, Tally};
+use street_ends::{Counted, Tally};
 use street_replay::{TapeFault, upgrade};
-
-/// The first line of a tape of version 2 of four calls.
-static HEAD: &str = "{\"calls\":4,\"tape\":2}\n";
-
-/// The tape of the vehicle that arrives, with this first line.
-fn arrives_after(alloc: Global, head: &str) -> Result<Vec<u8>, AllocError> {
-    let mut tape = Vec::from_slice(alloc, head.as_bytes())?;
-    let calls = ARRIVES.strip_prefix("{\"tape\":1}\n").unwrap_or("");
-    tape.extend_from_slice(calls.as_bytes())?;
-    Ok(tape)
-}
 
 /// The tally of an upgrade of a tape, and what was written.
 fn upgraded_whole(alloc: Global, tape: &[u8]) -> (Option<Tally>, Vec<u8>) {
@@ -121,78 +111,4 @@ fn a_bad_entry_is_not_upgraded(rt: HostRuntime) -> Result<(), Fail> {
         assert_eq!(rt; ran.fault, None, "at {line}");
     }
     Ok(())
-}
-
-/// A fault of a run.
-fn run_fault(kind: FaultKind, lines: u128, calls: u128, bytes: usize) -> Option<TapeFault> {
-    Some(TapeFault::Run(RunFault {
-        kind,
-        tally: Tally {
-            lines,
-            calls,
-            replies: 0,
-            bytes: bytes as u128,
-        },
-    }))
-}
-
-/// The tape is upgraded into so much room, which is less than it needs.
-fn check_write(rt: &(impl Abort + AllocGlobal), wanted: &[u8], room: usize) {
-    let writer = Taking::new(rt.alloc(), 5, room, room % 2 == 0);
-    let ran = upgraded(rt.alloc(), ARRIVES.as_bytes(), 30, writer, 100);
-    assert_eq!(rt;
-        ran.fault,
-        run_fault(FaultKind::Write, 5, 4, room),
-        "at {room}"
-    );
-    assert_eq!(rt; Some(ran.taken.as_slice()), wanted.get(..room), "at {room}");
-}
-
-#[test]
-fn each_write_fails_in_turn(rt: HostRuntime) -> Result<(), Fail> {
-    let wanted = arrives_after(rt.alloc(), HEAD)?;
-    for room in 0..wanted.len() {
-        check_write(&rt, wanted.as_slice(), room);
-    }
-    Ok(())
-}
-
-/// The tape is read byte by byte, and this read fails: nothing was written.
-fn check_read(rt: &(impl Abort + AllocGlobal), reads_left: usize) {
-    let reader = Given {
-        text: ARRIVES.as_bytes(),
-        at: 0,
-        piece: 1,
-        is_endless: false,
-        reads_left,
-    };
-    let ran = upgraded_from(reader, rt.alloc(), Taking::all(rt.alloc()), 1000);
-    let lines = ARRIVES
-        .as_bytes()
-        .iter()
-        .take(reads_left)
-        .filter(|byte| **byte == b'\n')
-        .count();
-    let calls = lines.saturating_sub(1);
-    assert_eq!(rt;
-        ran.fault,
-        run_fault(FaultKind::Read, lines as u128, calls as u128, 0),
-        "at {reads_left}"
-    );
-    assert_eq!(rt; ran.taken.len(), 0, "at {reads_left}");
-}
-
-#[test]
-fn each_read_fails_in_turn(rt: HostRuntime) {
-    for reads_left in 0..ARRIVES.len() {
-        check_read(&rt, reads_left);
-    }
-}
-
-#[test]
-fn a_reader_without_end_is_told(rt: HostRuntime) {
-    let alloc = rt.alloc();
-    let ran = upgraded(alloc, ARRIVES.as_bytes(), 5, Taking::all(alloc), 4);
-    assert_eq!(rt; ran.fault, run_fault(FaultKind::Endless, 1, 0, 0));
-    assert_eq!(rt; ran.taken.len(), 0);
 }
