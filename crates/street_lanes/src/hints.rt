@@ -1,0 +1,165 @@
+//! Where those who wait are to be looked for. A hint may be wrong: whoever takes one tests it.
+ghost use Rattle.std.specs.Prelude.{◌≡◌, ◌<◌, length, option_map};
+ghost use Rattle.street_yard.specs.Yard.{IsOnList};
+
+use crate::seeking::stands_on;
+use std::alloc::{AllocError, Global};
+use street_base::{Car, CarNo, Step};
+use street_yard::{Key, ListId, Yard};
+
+/// How many who wait there are to a mark.
+const STRIDE: usize = 16;
+
+/// The fewest who wait for whom marks are made: so few are walked as fast.
+const FEWEST: usize = 64;
+
+/// One who waited as the marks were made.
+#[derive(Clone, Copy)]
+struct Mark {
+    depart: Step,
+    number: CarNo,
+    key: Key,
+}
+
+impl Mark {
+    /// Whether a car goes behind who has the mark.
+    fn is_ahead_of(&self, car: &Car) -> bool {
+        self.depart < car.step || self.depart == car.step && self.number < car.number
+    }
+}
+
+/// Marks on the list of those who wait on a lane, the first to depart first, and how far searches went since they were made.
+#[derive(Drop)]
+struct Marks {
+    marks: Vec<Mark>,
+    hops: usize,
+}
+
+impl Marks {
+    /// Who has the last mark ahead of a car's place, or nobody where the place is ahead of all; behind all marks the last on
+    /// the list.
+    fn near(&self, yard: &Yard, list: ListId, car: &Car, hops: &mut usize) -> Option<Key>
+        requires { list.0 < length yard.now.lists }
+        ensures { IsOnList yard.now list.0 (option_map (λ k. k.0) result) }
+    {
+        yard.whole();
+        let ahead = self
+            .marks
+            .partition_point(|mark: &Mark| -> bool { mark.is_ahead_of(car) });
+        if ahead == self.marks.len() {
+            return yard.list_back(list);
+        }
+        for mark in self.marks[..ahead].iter().rev() {
+            if stands_on(yard, list, mark.key, mark.number) {
+                return Some(mark.key);
+            }
+            *hops = hops.saturating_add(1);
+        }
+        None
+    }
+
+    /// Marks every so many on a list, as far as there is memory.
+    fn renew(&mut self, yard: &Yard, list: ListId)
+        requires { list.0 < length yard.now.lists }
+    {
+        yard.whole();
+        self.hops = 0;
+        self.marks.clear();
+        let mut passed = 0;
+        let mut cursor = yard.list_front(list);
+        while let Some(key) = cursor {
+            if passed % STRIDE == 0 {
+                let mark = Mark {
+                    depart: yard.step(key),
+                    number: yard.number(key),
+                    key,
+                };
+                if self.marks.push(mark).is_err() {
+                    return;
+                }
+            }
+            passed = passed.wrapping_add(1);
+            cursor = yard.behind(key);
+        }
+    }
+}
+
+/// The key that a vehicle had as it began to wait.
+#[derive(Clone, Copy)]
+struct Given {
+    number: CarNo,
+    key: Key,
+}
+
+/// Hints for the lanes of a tile: marks on each list of those who wait, and by number the key of each vehicle that ever waited.
+#[derive(Drop)]
+pub(crate) struct Hints {
+    lanes: Vec<Marks>,
+    given: Vec<Given>,
+}
+
+impl Hints {
+    /// None for so many lanes.
+    ///
+    /// # Errors
+    /// Memory was refused.
+    pub(crate) fn new(alloc: Global, lanes: usize) -> Result<Hints, AllocError> {
+        let mut none = Vec::with_capacity(alloc, lanes)?;
+        for _lane in 0..lanes {
+            none.push(Marks {
+                marks: Vec::new(alloc),
+                hops: 0,
+            })?;
+        }
+        Ok(Hints {
+            lanes: none,
+            given: Vec::new(alloc),
+        })
+    }
+
+    /// The key that the vehicle of a number may have.
+    pub(crate) fn key_of(&self, number: CarNo) -> Option<Key> {
+        let at = self
+            .given
+            .partition_point(|given: &Given| -> bool { given.number < number });
+        let given = self.given.get(at)?;
+        Some(given.key)
+    }
+
+    /// A vehicle, with a greater number than those before it, begins to wait under a key. Where memory is refused there is no hint.
+    pub(crate) fn give(&mut self, number: CarNo, key: Key) {
+        let _refused = self.given.push(Given { number, key }).is_err();
+    }
+
+    /// From whom on a car's place on the list of those who wait on a lane is to be looked for; from nobody it is the front.
+    pub(crate) fn near(
+        &self,
+        yard: &Yard,
+        lane: usize,
+        list: ListId,
+        car: &Car,
+        hops: &mut usize,
+    ) -> Option<Key>
+        requires { list.0 < length yard.now.lists }
+        ensures { IsOnList yard.now list.0 (option_map (λ k. k.0) result) }
+    {
+        match self.lanes.get(lane) {
+            Some(marks) => marks.near(yard, list, car, hops),
+            None => None,
+        }
+    }
+
+    /// A search on the list of those who wait on a lane went so far. The marks are made anew where searches since they were
+    /// made went four times as far as the list is long. Where memory is refused there are fewer.
+    pub(crate) fn note(&mut self, yard: &Yard, lane: usize, list: ListId, hops: usize)
+        requires { list.0 < length yard.now.lists }
+    {
+        let count = yard.list_len(list);
+        if let Some(marks) = self.lanes.get_mut(lane) {
+            marks.hops = marks.hops.saturating_add(hops);
+            if count >= FEWEST && marks.hops / 4 > count {
+                marks.renew(yard, list);
+            }
+        }
+    }
+}
