@@ -45,7 +45,7 @@ lane-sized net x of n p at =
 pub goes-with-room : (n : ℕ) (P : LaneState → Type 0) (rule : LaneState → LaneState) (x roomy y : Lanes) (room : ℕ) → roomy ≡ record x { room = room } → GoesIf n P rule roomy y → GoesIf n P rule x y
 goes-with-room n P rule x roomy y room is goes =
     let g = subst (λ (l : Lanes). GoesIf n P rule l y) is goes in
-    record { same = record { places = g.same.places; sizes = g.same.sizes; odds = g.same.odds }; goes = g.goes; others = g.others }
+    record { same = record { places = g.same.places; sizes = g.same.sizes; loose = g.same.loose; odds = g.same.odds }; goes = g.goes; others = g.others }
 
 -- what is done whatever the lane was
 pub goes-always : (n : ℕ) (rule : LaneState → LaneState) (x y : Lanes) → GoesAt n rule x y → GoesIf n (λ s. Unit {0}) rule x y
@@ -80,6 +80,7 @@ module _ (net : NetSpec) (x : Part) (tile : IsTileOf net x) where
       gauges = refl;
       stands = λ m on holds s. record {
         clock = s.clock;
+        none_loose = goes.same.loose ∙ s.none_loose;
         signals = s.signals;
         lanes = λ k q l at_now is.
             let at_k : slice_get x.own.places k ≡ Some q = rw goes.same.places at at_now in
@@ -120,6 +121,7 @@ does-plan net x node plan other low within shows = record {
   stands = λ m on there s. record {
     clock = s.clock;
     lanes = s.lanes;
+    none_loose = s.none_loose;
     signals = λ at above below. elim (cases_eq at node) as (λ _. (place : Place) (next step : ℕ) → is_green (get_or (set x.signals (node - x.low) (Some plan)) (at - x.low) None) place next step ≡ is_green (get_or (set m.signals node (Some other)) at None) place next step) [
       | inl here ↦ (λ place next step.
           let mine : get_or (set x.signals (node - x.low) (Some plan)) (at - x.low) None ≡ Some plan = rw here (get_or-set_same x.signals (node - x.low) (Some plan) None within) in

@@ -75,7 +75,7 @@ map-same f g [] h = refl
 map-same {A} {B} f g (x ∷ xs) h = ap (λ (y : B). y ∷ map f xs) (h x) ∙ ap (λ (ys : List B). g x ∷ ys) (map-same f g xs h)
 
 received-stands : (es : List Entry) (y z : Part) (m : Traffic) → z ≡ received es y → StandsFor y m → StandsFor z m
-received-stands es y z m e s = subst (λ (t : Part). StandsFor t m) (sym e) (record { clock = s.clock; lanes = s.lanes; signals = s.signals })
+received-stands es y z m e s = subst (λ (t : Part). StandsFor t m) (sym e) (record { clock = s.clock; lanes = s.lanes; none_loose = s.none_loose; signals = s.signals })
 
 received-coming : (es : List Entry) (entry : Place → Option Vehicle) (y z : Part) → ((p : Place) → entry_in es p ≡ entry p) → z ≡ received es y → z.coming ≡ map entry z.own.places
 received-coming es entry y z same e = subst (λ (t : Part). t.coming ≡ map entry t.own.places) (sym e) (map-same (entry_in es) entry y.own.places same)
@@ -113,5 +113,5 @@ pub ends-step : (net : NetSpec) (xs : List Part) (m : Traffic) → AllStand net 
 unfolding step ticked departed released driven changed
 ends-step net xs m s = record {
   on = record { network = s.on.network; formed = record { lanes = s.on.formed.lanes; cells = s.on.formed.cells; turns = s.on.formed.turns } };
-  each = λ i d l. record { clock = (s.each i d l).clock; lanes = (s.each i d l).lanes; signals = (s.each i d l).signals };
+  each = λ i d l. record { clock = (s.each i d l).clock; lanes = (s.each i d l).lanes; none_loose = (s.each i d l).none_loose; signals = (s.each i d l).signals };
 }

@@ -12,10 +12,10 @@ use Rattle.street_lanes.specs.Lanes.{Lanes, IsLane, AllLanes, IsOf, Same, Others
 use Rattle.street_lanes.specs.Whole.{LanesStand, LanesGo}
 
 pub same-none : (x : Lanes) → Same x x
-same-none x = record { places = refl; sizes = refl; odds = refl }
+same-none x = record { places = refl; sizes = refl; loose = refl; odds = refl }
 
 pub same-then : (x y z : Lanes) → Same x y → Same y z → Same x z
-same-then x y z a b = record { places = b.places ∙ a.places; sizes = b.sizes ∙ a.sizes; odds = b.odds ∙ a.odds }
+same-then x y z a b = record { places = b.places ∙ a.places; sizes = b.sizes ∙ a.sizes; loose = b.loose ∙ a.loose; odds = b.odds ∙ a.odds }
 
 pub same-long : (x y : Lanes) → Same x y → length y.lanes ≡ length x.lanes
 same-long x y s = sym (length-map y.lanes size_of) ∙ ap length s.sizes ∙ length-map x.lanes size_of

@@ -50,7 +50,7 @@ module _ (net : NetSpec) (x : Part) (tile : IsTileOf net x) where
       handed = refl;
       coming = refl;
       room = room;
-      stands = λ m on s. record { clock = s.clock; lanes = stand m on (sym s.clock) s.lanes; signals = s.signals };
+      stands = λ m on s. record { clock = s.clock; lanes = stand m on (sym s.clock) s.lanes; none_loose = same.loose ∙ s.none_loose; signals = s.signals };
     };
   }
 
@@ -72,7 +72,7 @@ module _ (net : NetSpec) (x : Part) (tile : IsTileOf net x) where
       handed = refl;
       coming = refl;
       room = room;
-      stands = λ m on s. record { clock = s.clock; lanes = stand m on (sym s.clock) s.signals s.lanes; signals = s.signals };
+      stands = λ m on s. record { clock = s.clock; lanes = stand m on (sym s.clock) s.signals s.lanes; none_loose = same.loose ∙ s.none_loose; signals = s.signals };
     };
   }
 
@@ -95,7 +95,7 @@ module _ (net : NetSpec) (x : Part) (tile : IsTileOf net x) where
     coming = refl;
     gauges = refl;
     room = room;
-    stands = λ m on shows s. record { clock = s.clock; lanes = stand m (releasing view m on shows s); signals = s.signals };
+    stands = λ m on shows s. record { clock = s.clock; lanes = stand m (releasing view m on shows s); none_loose = same.loose ∙ s.none_loose; signals = s.signals };
     handed = λ m on shows s. gone m (releasing view m on shows s);
   }
 
@@ -111,6 +111,7 @@ module _ (net : NetSpec) (x : Part) (tile : IsTileOf net x) where
     gauges = refl;
     stands = λ m entry on s coming free. record {
       clock = s.clock;
+      none_loose = same.loose ∙ s.none_loose;
       signals = s.signals;
       lanes = λ k p l at is.
           let there = tile-lanes k p (rw same.places at at) in

@@ -52,7 +52,7 @@ meters-elsewhere x p cell period away m stand k q at =
 -- a detector is no part of what a tile shows of lanes and signals
 pub stands-metered : (x : Part) (p : Place) (cell period : ℕ) (m : Traffic) → StandsFor x m → StandsFor x (metered m p cell period)
 unfolding metered
-stands-metered x p cell period m s = record { clock = s.clock; lanes = s.lanes; signals = s.signals }
+stands-metered x p cell period m s = record { clock = s.clock; lanes = s.lanes; none_loose = s.none_loose; signals = s.signals }
 
 -- the sums that begin now are due now
 pub placed-due : (clock : ℕ) (olds : List Gauges) (n : ℕ) (p : Place) (cell period : ℕ) (d after : Gauges) → n < length olds → Placed p cell period clock (get_or olds n d) after → AreDue clock olds → AreDue clock (set olds n after)
@@ -113,7 +113,7 @@ module _ (net : NetSpec) (x : Part) (tile : IsTileOf net x) (n : ℕ) (p : Place
     places-meter = record {
       same = record { low = refl; high = refl; links = refl; own = same-none x.own; gauged = sizes };
       rest = refl;
-      stands = λ m s. record { clock = s.clock; lanes = s.lanes; signals = s.signals };
+      stands = λ m s. record { clock = s.clock; lanes = s.lanes; none_loose = s.none_loose; signals = s.signals };
       meters = λ m s stand k q at_q. elim (cases_eq k n) as (λ _. MetersStandFor (gauges_at (set x.gauges n after) k).meters (detectors_on q (m.detectors ++ one_more m ∷ []))) [
         | inl here ↦ (
             let both : Some p ≡ Some q = sym at ∙ ap (slice_get x.own.places) (sym here) ∙ at_q in

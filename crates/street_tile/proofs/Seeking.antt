@@ -112,6 +112,7 @@ module _ (number : ℕ) where
         gauges = refl;
         stands = λ m on few s. record {
           clock = s.clock ∙ sym (clock-without m);
+          none_loose = goes.same.loose ∙ s.none_loose;
           lanes = λ k p l at is.
               let at_old : slice_get x.own.places k ≡ Some p = sym (ap (λ (ps : List Place). slice_get ps k) goes.same.places) ∙ at in
               let hk = slice_get_within x.own.places k p at_old in

@@ -20,7 +20,7 @@ ticks-of net x gauges tile noted = record {
     handed = refl;
     coming = refl;
     room = omega arith;
-    stands = λ m on s. record { clock = ap (λ n. n + 1) s.clock; lanes = s.lanes; signals = s.signals };
+    stands = λ m on s. record { clock = ap (λ n. n + 1) s.clock; lanes = s.lanes; none_loose = s.none_loose; signals = s.signals };
   };
   noted = λ weaved m on s saw stand k p at.
       let within = slice_get_within x.own.places k p at in

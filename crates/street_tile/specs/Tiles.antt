@@ -92,10 +92,11 @@ pub record ArePairs (net : NetSpec) (ps : List Place) : Type 0 where
   pub next : (n : ℕ) → n < length ps → (slice_index_or ps n no_place).lane ≡ 0 → (link_at net (slice_index_or ps n no_place).link).lanes ≡ 2 → (suc n < length ps) × (slice_index_or ps (suc n) no_place ≡ record { link = (slice_index_or ps n no_place).link; lane = 1 })
   pub before : (n : ℕ) → suc n < length ps → ((slice_index_or ps (suc n) no_place).lane ≡ 0 → ⊥) → slice_index_or ps n no_place ≡ record { link = (slice_index_or ps (suc n) no_place).link; lane = 0 }
 
--- the tile stands for the machine at its own lanes and nodes
+-- the tile stands for the machine at its own lanes and nodes, and each vehicle in its arena is on one of its lanes
 pub record StandsFor (x : Part) (m : Traffic) : Type 0 where
   pub clock : x.clock ≡ m.clock
   pub lanes : LanesStand x.own.places x.own.lanes m
+  pub none_loose : x.own.loose ≡ []
   pub signals : ShowSignals x.low x.high x.signals m
 
 -- whatever the tile stands for, it holds of each own lane whether its cell 0 is free

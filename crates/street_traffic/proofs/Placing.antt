@@ -56,6 +56,7 @@ module _ (net : NetSpec) (p : Place) (rule : LaneState → LaneState) where
         let listed : list_any (is_place p) x.own.places ≡ true = at-any x.own.places k p (at ∙ ap (λ (r : Place). Some r) same) in
         both_ways (list_any (is_place p) x.own.places) (subst (λ (ps : List Place). list_any (is_place p) ps ≡ false) (sym tile.places) (not-listed net x.low x.high p other)) listed) in
         subst (LaneStands l) (sym (lane_at-place m on q there ∙ cond-false _ _ _ away)) (s.lanes k q l at is);
+    none_loose = s.none_loose;
     signals = s.signals;
   }
 

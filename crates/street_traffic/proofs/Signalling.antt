@@ -25,6 +25,7 @@ module _ (net : NetSpec) (node : ℕ) (plan : SignalPlan) where
   elsewhere m x other s = record {
     clock = s.clock;
     lanes = s.lanes;
+    none_loose = s.none_loose;
     signals = λ at low high place next step.
         s.signals at low high place next step
         ∙ ap (λ (o : Option SignalPlan). is_green o place next step) (sym (get_or-set_other m.signals node at (Some plan) None (other at low high)));

@@ -67,7 +67,7 @@ loaded-stands net xs faultless each meters = record {
 ends-stand : (net : NetSpec) (xs : List Part) (m : Traffic) (es : List (Option End)) → AllStand net xs m → AllStand net xs (record m { ends = es })
 ends-stand net xs m es s = record {
   on = record { network = s.on.network; formed = record { lanes = s.on.formed.lanes; cells = s.on.formed.cells; turns = s.on.formed.turns } };
-  each = λ k d l. record { clock = (s.each k d l).clock; lanes = (s.each k d l).lanes; signals = (s.each k d l).signals };
+  each = λ k d l. record { clock = (s.each k d l).clock; lanes = (s.each k d l).lanes; none_loose = (s.each k d l).none_loose; signals = (s.each k d l).signals };
 }
 
 module _ (net : NetSpec) (sites : List Site) (clock : ℕ) (xs ys : List Part) (ends : List (Option End)) where
@@ -208,7 +208,7 @@ noted-stand net xs ys m long each s = record {
   each = λ k d l.
       let within : k < length xs = omega arith in
       let t = s.each k d within in
-      subst (λ (p : Part). TileStands p m) (sym (each k d within)) (record { clock = t.clock; lanes = t.lanes; signals = t.signals });
+      subst (λ (p : Part). TileStands p m) (sym (each k d within)) (record { clock = t.clock; lanes = t.lanes; none_loose = t.none_loose; signals = t.signals });
 }
 
 noted-meters : (xs ys : List Part) (m : Traffic) → length ys ≡ length xs → Each (λ x y. y ≡ record x { arrived = [] }) xs ys → AllMetersStand xs m → AllMetersStand ys m
@@ -217,7 +217,7 @@ noted-meters xs ys m long each kept k d l =
     subst (λ (p : Part). MetersStand p m) (sym (each k d within)) (kept k d within)
 
 pub noted-tiles : (net : NetSpec) (xs ys : List Part) → length ys ≡ length xs → Each (λ x y. y ≡ record x { arrived = [] }) xs ys → AreTiles net xs → AreTiles net ys
-noted-tiles net xs ys long each = tiles-same net xs ys long (λ k d l. subst (SameTile (get_or xs k d)) (sym (each k d l)) (record { low = refl; high = refl; links = refl; own = record { places = refl; sizes = refl; odds = refl }; gauged = refl }))
+noted-tiles net xs ys long each = tiles-same net xs ys long (λ k d l. subst (SameTile (get_or xs k d)) (sym (each k d l)) (record { low = refl; high = refl; links = refl; own = record { places = refl; sizes = refl; loose = refl; odds = refl }; gauged = refl }))
 
 pub noted-idle : (xs ys : List Part) → length ys ≡ length xs → Each (λ x y. y ≡ record x { arrived = [] }) xs ys → All (λ x. (x.handed ≡ []) × (x.coming ≡ nobody x)) xs → All IsIdle ys
 noted-idle xs ys long each handed k d l =

@@ -77,6 +77,7 @@ module _ (net : NetSpec) (number : ℕ) where
     lanes = λ k q l at is.
         let there : IsLane net q = subst (AllLanes net) (sym tile.places) (own-lanes net x.low x.high) k q at in
         subst (LaneStands l) (sym (lane_at-without number net m on q there ∙ lane-same number (lane_at m q) (none k q at))) (s.lanes k q l at is);
+    none_loose = s.none_loose;
     signals = s.signals;
   }
 

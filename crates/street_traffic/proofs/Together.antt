@@ -72,12 +72,12 @@ module _ (net : NetSpec) (P : Traffic → Type 0) (f : Traffic → Traffic) (xs 
 -- a tile that is as it was, reserved room apart
 keeps-does : (net : NetSpec) (x y : Part) → KeepsAll x y → DoesIf net (λ m. Unit {0}) (λ m. m) x y
 keeps-does net x y e = subst (DoesIf net (λ m. Unit {0}) (λ m. m) x) (sym e) (record {
-  same = record { low = refl; high = refl; links = refl; own = record { places = refl; sizes = refl; odds = refl }; gauged = refl };
+  same = record { low = refl; high = refl; links = refl; own = record { places = refl; sizes = refl; loose = refl; odds = refl }; gauged = refl };
   handed = refl;
   coming = refl;
   arrived = refl;
   gauges = refl;
-  stands = λ m on holds s. record { clock = s.clock; lanes = s.lanes; signals = s.signals };
+  stands = λ m on holds s. record { clock = s.clock; lanes = s.lanes; none_loose = s.none_loose; signals = s.signals };
 })
 
 pub one-keeps : (net : NetSpec) (xs : List Part) (i : ℕ) (y d : Part) → AreTiles net xs → All IsIdle xs → i < length xs → KeepsAll (get_or xs i d) y → AllKeep net xs (set xs i y)

@@ -8,7 +8,7 @@ use Rattle.street_tile.proofs.lanes.change_lanes.Goals.{then-begins_pair, else-b
 
 pub loop-n-init : goal.loop-n-init
 loop-n-init c = record {
-  same = record { places = refl; sizes = refl; odds = refl };
+  same = record { places = refl; sizes = refl; loose = refl; odds = refl };
   room = omega arith;
   done = λ m on roads of pairs even stand in_time. changed-start c.args.net.now m on roads c.args.own.now of pairs even stand;
 }

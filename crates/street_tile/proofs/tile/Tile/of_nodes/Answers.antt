@@ -90,6 +90,7 @@ returns-clause-stands c =
     record {
       clock = start ∙ sym (loaded-clock net);
       lanes = subst (λ (x : Lanes). LanesStand x.places x.lanes (loaded net)) (sym c.in_ok-own.ensures.fresh) (loaded-lanes net ps all);
+      none_loose = ap (λ (x : Lanes). x.loose) c.in_ok-own.ensures.fresh;
       signals = subst (λ (ss : List (Option SignalPlan)). ShowSignals c.args.low c.args.high ss (loaded net)) (sym c.in_ok-tables.ensures.plans) (loaded-signals net c.args.low c.args.high c.requires.within);
     }
 
