@@ -110,11 +110,11 @@ first_pass d = record { desk = d; seen = []; count = 0; least = 0; greatest = d.
 
 -- the pass without its greatest session
 abbrev pub without_last : PassView → PassView
-without_last p = record { desk = p.desk; seen = p.seen; count = p.count; least = p.least; greatest = p.greatest - 1 }
+without_last p = record p { greatest = p.greatest - 1 }
 
 -- a pass that has seen the same and owns that session
 abbrev pub of_last : PassView → PassView
-of_last p = record { desk = p.desk; seen = p.seen; count = p.count; least = p.greatest; greatest = p.greatest }
+of_last p = record p { least = p.greatest }
 
 -- no call that it has seen bears its session
 abbrev pub OwnsUnused : PassView → Type 0

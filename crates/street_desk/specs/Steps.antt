@@ -15,11 +15,11 @@ Sat = Me (Option Recorded) View
 
 -- the view after a load
 abbrev pub looked : View → List Entry → ℕ → View
-looked v seen count = record { seen = seen; also = []; count = count; turn = v.turn; owns = v.owns; least = v.least; greatest = v.greatest; calls = v.calls; sessions = v.sessions; live = v.live }
+looked v seen count = record v { seen = seen; also = []; count = count }
 
 -- the view as a turn begins or ends
 abbrev pub with_turn : View → List Entry → Bool → View
-with_turn v seen turn = record { seen = seen; also = []; count = v.count; turn = turn; owns = v.owns; least = v.least; greatest = v.greatest; calls = v.calls; sessions = v.sessions; live = v.live }
+with_turn v seen turn = record v { seen = seen; also = []; turn = turn }
 
 -- what is seen afterwards is legal and begins with what was seen and heard, with no new call of its own
 pub record Sees (v : View) (history : List Entry) : Type 0 where
@@ -63,15 +63,15 @@ release st m n m' = (r : Recorded) → m.1 ≡ (0, Some r) ∷ [] → m' ≡ (wi
 
 -- a pass without its greatest session
 abbrev pub less_one : View → View
-less_one v = record { seen = v.seen; also = []; count = v.count; turn = false; owns = v.owns; least = v.least; greatest = v.greatest - 1; calls = v.calls; sessions = v.sessions; live = v.live }
+less_one v = record v { also = []; turn = false; greatest = v.greatest - 1 }
 
 -- a pass that has seen the same and owns that session
 abbrev pub last_one : View → View
-last_one v = record { seen = v.seen; also = []; count = v.count; turn = false; owns = v.owns; least = v.greatest; greatest = v.greatest; calls = v.calls; sessions = v.sessions; live = v.live }
+last_one v = record v { also = []; turn = false; least = v.greatest }
 
 -- a note has seen the same and owns none
 abbrev pub noted : View → View
-noted v = record { seen = v.seen; also = []; count = v.count; turn = false; owns = false; least = 0; greatest = 0; calls = v.calls; sessions = v.sessions; live = v.live }
+noted v = record v { also = []; turn = false; owns = false; least = 0; greatest = 0 }
 
 abbrev pub longer : List Entry → List Entry → List Entry
 longer a b = if leb (length b) (length a) then a else b
@@ -81,7 +81,7 @@ most a b = if leb b a then a else b
 
 -- the hearer keeps both lists until it loads, and takes the greater count
 abbrev pub heard : View → View → View
-heard v w = record { seen = v.seen; also = w.seen; count = most v.count w.count; turn = false; owns = v.owns; least = v.least; greatest = v.greatest; calls = v.calls; sessions = v.sessions; live = v.live }
+heard v w = record v { also = w.seen; count = most v.count w.count; turn = false }
 
 -- what the note is left with
 abbrev pub spent_view : View
