@@ -72,7 +72,11 @@ class Domain:
 
     def subscribe(self, name, varIDs=None, begin=None, end=None):
         self.check(name, self.subjects())
-        variables = tuple(self.first if varIDs is None else varIDs)
+        self.note(name, varIDs)
+
+    def note(self, name, numbers):
+        """Subscribes to the variables of these numbers, or to those that SUMO takes where none is told."""
+        variables = tuple(self.first if numbers is None else numbers)
         unknown = [variable for variable in variables if variable not in self.variables]
         if unknown:
             raise NotHere(f"{self.name}: variable {unknown[0]:#x} cannot be subscribed to here")
@@ -142,12 +146,7 @@ class Simulation(Domain):
         return 0
 
     def subscribe(self, varIDs=None, begin=None, end=None):
-        variables = tuple(self.first if varIDs is None else varIDs)
-        unknown = [variable for variable in variables if variable not in self.variables]
-        if unknown:
-            raise NotHere(f"simulation: variable {unknown[0]:#x} cannot be subscribed to here")
-        self.now().follow()
-        self.subscribed[""] = variables
+        self.note("", varIDs)
 
     def getSubscriptionResults(self):
         return {variable: getattr(self, self.variables[variable])() for variable in self.subscribed.get("", ())}
@@ -307,20 +306,72 @@ class Vehicle(Domain):
         session.places.pop(car, None)
 
 
-class Lane(Domain):
-    kind, name = "Lane", "lane"
+class Places(Domain):
+    """A domain of places on the road, by the vehicles that are there."""
+
     variables = {
         tc.LAST_STEP_VEHICLE_NUMBER: "getLastStepVehicleNumber",
         tc.LAST_STEP_MEAN_SPEED: "getLastStepMeanSpeed",
         tc.LAST_STEP_VEHICLE_ID_LIST: "getLastStepVehicleIDs",
         tc.LAST_STEP_OCCUPANCY: "getLastStepOccupancy",
-        tc.LAST_STEP_VEHICLE_HALTING_NUMBER: "getLastStepHaltingNumber",
+    }
+    first = (tc.LAST_STEP_VEHICLE_NUMBER,)
+
+    def cars(self, name):
+        """Numbers of the vehicles there, from the stop line."""
+        raise NotImplementedError
+
+    def speeds(self, name):
+        """Metres a second of those that are on cells."""
+        places = self.now().follow().places
+        return [places[car].speed * METRES for car in self.cars(name) if car in places]
+
+    def lengths(self, name):
+        """Metres of each vehicle there."""
+        session = self.now()
+        return [session.sizes[session.names[car]] * METRES - GAP for car in self.cars(name)]
+
+    def getLastStepVehicleIDs(self, name):
+        return tuple(self.now().names[car] for car in self.cars(name))
+
+    def getLastStepVehicleNumber(self, name):
+        return len(self.cars(name))
+
+    def getLastStepMeanSpeed(self, name):
+        """Metres a second."""
+        speeds = self.speeds(name)
+        return sum(speeds) / len(speeds) if speeds else self.speed_of_nobody(name)
+
+    def speed_of_nobody(self, name):
+        """The mean speed where there is nobody, as in SUMO."""
+        raise NotImplementedError
+
+
+class Stretches(Places):
+    """Places with a length, on which vehicles can stand."""
+
+    variables = {**Places.variables, tc.LAST_STEP_VEHICLE_HALTING_NUMBER: "getLastStepHaltingNumber"}
+
+    def metres(self, name):
+        raise NotImplementedError
+
+    def getLastStepHaltingNumber(self, name):
+        return sum(not speed for speed in self.speeds(name))
+
+    def getLastStepOccupancy(self, name):
+        """Percent of the length that is covered by vehicles."""
+        return 100 * sum(self.lengths(name)) / self.metres(name)
+
+
+class Lane(Stretches):
+    kind, name = "Lane", "lane"
+    variables = {
+        **Stretches.variables,
         tc.VAR_MAXSPEED: "getMaxSpeed",
         tc.VAR_LENGTH: "getLength",
         tc.VAR_CURRENT_TRAVELTIME: "getTraveltime",
         tc.VAR_WAITING_TIME: "getWaitingTime",
     }
-    first = (tc.LAST_STEP_VEHICLE_NUMBER,)
 
     def getIDList(self):
         return tuple(self.now().lane_of)
@@ -331,34 +382,20 @@ class Lane(Domain):
         return [self.now().lane_of[name]]
 
     def cars(self, name):
-        """Numbers of the vehicles there, from the stop line."""
         places, on_lane = self.places(name), self.now().follow().on_lane
         return [car for place in places for car in on_lane.get(place, ())]
 
-    def speeds(self, name):
-        places = self.now().follow().places
-        return [places[car].speed * METRES for car in self.cars(name) if car in places]
-
     def getLastStepVehicleIDs(self, name):
         """Vehicles, the rearmost first."""
-        return tuple(self.now().names[car] for car in reversed(self.cars(name)))
+        return super().getLastStepVehicleIDs(name)[::-1]
 
-    def getLastStepVehicleNumber(self, name):
-        return len(self.cars(name))
+    def speed_of_nobody(self, name):
+        return self.getMaxSpeed(name)
 
-    def getLastStepHaltingNumber(self, name):
-        return sum(not speed for speed in self.speeds(name))
-
-    def getLastStepMeanSpeed(self, name):
-        """Metres a second; the lane's limit where nobody is there, as in SUMO."""
-        speeds = self.speeds(name)
-        return sum(speeds) / len(speeds) if speeds else self.getMaxSpeed(name)
-
-    def getLastStepOccupancy(self, name):
-        """Percent of the length that is covered by vehicles."""
-        session, places = self.now(), self.places(name)
-        metres = sum(session.sizes[session.names[car]] * METRES - GAP for car in self.cars(name))
-        return 100 * metres / sum(session.map.links[link].metres for link, _ in places)
+    def metres(self, name):
+        """Of all its lanes."""
+        links = self.now().map.links
+        return sum(links[link].metres for link, _ in self.places(name))
 
     def getWaitingTime(self, name):
         """The sum over the vehicles."""
@@ -423,7 +460,7 @@ class Edge(Lane):
             Lane(self.now).setAllowed(self.now().map.lane_name(*place), classes)
 
 
-class Detectors(Domain):
+class Detectors(Places):
     """Detectors of additional files."""
 
     sort = ""
@@ -445,36 +482,19 @@ class Detectors(Domain):
         link = self.now().map.links[one.link]
         return one.first * link.metres / link.cells
 
-    def cars(self, name):
-        raise NotImplementedError
-
     def speeds(self, name):
-        session = self.now()
-        places = {**session.before, **session.places}
-        return [places[car].speed * METRES for car in self.cars(name) if car in places]
+        """Those that have left have their last speed."""
+        cars = self.cars(name)
+        places = {**self.now().before, **self.now().places}
+        return [places[car].speed * METRES for car in cars if car in places]
 
-    def getLastStepVehicleIDs(self, name):
-        return tuple(self.now().names[car] for car in self.cars(name))
-
-    def getLastStepVehicleNumber(self, name):
-        return len(self.cars(name))
-
-    def getLastStepMeanSpeed(self, name):
-        """Metres a second; -1 where there was nobody."""
-        speeds = self.speeds(name)
-        return sum(speeds) / len(speeds) if speeds else -1.0
+    def speed_of_nobody(self, name):
+        return -1.0
 
 
 class InductionLoop(Detectors):
     kind, name, sort = "Induction loop", "inductionloop", "e1"
-    variables = {
-        tc.LAST_STEP_VEHICLE_NUMBER: "getLastStepVehicleNumber",
-        tc.LAST_STEP_MEAN_SPEED: "getLastStepMeanSpeed",
-        tc.LAST_STEP_VEHICLE_ID_LIST: "getLastStepVehicleIDs",
-        tc.LAST_STEP_OCCUPANCY: "getLastStepOccupancy",
-        tc.LAST_STEP_TIME_SINCE_DETECTION: "getTimeSinceDetection",
-    }
-    first = (tc.LAST_STEP_VEHICLE_NUMBER,)
+    variables = {**Places.variables, tc.LAST_STEP_TIME_SINCE_DETECTION: "getTimeSinceDetection"}
 
     def cars(self, name):
         """Those that stood on it or drove over it in the last step."""
@@ -487,22 +507,18 @@ class InductionLoop(Detectors):
         cars = self.cars(name)
         if any(car in session.places and session.places[car].cell == one.first for car in cars):
             return 100.0
-        lengths = (session.sizes[session.names[car]] * METRES - GAP for car in cars)
-        return min(100.0, sum(100 * metres / max(METRES, speed) for metres, speed in zip(lengths, self.speeds(name))))
+        ways = zip(self.lengths(name), self.speeds(name))
+        return min(100.0, sum(100 * metres / max(METRES, speed) for metres, speed in ways))
 
     def getTimeSinceDetection(self, name):
         last = self.now().follow().loops[self.detector(name).name].last
         return self.now().clock - last if last >= 0 else float(self.now().clock)
 
 
-class LaneArea(Detectors):
+class LaneArea(Stretches, Detectors):
     kind, name, sort = "Lane area detector", "lanearea", "e2"
     variables = {
-        tc.LAST_STEP_VEHICLE_NUMBER: "getLastStepVehicleNumber",
-        tc.LAST_STEP_MEAN_SPEED: "getLastStepMeanSpeed",
-        tc.LAST_STEP_VEHICLE_ID_LIST: "getLastStepVehicleIDs",
-        tc.LAST_STEP_OCCUPANCY: "getLastStepOccupancy",
-        tc.LAST_STEP_VEHICLE_HALTING_NUMBER: "getLastStepHaltingNumber",
+        **Stretches.variables,
         tc.JAM_LENGTH_VEHICLE: "getJamLengthVehicle",
         tc.JAM_LENGTH_METERS: "getJamLengthMeters",
     }
@@ -519,13 +535,8 @@ class LaneArea(Detectors):
         link = self.now().map.links[one.link]
         return (one.last - one.first + 1) * link.metres / link.cells
 
-    def getLastStepHaltingNumber(self, name):
-        return sum(not speed for speed in self.speeds(name))
-
-    def getLastStepOccupancy(self, name):
-        session = self.now()
-        metres = sum(session.sizes[session.names[car]] * METRES - GAP for car in self.cars(name))
-        return 100 * metres / self.getLength(name)
+    def metres(self, name):
+        return self.getLength(name)
 
     def jam(self, name):
         """The vehicles of the longest jam: those that stand one behind the other without a gap."""
