@@ -454,6 +454,13 @@ class Limits(ProgramCase):
             told = self.limited(["--workers", 2], session.read_text(), resource.RLIMIT_STACK, 128 << 10, env={})
             self.assertEqual(told, (session.with_suffix(".out").read_text(), 0, ""))
 
+    def test_a_refused_enter_of_100_links_keeps_a_kib_at_most(self):
+        calls = 60_000
+        lines = PLANNER.read_text().splitlines(keepends=True)[0] + f'{{"cmd":"enter","plan":[{",".join(["10"] * 100)}],"lane":0,"depart":0}}\n' * (calls - 1)
+        told, status, error = self.limited(["--calls", calls], lines, resource.RLIMIT_AS, (calls << 10) + (8 << 20))
+        self.assertEqual((status, error), (0, ""))
+        self.assertEqual(told, ONE_VEHICLE.splitlines(keepends=True)[0] + '{"at":1,"error":8,"name":"BadPlan"}\n' * (calls - 1))
+
     def test_a_file_that_may_not_grow_is_a_failed_write(self):
         # Python ignores SIGXFSZ, and a program that it starts so does too, as ./streetsim does.
         lines = PLANNER.read_text() + '{"cmd":"count"}\n' * 100
