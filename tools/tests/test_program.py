@@ -346,15 +346,15 @@ class LastNumbers(ProgramCase):
         turns = [[link, lane, next, 0] for link in range(128) for lane in (0, 1) for next in range(128)]
         network = {"nodes": nodes, "links": links, "turns": turns, "zone": 1_000, "dawdle": 1_000, "change": 1_000, "seed": 2**64 - 1, "start": 10**9}
         another = [4_095, 0, 0, 1, 1, 1]
+        bad_nodes = [greatest + 1, 1, 1], [4_095, 0, 1], [4_095, 61, 1], [4_095, 1, 0], [4_095, 1, 65]
+        bad_lanes_lengths_and_limits = [0, 1, 1], [3, 1, 1], [1, 0, 1], [1, 1_000_001, 1], [1, 1, 0], [1, 1, 6]
+        bad_links = [greatest + 1, 0, 0, 1, 1, 1], *([4_095, 0, 0, *rest] for rest in bad_lanes_lengths_and_limits)
         faults = [
             ("nodes", 4_096, {"nodes": [*nodes, [4_095, 1, 1]]}),
             ("links", 4_096, {"links": [*links, another]}),
             ("turns", 32_768, {"links": [*links[:-1], another], "turns": [*turns, [4_095, 0, 0, 0]]}),
-            *(("nodes", 4_095, {"nodes": [*nodes[:-1], node]}) for node in ([greatest + 1, 1, 1], [4_095, 0, 1], [4_095, 61, 1], [4_095, 1, 0], [4_095, 1, 65])),
-            *(
-                ("links", 4_095, {"links": [*links[:-1], link]})
-                for link in ([greatest + 1, 0, 0, 1, 1, 1], *([4_095, 0, 0, *rest] for rest in ([0, 1, 1], [3, 1, 1], [1, 0, 1], [1, 1_000_001, 1], [1, 1, 0], [1, 1, 6])))
-            ),
+            *(("nodes", 4_095, {"nodes": [*nodes[:-1], node]}) for node in bad_nodes),
+            *(("links", 4_095, {"links": [*links[:-1], link]}) for link in bad_links),
             *(("values", at, {name: network[name] + 1}) for at, name in enumerate(("zone", "dawdle", "change", "start"))),
         ]
         loads = [{"cmd": "load", **network, **other} for *_, other in faults] + [{"cmd": "load", **network}]
@@ -432,14 +432,14 @@ class LastNumbers(ProgramCase):
 class Limits(ProgramCase):
     """Under limits that the system sets."""
 
-    def limited(self, words, text, limit, value, **more):
+    def limited(self, words, text, limit, value, program=PROGRAM, **more):
         """What a run under a limit wrote to standard output, and how it ended."""
         def set_limit():
             resource.setrlimit(limit, (value, value))
 
         with open(self.folder / "replies", "w+") as output:
             done = subprocess.run(
-                [PROGRAM, *map(str, words)], input=text, stdout=output, stderr=subprocess.PIPE, text=True, timeout=60,
+                [program, *map(str, words)], input=text, stdout=output, stderr=subprocess.PIPE, text=True, timeout=60,
                 cwd=self.folder, check=False, preexec_fn=set_limit, **more
             )
         return (self.folder / "replies").read_text(), done.returncode, done.stderr
@@ -453,6 +453,13 @@ class Limits(ProgramCase):
         for session in sorted(EXAMPLES.glob("*.jsonl")):
             told = self.limited(["--workers", 2], session.read_text(), resource.RLIMIT_STACK, 128 << 10, env={})
             self.assertEqual(told, (session.with_suffix(".out").read_text(), 0, ""))
+
+    def test_a_refused_enter_of_100_links_keeps_a_kib_at_most(self):
+        calls = 60_000
+        lines = PLANNER.read_text().splitlines(keepends=True)[0] + f'{{"cmd":"enter","plan":[{",".join(["10"] * 100)}],"lane":0,"depart":0}}\n' * (calls - 1)
+        told, status, error = self.limited(["--calls", calls], lines, resource.RLIMIT_AS, (calls << 10) + (8 << 20))
+        self.assertEqual((status, error), (0, ""))
+        self.assertEqual(told, ONE_VEHICLE.splitlines(keepends=True)[0] + '{"at":1,"error":8,"name":"BadPlan"}\n' * (calls - 1))
 
     def test_a_file_that_may_not_grow_is_a_failed_write(self):
         # Python ignores SIGXFSZ, and a program that it starts so does too, as ./streetsim does.
@@ -484,16 +491,8 @@ class Limits(ProgramCase):
         (top / "crates/street_sim/out").mkdir(parents=True)
         shutil.copy(PROGRAM, top / "crates/street_sim/out/street_sim")
         subprocess.run([sys.executable, "-c", "import built; built.mark()"], cwd=top / "tools", check=True)
-
-        def set_limit():
-            resource.setrlimit(resource.RLIMIT_FSIZE, (4_096, 4_096))
-
-        with open(self.folder / "replies", "wb") as output:
-            done = subprocess.run(
-                [top / "streetsim"], input=b'{"cmd":"count"}\n' * 400, stdout=output, stderr=subprocess.PIPE, timeout=60,
-                check=False, preexec_fn=set_limit
-            )
-        self.assertEqual((done.returncode, done.stderr), (1, b"streetsim: cannot write standard output\n"))
+        _, status, said = self.limited([], '{"cmd":"count"}\n' * 400, resource.RLIMIT_FSIZE, 4_096, program=top / "streetsim")
+        self.assertEqual((status, said), (1, "streetsim: cannot write standard output\n"))
 
 
 class Workers(ProgramCase):
