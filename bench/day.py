@@ -4,7 +4,7 @@
 Usage: bench/day.py PROGRAM [--vehicles N] [--folder FOLDER] [--until S] [WORDS for streetsim-run ..]
 
 Makes the network by SUMO's netgenerate (30 by 30 junctions 200 m apart, one lane), and vehicles between random edges along
-the grid with two peaks, where the folder does not have them yet; imports them and runs them. Prints seconds.
+the grid with two peaks, where the folder does not have them yet; imports them and runs them. Prints calls, seconds and memory.
 """
 import argparse
 import random
@@ -71,6 +71,21 @@ def spent(who):
     return used.ru_utime + used.ru_stime
 
 
+def megabytes(who):
+    """The most memory that a process had in use; of the children that of the largest."""
+    return resource.getrusage(who).ru_maxrss / 1024
+
+
+class Counted(running.Recorder):
+    """Says how many calls the run took."""
+
+    def record(self):
+        records = super().record()
+        asking = records.asking
+        print(f"{records.calls:,} calls; polls every {asking.every:,} s, {len(asking.measured):,} lanes counted", flush=True)
+        return records
+
+
 def main():
     made = argparse.ArgumentParser(description=__doc__, formatter_class=argparse.RawDescriptionHelpFormatter)
     made.add_argument("program")
@@ -87,11 +102,13 @@ def main():
         begin = spent(resource.RUSAGE_SELF)
         importing.main([str(network), "--routes", str(routes), "-o", str(run), "--map", str(mapped)])
         print(f"import: {spent(resource.RUSAGE_SELF) - begin:.1f} s of processor time", flush=True)
+    running.Recorder = Counted
     begin, here, there = time.monotonic(), spent(resource.RUSAGE_SELF), spent(resource.RUSAGE_CHILDREN)
     arguments = [run, "--map", mapped, "--until", words.until, "--program", words.program, "--out", folder / "out", *more]
     running.main([str(word) for word in arguments])
     here, there = spent(resource.RUSAGE_SELF) - here, spent(resource.RUSAGE_CHILDREN) - there
     print(f"{time.monotonic() - begin:.1f} s by the clock; processor: tools {here:.1f} s, streetsim and further runs {there:.1f} s")
+    print(f"memory: tools {megabytes(resource.RUSAGE_SELF):.0f} MB, streetsim {megabytes(resource.RUSAGE_CHILDREN):.0f} MB")
 
 
 if __name__ == "__main__":

@@ -25,7 +25,7 @@ class Area:
     vehicles: int = 0
     most: int = 0
     speeds: int = 0
-    covered: int = 0  # cells
+    covered: float = 0.0  # metres, without gaps
     jams: int = 0  # vehicles, sum over samples of the longest
     longest: int = 0
 
@@ -48,11 +48,16 @@ class Areas:
             area.samples, area.vehicles, area.jams = area.samples + 1, area.vehicles + len(inside), area.jams + jam
             area.most, area.longest = max(area.most, len(inside)), max(area.longest, jam)
             area.speeds += sum(entry[2] for entry in inside)
-            area.covered += sum(min(size_of(entry), entry[1] - one.first + 1) for entry in inside)
+            area.covered += sum(metres_in(entry, one.first) for entry in inside)
 
 
 def size_of(entry):
     return entry[3] if len(entry) > 3 else 1
+
+
+def metres_in(entry, first):
+    """Metres of a vehicle, without the gap, from a cell on."""
+    return min(size_of(entry) * limits.CELL_METRES - limits.GAP_METRES, (entry[1] - first + 1) * limits.CELL_METRES)
 
 
 def longest_jam(cells):
@@ -77,7 +82,7 @@ def area_rows(records, detectors, until):
     """(begin, end, id, mean and most vehicles, km/h, occupancy, mean and longest jam in vehicles) of each e2."""
     for one in detectors:
         for (_, begin), area in sorted(item for item in records.areas.seen.items() if item[0][0] == one.name):
-            cells = one.last - one.first + 1
+            metres = (one.last - one.first + 1) * limits.CELL_METRES
             yield (
                 begin,
                 min(begin + one.period, until),
@@ -85,7 +90,7 @@ def area_rows(records, detectors, until):
                 f"{area.vehicles / area.samples:.2f}",
                 area.most,
                 f"{area.speeds / area.vehicles * limits.CELL_KMH:.1f}" if area.vehicles else "",
-                f"{area.covered / area.samples / cells * 100:.1f}",
+                f"{area.covered / area.samples / metres * 100:.1f}",
                 f"{area.jams / area.samples:.2f}",
                 area.longest,
             )

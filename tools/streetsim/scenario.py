@@ -10,7 +10,6 @@ from .sumo_net import Program
 from .sumo_signals import signal
 
 NOWHERE = -1073741824.0  # TraCI's value for a place that is not known
-GAP = 2.5  # metres of a vehicle's cells that are the gap ahead of it: SUMO's default, so that a car is 5 m long
 ADVICE = {
     "vehicle.setSpeed": "speeds follow the rules alone",
     "vehicle.slowDown": "speeds follow the rules alone",
@@ -194,11 +193,11 @@ class Vehicle(Part):
 
     def getLength(self, name):
         """Metres of the vehicle: its cells without the gap ahead, 5 m for one cell, 12.5 m for two."""
-        return self.scenario.sizes[name] * limits.CELL_METRES - GAP
+        return self.scenario.sizes[name] * limits.CELL_METRES - limits.GAP_METRES
 
     def getMinGap(self, _name):
         """Metres of the gap ahead of a vehicle that stands, which its cells hold."""
-        return GAP
+        return limits.GAP_METRES
 
     def getRoute(self, name):
         return tuple(self.scenario.map.links[link].edge for link in self.scenario.plans[name])

@@ -1,8 +1,12 @@
-"""SUMO's e1 and e2 of additional files: where they are placed, and their tables, reckoned by hand."""
+"""SUMO's e1 and e2 of additional files: where they are placed, and their tables, by hand and beside SUMO's."""
 import csv
+import gzip
 import unittest
+import xml.etree.ElementTree as ElementTree
+from operator import mul
+from statistics import fmean
 
-from support import PROGRAM, Case, lane, needs_simulator, net
+from support import DATA, PROGRAM, Case, lane, needs_simulator, net
 from streetsim.detectors import longest_jam
 
 # One lane of 10 cells, 5 cells a step.
@@ -42,7 +46,7 @@ class Detectors(Case):
     def test_tables(self):
         """The vehicle is in cells 0, 1, 3 and 6 at clocks 1 to 4 and out in the fifth step with speed 4. It stands in cell 3,
         at 29 m, at clock 3 and goes on from it with speed 3; the area sees it four times in ten polls, at 0 to 3 cells a
-        step, on one of ten cells; cells 2 and 3 see it once in sixty, at 2 cells a step."""
+        step, with its 5 m on 75; cells 2 and 3 see it once in sixty, at 2 cells a step, with 5 of 15 m."""
         self.run_import(LOOPS)
         words = [self.folder / "run.jsonl", "--map", self.folder / "map.json", "--until", 60, "--every", 1]
         self.tool("run", *words, "--program", PROGRAM, "--out", self.folder / "out")
@@ -50,8 +54,33 @@ class Detectors(Case):
         self.assertEqual(loops[0], ["0", "10", "loop", "1", "360.0", "81.0", "10.0"])
         self.assertEqual(loops[1], ["10", "20", "loop", "0", "0.0", "", "0.0"])
         self.assertEqual([row for row in loops if row[2] == "end"], [["0", "60", "end", "1", "60.0", "108.0", "0.0"]])
-        self.assertEqual(areas[0], ["0", "10", "area", "0.40", "1", "40.5", "4.0", "0.10", "1"])
-        self.assertEqual(areas[-1], ["0", "60", "part", "0.02", "1", "54.0", "0.8", "0.00", "0"])
+        self.assertEqual(areas[0], ["0", "10", "area", "0.40", "1", "40.5", "2.7", "0.10", "1"])
+        self.assertEqual(areas[-1], ["0", "60", "part", "0.02", "1", "54.0", "0.6", "0.00", "0"])
+
+    @needs_simulator
+    def test_beside_sumo(self):
+        """The grid's 240 lanes with a loop in the middle and an area on the last 100 m of each, four quarter hours; the means
+        of SUMO 1.15 are printed by bench/detectors.py."""
+        with gzip.open(DATA / "grid.net.xml.gz", "rt", encoding="utf-8") as file:
+            lanes = [(lane.get("id"), float(lane.get("length"))) for lane in ElementTree.parse(file).iterfind("edge[@from]/lane")]
+        self.assertEqual(len(lanes), 240)
+        added = "".join(
+            f'<inductionLoop id="{name}" lane="{name}" pos="{metres / 2}" freq="900" file="x"/>'
+            f'<laneAreaDetector id="area {name}" lane="{name}" pos="{max(0, metres - 100)}" endPos="{metres}" freq="900" file="x"/>'
+            for name, metres in lanes
+        )
+        run, mapped = self.folder / "run.jsonl", self.folder / "map.json"
+        words = [DATA / "grid.net.xml.gz", self.write("x.add.xml", f"<additional>{added}</additional>")]
+        self.tool("import", *words, "--routes", DATA / "grid.rou.xml.gz", "-o", run, "--map", mapped)
+        self.tool("run", run, "--map", mapped, "--until", 3600, "--program", PROGRAM, "--out", self.folder / "out")
+        loops, areas = self.table("detectors.csv"), self.table("areas.csv")
+        self.assertEqual((len(loops), len(areas)), (960, 960))
+        for rows, column, expected, share in ((loops, 3, 21.90, 0.02), (areas, 3, 0.50, 0.1), (areas, 6, 2.28, 0.15)):
+            mean = fmean(float(row[column]) for row in rows)
+            self.assertAlmostEqual(mean, expected, delta=share * expected, msg=column)
+        vehicles = [float(row[3]) for row in areas if row[5]]
+        speeds = [float(row[5]) for row in areas if row[5]]
+        self.assertAlmostEqual(sum(map(mul, vehicles, speeds)) / sum(vehicles), 19.03, delta=0.1 * 19.03)
 
     def table(self, name):
         with open(self.folder / "out" / name, encoding="utf-8") as file:

@@ -18,6 +18,7 @@ from streetsim.traci.session import Endless, Light
 
 SCRIPTS = TOOLS / "examples/traci"
 SUMO = Path("/usr/share/sumo")
+WAITING = ("Could not connect to TraCI server", "Retrying in")  # SUMO's traci, while sumo starts
 needs_sumo = unittest.skipUnless(shutil.which("sumo") and (SUMO / "tools/traci").exists(), "Debian's sumo and sumo-tools are not installed")
 
 LIGHT = """<tlLogic id="L" type="static" programID="day" offset="5">
@@ -276,7 +277,8 @@ class Scripts(Case):
         begin = time.perf_counter()
         done = subprocess.run([sys.executable, "-c", run, *map(str, words)], env=variables, capture_output=True, text=True, check=False)
         self.assertEqual(done.returncode, 0, done.stderr)
-        return [line for line in done.stdout.splitlines() if "Retrying" not in line], time.perf_counter() - begin
+        told = [line for line in done.stdout.splitlines() if not line.strip().startswith(WAITING)]
+        return told, time.perf_counter() - begin
 
     def mean_trip(self, *words, sumo=False):
         [line], _ = self.run_script("actuated", *words, sumo=sumo)

@@ -2,11 +2,11 @@
 from dataclasses import dataclass, field
 
 from .. import limits
-from ..scenario import GAP, NOWHERE
+from ..scenario import NOWHERE
 from . import constants as tc
 from .errors import NotHere, TraCIException
 
-METRES = limits.CELL_METRES
+METRES, GAP = limits.CELL_METRES, limits.GAP_METRES
 ADVICE = {
     "vehicle.setSpeed": "speeds follow the rules alone",
     "vehicle.slowDown": "speeds follow the rules alone",
