@@ -70,6 +70,11 @@ def find(test, xs):
     return next((some(x) for x in xs if test(x)), NONE)
 
 
+def remove_key(test, xs):
+    at = next((at for at, x in enumerate(xs) if test(x)), len(xs))
+    return xs[:at] + xs[at + 1:]
+
+
 def slice_set(xs, at, x):
     return [*xs[:at], x, *xs[at + 1:]] if at < len(xs) else xs
 
@@ -222,7 +227,7 @@ WORDS = {
     "length": (1, len), "map": (2, lambda f, xs: [f(x) for x in xs]), "filter": (2, lambda test, xs: [x for x in xs if test(x)]),
     "filter_map": (2, filter_map), "flat_map": (2, lambda f, xs: [y for x in xs for y in f(x)]), "position": (2, position), "find": (2, find),
     "take": (2, lambda n, xs: xs[:n]), "drop": (2, lambda n, xs: xs[n:]), "reverse": (1, lambda xs: xs[::-1]),
-    "replicate": (2, lambda n, x: [x] * n), "remove": (2, lambda xs, at: xs[:at] + xs[at + 1:]), "slice_set": (3, slice_set),
+    "replicate": (2, lambda n, x: [x] * n), "remove_key": (2, remove_key), "slice_set": (3, slice_set),
     "slice_get": (2, lambda xs, at: some(xs[at]) if at < len(xs) else NONE),
     "slice_index_or": (3, lambda xs, at, other: xs[at] if at < len(xs) else other),
     "sum_by": (2, lambda f, xs: sum(f(x) for x in xs)), "count_by": (2, lambda test, xs: sum(1 for x in xs if test(x))),

@@ -1,6 +1,6 @@
 -- Where the turns of a network without a fault lead.
 use Rattle.std.proofs.Common.{◌≡◌, ℕ, ◌<◌, Bool, true, false, length, get_or, refl, sym, ◌∙◌, ap, subst, arith}
-use Rattle.std.specs.Prelude.{Option, Some, None, option_and_then, slice_get, ◌&&◌, ◌==◌, nat_le, if◌then◌else◌}
+use Rattle.std.specs.Prelude.{Option, Some, None, option_map, option_and_then, slice_get, ◌&&◌, ◌==◌, nat_le, if◌then◌else◌}
 use Rattle.std.specs.Option.{option_map_or}
 use Rattle.std.specs.List.{position_or_len}
 use Rattle.std.proofs.lemmas.Bool.{and_parts}
@@ -51,17 +51,17 @@ module _ (net : NetSpec) (faultless : network_fault net ≡ None) where
   pub way-joins : (clock : ℕ) (from to : Place) (o : Option Queued) → way_out net clock from o ≡ Some to → Joins net from to
   way-joins clock from to o e = by_front o e
     where
-      by_turn : (next : ℕ) (o : Option TurnSpec) → turn net from next ≡ o → option_map_or (λ (t : TurnSpec). Some (record { link = next; lane = t.next_lane })) o None ≡ Some to → Joins net from to
+      by_turn : (next : ℕ) (o : Option TurnSpec) → turn net from next ≡ o → option_map (λ (t : TurnSpec). record { link = next; lane = t.next_lane }) o ≡ Some to → Joins net from to
       by_turn next None t e = cc
       by_turn next (Some t) is e =
           let same : ◌≡◌ {A = Place} (record { link = next; lane = t.next_lane }) to = cc in
           subst (Joins net from) same (turn-joins from next t is)
 
-      by_next : (o : Option ℕ) → option_and_then (λ next. option_map_or (λ (t : TurnSpec). Some (record { link = next; lane = t.next_lane })) (turn net from next) None) o ≡ Some to → Joins net from to
+      by_next : (o : Option ℕ) → option_and_then (λ next. option_map (λ (t : TurnSpec). record { link = next; lane = t.next_lane }) (turn net from next)) o ≡ Some to → Joins net from to
       by_next None x = cc
       by_next (Some next) x = by_turn next (turn net from next) refl x
 
-      by_ready : (b : Bool) (v : Vehicle) → (if b then option_and_then (λ next. option_map_or (λ (t : TurnSpec). Some (record { link = next; lane = t.next_lane })) (turn net from next) None) (next_link v) else None) ≡ Some to → Joins net from to
+      by_ready : (b : Bool) (v : Vehicle) → (if b then option_and_then (λ next. option_map (λ (t : TurnSpec). record { link = next; lane = t.next_lane }) (turn net from next)) (next_link v) else None) ≡ Some to → Joins net from to
       by_ready true v e = by_next (next_link v) e
       by_ready false v e = cc
 

@@ -9,11 +9,11 @@ use Rattle.street_base.specs.Faults.{network_fault}
 use Rattle.street_base.specs.Network.{Place, is_place, link_at, node_of, places}
 use Rattle.street_base.specs.State.{Traffic}
 use Rattle.street_base.specs.Census.{one_if}
-use Rattle.street_base.specs.Release.{front, leads_to}
+use Rattle.street_base.specs.Release.{front, target, may_give}
 use Rattle.street_base.proofs.ReleaseLemmas.{is_place-same}
 use Rattle.street_base.proofs.PlaceOnceLemmas.{places-once}
 use Rattle.street_net.specs.Tables.{ends_at, in_places}
-use Rattle.street_buffer.proofs.Walking.{times, AtMostOnce, IsWalk, times-cons, candidate, leads-candidate}
+use Rattle.street_buffer.proofs.Walking.{times, AtMostOnce, IsWalk, times-cons}
 use Rattle.street_buffer.proofs.Joining.{way-joins}
 
 pub filter-holds : {A : Type 0} (t : A → Bool) (xs : List A) (k : ℕ) (x : A) → slice_get (filter t xs) k ≡ Some x → t x ≡ true
@@ -60,12 +60,12 @@ places-at_most net q = elim (cases_Bool (list_any (is_place q) (places net))) as
 
 module _ (net : NetSpec) (faultless : network_fault net ≡ None) (m : Traffic) (on : m.network ≡ net) where
   -- a buffer that leads to a lane is at the node at which that lane's link begins
-  leads-joined : (to from : Place) → leads_to m to from ≡ true → (link_at net from.link).to ≡ (link_at net to.link).from
-  leads-joined to from leads = by_candidate (candidate m from) refl (sym (leads-candidate m from to) ∙ leads)
+  leads-joined : (to from : Place) → may_give m to from ≡ true → (link_at net from.link).to ≡ (link_at net to.link).from
+  leads-joined to from leads = by_target (target m from) refl leads
     where
-      by_candidate : (o : Option Place) → candidate m from ≡ o → option_map_or (is_place to) o false ≡ true → (link_at net from.link).to ≡ (link_at net to.link).from
-      by_candidate None e x = cc
-      by_candidate (Some p) e x =
+      by_target : (o : Option Place) → target m from ≡ o → option_map_or (is_place to) o false ≡ true → (link_at net from.link).to ≡ (link_at net to.link).from
+      by_target None e x = cc
+      by_target (Some p) e x =
           let same : to ≡ p = is_place-same to p x in
           (way-joins net faultless m.clock from to (front m from) (rw on at (e ∙ ap (λ (y : Place). Some y) (sym same)))).meet
 
@@ -74,7 +74,7 @@ module _ (net : NetSpec) (faultless : network_fault net ≡ None) (m : Traffic) 
     once = λ q. (let a = times-filter q (ends_at net node) (places net) in let b = places-at_most net q in omega arith);
     firsts = λ k to from at leads.
         let ends : ends_at net node from ≡ true = filter-holds (ends_at net node) (places net) k from at in
-        let inside : (p : Place) → leads_to m to p ≡ true → ends_at net node p ≡ true = λ p l.
+        let inside : (p : Place) → may_give m to p ≡ true → ends_at net node p ≡ true = λ p l.
         ap (λ (n : ℕ). option_map_or (λ end. end == node) (node_of net n) false) (leads-joined to p l ∙ sym (leads-joined to from leads)) ∙ ends in
-        find-filter (leads_to m to) (ends_at net node) inside (places net) ∙ ap (λ (n : NetSpec). find (leads_to m to) (places n)) (sym on);
+        find-filter (may_give m to) (ends_at net node) inside (places net) ∙ ap (λ (n : NetSpec). find (may_give m to) (places n)) (sym on);
   }

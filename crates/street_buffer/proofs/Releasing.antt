@@ -16,7 +16,7 @@ use Rattle.street_base.specs.Network.{Place, is_place, link_at, turn, places}
 use Rattle.street_base.specs.Vehicle.{Vehicle, vehicle_of}
 use Rattle.street_base.specs.Lane.{is_free}
 use Rattle.street_base.specs.State.{Traffic, Queued, lane_at}
-use Rattle.street_base.specs.Release.{front, exit_lane, leads_to, giver, gives, on_next_link}
+use Rattle.street_base.specs.Release.{front, target, may_give, giver, gives, on_next_link}
 use Rattle.street_base.proofs.ReleaseLemmas.{is_place-same, is_place-refl, is_place-swap}
 use Rattle.street_net.specs.Tables.{ends_at, in_places, turn_by_position}
 use Rattle.street_yard.specs.Yard.{Kept, Yard, entry_at, place_of, IsApart}
@@ -26,35 +26,29 @@ use Rattle.street_buffer.specs.Releases.{Crossing, crossing, crossing_in, queue_
 use Rattle.street_buffer.specs.declared.release.Released.{Released}
 use Rattle.street_buffer.proofs.Joining.{Joins, way-joins, joins-ahead, ahead-few}
 use Rattle.street_buffer.proofs.Queues.{head-on, queue-first, queue-sent, queue-other, sent-vehicle, apart-at}
-use Rattle.street_buffer.proofs.Walking.{takes, candidate, leads-candidate, takes-some, stays, goes-at}
+use Rattle.street_buffer.proofs.Walking.{takes, takes-some, stays, goes-at}
 use Rattle.street_buffer.proofs.Landing.{filter-holds, lanes-walk}
 use Rattle.street_buffer.proofs.Sending.{Walked, queue-here, others-stay}
 
 -- ---- who crosses
 
--- what is known of a front that has a candidate
+-- what is known of a front that may go to a lane
 pub record Leads (m : Traffic) (from to : Place) (q : Queued) : Type 0 where
   pub front : front m from ≡ Some q
-  pub exit : exit_lane m from q.vehicle ≡ Some to
+  pub target : target m from ≡ Some to
 
-pub leads-of : (m : Traffic) (from to : Place) → candidate m from ≡ Some to → (q : Queued) × Leads m from to q
+pub leads-of : (m : Traffic) (from to : Place) → target m from ≡ Some to → (q : Queued) × Leads m from to q
 leads-of m from to is = by_front (front m from) refl
   where
-    by_ready : (q : Queued) (b : Bool) → (if b then exit_lane m from q.vehicle else None) ≡ Some to → exit_lane m from q.vehicle ≡ Some to
-    by_ready q true e = e
-    by_ready q false e = cc
-
     by_front : (o : Option Queued) → front m from ≡ o → (q : Queued) × Leads m from to q
     by_front None e = let none : ◌≡◌ {A = Option Place} None (Some to) = rw e at is in cc
-    by_front (Some q) e =
-        let ready : (if nat_le q.ready m.clock then exit_lane m from q.vehicle else None) ≡ Some to = rw e at is in
-        (q, record { front = e; exit = by_ready q (nat_le q.ready m.clock) ready })
+    by_front (Some q) e = (q, record { front = e; target = is })
 
 pub crossing-goes : (m : Traffic) (from to : Place) (q : Queued) → Leads m from to q → gives m from ≡ true → crossing m from ≡ Some (record { from = from; to = to; vehicle = on_next_link (link_at m.network to.link).limit q.vehicle })
 crossing-goes m from to q l goes =
-    let taken : takes (giver m to) from ≡ true = rw (l.front, l.exit) at goes in
+    let taken : takes (giver m to) from ≡ true = rw l.target at goes in
     let given : giver m to ≡ Some from = takes-some m (giver m to) from taken in
-    rw (l.front, l.exit, given, l.front, is_place-refl from) refl
+    rw (l.target, given, l.front, is_place-refl from) refl
 
 pub crossing-stays : (m : Traffic) (from : Place) → gives m from ≡ false → crossing m from ≡ None
 crossing-stays m from no_one = rw no_one refl
@@ -138,21 +132,21 @@ module _ (net : NetSpec) (faultless : network_fault net ≡ None) (node clock : 
   here : (k : ℕ) (now : Yard) (more : List Released) (from : Place) → Walks k now more → slice_get ps k ≡ Some from → queue_of now (get_or ns k 0) ≡ (lane_at m from).queue
   here k now more from w at = queue-here net ns apart old k now more w (inside k from at) ∙ shows.queues k from at
 
-  candidate-is : (k : ℕ) (now : Yard) (more : List Released) (from : Place) → Walks k now more → slice_get ps k ≡ Some from → way_out net clock from (slice_get (queue_of now (get_or ns k 0)) 0) ≡ candidate m from
-  candidate-is k now more from w at =
+  target-is : (k : ℕ) (now : Yard) (more : List Released) (from : Place) → Walks k now more → slice_get ps k ≡ Some from → way_out net clock from (slice_get (queue_of now (get_or ns k 0)) 0) ≡ target m from
+  target-is k now more from w at =
       ap (λ (qs : List Queued). way_out net clock from (slice_get qs 0)) (here k now more from w at)
       ∙ ap (λ (c : ℕ). way_out net c from (front m from)) (sym shows.in_time)
       ∙ ap (λ (n : NetSpec). way_out n m.clock from (front m from)) (sym shows.network)
 
-  joins-of : (from to : Place) → candidate m from ≡ Some to → Joins net from to
+  joins-of : (from to : Place) → target m from ≡ Some to → Joins net from to
   joins-of from to is = way-joins net faultless m.clock from to (front m from) (ap (λ (n : NetSpec). way_out n m.clock from (front m from)) (sym shows.network) ∙ is)
 
-  ahead-of : (k : ℕ) (from to : Place) → slice_get ps k ≡ Some from → candidate m from ≡ Some to → IsAhead net node to
+  ahead-of : (k : ℕ) (from to : Place) → slice_get ps k ≡ Some from → target m from ≡ Some to → IsAhead net node to
   ahead-of k from to at is = joins-ahead net faultless node from to (filter-holds (ends_at net node) (places net) k from at) (joins-of from to is)
 
   -- nobody goes from the buffer at k, and no mouth would have been shut by it
   stays-on : (k : ℕ) (now : Yard) (open_now : List Bool) (more : List Released) (from : Place) → Walks k now more → Done k now open_now more → slice_get ps k ≡ Some from → gives m from ≡ false
-      → ((p : Place) → IsAhead net node p → leads_to m p from ≡ true → mouth open_now p ≡ false) → Done (k + 1) now open_now more
+      → ((p : Place) → IsAhead net node p → may_give m p from ≡ true → mouth open_now p ≡ false) → Done (k + 1) now open_now more
   stays-on k now open_now more from w d at not_so shut = record {
     queues = λ j p low there. elim (cases_eq j k) as (λ _. queue_of now (get_or ns j 0) ≡ queue_after m p) [
       | inl same ↦ (
@@ -162,9 +156,9 @@ module _ (net : NetSpec) (faultless : network_fault net ≡ None) (node clock : 
           ap (λ i. queue_of now (get_or ns i 0)) same ∙ at_k ∙ ap (queue_after m) e)
       | inr other ↦ d.queues j p (omega arith) there
     ];
-    shut = λ p there. elim (cases_Bool (leads_to m p from)) as (λ _. mouth open_now p ≡ is_free (lane_at m p).track 0 && not (list_any (leads_to m p) (take (k + 1) ps))) [
-      | inl leads ↦ shut p there leads ∙ sym (rw (any-more (leads_to m p) ps k from at, leads) (never (is_free (lane_at m p).track 0) (list_any (leads_to m p) (take k ps))))
-      | inr none ↦ d.shut p there ∙ sym (rw (any-more (leads_to m p) ps k from at, none) (ap (λ (b : Bool). is_free (lane_at m p).track 0 && not b) (or_none (list_any (leads_to m p) (take k ps)))))
+    shut = λ p there. elim (cases_Bool (may_give m p from)) as (λ _. mouth open_now p ≡ is_free (lane_at m p).track 0 && not (list_any (may_give m p) (take (k + 1) ps))) [
+      | inl leads ↦ shut p there leads ∙ sym (rw (any-more (may_give m p) ps k from at, leads) (never (is_free (lane_at m p).track 0) (list_any (may_give m p) (take k ps))))
+      | inr none ↦ d.shut p there ∙ sym (rw (any-more (may_give m p) ps k from at, none) (ap (λ (b : Bool). is_free (lane_at m p).track 0 && not b) (or_none (list_any (may_give m p) (take k ps)))))
     ];
     crossings = d.crossings ∙ sym (ap (map (λ c. Some c)) (crossings-more (crossing m) ps k from at ∙ rw (crossing-stays m from not_so) (append-nil (filter_map (crossing m) (take k ps)))));
   }
@@ -173,21 +167,21 @@ module _ (net : NetSpec) (faultless : network_fault net ≡ None) (node clock : 
   pub goes-none : (k : ℕ) (now : Yard) (open_now : List Bool) (more : List Released) (from : Place) → Walks k now more → Done k now open_now more → slice_get ps k ≡ Some from
       → None ≡ way_out net clock from (slice_get (queue_of now (get_or ns k 0)) 0) → Done (k + 1) now open_now more
   goes-none k now open_now more from w d at way =
-      let none : candidate m from ≡ None = sym (way ∙ candidate-is k now more from w at) in
+      let none : target m from ≡ None = sym (way ∙ target-is k now more from w at) in
       stays-on k now open_now more from w d at (stays m from none)
-      (λ p there leads. let h : option_map_or (is_place p) (candidate m from) false ≡ true = sym (leads-candidate m from p) ∙ leads in let no : false ≡ true = rw none at h in absurd (both_ways false refl no))
+      (λ p there leads. let h : option_map_or (is_place p) (target m from) false ≡ true = leads in let no : false ≡ true = rw none at h in absurd (both_ways false refl no))
 
-  leads-there : (from to p : Place) → candidate m from ≡ Some to → leads_to m p from ≡ true → is_place p to ≡ true
-  leads-there from to p is leads = let h : option_map_or (is_place p) (candidate m from) false ≡ true = sym (leads-candidate m from p) ∙ leads in rw is at h
+  leads-there : (from to p : Place) → target m from ≡ Some to → may_give m p from ≡ true → is_place p to ≡ true
+  leads-there from to p is leads = let h : option_map_or (is_place p) (target m from) false ≡ true = leads in rw is at h
 
-  by-mouth : (k : ℕ) (now : Yard) (open_now : List Bool) (more : List Released) (from to : Place) → Done k now open_now more → slice_get ps k ≡ Some from → candidate m from ≡ Some to → gives m from ≡ mouth open_now to
+  by-mouth : (k : ℕ) (now : Yard) (open_now : List Bool) (more : List Released) (from to : Place) → Done k now open_now more → slice_get ps k ≡ Some from → target m from ≡ Some to → gives m from ≡ mouth open_now to
   by-mouth k now open_now more from to d at is = goes-at m ps (lanes-walk net faultless m shows.network node) k from to at is ∙ sym (d.shut to (ahead-of k from to at is))
 
   -- a buffer whose front finds the mouth shut
   pub goes-shut : (k : ℕ) (now : Yard) (open_now : List Bool) (more : List Released) (from to : Place) → Walks k now more → Done k now open_now more → slice_get ps k ≡ Some from
       → Some to ≡ way_out net clock from (slice_get (queue_of now (get_or ns k 0)) 0) → mouth open_now to ≡ false → Done (k + 1) now open_now more
   goes-shut k now open_now more from to w d at way shut =
-      let is : candidate m from ≡ Some to = sym (way ∙ candidate-is k now more from w at) in
+      let is : target m from ≡ Some to = sym (way ∙ target-is k now more from w at) in
       stays-on k now open_now more from w d at (by-mouth k now open_now more from to d at is ∙ shut)
       (λ p _ to_p. let same : p ≡ to = is_place-same p to (leads-there from to p is to_p) in ap (mouth open_now) same ∙ shut)
 
@@ -199,7 +193,7 @@ module _ (net : NetSpec) (faultless : network_fault net ≡ None) (node clock : 
   goes-sent k now after open_now more from r w d at way is_open wide_now f s =
       let to = lane_to r in
       let n = get_or ns k 0 in
-      let is : candidate m from ≡ Some to = sym (way ∙ candidate-is k now more from w at) in
+      let is : target m from ≡ Some to = sym (way ∙ target-is k now more from w at) in
       let going : gives m from ≡ true = by-mouth k now open_now more from to d at is ∙ is_open in
       let ahead = ahead-of k from to at is in
       let lead = leads-of m from to is in
@@ -215,20 +209,20 @@ module _ (net : NetSpec) (faultless : network_fault net ≡ None) (node clock : 
               ap (λ i. queue_of after (get_or ns i 0)) same ∙ at_k ∙ ap (queue_after m) e)
           | inr other ↦ queue-other now after n r.key.0 (link_at net r.turn.next).limit w.whole f.first s (get_or ns j 0) (apart-at ns j k apart (omega arith) (inside k from at)) ∙ d.queues j p (omega arith) there
         ];
-        shut = λ p lane. elim (cases_Bool (is_place to p)) as (λ _. mouth (slice_set open_now (slot_of to) false) p ≡ is_free (lane_at m p).track 0 && not (list_any (leads_to m p) (take (k + 1) ps))) [
+        shut = λ p lane. elim (cases_Bool (is_place to p)) as (λ _. mouth (slice_set open_now (slot_of to) false) p ≡ is_free (lane_at m p).track 0 && not (list_any (may_give m p) (take (k + 1) ps))) [
           | inl same_place ↦ (
               let same : to ≡ p = is_place-same to p same_place in
-              let led : leads_to m p from ≡ true = leads-candidate m from p ∙ ap (λ (o : Option Place). option_map_or (is_place p) o false) is ∙ is_place-swap p to ∙ same_place in
+              let led : may_give m p from ≡ true = ap (λ (o : Option Place). option_map_or (is_place p) o false) is ∙ is_place-swap p to ∙ same_place in
               let few = ahead-few net faultless node to ahead in
               let within = ahead.link in
               let fits : slot_of to < length open_now = omega arith in
               ap (mouth (slice_set open_now (slot_of to) false)) (sym same) ∙ get_or-set_same open_now (slot_of to) false false fits
-              ∙ sym (rw (any-more (leads_to m p) ps k from at, led) (never (is_free (lane_at m p).track 0) (list_any (leads_to m p) (take k ps)))))
+              ∙ sym (rw (any-more (may_give m p) ps k from at, led) (never (is_free (lane_at m p).track 0) (list_any (may_give m p) (take k ps)))))
           | inr other ↦ (
-              let none : leads_to m p from ≡ false = leads-candidate m from p ∙ ap (λ (o : Option Place). option_map_or (is_place p) o false) is ∙ is_place-swap p to ∙ other in
+              let none : may_give m p from ≡ false = ap (λ (o : Option Place). option_map_or (is_place p) o false) is ∙ is_place-swap p to ∙ other in
               get_or-set_other open_now (slot_of to) (slot_of p) false false (slot-apart to p (ahead-few net faultless node to ahead) (ahead-few net faultless node p lane) other)
               ∙ d.shut p lane
-              ∙ sym (rw (any-more (leads_to m p) ps k from at, none) (ap (λ (b : Bool). is_free (lane_at m p).track 0 && not b) (or_none (list_any (leads_to m p) (take k ps))))))
+              ∙ sym (rw (any-more (may_give m p) ps k from at, none) (ap (λ (b : Bool). is_free (lane_at m p).track 0 && not b) (or_none (list_any (may_give m p) (take k ps))))))
         ];
         crossings =
             let limit = (link_at net r.turn.next).limit in

@@ -11,7 +11,7 @@ use Rattle.street_base.specs.Faults.{network_fault}
 use Rattle.street_base.specs.Network.{Place, link_at}
 use Rattle.street_base.specs.Lane.{is_free}
 use Rattle.street_base.specs.State.{Traffic, lane_at}
-use Rattle.street_base.specs.Release.{leads_to}
+use Rattle.street_base.specs.Release.{may_give}
 use Rattle.street_net.specs.Tables.{place_of as place_of_lane, in_places}
 use Rattle.street_net.specs.declared.lanes.LaneId.{LaneId}
 use Rattle.street_yard.specs.declared.names.ListId.{ListId}
@@ -89,6 +89,6 @@ goes-all net node ns m k now mouths more all d =
     let same : take k (in_places net node) ≡ take (length (in_places net node)) (in_places net node) = take_all k (in_places net node) all ∙ sym (take_all (length (in_places net node)) (in_places net node) (omega arith)) in
     record {
       queues = λ j p low at. d.queues j p (omega arith) at;
-      shut = λ p there. d.shut p there ∙ ap (λ (ps : List Place). is_free (lane_at m p).track 0 && not (list_any (leads_to m p) ps)) same;
+      shut = λ p there. d.shut p there ∙ ap (λ (ps : List Place). is_free (lane_at m p).track 0 && not (list_any (may_give m p) ps)) same;
       crossings = d.crossings ∙ ap (λ (ps : List Place). map (λ c. Some c) (filter_map (crossing m) ps)) same;
     }

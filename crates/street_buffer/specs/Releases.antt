@@ -9,7 +9,7 @@ use Rattle.street_base.specs.Vehicle.{Vehicle, vehicle_of, next_link}
 use Rattle.street_base.specs.Lane.{is_free}
 use Rattle.street_base.specs.Network.{Place, link_at, node_of, turn}
 use Rattle.street_base.specs.State.{Traffic, Queued, lane_at}
-use Rattle.street_base.specs.Release.{front, exit_lane, leads_to, gives, entering}
+use Rattle.street_base.specs.Release.{target, may_give, gives, entering}
 use Rattle.street_net.specs.Tables.{in_places, turn_by_position}
 use Rattle.street_yard.specs.Yard.{Yard, Kept, list_at, entry_at, car_of, without, first_or, Away, IsWhole}
 use Rattle.street_yard.specs.Listed.{vehicle_with}
@@ -24,13 +24,9 @@ pub record Crossing : Type 0 where
   pub to : Place
   pub vehicle : Vehicle
 
--- where the front of this buffer would go
-abbrev pub exit_of : Traffic → Place → Option Place
-exit_of m from = option_and_then (λ q. exit_lane m from q.vehicle) (front m from)
-
 -- who crosses from this buffer: if its front goes, the one who enters the lane that it leads to
 abbrev pub crossing : Traffic → Place → Option Crossing
-crossing m from = if gives m from then option_and_then (λ to. option_map (λ v. record { from = from; to = to; vehicle = v }) (entering m to)) (exit_of m from) else None
+crossing m from = if gives m from then option_and_then (λ to. option_map (λ v. record { from = from; to = to; vehicle = v }) (entering m to)) (target m from) else None
 
 -- the queue of this buffer after the releases
 abbrev pub queue_after : Traffic → Place → List Queued
@@ -87,7 +83,7 @@ sent_on limit e = record e { car = record e.car { speed = min e.car.speed limit;
 
 -- where a front goes, if it is ready
 abbrev pub way_out : NetSpec → ℕ → Place → Option Queued → Option Place
-way_out net clock from = option_and_then (λ q. if nat_le q.ready clock then option_and_then (λ next. option_map_or (λ t. Some (record { link = next; lane = t.next_lane })) (turn net from next) None) (next_link q.vehicle) else None)
+way_out net clock from = option_and_then (λ q. if nat_le q.ready clock then option_and_then (λ next. option_map (λ t. record { link = next; lane = t.next_lane }) (turn net from next)) (next_link q.vehicle) else None)
 
 -- the first of a list, with its turn
 pub record IsFront (net : NetSpec) (y : Yard) (from : Place) (n : ℕ) (r : Released) : Type 0 where
@@ -121,7 +117,7 @@ pub record Sends (net : NetSpec) (ns : List ℕ) (old new : Yard) (more : List R
 -- none of them is ready to go there
 pub record Goes (net : NetSpec) (node : ℕ) (ns : List ℕ) (m : Traffic) (k : ℕ) (new : Yard) (mouths : List Bool) (more : List Released) : Type 0 where
   pub queues : (j : ℕ) (p : Place) → j < k → slice_get (in_places net node) j ≡ Some p → queue_of new (slice_index_or ns j 0) ≡ queue_after m p
-  pub shut : (p : Place) → IsAhead net node p → mouth mouths p ≡ is_free (lane_at m p).track 0 && not (list_any (leads_to m p) (take k (in_places net node)))
+  pub shut : (p : Place) → IsAhead net node p → mouth mouths p ≡ is_free (lane_at m p).track 0 && not (list_any (may_give m p) (take k (in_places net node)))
   pub crossings : map (crossing_in new) more ≡ map (λ c. Some c) (filter_map (crossing m) (take k (in_places net node)))
 
 -- the releases of a node: in any traffic that the lists and the mouths stand for, those of its buffers

@@ -1,9 +1,8 @@
 -- Signal plans set.
 use Rattle.std.proofs.Common.{◌≡◌, ℕ, ◌+◌, List, [], ◌∷◌, map, refl, sym, ◌∙◌, ap, subst}
-use Rattle.std.specs.Prelude.{Option, Some, None, is_some, unwrap_or, not, sum_by, ◌==◌}
+use Rattle.std.specs.Prelude.{Option, Some, None, is_some, unwrap_or, not, ◌==◌}
 use Rattle.std.proofs.lemmas.Bool.{eqb-true}
 use Rattle.std.proofs.lemmas.List.Quantifiers.{position-Some}
-use Rattle.std.proofs.lemmas.List.Sums.{sum_by-cons}
 use Rattle.street_base.specs.declared.net.NetSpec.{NetSpec}
 use Rattle.street_base.specs.declared.net.NodeSpec.{NodeSpec}
 use Rattle.street_base.specs.declared.command.PhaseSpec.{PhaseSpec}
@@ -13,14 +12,13 @@ use Rattle.street_base.specs.declared.refusal.Refusal.TheVariants.{NoNode, BadSi
 use Rattle.street_base.specs.declared.reply.Reply.TheVariants.{Signalled, Refused, Starved as StarvedReply}
 use Rattle.street_base.specs.declared.reply.Outcome.TheVariants.{Whole, Starved}
 use Rattle.street_base.specs.Network.{node_of}
-use Rattle.street_base.specs.Faults.{cycle_of, signal_fault}
-use Rattle.street_base.specs.Signal.{Phase, SignalPlan, cycle}
+use Rattle.street_base.specs.Faults.{signal_fault}
+use Rattle.street_base.specs.Signal.{SignalPlan, cycle}
 use Rattle.street_base.specs.State.{Traffic}
-use Rattle.street_base.specs.Effects.{phase_of_spec, plan_of, signalled}
+use Rattle.street_base.specs.Effects.{plan_of, signalled}
 use Rattle.street_base.specs.Machine.{first_of, signal_refusal}
 use Rattle.street_base.specs.Outcomes.{MayStarveUnder}
 use Rattle.street_node.specs.Greens.{ShowsAs, node_id}
-use Rattle.street_node.proofs.Showing.{cycle-sum}
 use Rattle.street_traffic.specs.Streets.{StreetsView, StandsFor as StreetsStandFor, Goes}
 use Rattle.street_engine.specs.Refines.{View, Serves}
 use Rattle.street_engine.proofs.Serving.{same-network, streets-refused, streets-starving, streets-done}
@@ -28,13 +26,6 @@ use Rattle.street_engine.proofs.Serving.{same-network, streets-refused, streets-
 -- the node at the position of an identifier has it
 same-node : (net : NetSpec) (node position : ℕ) → node_of net node ≡ Some position → node_id net position ≡ node
 same-node net node position e = eqb-true _ _ (position-Some (λ (n : NodeSpec). n.id == node) net.nodes position (record { id = 0; residence = 0; capacity = 0 }) e).1
-
-told-sum : (net : NetSpec) (phases : List PhaseSpec) → sum_by (λ (p : Phase). p.duration) (map (phase_of_spec net) phases) ≡ cycle_of phases
-told-sum net [] = refl
-told-sum net (p ∷ ps) = sum_by-cons (λ (p : Phase). p.duration) (phase_of_spec net p) (map (phase_of_spec net) ps) ∙ ap (λ n. p.duration + n) (told-sum net ps) ∙ sym (sum_by-cons (λ (p : PhaseSpec). p.duration) p ps)
-
-told-cycle : (net : NetSpec) (offset : ℕ) (phases : List PhaseSpec) → cycle (plan_of net offset phases) ≡ cycle_of phases
-told-cycle net offset phases = cycle-sum offset (map (phase_of_spec net) phases) ∙ told-sum net phases
 
 -- the refusal by what is found and what is wrong
 judged : Option ℕ → Option ℕ → Option Refusal
@@ -71,4 +62,4 @@ module _ (x : View) (s : StreetsView) (node offset : ℕ) (phases : List PhaseSp
       pub signal-done : (t : StreetsView) (plan : SignalPlan) (told : ℕ) → told ≡ cycle plan → ShowsAs plan (plan_of s.network offset phases) → ((id : ℕ) (other : SignalPlan) → node_of s.network id ≡ Some position → ShowsAs plan other → Goes (λ m. signalled m id other) s t) → Serves x (Signal node offset phases) (Signalled told) Whole (Some t)
       signal-done t plan told told_is shows goes = streets-done x s (Signal node offset phases) is t (Signalled told) (λ m. signalled m node (plan_of m.network offset phases)) (λ m. refl)
           (λ m stands. subst (λ (net : NetSpec). StreetsStandFor t (signalled m node (plan_of net offset phases))) (sym (same-network s m stands)) (goes node (plan_of s.network offset phases) found shows m stands))
-          (λ m stands. (accepted m stands, ap (λ n. Signalled n) (told_is ∙ shows.cycle_is ∙ told-cycle s.network offset phases)))
+          (λ m stands. (accepted m stands, ap (λ n. Signalled n) (told_is ∙ shows.cycle_is ∙ ap (λ (net : NetSpec). cycle (plan_of net offset phases)) (sym (same-network s m stands)))))

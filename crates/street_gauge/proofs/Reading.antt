@@ -6,21 +6,16 @@ use Rattle.street_base.specs.declared.reply.MeterRow.{MeterRow}
 use Rattle.street_base.specs.declared.reply.RunningRow.{RunningRow}
 use Rattle.street_base.specs.declared.reply.Reply.{Reply}
 use Rattle.street_base.specs.declared.reply.Reply.TheVariants.{Rows}
-use Rattle.street_base.specs.Detector.{Row, full_rows}
-use Rattle.street_base.specs.Shown.{meter_row, running, shown_rows}
+use Rattle.street_base.specs.Detector.{full_rows}
+use Rattle.street_base.specs.Shown.{running, shown_rows}
 use Rattle.street_base.specs.State.{Triple, Detector}
-use Rattle.street_meter.specs.Meter.{Meter, IsRead, Stands, detector_of, row_seen}
+use Rattle.street_meter.specs.Meter.{Meter, IsRead, Stands, detector_of}
 use Rattle.street_gauge.specs.Gauges.{MeterStands, MetersStandFor}
-
-rows-back : (rows : List MeterRow) → map meter_row (map row_seen rows) ≡ rows
-rows-back [] = refl
-rows-back (r ∷ rows) = ap (λ (rs : List MeterRow). r ∷ rs) (rows-back rows)
 
 pub shown-read : (d : Detector) (full : List MeterRow) (now : RunningRow) → IsRead full now d → Rows now full ≡ shown_rows d
 unfolding shown_rows
 shown-read d full now read =
-    ap (λ (rows : List MeterRow). Rows now rows) (sym (rows-back full) ∙ ap (map meter_row) read.full)
-    ∙ ap (λ (r : Row × ℕ). Rows (running r) (map meter_row (full_rows d))) read.now
+    ap (λ (rows : List MeterRow). Rows now rows) read.full ∙ ap (λ (r : MeterRow × ℕ). Rows (running r) (full_rows d)) read.now
 
 pub shown-meter : (x : Meter) (d : Detector) → MeterStands x d → (full : List MeterRow) (now : RunningRow) → (Stands x d.triples → IsRead full now (detector_of x d.triples)) → Rows now full ≡ shown_rows d
 shown-meter x d s full now reads = shown-read d full now (subst (IsRead full now) (sym s.placed) (reads s.stands))

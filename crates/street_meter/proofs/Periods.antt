@@ -2,7 +2,7 @@
 use Rattle.std.proofs.Common.{◌≡◌, ℕ, suc, ◌+◌, ◌-◌, ◌*◌, ◌<◌, ◌≤◌, List, [], ◌∷◌, ◌++◌, map, length, take, drop, sym, ap, ◌∙◌, arith, add-one, length-append}
 use Rattle.std.specs.Prelude.{◌/◌, sum_by}
 use Rattle.std.specs.List.{range_with_len}
-use Rattle.std.proofs.lemmas.List.{take-append-le, drop-append-le, length-drop, take_all, drop_all, map-append, drop-map, length-map}
+use Rattle.std.proofs.lemmas.List.{take-append-le, drop-append-le, length-drop, take_all, drop_all}
 use Rattle.std.proofs.lemmas.List.Sums.{sum_by-append}
 use Rattle.std.proofs.lemmas.Nat.{div-mul-add}
 use Rattle.std.proofs.Math.Nat.{lt-div-mul-add, div-mul-le_self, suc-mul}
@@ -11,27 +11,24 @@ use Rattle.street_base.specs.declared.reply.MeterRow.{MeterRow}
 use Rattle.street_base.specs.declared.reply.RunningRow.{RunningRow}
 use Rattle.street_base.specs.Network.{Place}
 use Rattle.street_base.specs.State.{Triple, Detector}
-use Rattle.street_base.specs.Detector.{Row, row_of, row, full_periods, full_rows}
-use Rattle.street_meter.specs.Meter.{row_seen, running_seen, IsRead}
+use Rattle.street_base.specs.Detector.{row_of, row, full_periods, full_rows}
+use Rattle.street_meter.specs.Meter.{running_seen, IsRead}
 use Rattle.street_meter.specs.Inside.{row_with, row_full, row_from}
 use Rattle.street_meter.proofs.Ranges.{times-below, range-same, last-more}
 
 -- a row with one triple more
-abbrev bump : Row → Triple → Row
+abbrev bump : MeterRow → Triple → MeterRow
 bump r t = record { start = r.start; passes = r.passes + t.passes; speeds = r.speeds + t.speeds; occupied = r.occupied + t.occupied }
 
 row_of-more : (start : ℕ) (ts : List Triple) (t : Triple) → row_of start (ts ++ t ∷ []) ≡ bump (row_of start ts) t
 row_of-more start ts t =
-    let make : ℕ → ℕ → ℕ → Row = λ a b c. record { start = start; passes = a; speeds = b; occupied = c } in
+    let make : ℕ → ℕ → ℕ → MeterRow = λ a b c. record { start = start; passes = a; speeds = b; occupied = c } in
     let one : (f : Triple → ℕ) → sum_by f (ts ++ t ∷ []) ≡ sum_by f ts + f t = λ f. sum_by-append f ts (t ∷ []) ∙ ap (λ n. sum_by f ts + n) (let e : 0 + f t ≡ f t = omega arith in e) in
     ap (λ a. make a (sum_by (λ t. t.speeds) (ts ++ t ∷ [])) (sum_by (λ t. t.occupied) (ts ++ t ∷ []))) (one (λ t. t.passes))
     ∙ ap (λ b. make (sum_by (λ t. t.passes) ts + t.passes) b (sum_by (λ t. t.occupied) (ts ++ t ∷ []))) (one (λ t. t.speeds))
     ∙ ap (λ c. make (sum_by (λ t. t.passes) ts + t.passes) (sum_by (λ t. t.speeds) ts + t.speeds) c) (one (λ t. t.occupied))
 
-map-keep : (n : ℕ) (xs : List MeterRow) → map row_seen (keep_last n xs) ≡ keep_last n (map row_seen xs)
-map-keep n xs = sym (drop-map row_seen (length xs - n) xs) ∙ ap (λ k. drop (k - n) (map row_seen xs)) (sym (length-map xs row_seen))
-
-abbrev pair : Row → ℕ → Row × ℕ
+abbrev pair : MeterRow → ℕ → MeterRow × ℕ
 pair r n = (r, n)
 
 module _ (place : Place) (cell p start : ℕ) (ts : List Triple) (t : Triple) (some : 0 < p) where
@@ -80,13 +77,13 @@ module _ (place : Place) (cell p start : ℕ) (ts : List Triple) (t : Triple) (s
 
   module _ (rows : List MeterRow) (running : RunningRow) (read : IsRead rows running old) where
     steps-is : running.steps ≡ length ts - length ts / p * p
-    steps-is = ap (λ (x : Row × ℕ). x.1) read.now
+    steps-is = ap (λ (x : MeterRow × ℕ). x.1) read.now
 
     start-is : running.start ≡ start + length ts / p * p
-    start-is = ap (λ (x : Row × ℕ). x.0.start) read.now
+    start-is = ap (λ (x : MeterRow × ℕ). x.0.start) read.now
 
     bumped : bump (running_seen running).0 t ≡ row new (length ts / p)
-    bumped = ap (λ (x : Row × ℕ). bump x.0 t) read.now ∙ sym row-bumped
+    bumped = ap (λ (x : MeterRow × ℕ). bump x.0 t) read.now ∙ sym row-bumped
 
     -- the period goes on
     pub goes-on : running.steps + 1 < p → IsRead rows (row_with running t.passes t.speeds t.occupied) new
@@ -116,9 +113,8 @@ module _ (place : Place) (cell p start : ℕ) (ts : List Triple) (t : Triple) (s
         let none : take p (drop ((length ts / p + 1) * p) (ts ++ t ∷ [])) ≡ [] = ap (take p) (drop_all ((length ts / p + 1) * p) (ts ++ t ∷ []) (omega arith)) ∙ take_all p [] (omega arith) in
         record {
           full =
-              map-keep 32 (rows ++ row_full (row_with running t.passes t.speeds t.occupied) ∷ [])
-              ∙ ap (keep_last 32) (map-append row_seen rows (row_full (row_with running t.passes t.speeds t.occupied) ∷ [])
-              ∙ ap (λ l. l ++ bump (running_seen running).0 t ∷ []) (read.full ∙ sym rows-old)
+              ap (keep_last 32)
+              (ap (λ l. l ++ bump (running_seen running).0 t ∷ []) (read.full ∙ sym rows-old)
               ∙ ap (λ r. map (row new) (range_with_len (length ts / p - 32) (length ts / p - (length ts / p - 32))) ++ r ∷ []) bumped)
               ∙ last-more (row new) (length ts / p)
               ∙ ap (λ n. map (row new) (range_with_len (n - 32) (n - (n - 32)))) (sym periods);

@@ -1,11 +1,11 @@
 -- What a contract sees of a meter, and the triples that it stands for.
 -- Source: this profile.
-use Rattle.std.specs.Prelude.{◌≡◌, ℕ, ◌+◌, List, map}
+use Rattle.std.specs.Prelude.{◌≡◌, ℕ, ◌+◌, List}
 use Rattle.street_base.specs.declared.reply.MeterRow.{MeterRow}
 use Rattle.street_base.specs.declared.reply.RunningRow.{RunningRow}
 use Rattle.street_base.specs.Network.{Place}
 use Rattle.street_base.specs.State.{Triple, Detector}
-use Rattle.street_base.specs.Detector.{Row, full_rows, running_row}
+use Rattle.street_base.specs.Detector.{full_rows, running_row}
 
 -- a lane and a cell of it, how many steps a row sums, the first step noted, the rows of the last full periods, at most 32, and the running one
 pub record Meter : Type 0 where
@@ -16,12 +16,8 @@ pub record Meter : Type 0 where
   pub rows : List MeterRow
   pub running : RunningRow
 
--- the sums of a row that is answered
-abbrev pub row_seen : MeterRow → Row
-row_seen row = record { start = row.start; passes = row.passes; speeds = row.speeds; occupied = row.occupied }
-
 -- the sums of the running row, and how many steps it has
-abbrev pub running_seen : RunningRow → Row × ℕ
+abbrev pub running_seen : RunningRow → MeterRow × ℕ
 running_seen row = (record { start = row.start; passes = row.passes; speeds = row.speeds; occupied = row.occupied }, row.steps)
 
 -- the detector at the meter's place that has noted these triples
@@ -30,7 +26,7 @@ detector_of m triples = record { place = m.place; cell = m.cell; period = m.peri
 
 -- these are the rows of the detector, and this its running row
 pub record IsRead (rows : List MeterRow) (running : RunningRow) (detector : Detector) : Type 0 where
-  pub full : map row_seen rows ≡ full_rows detector
+  pub full : rows ≡ full_rows detector
   pub now : running_seen running ≡ running_row detector
 
 -- the meter stands for these triples: it shows what a detector that noted them answers

@@ -10,14 +10,14 @@ use Rattle.street_base.specs.declared.net.NetSpec.{NetSpec}
 use Rattle.street_base.specs.declared.command.GreenSpec.{GreenSpec}
 use Rattle.street_base.specs.declared.command.PhaseSpec.{PhaseSpec}
 use Rattle.street_base.specs.Limits.{most_phases, most_duration}
-use Rattle.street_base.specs.Faults.{first_bad, is_within, is_bad_phase, is_turn_to, cycle_of, offset_fault, signal_fault, network_fault}
+use Rattle.street_base.specs.Faults.{first_bad, is_within, is_bad_phase, is_turn_to, offset_fault, signal_fault, network_fault}
 use Rattle.street_base.specs.Effects.{phase_of_spec, plan_of}
 use Rattle.street_base.specs.Signal.{Phase, cycle}
 use Rattle.street_base.proofs.OptionLemmas.{option_or-none}
 use Rattle.street_base.proofs.FirstBadLemmas.{first_bad-none}
 use Rattle.street_base.proofs.FaultLemmas.{not-false}
 use Rattle.street_node.specs.Greens.{plan_seen, shown, IsSamePhase, ShowsAs}
-use Rattle.street_node.proofs.Showing.{shown-at, shown-same, durations-same, cycle-sum}
+use Rattle.street_node.proofs.Showing.{shown-at, shown-same, durations-same}
 use Rattle.street_node.proofs.Judging.{no-lane}
 
 pub all-at : {A : Type 0} (p : A → Bool) (xs : List A) → list_all p xs ≡ true → (k : ℕ) (d : A) → k < length xs → p (get_or xs k d) ≡ true
@@ -65,20 +65,21 @@ module _ (net : NetSpec) (node : ℕ) (phases : List PhaseSpec) (good : first_ba
       few (suc n) e = omega (arith, (good-phase n nothing (omega arith)).early)
 
 -- a plan without a fault
-pub no-fault : (net : NetSpec) (node offset : ℕ) (phases : List PhaseSpec) → signal_fault net node offset phases ≡ None → (first_bad (is_bad_phase net node) phases ≡ None) × (offset < cycle_of phases)
-no-fault net node offset phases e = elim (cases_Bool (length phases == 0)) as (λ _. (first_bad (is_bad_phase net node) phases ≡ None) × (offset < cycle_of phases)) [
+pub no-fault : (net : NetSpec) (node offset : ℕ) (phases : List PhaseSpec) → signal_fault net node offset phases ≡ None → (first_bad (is_bad_phase net node) phases ≡ None) × (offset < cycle (plan_of net offset phases))
+no-fault net node offset phases e = elim (cases_Bool (length phases == 0)) as (λ _. (first_bad (is_bad_phase net node) phases ≡ None) × (offset < cycle (plan_of net offset phases))) [
   | inl none ↦ absurd (none-some 0 (sym e ∙ cond-true _ _ _ none))
   | inr some ↦ (
-      let parts = option_or-none (first_bad (is_bad_phase net node) phases) (offset_fault offset phases) (sym (cond-false _ _ _ some) ∙ e) in (
+      let parts = option_or-none (first_bad (is_bad_phase net node) phases) (offset_fault net offset phases) (sym (cond-false _ _ _ some) ∙ e) in (
         parts.0,
-        elim (cases_Bool (nat_lt offset (cycle_of phases))) as (λ _. offset < cycle_of phases) [
-          | inl low ↦ ltb-true offset (cycle_of phases) low
+        elim (cases_Bool (nat_lt offset (cycle (plan_of net offset phases)))) as (λ _. offset < cycle (plan_of net offset phases)) [
+          | inl low ↦ ltb-true offset (cycle (plan_of net offset phases)) low
           | inr high ↦ absurd (none-some (length phases) (sym parts.1 ∙ cond-false _ _ _ high))
         ],
       ))
 ]
 
-told-sum : (net : NetSpec) (phases : List PhaseSpec) → sum_by (λ (p : Phase). p.duration) (map (phase_of_spec net) phases) ≡ cycle_of phases
+-- the phases that a plan has last as long as those told
+pub told-sum : (net : NetSpec) (phases : List PhaseSpec) → sum_by (λ (p : Phase). p.duration) (map (phase_of_spec net) phases) ≡ sum_by (λ (p : PhaseSpec). p.duration) phases
 told-sum net [] = refl
 told-sum net (p ∷ ps) = sum_by-cons (λ (p : Phase). p.duration) (phase_of_spec net p) (map (phase_of_spec net) ps) ∙ ap (λ n. p.duration + n) (told-sum net ps) ∙ sym (sum_by-cons (λ (p : PhaseSpec). p.duration) p ps)
 
@@ -93,18 +94,15 @@ module _ (net : NetSpec) (offset : ℕ) (kept : List Phase) (phases : List Phase
   alike : (k : ℕ) (d e : Phase) → k < length kept → IsSamePhase (get_or kept k d) (get_or (map (phase_of_spec net) phases) k e)
   alike k d e h = subst (IsSamePhase (get_or kept k d)) (sym (get_or-map (phase_of_spec net) phases k (record { duration = 0; greens = [] }) e (omega arith))) (same k d (record { duration = 0; greens = [] }) (omega arith))
 
-  pub kept-cycle : cycle (plan_seen offset kept) ≡ cycle_of phases
-  kept-cycle = cycle-sum offset kept ∙ durations-same kept (map (phase_of_spec net) phases) as-many alike ∙ told-sum net phases
-
-  told-cycle : cycle (plan_of net offset phases) ≡ cycle_of phases
-  told-cycle = cycle-sum offset (map (phase_of_spec net) phases) ∙ told-sum net phases
+  pub kept-cycle : cycle (plan_seen offset kept) ≡ cycle (plan_of net offset phases)
+  kept-cycle = durations-same kept (map (phase_of_spec net) phases) as-many alike
 
   pub kept-shows : ShowsAs (plan_seen offset kept) (plan_of net offset phases)
   kept-shows = record {
-    cycle_is = kept-cycle ∙ sym told-cycle;
+    cycle_is = kept-cycle;
     green_is = λ place next step.
         shown-at place next kept ((step + offset) % cycle (plan_seen offset kept))
-        ∙ ap (λ n. shown place next kept ((step + offset) % n)) (kept-cycle ∙ sym told-cycle)
+        ∙ ap (λ n. shown place next kept ((step + offset) % n)) kept-cycle
         ∙ shown-same place next kept (map (phase_of_spec net) phases) as-many alike ((step + offset) % cycle (plan_of net offset phases))
         ∙ sym (shown-at place next (map (phase_of_spec net) phases) ((step + offset) % cycle (plan_of net offset phases)));
   }

@@ -4,15 +4,15 @@ use Rattle.std.specs.Prelude.{nat_lt, slice_get, sum_by, ◌==◌, ◌&&◌, if�
 use Rattle.std.specs.Option.{option_map_or, option_and_then}
 use Rattle.std.proofs.Math.Seq.{drop-cons}
 use Rattle.std.proofs.lemmas.Bool.{cases_Bool, cond-true, cond-false, ltb-true, ltb-false, lt-ltb, le-ltb}
-use Rattle.std.proofs.lemmas.List.{drop_all, take_all}
+use Rattle.std.proofs.lemmas.List.{drop_all}
 use Rattle.std.proofs.lemmas.List.Sums.{sum_by_more, sum_by-cons}
 use Rattle.std.proofs.lemmas.List.Sorted.{list_any-IsPermutation}
 use Rattle.std.proofs.lemmas.Option.{slice_get-get_or}
 use Rattle.street_base.specs.Search.{least}
 use Rattle.street_base.specs.Network.{Place}
-use Rattle.street_base.specs.Signal.{Phase, Green, time_of, cycle, phase_at, lists}
+use Rattle.street_base.specs.Signal.{Phase, Green, time_of, phase_at, lists}
 use Rattle.street_base.proofs.SearchLemmas.{least-past, least-here, least-skip}
-use Rattle.street_node.specs.Greens.{shown, plan_seen, IsSamePhase}
+use Rattle.street_node.specs.Greens.{shown, IsSamePhase}
 
 pub no_phase : Phase
 no_phase = record { duration = 0; greens = [] }
@@ -73,6 +73,3 @@ durations-same (p ∷ ps) (q ∷ qs) l h =
     sum_by-cons (λ (p : Phase). p.duration) p ps
     ∙ rw (same.duration, durations-same ps qs (omega arith) (λ k d e b. h (suc k) d e (omega arith))) refl
     ∙ sym (sum_by-cons (λ (p : Phase). p.duration) q qs)
-
-pub cycle-sum : (offset : ℕ) (ps : List Phase) → cycle (plan_seen offset ps) ≡ sum_by (λ (p : Phase). p.duration) ps
-cycle-sum offset ps = ap (λ xs. sum_by (λ (p : Phase). p.duration) xs) (take_all (length ps) ps (omega arith))

@@ -1,9 +1,9 @@
 //! Whether a signal plan is bad.
 //!
 //! Source: this profile.
-ghost use Rattle.std.specs.Prelude.{◌≡◌, ◌*◌, ◌≤◌, None, length};
+ghost use Rattle.std.specs.Prelude.{◌≡◌, ◌*◌, ◌≤◌, None, length, sum_by};
 ghost use Rattle.std.specs.List.{list_all};
-ghost use Rattle.street_base.specs.Faults.{first_bad, is_turn_to, is_bad_phase, cycle_of, signal_fault};
+ghost use Rattle.street_base.specs.Faults.{first_bad, is_turn_to, is_bad_phase, signal_fault};
 
 use street_base::{GreenSpec, LaneNo, PhaseSpec};
 use street_net::Network;
@@ -76,7 +76,7 @@ fn phases_fault(net: &Network, node: u64, phases: &[PhaseSpec]) -> Option<u64>
 /// How long phases last together, none of which is bad.
 pub(crate) fn cycle_of(net: &Network, node: u64, phases: &[PhaseSpec]) -> u64
     requires { first_bad (is_bad_phase net.now node) phases.now ≡ None }
-    ensures cycle { result ≡ cycle_of phases.now }
+    ensures cycle { result ≡ sum_by (λ p. p.duration) phases.now }
     ensures small { result ≤ 600 * length phases.now }
     ensures few { length phases.now ≤ 16 }
 {

@@ -1,15 +1,15 @@
 -- The hand-overs of all tiles together are the entries of the machine.
 use Rattle.std.proofs.Common.{◌≡◌, Bool, true, false, List, [], ◌∷◌, ◌++◌, map, refl, sym, ◌∙◌, ap, arith, inl, inr}
-use Rattle.std.specs.Prelude.{Option, Some, None, find, filter, filter_map, option_to_list, option_and_then, ◌&&◌, if◌then◌else◌, nat_le}
+use Rattle.std.specs.Prelude.{Option, Some, None, find, filter, filter_map, option_to_list, option_map, option_and_then, if◌then◌else◌, nat_le}
 use Rattle.std.specs.Option.{option_map_or}
 use Rattle.std.specs.List.{list_any, cons_option}
-use Rattle.std.proofs.lemmas.Bool.{cases_Bool, cond-true, cond-false, both_ways, and_parts, or_right}
+use Rattle.std.proofs.lemmas.Bool.{cases_Bool, cond-true, cond-false, both_ways, or_right}
 use Rattle.street_base.specs.Lane.{is_free}
 use Rattle.street_base.specs.Network.{Place, is_place, link_at, places}
 use Rattle.street_base.specs.Vehicle.{Vehicle}
 use Rattle.street_base.specs.State.{Traffic, Queued, lane_at}
 use Rattle.street_base.specs.Census.{one_if}
-use Rattle.street_base.specs.Release.{front, exit_lane, leads_to, giver, entering, on_next_link}
+use Rattle.street_base.specs.Release.{front, exit_lane, may_give, giver, entering, on_next_link}
 use Rattle.street_base.proofs.ReleaseLemmas.{is_place-same, is_place-refl, is_place-swap}
 use Rattle.street_tile.specs.Halves.{Entry, takes, entry_on, crossing, entries_to}
 use Rattle.street_tile.specs.Walks.{times}
@@ -98,11 +98,15 @@ module _ (m : Traffic) (to : Place) where
       either true x = refl
       either false x = refl
 
+      by_ready : (b : Bool) (o : Option Place) → option_map_or (is_place to) (if b then o else None) false ≡ true → option_map_or (is_place to) o false ≡ true
+      by_ready true o l = l
+      by_ready false o l = cc
+
       leads-out : (q : Queued) → front m from ≡ Some q → takes (giver m to) from ≡ true → option_map_or (is_place to) (exit_lane m from q.vehicle) false ≡ true
       leads-out q e t =
           let leads = chosen-leads m to from t in
-          let both : (nat_le q.ready m.clock && option_map_or (is_place to) (exit_lane m from q.vehicle) false) ≡ true = rw e at leads in
-          (and_parts (nat_le q.ready m.clock) (option_map_or (is_place to) (exit_lane m from q.vehicle) false) both).1
+          let led : option_map_or (is_place to) (if nat_le q.ready m.clock then exit_lane m from q.vehicle else None) false ≡ true = rw e at leads in
+          by_ready (nat_le q.ready m.clock) (exit_lane m from q.vehicle) led
 
       shut_out : (b : Bool) (t : Place) (v : Vehicle) → is_place to t ≡ false → enters to (if b then Some (entry_on m.network v t) else None) ≡ []
       shut_out true t v other = cond-false (is_place to t) (on_next_link (link_at m.network t.link).limit v ∷ []) [] other
@@ -127,7 +131,7 @@ module _ (m : Traffic) (to : Place) where
   chosen-among : (from : Place) → giver m to ≡ Some from → list_any (is_place from) (places m.network) ≡ true
   unfolding giver
   chosen-among from e = elim (cases_Bool (is_free (lane_at m to).track 0)) as (λ _. list_any (is_place from) (places m.network) ≡ true) [
-    | inl free ↦ find-among (leads_to m to) (places m.network) from (sym (cond-true _ _ _ free) ∙ e)
+    | inl free ↦ find-among (may_give m to) (places m.network) from (sym (cond-true _ _ _ free) ∙ e)
     | inr shut ↦ (let none : ◌≡◌ {A = Option Place} None (Some from) = sym (cond-false _ _ _ shut) ∙ e in cc)
   ]
 
@@ -135,11 +139,11 @@ module _ (m : Traffic) (to : Place) where
   pub crossings-enter : (ps : List Place) → ((q : Place) → list_any (is_place q) (places m.network) ≡ true → times q ps ≡ 1) → entries_to to (filter_map (crossing m) ps) ≡ option_to_list (entering m to)
   crossings-enter ps all = by_giver (giver m to) refl
     where
-      entered : (o : Option Queued) → front_enters o ≡ option_to_list (option_map_or (λ q. Some (on_next_link (link_at m.network to.link).limit q.vehicle)) o None)
+      entered : (o : Option Queued) → front_enters o ≡ option_to_list (option_map (λ q. on_next_link (link_at m.network to.link).limit q.vehicle) o)
       entered None = refl
       entered (Some q) = refl
 
-      by_giver : (o : Option Place) → giver m to ≡ o → entries_to to (filter_map (crossing m) ps) ≡ option_to_list (option_and_then (λ from. option_map_or (λ q. Some (on_next_link (link_at m.network to.link).limit q.vehicle)) (front m from) None) o)
+      by_giver : (o : Option Place) → giver m to ≡ o → entries_to to (filter_map (crossing m) ps) ≡ option_to_list (option_and_then (λ from. option_map (λ q. on_next_link (link_at m.network to.link).limit q.vehicle) (front m from)) o)
       by_giver None e =
           let none : (p : Place) → enters to (crossing m p) ≡ [] = λ p. crosses p ∙ not_chosen p _ (λ t. let no : false ≡ true = rw e at t in both_ways false refl no) in
           entries-gathered (crossing m) to to (λ p _. none p) ps ∙ none-gathered (λ p. enters to (crossing m p)) to (λ p _. none p) none ps

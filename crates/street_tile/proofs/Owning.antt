@@ -1,6 +1,6 @@
 -- Which lanes are a tile's: each is the network's, and all buffers that lead to one lane are one tile's.
 use Rattle.std.proofs.Common.{◌≡◌, ℕ, zero, suc, ◌+◌, ◌<◌, ◌≤◌, Bool, true, false, List, [], ◌∷◌, map, length, refl, sym, ◌∙◌, ap, subst, arith, inl, inr}
-use Rattle.std.specs.Prelude.{flat_map, Option, Some, None, slice_get, find, filter, ◌&&◌, ◌||◌, option_and_then, nat_le, nat_lt, if◌then◌else◌}
+use Rattle.std.specs.Prelude.{flat_map, Option, Some, None, slice_get, find, filter, ◌&&◌, ◌||◌, option_map, option_and_then, nat_le, nat_lt, if◌then◌else◌}
 use Rattle.std.specs.Option.{option_map_or}
 use Rattle.std.specs.List.{list_any, range_with_len}
 use Rattle.std.proofs.lemmas.Bool.{cases_Bool, both_ways, or_cases, or_left, or_right, false_from_ne_true}
@@ -11,14 +11,13 @@ use Rattle.street_base.specs.Network.{Place, is_place, link_at, node_of, turn, p
 use Rattle.street_base.specs.Vehicle.{Vehicle, next_link}
 use Rattle.street_base.specs.State.{Traffic, Queued}
 use Rattle.street_base.specs.Census.{one_if}
-use Rattle.street_base.specs.Release.{front, exit_lane, leads_to}
+use Rattle.street_base.specs.Release.{front, exit_lane, target, may_give}
 use Rattle.street_base.proofs.ReleaseLemmas.{is_place-same, is_place-refl}
 use Rattle.street_base.proofs.PlaceOnceLemmas.{places-once}
 use Rattle.street_lanes.specs.Lanes.{IsLane, AllLanes}
-use Rattle.street_tile.specs.Halves.{candidate}
 use Rattle.street_tile.specs.Tiles.{IsRoads, is_own, own_places}
 use Rattle.street_tile.specs.Walks.{times, AtMostOnce, IsWalk}
-use Rattle.street_tile.proofs.Walking.{times-cons, leads-candidate}
+use Rattle.street_tile.proofs.Walking.{times-cons}
 
 -- ---- a filter
 
@@ -130,17 +129,17 @@ own-once net low high q =
     ]
 
 -- a buffer that leads to a lane is at the node from which that lane's link runs
-pub leads-joined : (net : NetSpec) → IsRoads net → (m : Traffic) → m.network ≡ net → (to from : Place) → leads_to m to from ≡ true → (link_at net from.link).to ≡ (link_at net to.link).from
+pub leads-joined : (net : NetSpec) → IsRoads net → (m : Traffic) → m.network ≡ net → (to from : Place) → may_give m to from ≡ true → (link_at net from.link).to ≡ (link_at net to.link).from
 leads-joined net roads m on to from leads =
-    by_candidate (candidate m from) refl (sym (leads-candidate m from to) ∙ leads)
+    by_target (target m from) refl leads
   where
-    by_turn : (next : ℕ) (o : Option TurnSpec) → turn net from next ≡ o → option_map_or (λ (t : TurnSpec). Some (record { link = next; lane = t.next_lane })) o None ≡ Some to → (link_at net from.link).to ≡ (link_at net to.link).from
+    by_turn : (next : ℕ) (o : Option TurnSpec) → turn net from next ≡ o → option_map (λ (t : TurnSpec). record { link = next; lane = t.next_lane }) o ≡ Some to → (link_at net from.link).to ≡ (link_at net to.link).from
     by_turn next None t e = cc
     by_turn next (Some t) is e =
         let same : ◌≡◌ {A = Place} (record { link = next; lane = t.next_lane }) to = cc in
         roads.joined from next t is ∙ ap (λ (p : Place). (link_at net p.link).from) same
 
-    by_next : (v : Vehicle) (o : Option ℕ) → next_link v ≡ o → option_and_then (λ next. option_map_or (λ (t : TurnSpec). Some (record { link = next; lane = t.next_lane })) (turn m.network from next) None) o ≡ Some to → (link_at net from.link).to ≡ (link_at net to.link).from
+    by_next : (v : Vehicle) (o : Option ℕ) → next_link v ≡ o → option_and_then (λ next. option_map (λ (t : TurnSpec). record { link = next; lane = t.next_lane }) (turn m.network from next)) o ≡ Some to → (link_at net from.link).to ≡ (link_at net to.link).from
     by_next v None e x = cc
     by_next v (Some next) e x = by_turn next (turn net from next) refl (rw on at x)
 
@@ -152,9 +151,9 @@ leads-joined net roads m on to from leads =
     by_front None e = cc
     by_front (Some q) e = by_ready (nat_le q.ready m.clock) q.vehicle e
 
-    by_candidate : (o : Option Place) → candidate m from ≡ o → option_map_or (is_place to) o false ≡ true → (link_at net from.link).to ≡ (link_at net to.link).from
-    by_candidate None e x = cc
-    by_candidate (Some p) e x =
+    by_target : (o : Option Place) → target m from ≡ o → option_map_or (is_place to) o false ≡ true → (link_at net from.link).to ≡ (link_at net to.link).from
+    by_target None e x = cc
+    by_target (Some p) e x =
         let same : to ≡ p = is_place-same to p x in
         by_front (front m from) (e ∙ ap (λ (y : Place). Some y) (sym same))
 
@@ -163,8 +162,8 @@ own-walk net roads m on low high = record {
   once = own-once net low high;
   firsts = λ k to from at leads.
       let own : is_own net low high from ≡ true = filter-holds (is_own net low high) (places net) k from at in
-      let start : (p : Place) → leads_to m to p ≡ true → (link_at net p.link).to ≡ (link_at net to.link).from = λ p l. leads-joined net roads m on to p l in
-      let inside : (p : Place) → leads_to m to p ≡ true → is_own net low high p ≡ true = λ p l.
+      let start : (p : Place) → may_give m to p ≡ true → (link_at net p.link).to ≡ (link_at net to.link).from = λ p l. leads-joined net roads m on to p l in
+      let inside : (p : Place) → may_give m to p ≡ true → is_own net low high p ≡ true = λ p l.
       ap (λ (n : ℕ). option_map_or (λ node. nat_le low node && nat_lt node high) (node_of net n) false) (start p l ∙ sym (start from leads)) ∙ own in
-      find-filter (leads_to m to) (is_own net low high) inside (places net) ∙ ap (λ (n : NetSpec). find (leads_to m to) (places n)) (sym on);
+      find-filter (may_give m to) (is_own net low high) inside (places net) ∙ ap (λ (n : NetSpec). find (may_give m to) (places n)) (sym on);
 }

@@ -1,12 +1,11 @@
 -- The lanes of a tile come link by link, lane 0 and then lane 1.
-use Rattle.std.proofs.Common.{◌≡◌, ℕ, zero, suc, ◌+◌, ◌<◌, ◌≤◌, List, [], ◌∷◌, ◌++◌, map, length, get_or, refl, sym, ◌∙◌, arith, inl, inr}
+use Rattle.std.proofs.Common.{◌≡◌, ℕ, zero, suc, ◌+◌, ◌<◌, ◌≤◌, List, [], ◌∷◌, ◌++◌, map, length, refl, sym, ◌∙◌, arith, inl, inr}
 use Rattle.std.specs.Prelude.{filter, flat_map}
 use Rattle.std.specs.List.{range_with_len}
 use Rattle.std.proofs.lemmas.Bool.{cases_Bool}
 use Rattle.street_base.specs.declared.net.NetSpec.{NetSpec}
 use Rattle.street_base.specs.Network.{Place, link_at}
-use Rattle.street_lanes.specs.Lanes.{no_place}
-use Rattle.street_tile.specs.Tiles.{ArePairs, is_own, own_places}
+use Rattle.street_tile.specs.Tiles.{ArePairs, nth, beside, lanes_beside, is_own, own_places}
 use Rattle.street_tile.proofs.Owning.{row_of}
 
 module _ (net : NetSpec) where
@@ -17,11 +16,11 @@ module _ (net : NetSpec) where
   pairs-one : (p : Place) (ps : List Place) → p.lane ≡ 0 → ((link_at net p.link).lanes ≡ 2 → ⊥) → ArePairs net ps → ArePairs net (p ∷ ps)
   pairs-one p ps zero_lane one rest = record { first = λ h. zero_lane; next = next; before = before }
     where
-      next : (n : ℕ) → n < length (p ∷ ps) → (get_or (p ∷ ps) n no_place).lane ≡ 0 → (link_at net (get_or (p ∷ ps) n no_place).link).lanes ≡ 2 → (suc n < length (p ∷ ps)) × (get_or (p ∷ ps) (suc n) no_place ≡ record { link = (get_or (p ∷ ps) n no_place).link; lane = 1 })
+      next : (n : ℕ) → n < length (p ∷ ps) → (nth (p ∷ ps) n).lane ≡ 0 → lanes_beside net (nth (p ∷ ps) n) ≡ 2 → (suc n < length (p ∷ ps)) × (nth (p ∷ ps) (suc n) ≡ beside (nth (p ∷ ps) n) 1)
       next zero h a two = absurd (one two)
       next (suc n) h a two = let r = rest.next n (omega arith) a two in let l = r.0 in (omega arith, r.1)
 
-      before : (n : ℕ) → suc n < length (p ∷ ps) → ((get_or (p ∷ ps) (suc n) no_place).lane ≡ 0 → ⊥) → get_or (p ∷ ps) n no_place ≡ record { link = (get_or (p ∷ ps) (suc n) no_place).link; lane = 0 }
+      before : (n : ℕ) → suc n < length (p ∷ ps) → ((nth (p ∷ ps) (suc n)).lane ≡ 0 → ⊥) → nth (p ∷ ps) n ≡ beside (nth (p ∷ ps) (suc n)) 0
       before zero h other = absurd (other (rest.first (omega arith)))
       before (suc n) h other = rest.before n (omega arith) other
 
@@ -33,12 +32,12 @@ module _ (net : NetSpec) where
   pairs-two : (i : ℕ) (ps : List Place) → ArePairs net ps → ArePairs net (pair_and i ps)
   pairs-two i ps rest = record { first = λ h. refl; next = next; before = before }
     where
-      next : (n : ℕ) → n < length (pair_and i ps) → (get_or (pair_and i ps) n no_place).lane ≡ 0 → (link_at net (get_or (pair_and i ps) n no_place).link).lanes ≡ 2 → (suc n < length (pair_and i ps)) × (get_or (pair_and i ps) (suc n) no_place ≡ record { link = (get_or (pair_and i ps) n no_place).link; lane = 1 })
+      next : (n : ℕ) → n < length (pair_and i ps) → (nth (pair_and i ps) n).lane ≡ 0 → lanes_beside net (nth (pair_and i ps) n) ≡ 2 → (suc n < length (pair_and i ps)) × (nth (pair_and i ps) (suc n) ≡ beside (nth (pair_and i ps) n) 1)
       next zero h a two = (omega arith, refl)
       next (suc zero) h a two = absurd (let e : 1 ≡ 0 = a in omega arith)
       next (suc (suc n)) h a two = let r = rest.next n (omega arith) a two in let l = r.0 in (omega arith, r.1)
 
-      before : (n : ℕ) → suc n < length (pair_and i ps) → ((get_or (pair_and i ps) (suc n) no_place).lane ≡ 0 → ⊥) → get_or (pair_and i ps) n no_place ≡ record { link = (get_or (pair_and i ps) (suc n) no_place).link; lane = 0 }
+      before : (n : ℕ) → suc n < length (pair_and i ps) → ((nth (pair_and i ps) (suc n)).lane ≡ 0 → ⊥) → nth (pair_and i ps) n ≡ beside (nth (pair_and i ps) (suc n)) 0
       before zero h other = refl
       before (suc zero) h other = absurd (other (rest.first (omega arith)))
       before (suc (suc n)) h other = rest.before n (omega arith) other

@@ -3,7 +3,7 @@ use Rattle.std.proofs.Common.{◌≡◌, ℕ, ◌+◌, ◌*◌, ◌<◌, ◌≤�
 use Rattle.std.specs.Prelude.{Option, Some, None, IsSome, slice_get, slice_set, filter_map, option_and_then, not, ◌&&◌, ◌||◌, if◌then◌else◌, nat_le}
 use Rattle.std.specs.Option.{option_map_or}
 use Rattle.std.specs.List.{list_any, cons_option}
-use Rattle.std.proofs.lemmas.Bool.{cases_Bool, cond-false, both_ways}
+use Rattle.std.proofs.lemmas.Bool.{cases_Bool, cond-false, both_ways, false_from_ne_true}
 use Rattle.std.proofs.lemmas.List.{take_more, take_all, get_or-set_same, get_or-set_other, append_assoc, append-nil}
 use Rattle.std.proofs.lemmas.List.Folds.{list_any-append}
 use Rattle.std.proofs.lemmas.List.Elements.{filter_map-append}
@@ -13,27 +13,28 @@ use Rattle.street_base.specs.Network.{Place, is_place}
 use Rattle.street_base.specs.Vehicle.{Vehicle, next_link}
 use Rattle.street_base.specs.Lane.{is_free}
 use Rattle.street_base.specs.State.{Traffic, Queued, lane_at}
-use Rattle.street_base.specs.Release.{front, exit_lane, leads_to, giver, gives}
+use Rattle.street_base.specs.Release.{front, exit_lane, target, may_give, giver, gives}
 use Rattle.street_base.proofs.ReleaseLemmas.{is_place-same, is_place-refl, is_place-swap}
 use Rattle.street_lanes.specs.Views.{LaneStands, without_front}
 use Rattle.street_lanes.specs.Lanes.{Lanes, IsLane, AllLanes, GoesAt, lane_of, place_at}
 use Rattle.street_lanes.specs.Whole.{LanesStand}
-use Rattle.street_tile.specs.Halves.{Entry, takes, candidate, entry_on, crossing, let_go_lane, let_go}
+use Rattle.street_tile.specs.Halves.{Entry, takes, entry_on, crossing, let_go_lane, let_go}
 use Rattle.street_tile.specs.Tiles.{IsRoads, mouth, slot_of}
 use Rattle.street_tile.specs.Walks.{IsReleasing}
 use Rattle.street_tile.proofs.Going.{place-is, LanesDone, lanes-start, lanes-here, lanes-next, lanes-kept, lanes-all}
 use Rattle.street_tile.proofs.Each.{lane_at-each}
-use Rattle.street_tile.proofs.Walking.{leads-candidate, stays, goes-at}
+use Rattle.street_tile.proofs.Walking.{taken-goes, stays, goes-at}
 
 -- ---- who crosses
 
--- what is known of a front that has a candidate
+-- what is known of a front that may go to a lane
 pub record Leads (m : Traffic) (from to : Place) (q : Queued) : Type 0 where
   pub front : front m from ≡ Some q
   pub exit : exit_lane m from q.vehicle ≡ Some to
+  pub target : target m from ≡ Some to
   pub next : IsSome (next_link q.vehicle)
 
-pub leads-of : (m : Traffic) (from to : Place) → candidate m from ≡ Some to → (q : Queued) × Leads m from to q
+pub leads-of : (m : Traffic) (from to : Place) → target m from ≡ Some to → (q : Queued) × Leads m from to q
 leads-of m from to is = by_front (front m from) refl
   where
     by_ready : (q : Queued) (b : Bool) → (if b then exit_lane m from q.vehicle else None) ≡ Some to → exit_lane m from q.vehicle ≡ Some to
@@ -49,23 +50,23 @@ leads-of m from to is = by_front (front m from) refl
     by_front (Some q) e =
         let ready : (if nat_le q.ready m.clock then exit_lane m from q.vehicle else None) ≡ Some to = rw e at is in
         let exits = by_ready q (nat_le q.ready m.clock) ready in
-        (q, record { front = e; exit = exits; next = by_next q.vehicle (next_link q.vehicle) refl exits })
+        (q, record { front = e; exit = exits; target = is; next = by_next q.vehicle (next_link q.vehicle) refl exits })
 
 pub crossing-goes : (m : Traffic) (from to : Place) (q : Queued) → Leads m from to q → gives m from ≡ true → crossing m from ≡ Some (entry_on m.network q.vehicle to)
 crossing-goes m from to q l goes =
-    let taken : takes (giver m to) from ≡ true = rw (l.front, l.exit) at goes in
+    let taken : takes (giver m to) from ≡ true = rw l.target at goes in
     rw (l.front, l.exit, taken) refl
 
 pub crossing-stays : (m : Traffic) (from : Place) → gives m from ≡ false → crossing m from ≡ None
-crossing-stays m from no_one = by_front (front m from) refl
+crossing-stays m from no_one = by_front (front m from)
   where
-    by_exit : (q : Queued) (o : Option Place) → option_map_or (λ to. takes (giver m to) from) o false ≡ false → option_and_then (λ to. if takes (giver m to) from then Some (entry_on m.network q.vehicle to) else None) o ≡ None
-    by_exit q None e = refl
-    by_exit q (Some to) e = cond-false _ _ _ e
+    by_exit : (q : Queued) (o : Option Place) → option_and_then (λ to. if takes (giver m to) from then Some (entry_on m.network q.vehicle to) else None) o ≡ None
+    by_exit q None = refl
+    by_exit q (Some to) = cond-false _ _ _ (false_from_ne_true (takes (giver m to) from) (λ t. both_ways (gives m from) no_one (taken-goes m to from t)))
 
-    by_front : (o : Option Queued) → front m from ≡ o → option_and_then (λ q. option_and_then (λ to. if takes (giver m to) from then Some (entry_on m.network q.vehicle to) else None) (exit_lane m from q.vehicle)) o ≡ None
-    by_front None e = refl
-    by_front (Some q) e = by_exit q (exit_lane m from q.vehicle) (rw e at no_one)
+    by_front : (o : Option Queued) → option_and_then (λ q. option_and_then (λ to. if takes (giver m to) from then Some (entry_on m.network q.vehicle to) else None) (exit_lane m from q.vehicle)) o ≡ None
+    by_front None = refl
+    by_front (Some q) = by_exit q (exit_lane m from q.vehicle)
 
 -- ---- mouths
 
@@ -100,7 +101,7 @@ module _ (net : NetSpec) (roads : IsRoads net) (clock : ℕ) (old : Lanes) (even
   -- the buffers before k are done
   pub record IsReleased (k : ℕ) (now : Lanes) (open_now : List Bool) (handed_now : List Entry) : Type 0 where
     pub lanes : LanesDone (let_go_lane m) m old k now
-    pub shut : (p : Place) → IsLane net p → mouth open_now p ≡ is_free (lane_at m p).track 0 && not (list_any (leads_to m p) (take k old.places))
+    pub shut : (p : Place) → IsLane net p → mouth open_now p ≡ is_free (lane_at m p).track 0 && not (list_any (may_give m p) (take k old.places))
     pub handed_over : handed_now ≡ handed ++ filter_map (crossing m) (take k old.places)
 
   pub released-start : IsReleased 0 old mouths handed
@@ -134,28 +135,28 @@ module _ (net : NetSpec) (roads : IsRoads net) (clock : ℕ) (old : Lanes) (even
     released-here = lanes-here (let_go_lane m) m old k now d.lanes r.stand within (omega arith)
 
     -- nobody goes from the buffer at k, and no mouth would have been shut by it
-    released-stays : gives m from ≡ false → ((p : Place) → IsLane net p → leads_to m p from ≡ true → mouth open_now p ≡ false) → IsReleased (k + 1) now open_now handed_now
+    released-stays : gives m from ≡ false → ((p : Place) → IsLane net p → may_give m p from ≡ true → mouth open_now p ≡ false) → IsReleased (k + 1) now open_now handed_now
     released-stays not_so shut = record {
       lanes = lanes-kept (let_go_lane m) m old k now d.lanes (subst (LaneStands (lane_of now k)) (sym (rw not_so refl)) released-here);
-      shut = λ p there. elim (cases_Bool (leads_to m p from)) as (λ _. mouth open_now p ≡ is_free (lane_at m p).track 0 && not (list_any (leads_to m p) (take (k + 1) old.places))) [
-        | inl leads ↦ shut p there leads ∙ sym (rw (any-more (leads_to m p) old.places k from at, leads) (never (is_free (lane_at m p).track 0) (list_any (leads_to m p) (take k old.places))))
-        | inr none ↦ d.shut p there ∙ sym (rw (any-more (leads_to m p) old.places k from at, none) (ap (λ (b : Bool). is_free (lane_at m p).track 0 && not b) (or_none (list_any (leads_to m p) (take k old.places)))))
+      shut = λ p there. elim (cases_Bool (may_give m p from)) as (λ _. mouth open_now p ≡ is_free (lane_at m p).track 0 && not (list_any (may_give m p) (take (k + 1) old.places))) [
+        | inl leads ↦ shut p there leads ∙ sym (rw (any-more (may_give m p) old.places k from at, leads) (never (is_free (lane_at m p).track 0) (list_any (may_give m p) (take k old.places))))
+        | inr none ↦ d.shut p there ∙ sym (rw (any-more (may_give m p) old.places k from at, none) (ap (λ (b : Bool). is_free (lane_at m p).track 0 && not b) (or_none (list_any (may_give m p) (take k old.places)))))
       ];
       handed_over = d.handed_over ∙ sym (ap (λ (es : List Entry). handed ++ es) (crossings-more (crossing m) old.places k from at ∙ rw (crossing-stays m from not_so) (append-nil (filter_map (crossing m) (take k old.places)))));
     }
 
-    -- a buffer without a candidate
-    pub released-none : candidate m from ≡ None → IsReleased (k + 1) now open_now handed_now
+    -- a buffer whose front may go to no lane
+    pub released-none : target m from ≡ None → IsReleased (k + 1) now open_now handed_now
     released-none is =
         released-stays (stays m from is)
-        (λ p there leads. let no_one : option_map_or (is_place p) (candidate m from) false ≡ true = sym (leads-candidate m from p) ∙ leads in let e : false ≡ true = rw is at no_one in cc)
+        (λ p there leads. let no_one : option_map_or (is_place p) (target m from) false ≡ true = leads in let e : false ≡ true = rw is at no_one in cc)
 
-    module _ (to : Place) (is : candidate m from ≡ Some to) (there : IsLane net to) where
+    module _ (to : Place) (is : target m from ≡ Some to) (there : IsLane net to) where
       goes-by-mouth : gives m from ≡ mouth open_now to
       goes-by-mouth = goes-at m old.places r.walk k from to at is ∙ sym (d.shut to there)
 
-      leads-there : (p : Place) → leads_to m p from ≡ true → is_place p to ≡ true
-      leads-there p leads = let h : option_map_or (is_place p) (candidate m from) false ≡ true = sym (leads-candidate m from p) ∙ leads in rw is at h
+      leads-there : (p : Place) → may_give m p from ≡ true → is_place p to ≡ true
+      leads-there p leads = let h : option_map_or (is_place p) (target m from) false ≡ true = leads in rw is at h
 
       -- a buffer whose front finds the mouth shut
       pub released-shut : mouth open_now to ≡ false → IsReleased (k + 1) now open_now handed_now
@@ -171,21 +172,21 @@ module _ (net : NetSpec) (roads : IsRoads net) (clock : ℕ) (old : Lanes) (even
           let lead = leads-of m from to is in
           record {
             lanes = lanes-next (let_go_lane m) m old k now after d.lanes goes.same goes.others (subst (LaneStands (lane_of after k)) (sym (rw going refl)) (goes.goes (lane_at m from) released-here));
-            shut = λ p lane. elim (cases_Bool (is_place to p)) as (λ _. mouth (slice_set open_now (slot_of to) false) p ≡ is_free (lane_at m p).track 0 && not (list_any (leads_to m p) (take (k + 1) old.places))) [
+            shut = λ p lane. elim (cases_Bool (is_place to p)) as (λ _. mouth (slice_set open_now (slot_of to) false) p ≡ is_free (lane_at m p).track 0 && not (list_any (may_give m p) (take (k + 1) old.places))) [
               | inl here ↦ (
                   let same : to ≡ p = is_place-same to p here in
-                  let led : leads_to m p from ≡ true = leads-candidate m from p ∙ ap (λ (o : Option Place). option_map_or (is_place p) o false) is ∙ is_place-swap p to ∙ here in
+                  let led : may_give m p from ≡ true = ap (λ (o : Option Place). option_map_or (is_place p) o false) is ∙ is_place-swap p to ∙ here in
                   let two = roads.two to.link in
                   let fits : slot_of to < length open_now = (let a = there.0 in let b = there.1 in omega arith) in
                   ap (mouth (slice_set open_now (slot_of to) false)) (sym same) ∙ get_or-set_same open_now (slot_of to) false false fits
-                  ∙ sym (rw (any-more (leads_to m p) old.places k from at, led) (never (is_free (lane_at m p).track 0) (list_any (leads_to m p) (take k old.places)))))
+                  ∙ sym (rw (any-more (may_give m p) old.places k from at, led) (never (is_free (lane_at m p).track 0) (list_any (may_give m p) (take k old.places)))))
               | inr other ↦ (
-                  let none : leads_to m p from ≡ false = leads-candidate m from p ∙ ap (λ (o : Option Place). option_map_or (is_place p) o false) is ∙ is_place-swap p to ∙ other in
+                  let none : may_give m p from ≡ false = ap (λ (o : Option Place). option_map_or (is_place p) o false) is ∙ is_place-swap p to ∙ other in
                   let a : to.lane < 2 = (let h = there.1 in let two = roads.two to.link in omega arith) in
                   let b : p.lane < 2 = (let h = lane.1 in let two = roads.two p.link in omega arith) in
                   get_or-set_other open_now (slot_of to) (slot_of p) false false (slot-apart to p a b other)
                   ∙ d.shut p lane
-                  ∙ sym (rw (any-more (leads_to m p) old.places k from at, none) (ap (λ (b : Bool). is_free (lane_at m p).track 0 && not b) (or_none (list_any (leads_to m p) (take k old.places))))))
+                  ∙ sym (rw (any-more (may_give m p) old.places k from at, none) (ap (λ (b : Bool). is_free (lane_at m p).track 0 && not b) (or_none (list_any (may_give m p) (take k old.places))))))
             ];
             handed_over =
                 gone lead.0 lead.1

@@ -1,7 +1,7 @@
 -- The release phase in two halves: fronts are let go, and who was let go is placed.
 -- Between them a vehicle is in no lane: it is handed over.
 -- Source: releases are this profile.
-use Rattle.std.specs.Prelude.{List, map, filter, drop, Bool, false, Option, Some, None, option_map, option_and_then, nat_le, slice_get, if◌then◌else◌}
+use Rattle.std.specs.Prelude.{List, map, filter, drop, Bool, false, Option, Some, None, option_map, option_and_then, slice_get, if◌then◌else◌}
 use Rattle.std.specs.Option.{option_map_or}
 use Rattle.street_base.specs.declared.net.NetSpec.{NetSpec}
 use Rattle.street_base.specs.Vehicle.{Vehicle}
@@ -21,10 +21,6 @@ vehicle_in entry = option_map (λ e. e.vehicle) entry
 -- a buffer is chosen by an entrance
 abbrev pub takes : Option Place → Place → Bool
 takes chosen from = option_map_or (is_place from) chosen false
-
--- where the front of a buffer would go now, if it is ready
-abbrev pub candidate : Traffic → Place → Option Place
-candidate m from = option_and_then (λ q. if nat_le q.ready m.clock then exit_lane m from q.vehicle else None) (front m from)
 
 -- a vehicle as it enters a lane
 abbrev pub entry_on : NetSpec → Vehicle → Place → Entry

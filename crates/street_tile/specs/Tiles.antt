@@ -86,11 +86,23 @@ pub record IsTileOf (net : NetSpec) (x : Part) : Type 0 where
   pub own : IsOf net x.own
   pub gauged : sizes_of x.gauges ≡ map (cells_on net) x.own.places
 
+-- the lane at a position of these
+abbrev pub nth : List Place → ℕ → Place
+nth ps n = slice_index_or ps n no_place
+
+-- the lane with this number of the same link
+abbrev pub beside : Place → ℕ → Place
+beside p lane = record { link = p.link; lane = lane }
+
+-- how many lanes its link has
+abbrev pub lanes_beside : NetSpec → Place → ℕ
+lanes_beside net p = (link_at net p.link).lanes
+
 -- of these lanes lane 1 of a link comes right after lane 0
 pub record ArePairs (net : NetSpec) (ps : List Place) : Type 0 where
-  pub first : 0 < length ps → (slice_index_or ps 0 no_place).lane ≡ 0
-  pub next : (n : ℕ) → n < length ps → (slice_index_or ps n no_place).lane ≡ 0 → (link_at net (slice_index_or ps n no_place).link).lanes ≡ 2 → (suc n < length ps) × (slice_index_or ps (suc n) no_place ≡ record { link = (slice_index_or ps n no_place).link; lane = 1 })
-  pub before : (n : ℕ) → suc n < length ps → ((slice_index_or ps (suc n) no_place).lane ≡ 0 → ⊥) → slice_index_or ps n no_place ≡ record { link = (slice_index_or ps (suc n) no_place).link; lane = 0 }
+  pub first : 0 < length ps → (nth ps 0).lane ≡ 0
+  pub next : (n : ℕ) → n < length ps → (nth ps n).lane ≡ 0 → lanes_beside net (nth ps n) ≡ 2 → (suc n < length ps) × (nth ps (suc n) ≡ beside (nth ps n) 1)
+  pub before : (n : ℕ) → suc n < length ps → ((nth ps (suc n)).lane ≡ 0 → ⊥) → nth ps n ≡ beside (nth ps (suc n)) 0
 
 -- the tile stands for the machine at its own lanes and nodes, and each vehicle in its arena is on one of its lanes
 pub record StandsFor (x : Part) (m : Traffic) : Type 0 where

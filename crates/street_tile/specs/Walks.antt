@@ -5,7 +5,7 @@ use Rattle.street_base.specs.declared.net.NetSpec.{NetSpec}
 use Rattle.street_base.specs.Network.{Place, is_place, places}
 use Rattle.street_base.specs.State.{Traffic}
 use Rattle.street_base.specs.Census.{one_if}
-use Rattle.street_base.specs.Release.{leads_to}
+use Rattle.street_base.specs.Release.{may_give}
 use Rattle.street_lanes.specs.Lanes.{Lanes}
 use Rattle.street_lanes.specs.Whole.{LanesStand, IsOn}
 use Rattle.street_tile.specs.Tiles.{Shows}
@@ -20,7 +20,7 @@ AtMostOnce ps = (q : Place) → times q ps ≤ 1
 -- the order of a walk over buffers: each at most once; and for a lane to which one of them leads, the first is that of the whole network
 pub record IsWalk (m : Traffic) (ps : List Place) : Type 0 where
   pub once : AtMostOnce ps
-  pub firsts : (k : ℕ) (to from : Place) → slice_get ps k ≡ Some from → leads_to m to from ≡ true → find (leads_to m to) ps ≡ find (leads_to m to) (places m.network)
+  pub firsts : (k : ℕ) (to from : Place) → slice_get ps k ≡ Some from → may_give m to from ≡ true → find (may_give m to) ps ≡ find (may_give m to) (places m.network)
 
 -- what a tile's lanes and the view show as the releases begin
 pub record IsReleasing (net : NetSpec) (clock : ℕ) (own : Lanes) (mouths : List Bool) (m : Traffic) : Type 0 where

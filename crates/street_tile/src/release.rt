@@ -6,12 +6,12 @@ ghost use Rattle.street_base.specs.Network.{link_at};
 ghost use Rattle.street_base.specs.State.{Traffic, LaneState, Queued, lane_at};
 ghost use Rattle.street_base.specs.Vehicle.{next_link};
 ghost use Rattle.street_base.specs.Limits.{most_plan};
-ghost use Rattle.street_base.specs.Release.{on_next_link};
+ghost use Rattle.street_base.specs.Release.{target, on_next_link};
 ghost use Rattle.street_net.specs.Tables.{place_of as named};
 ghost use Rattle.street_lanes.specs.Views.{LaneStands, without_front};
 ghost use Rattle.street_lanes.specs.Lanes.{IsLane, AllLanes, Same, GoesAt, lane_of, place_at};
 ghost use Rattle.street_lanes.specs.Whole.{LanesStand};
-ghost use Rattle.street_tile.specs.Halves.{candidate, crossing, let_go, entry_on};
+ghost use Rattle.street_tile.specs.Halves.{crossing, let_go, entry_on};
 ghost use Rattle.street_tile.specs.Tiles.{IsRoads, mouth, slot_of};
 ghost use Rattle.street_tile.specs.Walks.{IsReleasing};
 
@@ -27,7 +27,7 @@ fn candidate(own: &Lanes, net: &Network, n: usize, clock: Step) -> Option<LaneId
     requires roads { IsRoads net.now }
     ensures goes { (m : Traffic) → m.network ≡ net.now → m.clock ≡ clock
         → LaneStands (lane_of own.now n) (lane_at m (place_at own.now n))
-        → option_map named result ≡ candidate m (place_at own.now n) }
+        → option_map named result ≡ target m (place_at own.now n) }
     ensures inside { IfSome result (λ to. IsLane net.now (named to)) }
 {
     let next = own.next_of_front(n, clock)?;

@@ -1,9 +1,10 @@
 use Rattle.std.proofs.Common.{◌≡◌, ◌*◌, ◌≤◌, take}
-use Rattle.street_base.specs.Faults.{cycle_of}
+use Rattle.std.specs.List.{sum_by}
+use Rattle.street_base.specs.declared.command.PhaseSpec.{PhaseSpec}
 use Rattle.street_node.proofs.checks.cycle_of.Given as goal
 
 abbrev pub invariant-loop-phase : goal.invariant-loop-phase
 invariant-loop-phase l = record {
-  cycle : l.cycle ≡ cycle_of (take l.phase-index l.phases);
+  cycle : l.cycle ≡ sum_by (λ (p : PhaseSpec). p.duration) (take l.phase-index l.phases);
   small : l.cycle ≤ 600 * l.phase-index;
 }

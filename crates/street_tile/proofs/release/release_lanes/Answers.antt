@@ -3,10 +3,11 @@ use Rattle.std.specs.Prelude.{Some, None}
 use Rattle.std.proofs.lemmas.Bool.{cases_Bool}
 use Rattle.street_base.specs.Network.{Place}
 use Rattle.street_base.specs.State.{Traffic, lane_at}
+use Rattle.street_base.specs.Release.{target}
 use Rattle.street_net.specs.Tables.{place_of}
 use Rattle.street_lanes.specs.Views.{LaneStands}
 use Rattle.street_lanes.specs.Lanes.{Lanes, lane_of, place_at}
-use Rattle.street_tile.specs.Halves.{Entry, candidate}
+use Rattle.street_tile.specs.Halves.{Entry}
 use Rattle.street_tile.specs.Tiles.{IsRoads, mouth}
 use Rattle.street_tile.specs.Walks.{IsReleasing}
 use Rattle.street_tile.proofs.Going.{same-none, same-then, same-long}
@@ -68,8 +69,8 @@ loop-n-preserved c =
             left = omega (arith, c.loop-n.invariant.left, e.grown, e.kept);
             kept = omega (arith, c.loop-n.invariant.kept, e.kept);
             released = λ roads even m r.
-                let leads : candidate m (place_at c.args.own.now c.loop-n.n) ≡ Some (place_of w.in-Some.to) =
-                ap (candidate m) (sym (same_place c roads even m r)) ∙ sym (c.candidate.ensures.goes m r.on.network r.in_time (here_too c roads even m r)) ∙ rw w.in-Some.is refl in
+                let leads : target m (place_at c.args.own.now c.loop-n.n) ≡ Some (place_of w.in-Some.to) =
+                ap (target m) (sym (same_place c roads even m r)) ∙ sym (c.candidate.ensures.goes m r.on.network r.in_time (here_too c roads even m r)) ∙ rw w.in-Some.is refl in
                 let inside = w.in-Some.ensures.inside in
                 elim (cases_Bool (mouth c.loop-n.mouths (place_of w.in-Some.to))) [
                   | inl is_open ↦ (
@@ -90,8 +91,8 @@ loop-n-preserved c =
         left = omega (arith, c.loop-n.invariant.left);
         kept = c.loop-n.invariant.kept;
         released = λ roads even m r.
-            let none : candidate m (place_at c.args.own.now c.loop-n.n) ≡ None =
-            ap (candidate m) (sym (same_place c roads even m r)) ∙ sym (c.candidate.ensures.goes m r.on.network r.in_time (here_too c roads even m r)) ∙ rw w.in_default.is refl in
+            let none : target m (place_at c.args.own.now c.loop-n.n) ≡ None =
+            ap (target m) (sym (same_place c roads even m r)) ∙ sym (c.candidate.ensures.goes m r.on.network r.in_time (here_too c roads even m r)) ∙ rw w.in_default.is refl in
             released-none c.args.net.now roads c.args.clock c.args.own.now even c.args.mouths.now c.args.handed.now.items m r c.loop-n.n c.loop-n.own c.loop-n.mouths c.loop-n.handed.items (within c roads even m r) (so_far c roads even m r) none;
       })
     ]

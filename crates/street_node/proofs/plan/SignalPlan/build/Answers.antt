@@ -3,7 +3,7 @@ use Rattle.std.proofs.lemmas.Result.{err_from_is_err_and}
 use Rattle.street_base.specs.declared.net.NodeSpec.{NodeSpec}
 use Rattle.street_base.specs.Faults.{signal_fault}
 use Rattle.street_node.specs.Greens.{node_id}
-use Rattle.street_node.proofs.Building.{no-fault, kept-cycle, kept-shows}
+use Rattle.street_node.proofs.Building.{no-fault, told-sum, kept-cycle, kept-shows}
 use Rattle.street_node.proofs.plan.SignalPlan.build.Goals as goal
 
 abbrev no_node : NodeSpec
@@ -13,8 +13,8 @@ pub invariant_of-result : goal.invariant_of-result
 invariant_of-result c =
     let parts = no-fault c.args.net.now _ c.args.offset c.args.phases.now (sym c.signal_fault.ensures ∙ c.in_default.is) in
     record {
-      cycle_is = c.cycle_of-cycle.ensures.cycle ∙ sym (kept-cycle c.args.net.now c.args.offset c.in_ok-phases.phases.items c.args.phases.now c.in_ok-phases.ensures.count c.in_ok-phases.ensures.same);
-      within = omega (arith, parts.1, c.cycle_of-cycle.ensures.cycle);
+      cycle_is = c.cycle_of-cycle.ensures.cycle ∙ sym (told-sum c.args.net.now c.args.phases.now) ∙ sym (kept-cycle c.args.net.now c.args.offset c.in_ok-phases.phases.items c.args.phases.now c.in_ok-phases.ensures.count c.in_ok-phases.ensures.same);
+      within = omega (arith, parts.1, told-sum c.args.net.now c.args.phases.now, c.cycle_of-cycle.ensures.cycle);
     }
 
 pub returns-clause-plan : goal.returns-clause-plan
