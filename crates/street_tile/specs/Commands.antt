@@ -3,12 +3,14 @@
 use Rattle.std.specs.Prelude.{◌≡◌, ◌<◌, ◌≤◌, ℕ, List, sum_by, Option, Some, None, slice_get, slice_set, if◌then◌else◌}
 use Rattle.street_base.specs.declared.net.NetSpec.{NetSpec}
 use Rattle.street_base.specs.declared.reply.Whereabouts.{Whereabouts}
+use Rattle.street_base.specs.Vehicle.{Vehicle}
 use Rattle.street_base.specs.Network.{Place, is_place}
 use Rattle.street_base.specs.Signal.{SignalPlan}
 use Rattle.street_base.specs.State.{Traffic, LaneState, lane_at, each_lane}
 use Rattle.street_base.specs.Census.{in_lane}
 use Rattle.street_base.specs.Effects.{lane_without}
 use Rattle.street_base.specs.Machine.{seen_in}
+use Rattle.street_lanes.specs.Finding.{vehicle_on}
 use Rattle.street_lanes.specs.Whole.{IsOn}
 use Rattle.street_tile.specs.Tiles.{Part, StandsFor, SameTile}
 
@@ -53,6 +55,10 @@ HaveNot ps m number = (k : ℕ) (p : Place) → slice_get ps k ≡ Some p → in
 -- somebody of this number is on one of them
 abbrev pub Have : List Place → Traffic → ℕ → Type 0
 Have ps m number = (k : ℕ) × (p : Place) × (slice_get ps k ≡ Some p) × (0 < in_lane number (lane_at m p))
+
+-- this vehicle is the one of this number on one of them
+abbrev pub Hold : List Place → Traffic → ℕ → Vehicle → Type 0
+Hold ps m number v = (k : ℕ) × (p : Place) × (slice_get ps k ≡ Some p) × (vehicle_on number (lane_at m p) ≡ Some v)
 
 -- where somebody of this number is on these lanes, and nothing where nobody is
 abbrev pub Finds : NetSpec → List Place → Traffic → ℕ → Option Whereabouts → Type 0

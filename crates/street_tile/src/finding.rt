@@ -1,15 +1,17 @@
 //! Commands that name a vehicle, and how many vehicles there are.
 //!
 //! Source: this profile.
-ghost use Rattle.std.specs.Prelude.{◌≡◌, ◌<◌, length, count_by, is_some, None, true, IfOk, IfSome};
+ghost use Rattle.std.specs.Prelude.{◌≡◌, ◌<◌, length, count_by, is_some, option_map, None, true, IfOk, IfSome};
+ghost use Rattle.street_base.specs.Vehicle.{vehicle_of};
 ghost use Rattle.street_base.specs.State.{Traffic, lane_at};
 ghost use Rattle.street_base.specs.Census.{in_lane};
 ghost use Rattle.street_base.specs.Machine.{seen_in};
 ghost use Rattle.street_net.specs.Tables.{place_of};
 ghost use Rattle.street_lanes.specs.Lanes.{IsLane, place_at};
+ghost use Rattle.street_lanes.specs.Finding.{vehicle_on};
 ghost use Rattle.street_lanes.specs.Whole.{IsOn};
 ghost use Rattle.street_tile.specs.Tiles.{IsTileOf, StandsFor, is_own};
-ghost use Rattle.street_tile.specs.Commands.{without, DoesIf, HaveNot, Have, HaveAtMostOne, Finds, over};
+ghost use Rattle.street_tile.specs.Commands.{without, DoesIf, HaveNot, Have, Hold, HaveAtMostOne, Finds, over};
 
 use crate::tile::Tile;
 use std::alloc::Global;
@@ -34,6 +36,8 @@ impl Tile {
         requires lane { n < length self.old.own.places }
         ensures number { IfSome result (λ car. car.number ≡ number) }
         ensures some { IfSome result (λ car. DoesIf net.now (λ m. HaveAtMostOne self.old.own.places m number) (without number) self.old self.new) }
+        ensures vehicle { (m : Traffic) → IsOn net.now m → StandsFor self.old m → HaveAtMostOne self.old.own.places m number
+            → option_map vehicle_of result ≡ vehicle_on number (lane_at m (place_at self.old.own n)) }
         ensures had { IfSome result (λ car. (m : Traffic) → IsOn net.now m → StandsFor self.old m → HaveAtMostOne self.old.own.places m number → 0 < in_lane number (lane_at m (place_at self.old.own n))) }
         ensures none { result ≡ None → self.new ≡ self.old }
         ensures had_not { result ≡ None → (m : Traffic) → IsOn net.now m → StandsFor self.old m → HaveAtMostOne self.old.own.places m number → in_lane number (lane_at m (place_at self.old.own n)) ≡ 0 }
@@ -48,6 +52,8 @@ impl Tile {
         requires own { is_own net.now self.old.low self.old.high (place_of at) ≡ true }
         ensures number { IfSome result (λ car. car.number ≡ number) }
         ensures some { IfSome result (λ car. DoesIf net.now (λ m. HaveAtMostOne self.old.own.places m number) (without number) self.old self.new) }
+        ensures vehicle { (m : Traffic) → IsOn net.now m → StandsFor self.old m → HaveAtMostOne self.old.own.places m number
+            → option_map vehicle_of result ≡ vehicle_on number (lane_at m (place_of at)) }
         ensures had { IfSome result (λ car. (m : Traffic) → IsOn net.now m → StandsFor self.old m → HaveAtMostOne self.old.own.places m number → 0 < in_lane number (lane_at m (place_of at))) }
         ensures none { result ≡ None → self.new ≡ self.old }
         ensures had_not { result ≡ None → (m : Traffic) → IsOn net.now m → StandsFor self.old m → HaveAtMostOne self.old.own.places m number → in_lane number (lane_at m (place_of at)) ≡ 0 }
@@ -61,6 +67,8 @@ impl Tile {
         requires { IsTileOf net.now self.old }
         ensures number { IfSome result (λ car. car.number ≡ number) }
         ensures some { IfSome result (λ car. DoesIf net.now (λ m. HaveAtMostOne self.old.own.places m number) (without number) self.old self.new) }
+        ensures vehicle { IfSome result (λ car. (m : Traffic) → IsOn net.now m → StandsFor self.old m → HaveAtMostOne self.old.own.places m number
+            → Hold self.old.own.places m number (vehicle_of car)) }
         ensures had { IfSome result (λ car. (m : Traffic) → IsOn net.now m → StandsFor self.old m → HaveAtMostOne self.old.own.places m number → Have self.old.own.places m number) }
         ensures none { result ≡ None → self.new ≡ self.old }
         ensures had_not { result ≡ None → (m : Traffic) → IsOn net.now m → StandsFor self.old m → HaveAtMostOne self.old.own.places m number → HaveNot self.old.own.places m number }

@@ -1,15 +1,17 @@
 use Rattle.std.proofs.Common.{◌≡◌, ◌<◌, None, length, map, sym, subst, arith}
-use Rattle.std.specs.Prelude.{IfSome}
+use Rattle.std.specs.Prelude.{IfSome, option_map}
+use Rattle.street_base.specs.Vehicle.{vehicle_of}
 use Rattle.street_base.specs.State.{Traffic, lane_at}
 use Rattle.street_base.specs.Census.{in_lane}
 use Rattle.street_lanes.specs.Lanes.{place_at}
+use Rattle.street_lanes.specs.Finding.{vehicle_on}
 use Rattle.street_lanes.specs.Whole.{IsOn}
 use Rattle.street_tile.specs.Halves.{vehicle_in}
 use Rattle.street_tile.specs.Tiles.{Part, IsTileOf, StandsFor}
 use Rattle.street_tile.specs.Commands.{without, DoesIf, HaveAtMostOne}
 use Rattle.street_tile.proofs.Going.{even-of}
 use Rattle.street_tile.proofs.Keeping.{at-view}
-use Rattle.street_tile.proofs.Seeking.{some-does, some-had, none-had}
+use Rattle.street_tile.proofs.Seeking.{stands-here, few-here, some-does, some-had, none-had}
 use Rattle.street_tile.proofs.tile.Tile.take_at.Goals as goal
 
 pub take_out-requires : goal.take_out-requires
@@ -51,3 +53,13 @@ returns-clause-had_not c =
     let within : c.args.n < length x.own.places = subst (λ (t : Part). c.args.n < length t.own.places) (sym is) c.requires.lane in
     subst (λ (u : Part). c.take_out.result ≡ None → (m : Traffic) → IsOn c.args.net.now m → StandsFor u m → HaveAtMostOne u.own.places m c.args.number → in_lane c.args.number (lane_at m (place_at u.own c.args.n)) ≡ 0) is
     (none-had c.args.number c.args.net.now x tile c.args.n within c.take_out.result c.take_out.ensures.found)
+
+pub returns-clause-vehicle : goal.returns-clause-vehicle
+returns-clause-vehicle c =
+    let s = c.self.inside in
+    let x : Part = record { low = s.low; high = s.high; links = s.links; own = s.own; clock = s.clock; signals = s.signals.items; mouths = s.mouths.items; handed = s.handed.items; coming = map vehicle_in s.coming; arrived = s.arrived.items; gauges = s.gauges.items } in
+    let is : x ≡ c.args.self.now = c.self.view_is in
+    let tile : IsTileOf c.args.net.now x = subst (IsTileOf c.args.net.now) (sym is) c.requires.tile in
+    let within : c.args.n < length x.own.places = subst (λ (t : Part). c.args.n < length t.own.places) (sym is) c.requires.lane in
+    subst (λ (u : Part). (m : Traffic) → IsOn c.args.net.now m → StandsFor u m → HaveAtMostOne u.own.places m c.args.number → option_map vehicle_of c.take_out.result ≡ vehicle_on c.args.number (lane_at m (place_at u.own c.args.n))) is
+    (λ m on s few. c.take_out.ensures.vehicle (lane_at m (place_at x.own c.args.n)) (stands-here c.args.number c.args.net.now x tile c.args.n within m s) (few-here c.args.number c.args.net.now x tile c.args.n within m few))

@@ -5,6 +5,7 @@ use Rattle.street_base.specs.Network.{Place}
 use Rattle.street_base.specs.State.{lane_at}
 use Rattle.street_base.specs.Census.{in_lane}
 use Rattle.street_lanes.specs.Lanes.{place_at, no_place}
+use Rattle.street_lanes.specs.Finding.{vehicle_on}
 use Rattle.street_tile.specs.Tiles.{Part, IsTileOf, StandsFor}
 use Rattle.street_tile.specs.Commands.{without, DoesIf, HaveAtMostOne}
 use Rattle.street_tile.proofs.Going.{place-is}
@@ -51,3 +52,12 @@ returns-clause-had_not c = λ none m on s few k p at.
     let h = slice_get_within c.args.self.now.own.places k p at in
     let places : length c.self.inside.own.places ≡ length c.args.self.now.own.places = ap (λ (t : Part). length t.own.places) c.self.view_is in
     c.loop-n.invariant.had_not m on s few k p (omega arith) at
+
+pub returns-in-Some-clause-vehicle : goal.returns-in-Some-clause-vehicle
+returns-in-Some-clause-vehicle c = λ m on s few.
+    let x = c.args.self.now in
+    let n = c.loop-n.n in
+    let same = c.loop-n.invariant.same in
+    let is = c.in-Some.ensures.vehicle m on (subst (λ (t : Part). StandsFor t m) (sym same) s) (subst (λ (t : Part). HaveAtMostOne t.own.places m c.args.number) (sym same) few) in
+    let places : length c.self.inside.own.places ≡ length x.own.places = ap (λ (t : Part). length t.own.places) c.self.view_is in
+    (n, place_at x.own n, place-is x.own n (omega arith), ap (λ (t : Part). vehicle_on c.args.number (lane_at m (place_at t.own n))) (sym same) ∙ sym is)
