@@ -3,7 +3,7 @@
 //! Source: this profile. A write that takes no bytes is a fault.
 ghost use Rattle.std.specs.Prelude.{◌≡◌, ◌<◌, ◌+◌, ◌^◌, OnOk, OnErr, IfErr, length, take};
 ghost use Rattle.std.specs.Io.KnownBytes.{Appends, Keeps};
-ghost use Rattle.street_ends.specs.Ends.{HasFailed, IsWritten, IsCut};
+ghost use Rattle.street_ends.specs.Ends.{one_more, HasFailed, IsWritten, IsCut};
 ghost use Rattle.street_ends.specs.declared.tally.FaultKind.TheVariants as kinds;
 
 use crate::counted::Counted;
@@ -62,6 +62,7 @@ pub fn write_reply<W: Write>(
 ///
 /// `Write` where that failed.
 pub fn flush_out<W: Write>(writer: &mut Counted<W>) -> Result<(), FaultKind>
+    ensures called { writer.new.calls ≡ one_more writer.old.calls }
     ensures kept { Keeps (W.contents writer.old.end) (W.contents writer.new.end) }
     ensures failed { IfErr result (λ kind. (kind ≡ kinds.Write) × HasFailed writer.new) }
 {

@@ -178,14 +178,13 @@ module _ (start : Option Head × View) (fresh : start.0 ≡ None) (stands : Stan
 
   -- what is counted and written of the lines that were handled
   breaks_after : (why : Cause Stop) (h : Broken why) (es : List Entry) (r : AreReplayed None None h.done es h.effects h.mid) (rest : List (List ℕ)) → HasBegunNext None h.done es rest now.1
-      → (tally.lines ≡ length h.done) ⊎ (tally.lines ≡ length h.done + 1) → BreaksAfter None before h.done rest now.1 after tally
-  breaks_after why h es r rest begun lines = record {
+      → BreaksAfter None before h.done rest now.1 after tally
+  breaks_after why h es r rest begun = record {
     entries = es;
     says = record { says = says h.done es h.mid.0 r.taken; good = r.good };
     state = begun;
     within = subst (λ (out : List ℕ). tally.bytes ≤ length out) r.out h.within;
     written = subst (λ (out : List ℕ). Appends before after (take tally.bytes out)) r.out h.written;
-    lines = lines;
     calls = h.calls ∙ r.calls;
     replies = rw (r.out, r.replies) at h.replies;
   }
@@ -198,7 +197,8 @@ module _ (start : Option Head × View) (fresh : start.0 ≡ None) (stands : Stan
         done = h.done;
         rest = h.rest;
         first_lines = h.first_lines;
-        broken = breaks_after (cause.Run kind) h es r h.rest (begun_none None h.done es h.rest now.1 state) (inl leaves.1);
+        broken = breaks_after (cause.Run kind) h es r h.rest (begun_none None h.done es h.rest now.1 state);
+        lines = inl leaves.1;
         whole = λ read.
             let whole = leaves.2 read in
             (whole.0, whole_replies tally.bytes tally.replies (length (output h.effects)) (replies_in h.effects) h.replies whole.1 ∙ r.replies ∙ sym (h.calls ∙ r.calls));
@@ -273,7 +273,8 @@ module _ (start : Option Head × View) (fresh : start.0 ≡ None) (stands : Stan
         done = h.done;
         rest = line ∷ later.0;
         first_lines = ap lines_of (sym (append-nil text)) ∙ later.1 ∙ append_assoc h.done (line ∷ []) later.0;
-        broken = breaks_after (cause.Line Starved) h es r (line ∷ later.0) (begun_by h.mid h.done es line later.0 r.taken r.state stopped) (inr lines);
+        broken = breaks_after (cause.Line Starved) h es r (line ∷ later.0) (begun_by h.mid h.done es line later.0 r.taken r.state stopped);
+        lines = inr (refl, lines);
         whole = λ read. absurd read;
       }
 

@@ -250,9 +250,9 @@ module _ (start : Upgrading) (fresh : start.tape.rest ≡ None) (at_end : Type 0
         },
       )
 
-  cuts : (done rest : List (List ℕ)) (es : List Entry) (mid : Option Head) → IsUnwritten done es mid → lines_of text ≡ done ++ rest → (tally.lines ≡ length done) ⊎ (tally.lines ≡ length done + 1)
-      → Cuts at_end before text after tally
-  cuts done rest es mid u first lines = record {
+  cuts : (kind : FaultKind) (done rest : List (List ℕ)) (es : List Entry) (mid : Option Head) → IsUnwritten done es mid → lines_of text ≡ done ++ rest
+      → (tally.lines ≡ length done) ⊎ ((kind ≡ kinds.Starved) × (tally.lines ≡ length done + 1)) → Cuts at_end before text after kind tally
+  cuts kind done rest es mid u first lines = record {
     done = done;
     rest = rest;
     entries = es;
@@ -266,7 +266,7 @@ module _ (start : Upgrading) (fresh : start.tape.rest ≡ None) (at_end : Type 0
   }
 
   broken_by : (why : Cause Stop) (h : Broken why) (es : List Entry) → IsUnwritten h.done es h.mid.tape.rest → UpgradeBreaks at_end before text after (fault_of why tally)
-  broken_by (cause.Run kind) h es u = cuts h.done h.rest es h.mid.tape.rest u h.first_lines (inl h.leaves.1)
+  broken_by (cause.Run kind) h es u = cuts kind h.done h.rest es h.mid.tape.rest u h.first_lines (inl h.leaves.1)
   broken_by (cause.Line NotTape) h es u =
       let l = h.leaves in
       let first = refused_head h.done es h.mid.tape.rest l.0 u.taken l.2 in
@@ -287,7 +287,7 @@ module _ (start : Upgrading) (fresh : start.tape.rest ≡ None) (at_end : Type 0
   broken_by (cause.Line Starved) h es u =
       let l = h.leaves in
       let later = next_lines text [] at_end h.done l.0 l.1 (λ over. refl) in
-      cuts h.done (l.0 ∷ later.0) es h.mid.tape.rest u (ap lines_of (sym (append-nil text)) ∙ later.1 ∙ append_assoc h.done (l.0 ∷ []) later.0) (inr l.3)
+      cuts kinds.Starved h.done (l.0 ∷ later.0) es h.mid.tape.rest u (ap lines_of (sym (append-nil text)) ∙ later.1 ∙ append_assoc h.done (l.0 ∷ []) later.0) (inr (refl, l.3))
 
   breaks_by : (why : Cause Stop) → Broken why → UpgradeBreaks at_end before text after (fault_of why tally)
   breaks_by why h = let all = unwritten why h in broken_by why h all.0 all.1

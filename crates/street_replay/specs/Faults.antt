@@ -11,6 +11,7 @@ use Rattle.street_ends.specs.Faults.{IsAtRead, IsCaused}
 use Rattle.street_ends.specs.Lines.{cut, lines_of}
 use Rattle.street_ends.specs.declared.counted.Counted.{Counted}
 use Rattle.street_ends.specs.declared.tally.FaultKind.{FaultKind}
+use Rattle.street_ends.specs.declared.tally.FaultKind.TheVariants.{Starved}
 use Rattle.street_ends.specs.declared.tally.Tally.{Tally}
 use Rattle.street_engine.specs.Refines.{View, StandsFor}
 use Rattle.street_replay.specs.BadTapes.{SaysCalls, IsNoTape, IsBadAt}
@@ -53,8 +54,6 @@ pub record BreaksAfter (start : State) (before : Option (List ℕ)) (done rest :
   pub state : HasBegunNext start done entries rest view
   pub within : tally.bytes ≤ length (output_from start entries)
   pub written : Appends before after (take tally.bytes (output_from start entries))
-  -- a line that was not done was taken up
-  pub lines : (tally.lines ≡ length done) ⊎ (tally.lines ≡ length done + 1)
   pub calls : tally.calls ≡ length entries
   pub replies : ((tally.bytes ≡ length (output_from start entries)) × (tally.replies ≡ length entries))
       ⊎ ((tally.bytes < length (output_from start entries)) × (tally.replies + 1 ≡ length entries))
@@ -65,6 +64,8 @@ pub record Breaks (start : State) (before : Option (List ℕ)) (text : List ℕ)
   pub rest : List (List ℕ)
   pub first_lines : lines_of text ≡ done ++ rest
   pub broken : BreaksAfter start before done rest view after tally
+  -- a line that memory was wanting for was taken up, but not done
+  pub lines : (tally.lines ≡ length done) ⊎ ((kind ≡ Starved) × (tally.lines ≡ length done + 1))
   pub whole : IsAtRead kind → (done ≡ (cut text).0) × (tally.replies ≡ tally.calls)
 
 -- ---- all faults

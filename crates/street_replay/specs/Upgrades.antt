@@ -6,6 +6,8 @@ use Rattle.street_desk.specs.declared.journal.Entry.{Entry}
 use Rattle.street_ends.specs.Handling.{Effect}
 use Rattle.street_ends.specs.Lines.{lines_of}
 use Rattle.street_ends.specs.declared.counted.Counted.{Counted}
+use Rattle.street_ends.specs.declared.tally.FaultKind.{FaultKind}
+use Rattle.street_ends.specs.declared.tally.FaultKind.TheVariants.{Starved}
 use Rattle.street_ends.specs.declared.tally.Tally.{Tally}
 use Rattle.street_replay.specs.BadTapes.{IsNoTape, IsBadAt}
 use Rattle.street_replay.specs.declared.fault.TapeFault.{TapeFault}
@@ -38,7 +40,7 @@ pub record UpgradesWhole (unread before left after : Option (List ℕ)) (tally :
   pub counted : IsUpgradeTally tally (lines_of text) entries
 
 -- the first bytes of the tape are written, and none before the other was read to its end
-pub record Cuts (at_end : Type 0) (before : Option (List ℕ)) (text : List ℕ) (after : Option (List ℕ)) (tally : Tally) : Type 0 where
+pub record Cuts (at_end : Type 0) (before : Option (List ℕ)) (text : List ℕ) (after : Option (List ℕ)) (kind : FaultKind) (tally : Tally) : Type 0 where
   pub done : List (List ℕ)
   pub rest : List (List ℕ)
   pub entries : List Entry
@@ -46,8 +48,8 @@ pub record Cuts (at_end : Type 0) (before : Option (List ℕ)) (text : List ℕ)
   pub says : calls_in done ≡ Some entries
   pub written : IsPrefix before 0 (tape_text entries) after tally.bytes
   pub whole : (tally.bytes ≡ 0) ⊎ (at_end × (tape_reading text ≡ Some entries))
-  -- a line that was not done was taken up
-  pub lines : (tally.lines ≡ length done) ⊎ (tally.lines ≡ length done + 1)
+  -- a line that memory was wanting for was taken up, but not kept
+  pub lines : (tally.lines ≡ length done) ⊎ ((kind ≡ Starved) × (tally.lines ≡ length done + 1))
   pub calls : tally.calls ≡ length entries
   pub replies : tally.replies ≡ 0
 
@@ -55,7 +57,7 @@ pub record Cuts (at_end : Type 0) (before : Option (List ℕ)) (text : List ℕ)
 abbrev pub UpgradeBreaks : Type 0 → Option (List ℕ) → List ℕ → Option (List ℕ) → TapeFault → Type 0
 UpgradeBreaks at_end before text after NotTape = IsNoTape at_end text × Appends before after []
 UpgradeBreaks at_end before text after (BadEntry line) = (es : List Entry) × IsBadAt at_end (λ es. ⊤) text es line × Appends before after []
-UpgradeBreaks at_end before text after (Run fault) = Cuts at_end before text after fault.tally
+UpgradeBreaks at_end before text after (Run fault) = Cuts at_end before text after fault.kind fault.tally
 
 -- so of what was read
 pub record UpgradeStops (unread before left after : Option (List ℕ)) (fault : TapeFault) : Type 0 where

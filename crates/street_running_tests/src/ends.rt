@@ -32,7 +32,8 @@ impl<'a> Read for Given<'a> {
     }
 }
 
-/// Takes so many bytes a write at most while there is room, and then fails or takes none.
+/// Takes so many bytes a write at most while there is room, and then fails or takes none. Fails at a flush, after so many
+/// others.
 #[derive(Drop)]
 pub(crate) struct Taking {
     pub(crate) taken: Vec<u8>,
@@ -40,6 +41,7 @@ pub(crate) struct Taking {
     pub(crate) piece: usize,
     pub(crate) room: usize,
     pub(crate) fails: bool,
+    pub(crate) flushes_left: usize,
 }
 
 impl Taking {
@@ -51,12 +53,20 @@ impl Taking {
             piece,
             room,
             fails,
+            flushes_left: usize::MAX,
         }
     }
 
     /// Takes all.
     pub(crate) fn all(alloc: Global) -> Taking {
         Taking::new(alloc, 4096, 1_000_000, true)
+    }
+
+    /// Takes all, and fails at a flush after so many others.
+    pub(crate) fn failing_to_flush(alloc: Global, flushes_left: usize) -> Taking {
+        let mut writer = Taking::all(alloc);
+        writer.flushes_left = flushes_left;
+        writer
     }
 }
 
@@ -72,6 +82,10 @@ impl Write for Taking {
     }
 
     fn flush(&mut self) -> io::Result<()> {
+        if self.flushes_left == 0 {
+            return Err(io::Error::from(io::ErrorKind::BrokenPipe));
+        }
+        self.flushes_left -= 1;
         self.flushed = self.taken.len();
         Ok(())
     }

@@ -10,6 +10,8 @@ pub(super) struct Case {
     pub(super) before: usize,
     pub(super) text: &'static [u8],
     pub(super) is_endless: bool,
+    /// The most commands that are served.
+    pub(super) places: u128,
     /// The most reads of the run.
     pub(super) most_reads: u32,
     /// The most bytes of a read.
@@ -59,6 +61,12 @@ const COUNTS_OUTPUT: &[u8] = br#"{"error":1,"name":"NotLoaded"}
 {"error":1,"name":"NotLoaded"}
 "#;
 
+const ONE_PLACE: &[u8] = b"{\"cmd\":\"count\"}\n{\"cmd\":\"count\"}\n";
+
+const ONE_PLACE_OUTPUT: &[u8] = br#"{"error":1,"name":"NotLoaded"}
+{"error":23,"name":"Full"}
+"#;
+
 impl Case {
     /// The whole text.
     pub(super) fn whole_text(&self, alloc: Global) -> Result<Vec<u8>, AllocError> {
@@ -68,12 +76,13 @@ impl Case {
     }
 }
 
-pub(super) static CASES: [Case; 5] = [
+pub(super) static CASES: [Case; 6] = [
     Case {
         name: "a vehicle arrives, read byte by byte",
         before: 0,
         text: ARRIVES,
         is_endless: false,
+        places: 100,
         most_reads: 1_000_000_000,
         piece: 1,
         reads: 256,
@@ -93,6 +102,7 @@ pub(super) static CASES: [Case; 5] = [
         before: 0,
         text: ARRIVES,
         is_endless: false,
+        places: 100,
         most_reads: 1_000_000_000,
         piece: 60,
         reads: 6,
@@ -112,6 +122,7 @@ pub(super) static CASES: [Case; 5] = [
         before: 1_048_577,
         text: FAULTY,
         is_endless: false,
+        places: 100,
         most_reads: 1_000_000_000,
         piece: 4096,
         reads: 258,
@@ -127,10 +138,31 @@ pub(super) static CASES: [Case; 5] = [
         },
     },
     Case {
+        name: "a place for one call",
+        before: 0,
+        text: ONE_PLACE,
+        is_endless: false,
+        places: 1,
+        most_reads: 1_000_000_000,
+        piece: 1,
+        reads: 33,
+        output: ONE_PLACE_OUTPUT,
+        writers: 58,
+        step: 1,
+        kind: None,
+        tally: Tally {
+            lines: 2,
+            calls: 2,
+            replies: 2,
+            bytes: 58,
+        },
+    },
+    Case {
         name: "lines without end",
         before: 0,
         text: COUNTS,
         is_endless: true,
+        places: 100,
         most_reads: 40,
         piece: 1,
         reads: 40,
@@ -150,6 +182,7 @@ pub(super) static CASES: [Case; 5] = [
         before: 0,
         text: COUNTS,
         is_endless: true,
+        places: 100,
         most_reads: 0,
         piece: 1,
         reads: 0,

@@ -1,4 +1,4 @@
-//! Each read and each write fails in turn, and the text ends after each byte.
+//! Each read, each write and each flush fails in turn, and the text ends after each byte.
 
 use crate::ends::{Given, Taking};
 use crate::lines::cases::{ARRIVES, ARRIVES_OUTPUT, CASES, Case};
@@ -79,7 +79,7 @@ fn check_read(
 ) {
     let writer = Taking::new(rt.alloc(), 4096, 4096, true);
     let reader = given(case, all, reads);
-    let ran = run(rt, rt.alloc(), reader, writer, case.most_reads);
+    let ran = run(rt, rt.alloc(), reader, writer, case.places, case.most_reads);
     let lines = lines_in(all.get(..reads.saturating_mul(case.piece)).unwrap_or(all));
     let want = first_lines(case.output, lines);
     let tally = tally_after(case, lines, lines, want.len());
@@ -93,7 +93,7 @@ fn check_read(
 fn check_all_reads(rt: &(impl Threads + Abort + AllocGlobal + Sync), case: &Case, all: &[u8]) {
     let writer = Taking::new(rt.alloc(), 4096, 4096, true);
     let reader = given(case, all, case.reads);
-    let ran = run(rt, rt.alloc(), reader, writer, case.most_reads);
+    let ran = run(rt, rt.alloc(), reader, writer, case.places, case.most_reads);
     let holds = is_ended(&ran, case.kind, case.tally, case.output)
         && is_read(&ran, case.output.len(), case.reads as u64, 0);
     check(rt, holds, case.name, case.reads);
@@ -117,6 +117,55 @@ fn each_read_fails_in_turn(rt: HostRuntime) -> Result<(), Fail> {
     Ok(())
 }
 
+/// How many lines of a case have ended after so many reads, of which the last finds the end.
+fn lines_after(case: &Case, all: &[u8], reads: usize) -> usize {
+    if reads >= case.reads {
+        return usize::try_from(case.tally.lines).unwrap_or(0);
+    }
+    lines_in(all.get(..reads.saturating_mul(case.piece)).unwrap_or(all))
+}
+
+/// The flush behind this read of a case fails.
+fn check_flush(
+    rt: &(impl Threads + Abort + AllocGlobal + Sync),
+    case: &Case,
+    all: &[u8],
+    flushes: usize,
+) {
+    let writer = Taking::failing_to_flush(rt.alloc(), flushes);
+    let reader = given(case, all, case.reads);
+    let ran = run(rt, rt.alloc(), reader, writer, case.places, case.most_reads);
+    let reads = flushes.saturating_add(1);
+    let flushed = first_lines(case.output, lines_after(case, all, flushes)).len();
+    let lines = lines_after(case, all, reads);
+    let want = first_lines(case.output, lines);
+    let tally = tally_after(case, lines, lines, want.len());
+    let holds = is_ended(&ran, Some(FaultKind::Write), tally, want)
+        && is_read(&ran, flushed, reads as u64, 0)
+        && ran.failed_writes == 1;
+    check(rt, holds, case.name, flushes);
+}
+
+/// Each flush of a case fails in turn.
+fn check_flushes(
+    rt: &(impl Threads + Abort + AllocGlobal + Sync),
+    case: &Case,
+) -> Result<(), Fail> {
+    let text = case.whole_text(rt.alloc())?;
+    for flushes in 0..case.reads {
+        check_flush(rt, case, text.as_slice(), flushes);
+    }
+    Ok(())
+}
+
+#[test]
+fn each_flush_fails_in_turn(rt: HostRuntime) -> Result<(), Fail> {
+    for case in &CASES {
+        check_flushes(&rt, case)?;
+    }
+    Ok(())
+}
+
 /// A case is written into so much room.
 fn check_write(
     rt: &(impl Threads + Abort + AllocGlobal + Sync),
@@ -127,7 +176,7 @@ fn check_write(
     failures: (u64, u64),
 ) {
     let reader = given(case, all, case.reads);
-    let ran = run(rt, rt.alloc(), reader, writer, case.most_reads);
+    let ran = run(rt, rt.alloc(), reader, writer, case.places, case.most_reads);
     let want = case.output.get(..room).unwrap_or(case.output);
     let replies = lines_in(want);
     let tally = tally_after(case, replies.saturating_add(1), replies, room);

@@ -10,10 +10,11 @@ use street_line::{
     run_lines_within,
 };
 
-/// An engine, and how many commands it had.
+/// An engine with a place for so many commands, and how many it was asked to serve.
 #[derive(Drop)]
 struct Watched<'a, R: Threads + Sync> {
     engine: EngineSession<'a, R>,
+    places: u128,
     commands: u128,
 }
 
@@ -25,7 +26,11 @@ impl<'a, R: Threads + Sync> Service for Watched<'a, R> {
     ghost ready = { IsSync R.row };
 
     fn serve(&mut self, command: Command) -> Served {
+        let is_full = self.commands >= self.places;
         self.commands = self.commands.saturating_add(1);
+        if is_full {
+            return Served::Full;
+        }
         self.engine.serve(command)
     }
 }
@@ -52,18 +57,20 @@ fn outcome(run: Result<Tally, RunFault>) -> (Option<FaultKind>, Tally) {
     }
 }
 
-/// Runs an engine over these ends.
+/// Runs an engine with a place for so many commands over these ends.
 pub(super) fn run<R: Threads + Sync>(
     rt: &R,
     alloc: Global,
     reader: Given<'_>,
     writer: Taking,
+    places: u128,
     reads: u32,
 ) -> Ran {
     let mut reader = Counted::new(reader);
     let mut writer = Counted::new(writer);
     let mut service = Watched {
         engine: EngineSession::new(rt, Engine::new(alloc, 1, Unwatched)),
+        places,
         commands: 0,
     };
     let run = run_lines_within(alloc, &mut service, &mut reader, &mut writer, reads);
