@@ -30,3 +30,15 @@ def compare():
     from .compare import main
 
     run_tool(main)
+
+
+def signals():
+    from .planning import main
+
+    run_tool(main)
+
+
+def study():
+    from .studying import main
+
+    run_tool(main)

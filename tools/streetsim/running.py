@@ -20,6 +20,7 @@ from .jobs import CORES, side_by_side
 from .mapping import read_map
 from .record import Recorder, Repeater, Settings
 from .runs import Line, read_run
+from .seeds import seeds_of
 
 
 def parser():
@@ -246,11 +247,7 @@ def seeded(run, seed):
 
 def run_seeds(words, run, mapping, settings):
     """A run for each seed, side by side; prints and writes each mean trip, their mean and its 95 % interval."""
-    first, _, last = words.seeds.partition("-")
-    last = last or first
-    if not (first.isdecimal() and last.isdecimal() and int(first) <= int(last) < min(int(first) + 1000, 2**64)):
-        raise Fault(f"--seeds {words.seeds!r}: expected FIRST-LAST, at most 1,000 of them")
-    seeds = range(int(first), int(last) + 1)
+    seeds = seeds_of(words.seeds, "--seeds")
     shown = Progress(words.until, len(seeds))
     with whole_folder(words.out, NAME) as folder:
 

@@ -1,5 +1,5 @@
 """Reads a SUMO network (.net.xml, and signal programs of additional files)."""
-from dataclasses import dataclass, field
+from dataclasses import dataclass, field, replace
 
 from .files import Fault, at_least_zero, attribute, elements, number, seconds, told
 from .sumo_detectors import KINDS, read_detector
@@ -51,6 +51,7 @@ class Program:
     offset: float
     phases: list  # of (seconds, state)
     kind: str  # static, actuated, ..
+    bounds: list = field(default_factory=list)  # for each phase its minDur and maxDur, or none
 
 
 @dataclass(slots=True)
@@ -219,5 +220,14 @@ def read_program(path, element, net, _classes):
         (attribute(path, phase, "duration", at_least_zero(seconds)), attribute(path, phase, "state"))
         for phase in element.iter("phase")
     ]
+    bounds = [tuple(bound_of(path, phase, name) for name in ("minDur", "maxDur")) for phase in element.iter("phase")]
     offset = attribute(path, element, "offset", seconds) if element.get("offset") else 0.0
-    net.programs[attribute(path, element, "id")] = Program(offset, phases, element.get("type", "static"))
+    light = attribute(path, element, "id")
+    if not phases and light in net.programs:  # an offset alone, as SUMO's tlsCoordinator writes it
+        net.programs[light] = replace(net.programs[light], offset=offset)
+    else:
+        net.programs[light] = Program(offset, phases, element.get("type", "static"), bounds)
+
+
+def bound_of(path, phase, name):
+    return attribute(path, phase, name, at_least_zero(seconds)) if phase.get(name) else None

@@ -15,17 +15,31 @@ def movements(net, network, flows, report):
     """The connections of each junction with a light over its cycle, {junction: {request: movement}}; none where nothing
     is known of who gives way to whom, or of flows, which are the routes' vehicles an hour from edge to edge."""
     limits_of = {link.edge: link.limit for link in network.links}
-    connections_at, found = defaultdict(list), {}
+    found = {}
+    for junction, connections in connections_of(net).items() if flows else ():
+        if at_junction := movements_of_junction(junction, connections, net, flows, limits_of, report):
+            found[junction] = at_junction
+    return found
+
+
+def connections_of(net):
+    """The connections of each junction."""
+    found = defaultdict(list)
     for connection in net.connections:
-        connections_at[net.edges[connection.source].end].append(connection)
-    for junction, connections in connections_at.items() if flows else ():
-        light = light_of(connections, net)
-        ours = [connection for connection in connections if connection.light in (light, None)]
-        if light and net.yields.get(junction) and all(connection.request is not None for connection in ours):
-            states = each_second(light, net.programs[light], report)
-            check_states(light, states, ours)
-            found[junction] = movements_of(ours, states, net.yields[junction], flows, limits_of)
-            settle(list(found[junction].values()))
+        found[net.edges[connection.source].end].append(connection)
+    return found
+
+
+def movements_of_junction(junction, connections, net, flows, limits_of, report):
+    """The movements of one junction, {request: movement}; none where nothing is known of who gives way to whom."""
+    light = light_of(connections, net)
+    ours = [connection for connection in connections if connection.light in (light, None)]
+    if not light or not net.yields.get(junction) or any(connection.request is None for connection in ours):
+        return {}
+    states = each_second(light, net.programs[light], report)
+    check_states(light, states, ours)
+    found = movements_of(ours, states, net.yields[junction], flows, limits_of)
+    settle(list(found.values()))
     return found
 
 

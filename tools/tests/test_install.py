@@ -11,7 +11,7 @@ from support import MAP, NUMBERED, PROGRAM, TOOLS, Case, lane, needs_simulator, 
 from streetsim.files import Fault
 from streetsim.program import BUILT, find_program
 
-COMMANDS = ("compare", "import", "play", "plot", "run")
+COMMANDS = ("compare", "import", "play", "plot", "run", "signals", "study")
 PIP = [sys.executable, "-m", "pip"] if find_spec("pip") else [shutil.which("pip")] if shutil.which("pip") else None
 
 

@@ -1,0 +1,144 @@
+"""The search for a plan: proposals by formula, of which runs choose, and then hill climbing by ever smaller steps.
+
+Only strict gains are taken and no plan is run twice, so a search repeats exactly.
+"""
+import contextlib
+from dataclasses import dataclass, field
+
+from .formulas import proposals
+
+SHARES = (0.25, 0.12, 0.06, 0.03)  # of the cycle, by which offsets are moved
+SECONDS = (8, 4, 2, 1)  # of green that are moved between phases
+
+
+class Ended(Exception):
+    """The budget is used up, or the user has asked for an end."""
+
+
+@dataclass(slots=True)
+class Trial:
+    simulations: int  # so far
+    step: str  # what was tried
+    value: float  # seconds of a mean trip
+    best: float  # so far
+
+
+@dataclass
+class Search:
+    """Plans by their values, each asked for once; the best of them, and what was tried."""
+
+    value: object  # of plans: gives their values in order
+    budget: int  # simulations
+    seeds: int  # simulations that one plan takes
+    told: object = lambda search: False  # hears of each trial; gives whether the user has asked for an end
+    seen: dict = field(default_factory=dict)
+    trials: list = field(default_factory=list)
+    best: tuple = (float("inf"), None)  # value and plan
+
+    @property
+    def simulations(self):
+        return self.trials[-1].simulations if self.trials else 0
+
+    def values(self, steps):
+        """The values of plans, (what was tried, plan), as far as the budget goes; Ended where it goes no further."""
+        new = {}
+        for step, plan in steps:
+            if key_of(plan) not in self.seen:
+                new.setdefault(key_of(plan), (step, plan))
+        room = (self.budget - self.simulations) // self.seeds
+        tried = list(new.items())[:room]
+        if new and not tried:
+            raise Ended
+        with contextlib.closing(self.value([plan for _, (_, plan) in tried])) as found:
+            for (key, (step, plan)), value in zip(tried, found):
+                self.note(key, step, plan, value)
+                if self.told(self):
+                    raise Ended
+        if len(tried) < len(new):
+            raise Ended
+        return [self.seen[key_of(plan)] for _, plan in steps]
+
+    def note(self, key, step, plan, value):
+        self.seen[key] = value
+        if value < self.best[0]:
+            self.best = value, plan
+        self.trials.append(Trial(self.simulations + self.seeds, step, value, self.best[0]))
+
+    def cost(self, step, plan):
+        return self.values([(step, plan)])[0]
+
+
+def key_of(plan):
+    return tuple(sorted((name, timing.offset, timing.durations) for name, timing in plan.items()))
+
+
+def search_plan(search, plan, lights, streets, changed, cycles):
+    """Searches from a given plan; the search then has the best."""
+    try:
+        search.cost("given", plan)
+        proposed = list(proposals(plan, lights, streets, changed, cycles))
+        values = search.values(proposed)
+        _, plan = min(zip(values, (made for _, made in proposed), strict=True), key=lambda pair: pair[0])
+        climb_all(search, plan, lights, streets, changed)
+    except Ended:
+        pass
+
+
+def climb_all(search, plan, lights, streets, changed):
+    """Climbs from a plan: each light alone by four steps, then again with what hangs behind it, without the first."""
+    passes = [(share, seconds, False) for share, seconds in zip(SHARES, SECONDS, strict=True)]
+    passes += [(share, seconds, True) for share, seconds in zip(SHARES[1:], SECONDS[1:], strict=True)]
+    for share, seconds, with_groups in passes:
+        if "offsets" in changed:
+            plan = climb_offsets(search, plan, streets, share, with_groups)
+        if "splits" in changed:
+            plan = climb_splits(search, plan, lights, streets.order, seconds)
+
+
+def climb_offsets(search, plan, streets, share, with_groups):
+    """Moves the offset of each light, the heaviest first: with all that hang behind it, and alone."""
+    for light in streets.order:
+        seconds = max(1, round(share * plan[light].cycle))
+        if with_groups and len(streets.behind[light]) > 1:
+            plan = climb(search, plan, f"offsets behind {light}", shift_of(streets.behind[light], seconds))
+        plan = climb(search, plan, f"offset of {light}", shift_of([light], seconds))
+    return plan
+
+
+def climb_splits(search, plan, lights, order, seconds):
+    """Moves green between any two phases of each light; the cycle stays."""
+    for name in order:
+        free = lights[name].free
+        for place, source in enumerate(free):
+            for target in free[place + 1 :]:
+                change = move_of(lights[name], source, target, seconds)
+                plan = climb(search, plan, f"greens of {name}", change)
+    return plan
+
+
+def climb(search, plan, step, change):
+    """Repeats a change as long as it helps, and where the first does not help its contrary; gives the plan."""
+    best = search.cost(step, plan)
+    for sign in (1, -1):
+        went = False
+        while (tried := change(plan, sign)) is not None and (value := search.cost(step, tried)) < best:
+            plan, best, went = tried, value, True
+        if went:
+            break
+    return plan
+
+
+def shift_of(names, seconds):
+    """A change: the offsets of some lights by some seconds."""
+    return lambda plan, sign: {**plan, **{name: plan[name].shifted(sign * seconds) for name in names}}
+
+
+def move_of(light, source, target, seconds):
+    """A change: some seconds of green from one phase of a light to another."""
+
+    def change(plan, sign):
+        first, second = (source, target) if sign > 0 else (target, source)
+        made = light.moved(plan[light.name], first, second, seconds)
+        return None if made is None else {**plan, light.name: made}
+
+    return change

@@ -1,0 +1,379 @@
+"""streetsim-signals: bounds and formulas, waves known from textbooks, repetition, bad input, an end by Ctrl-C."""
+import csv
+import json
+import os
+import pty
+import shutil
+import signal
+import subprocess
+import time
+import unittest
+import xml.etree.ElementTree as ElementTree
+
+from support import PROGRAM, TOOLS, Case, lane, needs_simulator, net
+from streetsim.files import Fault
+from streetsim.formulas import tree, webster_cycle
+from streetsim.light_lines import LightLines, read_plans
+from streetsim.mapping import read_map
+from streetsim.plans import Light, Timing, light_of, spread, whole
+from streetsim.runs import read_run
+from streetsim.search import Search, climb, search_plan, shift_of
+from streetsim.seeds import runs_needed, seeds_for, seeds_of, student
+from streetsim.sessions import outcome, session_of, vehicle_seconds
+from streetsim.sumo_net import Program
+
+CORRIDOR = TOOLS / "examples/corridor"
+STREET = ("W", "J1", "J2", "J3", "J4", "J5", "E")
+
+
+def street(two_way=False, green=37):
+    """Five signals on a street of two lanes, with a side street at each: 38 cells between signals, 39 at the ends."""
+    edges, connections, lights = [], [], ""
+    for index, names in enumerate((STREET, STREET[::-1]) if two_way else (STREET,)):
+        along = [(f"{here}{there}", here, there) for here, there in zip(names, names[1:])]
+        for edge, here, there in along:
+            metres = 292.5 if {"W", "E"} & {here, there} else 285.0
+            edges.append((edge, here, there, [lane(edge, 0, metres), lane(edge, 1, metres)]))
+        for (edge, _, there), (following, *_) in zip(along, along[1:]):
+            connections += [(edge, at, following, at, f'tl="{there}" linkIndex="{index}"') for at in (0, 1)]
+    ways = 2 if two_way else 1
+    for name in STREET[1:-1]:
+        edges += [(f"{name}in", f"{name}S", name, [lane(f"{name}in", 0)]), (f"{name}out", name, f"{name}N", [lane(f"{name}out", 0)])]
+        connections.append((f"{name}in", 0, f"{name}out", 0, f'tl="{name}" linkIndex="{ways}"'))
+        shown = ((green, "G" * ways + "r"), (3, "y" * ways + "r"), (green, "r" * ways + "G"), (3, "r" * ways + "y"))
+        phases = "".join(f'<phase duration="{duration}" state="{state}"/>' for duration, state in shown)
+        lights += f'<tlLogic id="{name}" type="static" programID="0" offset="0">{phases}</tlLogic>'
+    return net(edges, connections, lights)
+
+
+def flow(name, names, period):
+    edges = " ".join(f"{here}{there}" for here, there in zip(names, names[1:]))
+    return f'<flow id="{name}" begin="0" end="3600" period="{period}"><route edges="{edges}"/></flow>'
+
+
+class Bounds(unittest.TestCase):
+    def light(self, *phases, bounds=(), kind="static"):
+        return light_of("L", Program(0.0, list(phases), kind, list(bounds)))
+
+    def test_phases_that_may_be_stretched(self):
+        # Green without yellow, of 5 s at least; minDur and maxDur bound it.
+        phases = (37, "Gr"), (3, "yr"), (2, "rr"), (4, "rG"), (30, "rG"), (3, "Gy")
+        light, timing = self.light(*phases, bounds=[(20, 40), *[(None, None)] * 5])
+        self.assertEqual(light.bounds, ((20, 40), (3, 3), (2, 2), (4, 4), (5, 600), (3, 3)))
+        self.assertEqual((light.free, light.lost(timing), timing.cycle), ([0, 4], 12, 79))
+
+    def test_another_cycle(self):
+        light, timing = self.light((30, "Gr"), (5, "yr"), (10, "rG"), (5, "ry"))
+        # 40 s of green become 80: three quarters and one.
+        self.assertEqual(light.scaled(Timing(25, timing.durations), 90), Timing(45, (60, 5, 20, 5)))
+        # 10 s of green: 5 s each at least.
+        self.assertEqual(light.scaled(timing, 20).durations, (5, 5, 5, 5))
+        self.assertIsNone(light.scaled(timing, 19))
+        self.assertEqual(light.scaled(timing, 50, [1, 9, 3, 9]).durations, (10, 5, 30, 5))
+        self.assertIsNone(light.moved(timing, 2, 0, 6))
+        self.assertEqual(light.moved(timing, 2, 0, 5).durations, (35, 5, 5, 5))
+
+    def test_shares_within_bounds(self):
+        self.assertEqual(spread([1, 1, 1], 100, [(5, 20), (5, 600), (5, 600)]), [20, 40, 40])
+        self.assertEqual(sum(spread([7, 11, 13], 101, [(5, 600)] * 3)), 101)
+        self.assertIsNone(spread([1, 1], 9, [(5, 600)] * 2))
+        self.assertEqual(whole([10.4, 10.4, 10.4]), (10, 11, 10))
+
+
+class Formulas(unittest.TestCase):
+    def test_webster(self):
+        # Webster 1958: (1.5 L + 5) / (1 - Y), for 10 s lost and Y = 0.75.
+        self.assertAlmostEqual(webster_cycle(10, 0.75), 80)
+        self.assertIsNone(webster_cycle(10, 1.0))
+
+    def test_student(self):
+        # Tables of Student's t at 97.5 %.
+        for degrees, quantile in ((1, 12.706), (19, 2.093), (30, 2.042), (40, 2.021), (60, 2.000), (120, 1.980), (1000, 1.962)):
+            self.assertAlmostEqual(student(degrees), quantile, delta=0.0006)
+
+    def test_runs_that_a_precision_needs(self):
+        # s = 1, e = 0.5: 18 runs reach 2.110 / sqrt(18) = 0.497, and 17 reach 2.120 / sqrt(17) = 0.514.
+        self.assertEqual(runs_needed(1.0, 0.5), 18)
+        self.assertEqual(runs_needed(0.0, 0.5), 2)
+        # The normal quantile squared: 1.96^2 * 100^2 = 38,415.
+        self.assertAlmostEqual(runs_needed(100.0, 1.0), 38_415, delta=5)
+
+    def test_seeds_of_a_search(self):
+        # Standard deviations of 0.2, 0.7 and 3 percent.
+        self.assertEqual([seeds_for([100 - spread, 100, 100 + spread]) for spread in (0.2, 0.7, 3.0)], [1, 2, 9])
+        with self.assertRaisesRegex(Fault, "--seeds '5-4': expected FIRST-LAST"):
+            seeds_of("5-4", "--seeds")
+
+    def test_tree_of_the_heaviest_flows(self):
+        # a-b 9, b-c 5, a-c 4 (closes a ring), d alone.
+        from collections import Counter
+
+        ways = {("a", "b"): Counter({(1,): 9}), ("c", "b"): Counter({(2,): 5}), ("a", "c"): Counter({(3,): 4})}
+        parents, behind = tree(["b", "a", "c", "d"], ways)
+        self.assertEqual(parents, {"a": "b", "c": "b"})
+        self.assertEqual(behind, {"b": ["b", "c", "a"], "a": ["a"], "c": ["c"], "d": ["d"]})
+
+
+class Climbing(unittest.TestCase):
+    """The search over a value that is known: how far offsets are from 30 and 50."""
+
+    light = Light("L", ("G", "y"), ((5, 600), (3, 3)))
+    plan = {"L": Timing(0, (77, 3)), "M": Timing(0, (77, 3))}
+
+    def search(self, budget):
+        asked = []
+
+        def values(plans):
+            for plan in plans:
+                asked.append(plan)
+                yield abs(plan["L"].offset - 30) + abs(plan["M"].offset - 50)
+
+        return Search(values, budget, 1), asked
+
+    def test_climbs_to_the_best_and_asks_once(self):
+        search, asked = self.search(1000)
+        plan = self.plan
+        for light in "LM":
+            for seconds in (20, 10, 5, 1):
+                plan = climb(search, plan, "offset", shift_of([light], seconds))
+        self.assertEqual((plan["L"].offset, plan["M"].offset), (30, 50))
+        self.assertEqual(len({(one["L"].offset, one["M"].offset) for one in asked}), len(asked))
+
+    def test_ends_with_its_budget(self):
+        search, asked = self.search(7)
+        streets = type("Streets", (), {"order": ["L", "M"], "behind": {"L": ["L"], "M": ["M"]}, "hops": {}, "loads": {}})
+        search_plan(search, self.plan, {"L": self.light, "M": self.light}, streets, ["offsets"], [])
+        self.assertEqual((len(asked), search.simulations), (7, 7))
+        self.assertEqual(search.best[0], min(trial.value for trial in search.trials))
+
+
+class Searching(Case):
+    """Runs of streetsim-signals on a net and routes of a test."""
+
+    def given(self, network, routes, *words):
+        self.net = self.write("x.net.xml", network)
+        routes = self.write("x.rou.xml", f"<routes>{routes}</routes>")
+        self.run_file, self.map_file = self.folder / "run.jsonl", self.folder / "map.json"
+        self.tool("import", self.net, "--routes", routes, "-o", self.run_file, "--map", self.map_file, *words)
+
+    def words(self, *words, until=5400, out="out", plans=()):
+        return [self.run_file, "--map", self.map_file, "--plans", self.net, *plans, "--until", until, "--program", PROGRAM,
+                "--jobs", 1, "-o", self.folder / f"{out}.add.xml", "--out", self.folder / out, *words]  # fmt: skip
+
+    def search(self, *words, status=0, **more):
+        return self.tool("signals", *self.words(*words, **more), status=status)
+
+    def table(self, name, out="out"):
+        with open(self.folder / out / name, encoding="utf-8") as file:
+            return list(csv.DictReader(file))
+
+    def offsets(self, out="out"):
+        root = ElementTree.parse(self.folder / f"{out}.add.xml").getroot()
+        return [int(light.get("offset")) for light in root]
+
+
+@needs_simulator
+class Waves(Searching):
+    def test_one_way_street(self):
+        """38 cells at 2 cells a step and 3 s at a signal are 22 s from green to green. Free trips take 130.0 s, and a
+        vehicle waits 43^2 / (2 * 80) = 11.6 s at the first red, besides its queue: 143.5 s in place of 211.5."""
+        self.given(street(), flow("east", STREET, 8), "--dawdle", 0, "--residence", 3)
+        self.search("--change", "offsets", "--budget", 300, "--check", "101-102")
+        offsets = self.offsets()
+        self.assertEqual([(there - here) % 80 for here, there in zip(offsets, offsets[1:])], [22] * 4)
+        trip, loss, arrived = self.table("before-after.csv")
+        self.assertAlmostEqual(float(trip["before"]), 211.5, delta=1)
+        self.assertAlmostEqual(float(trip["after"]), 143.5, delta=1)
+        self.assertAlmostEqual(float(trip["after"]) - float(loss["after"]), 130.0)
+        self.assertEqual((float(arrived["before"]), float(arrived["after"])), (450, 450))
+
+    def test_two_way_street(self):
+        """With a cycle of twice the way from signal to signal every other signal is half a cycle behind: the alternate
+        system of the textbooks."""
+        self.given(street(True, 19), flow("e", STREET, 8) + flow("w", STREET[::-1], 8), "--dawdle", 0, "--residence", 3)
+        self.search("--change", "offsets", "--budget", 300, "--check", "101-102")
+        offsets = self.offsets()
+        self.assertEqual([(offset - offsets[0]) % 44 for offset in offsets], [0, 22, 0, 22, 0])
+
+
+@needs_simulator
+class Values(Searching):
+    """What one run tells, beside the import and streetsim-run."""
+
+    def corridor(self):
+        self.net = str(CORRIDOR / "corridor.net.xml.gz")
+        self.run_file, self.map_file = self.folder / "run.jsonl", self.folder / "map.json"
+        routes = CORRIDOR / "corridor.rou.xml"
+        self.tool("import", self.net, "--routes", routes, "-o", self.run_file, "--map", self.map_file)
+        return read_run(self.run_file), read_map(self.map_file)
+
+    def test_signal_lines_are_the_imports(self):
+        run, mapping = self.corridor()
+        for paths in ([self.net], [self.net, str(CORRIDOR / "wave.add.xml")]):
+            programs = read_plans(paths, mapping)
+            lights = {name: light_of(name, programs.programs[name]) for name, _ in mapping.signals}
+            lines = LightLines(programs, run, mapping)
+            text = lines.of({name: timing for name, (_, timing) in lights.items()}, {name: light for name, (light, _) in lights.items()})
+            out = self.folder / "other.jsonl"
+            self.tool("import", *paths, "--routes", CORRIDOR / "corridor.rou.xml", "-o", out, "--map", self.folder / "m.json")
+            theirs = [json.loads(line) for line in out.read_text().splitlines() if '"signal"' in line[:20]]
+            self.assertEqual([json.loads(line) for line in text.splitlines()], theirs)
+
+    def test_area_is_the_sum_of_the_trips(self):
+        run, mapping = self.corridor()
+        session = session_of(PROGRAM, run, 4500)
+        exact = outcome(session, b"", 7)
+        self.assertEqual(exact, outcome(session, b"", 7))
+        self.assertAlmostEqual(vehicle_seconds(session, b"", 7) / exact.seconds, 1, delta=0.005)
+        words = [self.run_file, "--map", self.map_file, "--until", 4500, "--rescue", 0, "--seeds", 7]
+        self.tool("run", *words, "--out", self.folder / "run", "--program", PROGRAM)
+        [row] = self.table("seeds.csv", "run")
+        self.assertEqual(int(row["arrived"]), exact.arrived)
+        self.assertAlmostEqual(float(row["mean_trip_s"]), exact.seconds / 2400)
+
+    def test_lines_in_time_and_vehicles_after_the_end(self):
+        # Closed from 0 to 100, so that the one vehicle arrives at 103 (test_runs); another departs after the end.
+        from support import MAP, NUMBERED
+
+        close = {"cmd": "close", "link": 0, "lane": 0, "first": 5, "last": 9}
+        lines = [{"cmd": "load", **NUMBERED}, {**close, "at": 0}, {**close, "cmd": "reopen", "at": 100}]
+        lines += [{"cmd": "enter", "plan": [0], "lane": 0, "depart": depart} for depart in (0, 500)]
+        run = read_run(self.write("run.jsonl", "".join(json.dumps(line) + "\n" for line in lines)))
+        self.write("map.json", json.dumps(MAP))
+        session = session_of(PROGRAM, run, 120)
+        made = outcome(session, b"", 0)
+        self.assertEqual((made.arrived, made.seconds), (1, 103))
+        # Counts at 100 and 110 say that it arrived between: at 105.5 in the mean.
+        self.assertEqual(vehicle_seconds(session, b"", 0), 105.5)
+
+    def test_refused_line_is_a_fault(self):
+        run, _ = self.corridor()
+        with self.assertRaisesRegex(Fault, 'refused call 2,4.. of a run: .*"name":"NoNode"'):
+            outcome(session_of(PROGRAM, run, 4500), b"", 7) and vehicle_seconds(
+                session_of(PROGRAM, run, 4500), b'{"cmd":"signal","node":99,"offset":0,"phases":[[5,[]]]}\n', 7
+            )
+
+
+@needs_simulator
+class Tool(Searching):
+    def small(self):
+        """Two signals on one way, a vehicle each 10 s for 10 minutes."""
+        self.given(street(), flow("east", STREET, 20).replace("3600", "900"), "--residence", 3)
+
+    def test_repeats_for_any_jobs(self):
+        self.small()
+        made = {}
+        for jobs in (1, 3):
+            self.search("--budget", 60, "--check", "101-103", "--jobs", jobs, until=1500, out=f"jobs{jobs}")
+            files = [self.folder / f"jobs{jobs}.add.xml", *sorted((self.folder / f"jobs{jobs}").iterdir())]
+            made[jobs] = [path.read_bytes() for path in files]
+        self.assertEqual(made[1], made[3])
+
+    def test_tables(self):
+        self.small()
+        told, _ = self.search("--budget", 60, "--check", "101-103", "--keep", "J2 J3", "--cycle", "40-70", until=1500)
+        self.assertRegex(told, r"mean trip [\d.]+ s as given, [\d.]+ s as found: -[\d.]+ s ± [\d.]+ \(95 % interval, 3 seeds")
+        self.assertEqual([row["light"] for row in self.table("lights.csv")], ["J1", "J4", "J5"])
+        trials = self.table("search.csv")
+        self.assertEqual(trials[0]["step"], "given")
+        best = [float(row["best_s"]) for row in trials]
+        self.assertEqual(best, sorted(best, reverse=True))
+        root = ElementTree.parse(self.folder / "out.add.xml").getroot()
+        for light, row in zip(root, self.table("lights.csv"), strict=True):
+            durations = [int(phase.get("duration")) for phase in light]
+            self.assertEqual(sum(durations), int(row["cycle_after"]))
+            self.assertEqual((durations[1], durations[3]), (3, 3))
+            self.assertEqual([phase.get("state") for phase in light], ["Gr", "yr", "rG", "ry"])
+            self.assertGreaterEqual(min(durations[0], durations[2]), 5)
+
+    def test_not_shown_to_be_better(self):
+        """Where nothing may be changed that helps: one signal, offsets alone, few vehicles far apart."""
+        one = net(
+            [("a", "A", "B", [lane("a", 0)]), ("b", "B", "C", [lane("b", 0)])],
+            [("a", 0, "b", 0, 'tl="L" linkIndex="0"')],
+            '<tlLogic id="L" type="static" programID="0" offset="0"><phase duration="60" state="G"/></tlLogic>',
+        )
+        self.given(one, '<flow id="f" begin="0" end="600" period="60"><route edges="a b"/></flow>')
+        told, _ = self.search("--change", "offsets", "--check", "101-103", until=900, status=1)
+        self.assertEqual(told.splitlines()[-1], "not shown to be better")
+        self.assertTrue((self.folder / "out.add.xml").exists())
+
+    def test_bad_input(self):
+        self.small()
+        other = self.write("other.net.xml", net([("a", "A", "B", [lane("a", 0)])], []))
+        for words, told in (
+            (["--keep", "J1 J9"], "--keep: the map has no light 'J9'"),
+            (["--cycle", "5-15"], "--cycle 5-15: no light can keep such a cycle"),
+            (["--cycle", "90-60"], "--cycle '90-60': expected S-S, rising"),
+            (["--budget", 0], "--budget 0: one plan takes 1 simulations"),
+            (["--seeds", "1-4", "--budget", 3], "--budget 3: one plan takes 4 simulations"),
+            (["--seeds", "1-4", "--check", "4-8"], "--seeds 1-4 and --check 4-8 overlap"),
+            (["--check", "4"], "--check 4: an interval needs two seeds at least"),
+            (["--change", "offset"], "--change: 'offset' is none of offsets, splits, cycle"),
+            (["--keep", "J1 J2 J3 J4 J5"], "no light whose plan may be changed"),
+            (["--plans", other], "no program of light 'J1'"),
+            (["--until", 0], "'0' is not 1 to"),
+            (["--edges", "WJ1 J2J3"], "--edges: no turn leads from 'WJ1' to 'J2J3'"),
+            (["--edges", "WJ9"], "the map has no edge 'WJ9'"),
+        ):
+            with self.subTest(words=words):
+                if words[0] == "--edges" and not shutil.which("sumo"):
+                    continue
+                _, said = self.search(*words, until=1500, status=2)
+                self.assertIn(told, said.splitlines()[-1])
+                self.assertEqual([path.name for path in self.folder.glob("out*")], [])
+
+    def test_actuated_lights_are_left_as_they_are(self):
+        text = street().replace('id="J3" type="static"', 'id="J3" type="actuated"')
+        self.given(text, flow("east", STREET, 20).replace("3600", "900"), "--residence", 3)
+        _, said = self.search("--budget", 30, "--check", "101-103", until=1500)
+        self.assertIn("not changed, it is actuated: J3\n", said)
+        self.assertEqual([row["light"] for row in self.table("lights.csv")], ["J1", "J2", "J4", "J5"])
+
+    def test_ctrl_c_writes_the_best_so_far(self):
+        """On a terminal: the line is shown, and Ctrl-C (which all processes of the terminal get) ends the search."""
+        self.given(street(True), flow("e", STREET, 8) + flow("w", STREET[::-1], 8), "--residence", 3)
+        terminal, other_side = pty.openpty()
+        words = [TOOLS / "streetsim-signals", *self.words("--budget", 100_000, "--check", "101-103", "--seeds", "1-5")]
+        with subprocess.Popen(list(map(str, words)), stdout=subprocess.PIPE, stderr=other_side, start_new_session=True, text=True) as tool:
+            os.close(other_side)
+            shown = read_until(terminal, "best", 120)
+            os.killpg(tool.pid, signal.SIGINT)
+            told = tool.stdout.read()
+        os.close(terminal)
+        self.assertRegex(shown, r"\[#* *\] [\d,]+ of 100,000 simulations, best [\d.]+ s \([-+][\d.]+ %\), [\d.]+ min left")
+        self.assertTrue(told.startswith("stopped: the best plan found so far is written\nmean trip "), told)
+        trials = self.table("search.csv")
+        self.assertLess(len(trials), 2000)
+        self.assertIn(tool.returncode, (0, 1))
+        self.assertEqual(len(self.offsets()), 5)
+
+
+def read_until(terminal, word, seconds):
+    """What a terminal shows up to a word."""
+    shown, end = "", time.monotonic() + seconds
+    while not ("left" in shown and word in shown) and time.monotonic() < end:
+        shown += os.read(terminal, 4096).decode()
+    return shown
+
+
+@needs_simulator
+@unittest.skipUnless(shutil.which("sumo"), "SUMO is not installed")
+class InSumo(Values):
+    def test_offsets_of_the_corridor(self):
+        """SUMO's own tlsCoordinator comes to 120.9 s there (139.3 s with the plan given)."""
+        self.corridor()
+        self.search("--change", "offsets", "--edges", "WJ1 J1J2 J2J3", until=7200)
+        told = self.folder / "told.xml"
+        words = ["-n", self.net, "-r", CORRIDOR / "corridor.rou.xml", "-a", self.folder / "out.add.xml", "--end", 7200]
+        words += ["--statistic-output", told, "--duration-log.statistics", "--no-step-log", "--no-warnings"]
+        subprocess.run(["sumo", *map(str, words)], check=True, stdout=subprocess.DEVNULL, env={"SUMO_HOME": "/usr/share/sumo", **os.environ})
+        trips = ElementTree.parse(told).getroot().find("vehicleTripStatistics")
+        self.assertEqual(trips.get("count"), "2400")
+        self.assertLess(float(trips.get("duration")) + float(trips.get("departDelay")), 120.9)
+        for name in ("before.png", "after.png"):
+            self.assertGreater((self.folder / "out" / name).stat().st_size, 10_000)
+
+
+if __name__ == "__main__":
+    unittest.main()

@@ -1,0 +1,213 @@
+"""streetsim-study: tables of seeds and variants, bad input, and the same on a cluster with a worker that is killed."""
+import csv
+import os
+import shutil
+import signal
+import socket
+import subprocess
+import sys
+import threading
+import time
+import unittest
+from importlib.util import find_spec
+from pathlib import Path
+from statistics import fmean, stdev
+
+from support import PROGRAM, TOOLS, Case, needs_simulator
+
+CORRIDOR = TOOLS / "examples/corridor"
+# The tools go by Debian's Python, for which Debian's packages are.
+DEBIAN = "/usr/bin/python3"
+
+
+def has_distributed():
+    words = [DEBIAN, "-c", "import distributed"]
+    return Path(DEBIAN).exists() and subprocess.run(words, capture_output=True, check=False).returncode == 0
+
+
+def free_port():
+    with socket.socket() as one:
+        one.bind(("127.0.0.1", 0))
+        return one.getsockname()[1]
+
+
+@needs_simulator
+class Studies(Case):
+    def setUp(self):
+        super().setUp()
+        network, routes = CORRIDOR / "corridor.net.xml.gz", CORRIDOR / "corridor.rou.xml"
+        self.tool("import", network, "--routes", routes, "-o", self.folder / "run.jsonl", "--map", self.folder / "map.json")
+
+    def study(self, seeds="1-4", until=900, more="", variants=None):
+        wave = [str(CORRIDOR / name) for name in ("corridor.net.xml.gz", "wave.add.xml")]
+        variants = variants or f'[variant.given]\n[variant.wave]\nplans = {wave}\n[variant.closed]\nclose = ["J1J2_0:100-200:60-600"]\n'
+        text = f'run = "run.jsonl"\nmap = "map.json"\nuntil = {until}\nseeds = "{seeds}"\n{more}\n{variants}'
+        return self.write("study.toml", text)
+
+    def words(self, study, *words, out="out"):
+        return [study, "--program", PROGRAM, "--out", self.folder / out, *words]
+
+    def table(self, name, out="out"):
+        with open(self.folder / out / name, encoding="utf-8") as file:
+            return list(csv.DictReader(file))
+
+
+class Tables(Studies):
+    def test_differences(self):
+        told, _ = self.tool("study", *self.words(self.study(), "--jobs", 1, "--precision", 0.01))
+        runs = self.table("runs.csv")
+        self.assertEqual([(row["variant"], row["seed"]) for row in runs], [(name, str(seed)) for name in ("given", "wave", "closed") for seed in range(1, 5)])
+        means = {name: [float(row["mean_trip_s"]) for row in runs if row["variant"] == name] for name in ("given", "wave", "closed")}
+        rows = {row["variant"]: row for row in self.table("differences.csv")}
+        self.assertEqual((rows["given"]["difference"], rows["given"]["runs"]), ("", "4"))
+        for name in ("wave", "closed"):
+            apart = [there - here for here, there in zip(means["given"], means[name])]
+            self.assertAlmostEqual(float(rows[name]["difference"]), fmean(apart), delta=0.002)
+            # The quantile of t for 3 degrees of freedom is 3.182.
+            self.assertAlmostEqual(float(rows[name]["half_width_95_paired"]), 3.182 * stdev(apart) / 2, delta=0.005)
+            loose = (stdev(means["given"]) ** 2 + stdev(means[name]) ** 2) ** 0.5
+            self.assertAlmostEqual(float(rows[name]["half_width_95_unpaired"]), 3.182 * loose / 2, delta=0.005)
+            # n = (t s / e)^2: at least the normal quantile's, and a few more.
+            needed, error = int(rows[name]["runs_needed_paired"]), 0.0001 * fmean(means["given"])
+            self.assertTrue(0.99 * (1.96 * stdev(apart) / error) ** 2 <= needed <= (2.1 * stdev(apart) / error) ** 2 + 10)
+        self.assertRegex(told, r"given: mean trip [\d.]+ s\nwave: mean trip [\d.]+ s, [-+][\d.]+ s ± [\d.]+ \(95 % interval, 4 paired runs\); the wanted")
+        if find_spec("matplotlib"):
+            self.assertTrue((self.folder / "out/differences.png").exists())
+
+    def test_a_variant_is_as_streetsim_run_says(self):
+        self.tool("study", *self.words(self.study("3", 900), "--jobs", 1))
+        self.tool("import", CORRIDOR / "corridor.net.xml.gz", CORRIDOR / "wave.add.xml", "--routes", CORRIDOR / "corridor.rou.xml",
+                  "-o", self.folder / "wave.jsonl", "--map", self.folder / "wave.json")  # fmt: skip
+        closed = "--close", "J1J2_0:100-200:60-600"
+        arrived = {row["variant"]: row["arrived"] for row in self.table("runs.csv")}
+        for name, run, mapped, more in (("wave", "wave.jsonl", "wave.json", ()), ("closed", "run.jsonl", "map.json", closed)):
+            words = [self.folder / run, "--map", self.folder / mapped, "--until", 900, "--rescue", 0, "--seeds", 3, *more]
+            self.tool("run", *words, "--out", self.folder / f"run-{name}", "--program", PROGRAM)
+            self.assertEqual(self.table("seeds.csv", f"run-{name}")[0]["arrived"], arrived[name])
+
+    def test_bad_input(self):
+        one = "[variant.given]\n"
+        for study, told in (
+            (self.study(more='color = "red"'), "unknown key 'color'; known are base, map, run, seeds, until, variant"),
+            (self.study(more='base = "old"'), "base = 'old': there is no variant of this name; there are given, wave, closed"),
+            (self.study(variants=one + 'speed = 3\n'), "variant 'given': unknown key 'speed'"),
+            (self.study(variants=one + "dawdle = 1001\n"), "variant 'given': dawdle = 1001 is not 0 to 1,000"),
+            (self.study(variants=one + "plans = []\n"), "plans = []: the network is the first of them"),
+            (self.study(variants=one + 'plans = "x"\n'), "plans = 'x' is no list of texts"),
+            (self.study(variants=one + 'close = ["J1J2_7:1-2:3-4"]\n'), "the map has no lane 'J1J2_7'"),
+            (self.study(variants=one + 'run = "none.jsonl"\n'), "none.jsonl: No such file or directory"),
+            (self.study(variants="variant = 3\n"), "variants are tables [variant.NAME]"),
+            (self.study(seeds="4-1"), "expected FIRST-LAST"),
+            (self.study(until=0), "until = 0 is not 1 to"),
+            (self.write("study.toml", "run = \n"), "not TOML"),
+            (self.folder / "absent.toml", "absent.toml: No such file or directory"),
+        ):
+            with self.subTest(told):
+                path = self.write("one.toml", Path(study).read_text()) if Path(study).exists() else study
+                self.check_refused(told, *self.words(path))
+
+    def check_refused(self, told, *words):
+        _, said = self.tool("study", *words, status=2)
+        self.assertEqual(len(said.splitlines()), 1, said)
+        self.assertIn(told, said)
+        self.assertFalse((self.folder / "out").exists())
+
+
+@unittest.skipUnless(has_distributed(), "dask.distributed is not installed")
+class Cluster(Studies):
+    """A real scheduler and two real workers on this machine."""
+
+    def start(self, *words):
+        place = self.folder / "dask"
+        place.mkdir(exist_ok=True)
+        with open(place / f"{words[0]}-{time.time_ns()}.log", "w", encoding="utf-8") as log:
+            process = subprocess.Popen([DEBIAN, "-m", "distributed.cli." + words[0], *words[1:]], cwd=place, stdout=log, stderr=log)
+        self.addCleanup(process.wait)
+        self.addCleanup(process.kill)
+        return process
+
+    def cluster(self):
+        port = free_port()
+        self.start("dask_scheduler", "--host", "127.0.0.1", "--port", str(port), "--no-dashboard")
+        words = ["--host", "127.0.0.1", "--nthreads", "1", "--no-nanny", "--no-dashboard"]
+        workers = [self.start("dask_worker", f"tcp://127.0.0.1:{port}", *words, "--local-directory", str(self.folder / f"w{at}")) for at in (1, 2)]
+        self.wait_for(port)
+        return port, workers
+
+    def wait_for(self, port):
+        script = f"from distributed import Client; Client('127.0.0.1:{port}', timeout=100).wait_for_workers(2, timeout=100)"
+        subprocess.run([DEBIAN, "-c", script], check=True, capture_output=True, timeout=200)
+
+    def files(self, out):
+        return [(self.folder / out / name).read_bytes() for name in ("runs.csv", "differences.csv")]
+
+    def test_cluster_and_pool_give_the_same(self):
+        port, workers = self.cluster()
+        study = self.study("1-20")
+        for out, words in (("one", ["--jobs", 1]), ("three", ["--jobs", 3]), ("both", ["--cluster", f"127.0.0.1:{port}"])):
+            self.tool("study", *self.words(study, *words, out=out))
+        self.assertEqual(self.files("three"), self.files("one"))
+        self.assertEqual(self.files("both"), self.files("one"))
+        self.kill_in_the_middle(port, workers, study)
+        self.assertEqual(self.files("killed"), self.files("one"))
+
+    def kill_in_the_middle(self, port, workers, study):
+        """A study during which a worker is killed by its number, once it has run something."""
+        words = [TOOLS / "streetsim-study", *self.words(study, "--cluster", f"127.0.0.1:{port}", out="killed")]
+        with subprocess.Popen(list(map(str, words)), stdout=subprocess.PIPE, stderr=subprocess.PIPE, text=True) as tool:
+            begin = self.processor_time(workers[0].pid)
+            while tool.poll() is None and self.processor_time(workers[0].pid) < begin + 0.5:
+                time.sleep(0.05)
+            ended = tool.poll()
+            os.kill(workers[0].pid, signal.SIGKILL)
+            told = tool.communicate(timeout=300)
+        self.assertIsNone(ended, "the study ended before its worker was killed")
+        self.assertEqual(tool.returncode, 0, told[1])
+
+    def processor_time(self, pid):
+        """Seconds of a process and of the programs that it has waited for."""
+        fields = Path(f"/proc/{pid}/stat").read_text().rpartition(")")[2].split()
+        return sum(map(int, fields[11:15])) / os.sysconf("SC_CLK_TCK")
+
+    def test_workers_with_another_program(self):
+        port, _ = self.cluster()
+        for name, change in (("lacking", "unlink"), ("other", "write")):
+            program = self.folder / name
+            shutil.copy(PROGRAM, program)
+            study = self.study("1-2")
+            # The program changes after the tool has looked at it: what the workers have is then another one.
+            words = ["import sys; sys.path.insert(0, sys.argv[1])", "from streetsim import machines, studying"]
+            words += ["study = studying.read_study(sys.argv[2], sys.argv[3])"]
+            words += ["import os; os.unlink(sys.argv[3])" if change == "unlink" else "open(sys.argv[3], 'ab').write(b'x')"]
+            words += ["with machines.machines(1, sys.argv[4], [one for one, _ in study.variants.values()]): pass"]
+            done = subprocess.run(
+                [DEBIAN, "-c", "\n".join(words), TOOLS, study, program, f"127.0.0.1:{port}"], capture_output=True, text=True, check=False
+            )
+            self.assertIn("has another program" if change == "write" else "has no program", done.stderr.splitlines()[-1])
+
+
+class NoCluster(Studies):
+    def refused(self, port):
+        begin = time.monotonic()
+        _, said = self.tool("study", *self.words(self.study("1-2"), "--cluster", f"127.0.0.1:{port}"), status=2)
+        self.assertEqual(len(said.splitlines()), 1, said)
+        self.assertFalse((self.folder / "out").exists())
+        return said, time.monotonic() - begin
+
+    @unittest.skipIf(has_distributed(), "dask.distributed is installed")
+    def test_without_the_package(self):
+        self.assertIn("--cluster needs dask.distributed", self.refused(free_port())[0])
+
+    @unittest.skipUnless(has_distributed(), "dask.distributed is not installed")
+    def test_nobody_answers(self):
+        """A port where nobody listens, and one where somebody does and says nothing."""
+        said, _ = self.refused(free_port())
+        self.assertRegex(said, r"--cluster 127.0.0.1:\d+: no scheduler answered in 10 s")
+        with socket.create_server(("127.0.0.1", 0)) as mute:
+            threading.Thread(target=lambda: [mute.accept() for _ in range(3)], daemon=True).start()
+            said, _ = self.refused(mute.getsockname()[1])
+        self.assertRegex(said, r"--cluster 127.0.0.1:\d+: no scheduler answered in 10 s")
+
+
+if __name__ == "__main__":
+    unittest.main()
