@@ -2,8 +2,8 @@
 many vehicles pass as in SUMO.
 
 Gaps are found as in the Highway Capacity Manual (2010, signalized intersections: permitted left turns), with its
-critical headway of 4.5 s and its follow-up headway of 2.5 s; the other values were measured in SUMO and here at a lone
-cross, under a queue that does not end. The seconds of a cycle are bits of a number, second 0 the lowest.
+critical headway of 4.5 s and its follow-up headway of 2.5 s, which are cited from memory; the other values were measured in
+SUMO and here at a lone cross, under a queue that does not end. The seconds of a cycle are bits of a number, second 0 the lowest.
 """
 import math
 from collections import Counter, defaultdict
