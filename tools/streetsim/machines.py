@@ -18,6 +18,7 @@ from .files import Fault
 from .sessions import digest_of
 
 PATIENCE = 10  # seconds for a cluster to answer
+TRIES = 3  # to make its workers ready
 LOST = (BrokenExecutor, CancelledError)
 HELD = []  # in a process of the pool: the sessions
 
@@ -104,10 +105,21 @@ def cluster_of(address, sessions):
             client.wait_for_workers(1, timeout=PATIENCE)
         except Exception:
             raise Fault(f"--cluster {address}: the scheduler has no worker") from None
-        send_package(client)
-        check_programs(client, sessions)
+        prepare(client, address, sessions)
         held = [client.submit(kept, session, pure=False) for session in sessions]
         yield Machines(client.get_executor(pure=False), held)
+
+
+def prepare(client, address, sessions):
+    """Makes the workers ready; once more where one of them is lost meanwhile."""
+    for left in reversed(range(TRIES)):
+        try:
+            send_package(client)
+            check_programs(client, sessions)
+            return
+        except OSError as fault:
+            if not left:
+                raise Fault(f"--cluster {address}: its workers could not be made ready: {told_of(fault)}") from None
 
 
 def kept(session):

@@ -152,8 +152,8 @@ def check_pictures(words, town):
     """Fills in the seconds of the pictures; refuses what could not be drawn at the end."""
     if not words.edges:
         return
-    plots.drawing()
     plots.path_of(Folder("--edges", town.mapping, [], 0, 1, 0), words.edges)
+    plots.drawing()
     words.first = words.until // 3 if words.first is None else words.first
     words.last = min(words.until, words.first + DRAWN) if words.last is None else words.last
     if not words.first < words.last <= words.until:

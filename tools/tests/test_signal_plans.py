@@ -9,8 +9,9 @@ import subprocess
 import time
 import unittest
 import xml.etree.ElementTree as ElementTree
+from collections import Counter
 
-from support import PROGRAM, TOOLS, Case, lane, needs_simulator, net
+from support import MAP, NUMBERED, PROGRAM, TOOLS, Case, lane, needs_simulator, net
 from streetsim.files import Fault
 from streetsim.formulas import tree, webster_cycle
 from streetsim.light_lines import LightLines, read_plans
@@ -24,6 +25,11 @@ from streetsim.sumo_net import Program
 
 CORRIDOR = TOOLS / "examples/corridor"
 STREET = ("W", "J1", "J2", "J3", "J4", "J5", "E")
+
+
+def has_matplotlib():
+    """Whether Debian's Python, by which the tools go, has it."""
+    return not subprocess.run(["/usr/bin/python3", "-c", "import matplotlib"], capture_output=True, check=False).returncode
 
 
 def street(two_way=False, green=37):
@@ -106,8 +112,6 @@ class Formulas(unittest.TestCase):
 
     def test_tree_of_the_heaviest_flows(self):
         # a-b 9, b-c 5, a-c 4 (closes a ring), d alone.
-        from collections import Counter
-
         ways = {("a", "b"): Counter({(1,): 9}), ("c", "b"): Counter({(2,): 5}), ("a", "c"): Counter({(3,): 4})}
         parents, behind = tree(["b", "a", "c", "d"], ways)
         self.assertEqual(parents, {"a": "b", "c": "b"})
@@ -196,16 +200,19 @@ class Waves(Searching):
         self.assertEqual([(offset - offsets[0]) % 44 for offset in offsets], [0, 22, 0, 22, 0])
 
 
-@needs_simulator
-class Values(Searching):
-    """What one run tells, beside the import and streetsim-run."""
-
+class Corridor(Searching):
     def corridor(self):
+        """The example's run and map."""
         self.net = str(CORRIDOR / "corridor.net.xml.gz")
         self.run_file, self.map_file = self.folder / "run.jsonl", self.folder / "map.json"
         routes = CORRIDOR / "corridor.rou.xml"
         self.tool("import", self.net, "--routes", routes, "-o", self.run_file, "--map", self.map_file)
         return read_run(self.run_file), read_map(self.map_file)
+
+
+@needs_simulator
+class Values(Corridor):
+    """What one run tells, beside the import and streetsim-run."""
 
     def test_signal_lines_are_the_imports(self):
         run, mapping = self.corridor()
@@ -233,8 +240,6 @@ class Values(Searching):
 
     def test_lines_in_time_and_vehicles_after_the_end(self):
         # Closed from 0 to 100, so that the one vehicle arrives at 103 (test_runs); another departs after the end.
-        from support import MAP, NUMBERED
-
         close = {"cmd": "close", "link": 0, "lane": 0, "first": 5, "last": 9}
         lines = [{"cmd": "load", **NUMBERED}, {**close, "at": 0}, {**close, "cmd": "reopen", "at": 100}]
         lines += [{"cmd": "enter", "plan": [0], "lane": 0, "depart": depart} for depart in (0, 500)]
@@ -247,11 +252,11 @@ class Values(Searching):
         self.assertEqual(vehicle_seconds(session, b"", 0), 105.5)
 
     def test_refused_line_is_a_fault(self):
+        # The load is the first call, the five signals of the run are the next.
         run, _ = self.corridor()
-        with self.assertRaisesRegex(Fault, 'refused call 2,4.. of a run: .*"name":"NoNode"'):
-            outcome(session_of(PROGRAM, run, 4500), b"", 7) and vehicle_seconds(
-                session_of(PROGRAM, run, 4500), b'{"cmd":"signal","node":99,"offset":0,"phases":[[5,[]]]}\n', 7
-            )
+        wrong = b'{"cmd":"signal","node":99,"offset":0,"phases":[[5,[]]]}\n'
+        with self.assertRaisesRegex(Fault, 'refused call 7 of a run: {"error":4,"name":"NoNode"}'):
+            vehicle_seconds(session_of(PROGRAM, run, 4500), wrong, 7)
 
 
 @needs_simulator
@@ -317,8 +322,6 @@ class Tool(Searching):
             (["--edges", "WJ9"], "the map has no edge 'WJ9'"),
         ):
             with self.subTest(words=words):
-                if words[0] == "--edges" and not shutil.which("sumo"):
-                    continue
                 _, said = self.search(*words, until=1500, status=2)
                 self.assertIn(told, said.splitlines()[-1])
                 self.assertEqual([path.name for path in self.folder.glob("out*")], [])
@@ -358,8 +361,8 @@ def read_until(terminal, word, seconds):
 
 
 @needs_simulator
-@unittest.skipUnless(shutil.which("sumo"), "SUMO is not installed")
-class InSumo(Values):
+@unittest.skipUnless(shutil.which("sumo") and has_matplotlib(), "SUMO or Debian's matplotlib is not installed")
+class InSumo(Corridor):
     def test_offsets_of_the_corridor(self):
         """SUMO's own tlsCoordinator comes to 120.9 s there (139.3 s with the plan given)."""
         self.corridor()

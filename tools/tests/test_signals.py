@@ -70,6 +70,13 @@ class Signals(Case):
         [command], _ = self.made(street(phases((10, "G"), (20, "r"))), additional=[other])
         self.assertEqual([duration for duration, _ in command["phases"]], [1, 3, 6])
 
+    def test_offset_alone_keeps_the_phases(self):
+        # As SUMO's tlsCoordinator writes it: place (t - 4) mod 30 of the program in the network.
+        other = '<additional><tlLogic id="L" programID="0" offset="4"/></additional>'
+        program = street(phases((10, "G"), (20, "r")))
+        [given], [command] = self.made(program)[0], self.made(program, additional=[other])[0]
+        self.assertEqual((command["offset"], command["phases"]), (26, given["phases"]))
+
     def test_permissive_green_is_shown_at_the_end_of_its_run(self):
         turn = Turn(0, "L", 0, False, 13.9, 2)
         self.assertEqual(shown_green("ggggggggggrrrrr", {0: (7, 1)}, turn, 1), [False] * 3 + [True] * 7 + [False] * 5)

@@ -5,15 +5,17 @@ import shutil
 import signal
 import socket
 import subprocess
-import sys
 import threading
 import time
 import unittest
+from concurrent.futures import BrokenExecutor, Future
 from importlib.util import find_spec
 from pathlib import Path
 from statistics import fmean, stdev
 
 from support import PROGRAM, TOOLS, Case, needs_simulator
+from streetsim.files import Fault
+from streetsim.machines import result_of
 
 CORRIDOR = TOOLS / "examples/corridor"
 # The tools go by Debian's Python, for which Debian's packages are.
@@ -155,8 +157,8 @@ class Cluster(Studies):
         """A study during which a worker is killed by its number, once it has run something."""
         words = [TOOLS / "streetsim-study", *self.words(study, "--cluster", f"127.0.0.1:{port}", out="killed")]
         with subprocess.Popen(list(map(str, words)), stdout=subprocess.PIPE, stderr=subprocess.PIPE, text=True) as tool:
-            begin = self.processor_time(workers[0].pid)
-            while tool.poll() is None and self.processor_time(workers[0].pid) < begin + 0.5:
+            begin = self.time_of_runs(workers[0].pid)
+            while tool.poll() is None and self.time_of_runs(workers[0].pid) < begin + 0.1:
                 time.sleep(0.05)
             ended = tool.poll()
             os.kill(workers[0].pid, signal.SIGKILL)
@@ -164,10 +166,10 @@ class Cluster(Studies):
         self.assertIsNone(ended, "the study ended before its worker was killed")
         self.assertEqual(tool.returncode, 0, told[1])
 
-    def processor_time(self, pid):
-        """Seconds of a process and of the programs that it has waited for."""
+    def time_of_runs(self, pid):
+        """Processor seconds of the programs that a process has run."""
         fields = Path(f"/proc/{pid}/stat").read_text().rpartition(")")[2].split()
-        return sum(map(int, fields[11:15])) / os.sysconf("SC_CLK_TCK")
+        return sum(map(int, fields[13:15])) / os.sysconf("SC_CLK_TCK")
 
     def test_workers_with_another_program(self):
         port, _ = self.cluster()
@@ -184,6 +186,21 @@ class Cluster(Studies):
                 [DEBIAN, "-c", "\n".join(words), TOOLS, study, program, f"127.0.0.1:{port}"], capture_output=True, text=True, check=False
             )
             self.assertIn("has another program" if change == "write" else "has no program", done.stderr.splitlines()[-1])
+
+
+class Given(unittest.TestCase):
+    def test_a_run_that_was_given_up_is_named(self):
+        """dask raises KilledWorker where more workers of a task died than it allows."""
+        future = Future()
+        future.set_exception(type("KilledWorker", (Exception,), {})("outcome-1"))
+        with self.assertRaisesRegex(Fault, "variant 'wave', seed 3 was given up, as more of its workers died than"):
+            result_of(future, "variant 'wave', seed 3")
+
+    def test_a_process_that_is_lost_is_a_fault(self):
+        future = Future()
+        future.set_exception(BrokenExecutor("a process was terminated"))
+        with self.assertRaisesRegex(Fault, "the run with seed 3: a worker ended before its work was done"):
+            result_of(future, "the run with seed 3")
 
 
 class NoCluster(Studies):
