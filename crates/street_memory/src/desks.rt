@@ -10,7 +10,7 @@ use street_base::{Command, Outcome, Reply};
 use street_desk::{Desk, Journal, Pass};
 use street_ends::Counted;
 use street_engine::{Engine, Unwatched};
-use street_replay::replay;
+use street_replay::{replay, upgrade};
 use street_tape::write_tape;
 
 /// The calls of both, and one more for a call that is starved.
@@ -110,6 +110,18 @@ fn tape_of(alloc: Global, journal: &Journal) -> Option<Vec<u8>> {
     None
 }
 
+/// The upgrade of a tape, made once more where memory was refused.
+fn upgraded(alloc: Global, tape: &[u8]) -> Option<Vec<u8>> {
+    for _try in 0..2 {
+        let mut reader = Counted::new(tape);
+        let mut writer = Counted::new(Vec::new(alloc));
+        if upgrade(alloc, &mut reader, &mut writer).is_ok() {
+            return Some(writer.end);
+        }
+    }
+    None
+}
+
 /// The replies of a tape, and how many vehicles were admitted and wait then.
 fn replay_once<R: Threads + Sync>(
     rt: &R,
@@ -172,7 +184,7 @@ fn are_answers(journal: &Journal, replies: &[u8], one: &Caller, two: &Caller) ->
 }
 
 /// Whether the tape of a journal replays to two vehicles that wait, and to the replies that each caller was answered, call
-/// by call; nothing where every request was refused.
+/// by call, and its upgrade is the same tape; nothing where every request was refused.
 fn is_replayed<R: Threads + Sync>(
     rt: &R,
     alloc: Global,
@@ -182,7 +194,9 @@ fn is_replayed<R: Threads + Sync>(
 ) -> Option<bool> {
     let tape = tape_of(alloc, journal)?;
     let (replies, admitted, waiting) = replayed(rt, alloc, &tape)?;
-    Some(are_answers(journal, &replies, one, two) && (admitted, waiting) == (2, 2))
+    let upgraded = upgraded(alloc, &tape)?;
+    let is_told = are_answers(journal, &replies, one, two) && (admitted, waiting) == (2, 2);
+    Some(is_told && upgraded.as_slice() == tape.as_slice())
 }
 
 /// Ends a desk. Whether its tape was replayed, else every request was refused from some point on; or what is wrong.
