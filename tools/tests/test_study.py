@@ -40,11 +40,13 @@ class Studies(Case):
         network, routes = CORRIDOR / "corridor.net.xml.gz", CORRIDOR / "corridor.rou.xml"
         self.tool("import", network, "--routes", routes, "-o", self.folder / "run.jsonl", "--map", self.folder / "map.json")
 
-    def study(self, seeds="1-4", until=900, more="", variants=None):
+    def study(self, *words, **more):
+        return self.write("study.toml", self.text(*words, **more))
+
+    def text(self, seeds="1-4", until=900, more="", variants=None):
         wave = [str(CORRIDOR / name) for name in ("corridor.net.xml.gz", "wave.add.xml")]
         variants = variants or f'[variant.given]\n[variant.wave]\nplans = {wave}\n[variant.closed]\nclose = ["J1J2_0:100-200:60-600"]\n'
-        text = f'run = "run.jsonl"\nmap = "map.json"\nuntil = {until}\nseeds = "{seeds}"\n{more}\n{variants}'
-        return self.write("study.toml", text)
+        return f'run = "run.jsonl"\nmap = "map.json"\nuntil = {until}\nseeds = "{seeds}"\n{more}\n{variants}'
 
     def words(self, study, *words, out="out"):
         return [study, "--program", PROGRAM, "--out", self.folder / out, *words]
@@ -90,23 +92,22 @@ class Tables(Studies):
     def test_bad_input(self):
         one = "[variant.given]\n"
         for study, told in (
-            (self.study(more='color = "red"'), "unknown key 'color'; known are base, map, run, seeds, until, variant"),
-            (self.study(more='base = "old"'), "base = 'old': there is no variant of this name; there are given, wave, closed"),
-            (self.study(variants=one + 'speed = 3\n'), "variant 'given': unknown key 'speed'"),
-            (self.study(variants=one + "dawdle = 1001\n"), "variant 'given': dawdle = 1001 is not 0 to 1,000"),
-            (self.study(variants=one + "plans = []\n"), "plans = []: the network is the first of them"),
-            (self.study(variants=one + 'plans = "x"\n'), "plans = 'x' is no list of texts"),
-            (self.study(variants=one + 'close = ["J1J2_7:1-2:3-4"]\n'), "the map has no lane 'J1J2_7'"),
-            (self.study(variants=one + 'run = "none.jsonl"\n'), "none.jsonl: No such file or directory"),
-            (self.study(variants="variant = 3\n"), "variants are tables [variant.NAME]"),
-            (self.study(seeds="4-1"), "expected FIRST-LAST"),
-            (self.study(until=0), "until = 0 is not 1 to"),
-            (self.write("study.toml", "run = \n"), "not TOML"),
-            (self.folder / "absent.toml", "absent.toml: No such file or directory"),
+            (self.text(more='color = "red"'), "unknown key 'color'; known are base, map, run, seeds, until, variant"),
+            (self.text(more='base = "old"'), "base = 'old': there is no variant of this name; there are given, wave, closed"),
+            (self.text(variants=one + 'speed = 3\n'), "variant 'given': unknown key 'speed'"),
+            (self.text(variants=one + "dawdle = 1001\n"), "variant 'given': dawdle = 1001 is not 0 to 1,000"),
+            (self.text(variants=one + "plans = []\n"), "plans = []: the network is the first of them"),
+            (self.text(variants=one + 'plans = "x"\n'), "plans = 'x' is no list of texts"),
+            (self.text(variants=one + 'close = ["J1J2_7:1-2:3-4"]\n'), "the map has no lane 'J1J2_7'"),
+            (self.text(variants=one + 'run = "none.jsonl"\n'), "none.jsonl: No such file or directory"),
+            (self.text(variants="variant = 3\n"), "variants are tables [variant.NAME]"),
+            (self.text(seeds="4-1"), "expected FIRST-LAST"),
+            (self.text(until=0), "until = 0 is not 1 to"),
+            ("run = \n", "not TOML"),
         ):
             with self.subTest(told):
-                path = self.write("one.toml", Path(study).read_text()) if Path(study).exists() else study
-                self.check_refused(told, *self.words(path))
+                self.check_refused(told, *self.words(self.write("one.toml", study)))
+        self.check_refused("absent.toml: No such file or directory", *self.words(self.folder / "absent.toml"))
 
     def check_refused(self, told, *words):
         _, said = self.tool("study", *words, status=2)
