@@ -60,7 +60,8 @@ class Tables(Studies):
     def test_differences(self):
         told, _ = self.tool("study", *self.words(self.study(), "--jobs", 1, "--precision", 0.01))
         runs = self.table("runs.csv")
-        self.assertEqual([(row["variant"], row["seed"]) for row in runs], [(name, str(seed)) for name in ("given", "wave", "closed") for seed in range(1, 5)])
+        pairs = [(name, str(seed)) for name in ("given", "wave", "closed") for seed in range(1, 5)]
+        self.assertEqual([(row["variant"], row["seed"]) for row in runs], pairs)
         means = {name: [float(row["mean_trip_s"]) for row in runs if row["variant"] == name] for name in ("given", "wave", "closed")}
         rows = {row["variant"]: row for row in self.table("differences.csv")}
         self.assertEqual((rows["given"]["difference"], rows["given"]["runs"]), ("", "4"))
@@ -151,8 +152,17 @@ class Cluster(Studies):
             self.tool("study", *self.words(study, *words, out=out))
         self.assertEqual(self.files("three"), self.files("one"))
         self.assertEqual(self.files("both"), self.files("one"))
+        self.assertEqual(self.found("--cluster", f"127.0.0.1:{port}"), self.found("--jobs", 1))
         self.kill_in_the_middle(port, workers, study)
         self.assertEqual(self.files("killed"), self.files("one"))
+
+    def found(self, *words):
+        """What a short search writes."""
+        words = ["--budget", 12, "--seeds", "1-2", "--check", "101-102", "--until", 600, "--program", PROGRAM, *words]
+        files = [self.folder / name for name in ("run.jsonl", "map.json", "found.add.xml", "found")]
+        words = [files[0], "--map", files[1], "--plans", CORRIDOR / "corridor.net.xml.gz", *words, "-o", files[2], "--out", files[3]]
+        told, _ = self.tool("signals", *words)
+        return told, files[2].read_bytes(), *(path.read_bytes() for path in sorted(files[3].iterdir()))
 
     def kill_in_the_middle(self, port, workers, study):
         """A study during which a worker is killed by its number, once it has run something."""
