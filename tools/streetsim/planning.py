@@ -22,7 +22,7 @@ from .town import Reading, Runner, read_town
 CHANGES = ("offsets", "splits", "cycle")
 STEP = 10  # seconds from one cycle that is proposed to the next
 TRIED = 10  # runs of the given plan tell how many seeds a search needs
-DRAWN = 600  # seconds of the pictures
+DRAWN = 500  # seconds of the pictures
 
 
 def parser():
