@@ -22,7 +22,7 @@ from .town import Reading, Runner, read_town
 CHANGES = ("offsets", "splits", "cycle")
 STEP = 10  # seconds from one cycle that is proposed to the next
 TRIED = 10  # runs of the given plan tell how many seeds a search needs
-DRAWN = 600  # seconds of the pictures
+DRAWN = 500  # seconds of the pictures
 
 
 def parser():
@@ -41,6 +41,18 @@ def parser():
         help="the network (.net.xml), and additional files with programs, of which the last of a light counts",
     )
     made.add_argument("--until", required=True, type=within(1, limits.CLOCK), metavar="S", help="the clock at the end of a run")
+    add_search(made)
+    add_machines(made)
+    made.add_argument("--edges", default="", help="draw the ways of the vehicles along these edges, before and after")
+    made.add_argument("--first", type=within(0, limits.CLOCK), metavar="S", help="the first second drawn (default: a third of the run)")
+    made.add_argument("--last", type=within(0, limits.CLOCK), metavar="S", help=f"the last second drawn (default: {DRAWN} s later)")
+    made.add_argument("-o", "--output", required=True, help="the plan found (.add.xml)")
+    made.add_argument("--out", required=True, metavar="DIR", help="the folder for tables and pictures")
+    return made
+
+
+def add_search(made):
+    """The words that say what is searched, how long and with which seeds."""
     made.add_argument(
         "--change", default=",".join(CHANGES), help="what may be changed, with commas between (default %(default)s)"
     )
@@ -66,13 +78,6 @@ def parser():
         metavar="N",
         help="simulations of the search (default %(default)s)",
     )
-    add_machines(made)
-    made.add_argument("--edges", default="", help="draw the ways of the vehicles along these edges, before and after")
-    made.add_argument("--first", type=within(0, limits.CLOCK), metavar="S", help="the first second drawn (default: a third of the run)")
-    made.add_argument("--last", type=within(0, limits.CLOCK), metavar="S", help=f"the last second drawn (default: {DRAWN} s later)")
-    made.add_argument("-o", "--output", required=True, help="the plan found (.add.xml)")
-    made.add_argument("--out", required=True, metavar="DIR", help="the folder for tables and pictures")
-    return made
 
 
 def add_machines(made):

@@ -9,7 +9,6 @@ from statistics import fmean, stdev
 
 from . import limits, plots, program
 from .files import Fault, reading, whole_folder
-from .importing import within
 from .light_lines import LightLines, read_plans
 from .longwork import Meanwhile
 from .machines import machines
