@@ -1,7 +1,7 @@
 """Where runs are done: in processes of this machine, or by a cluster of dask.distributed.
 
-concurrent.futures is all that is used of either. A session is given to the workers once; what a run then needs is its
-signals and its seed.
+concurrent.futures is all that is used of either. A process of the pool is given its sessions once, and what a run then needs is its
+signals and its seed; on a cluster each run has its session too.
 """
 import contextlib
 import logging
@@ -106,8 +106,8 @@ def cluster_of(address, sessions):
         except Exception:
             raise Fault(f"--cluster {address}: the scheduler has no worker") from None
         prepare(client, address, sessions)
-        held = [client.submit(kept, session, pure=False) for session in sessions]
-        yield Machines(client.get_executor(pure=False), held)
+        # Each task has its session by value: a worker that waits for a value of one that died can wait for ever (dask 2022.12).
+        yield Machines(client.get_executor(pure=False), sessions)
 
 
 def prepare(client, address, sessions):
@@ -120,11 +120,6 @@ def prepare(client, address, sessions):
         except OSError as fault:
             if not left:
                 raise Fault(f"--cluster {address}: its workers could not be made ready: {told_of(fault)}") from None
-
-
-def kept(session):
-    """A session as the value of a task: where the worker that has it dies, the cluster makes it anew on another."""
-    return session
 
 
 def send_package(client):

@@ -173,7 +173,11 @@ class Cluster(Studies):
                 time.sleep(0.05)
             ended = tool.poll()
             os.kill(workers[0].pid, signal.SIGKILL)
-            told = tool.communicate(timeout=300)
+            try:
+                told = tool.communicate(timeout=120)
+            except subprocess.TimeoutExpired:
+                tool.kill()
+                raise
         self.assertIsNone(ended, "the study ended before its worker was killed")
         self.assertEqual(tool.returncode, 0, told[1])
 
