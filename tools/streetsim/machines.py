@@ -106,7 +106,7 @@ def cluster_of(address, sessions):
         except Exception:
             raise Fault(f"--cluster {address}: the scheduler has no worker") from None
         prepare(client, address, sessions)
-        # Each task has its session by value: a worker that waits for a value of one that died can wait for ever (dask 2022.12).
+        # Each task has its session by value, so that no worker needs what one that died had: a study once waited for ever then.
         yield Machines(client.get_executor(pure=False), sessions)
 
 
