@@ -4,10 +4,17 @@
 //! The status is 1 where anything is answered otherwise than it should be.
 #![tactic(auto)]
 
-ghost use Rattle.std.specs.Prelude.{IfOk, Decides};
-ghost use Rattle.street_pair.specs.Replies.{Agrees, IsRetold};
-ghost use Rattle.street_pair.specs.declared.tapes.Retold.{Retold};
+mod callers;
+mod desks;
+mod scripts;
+mod tapes;
 
+ghost use Rattle.std.specs.Prelude.{IfOk, Decides};
+ghost use Rattle.street_clients.specs.Replies.{Agrees, IsRetold};
+ghost use Rattle.street_clients.specs.declared.tapes.Retold.{Retold};
+
+use callers::serve_both;
+use scripts::serve_both_scripts;
 use std::alloc::{AllocError, Global};
 use std::fs::File;
 use std::io;
@@ -15,7 +22,8 @@ use std::process::ExitCode;
 use std::rt::Files;
 use std::sync::Wait;
 use std::thread::Threads;
-use street_pair::{Retold, Told, reply_text, retell, serve_both, serve_both_scripts, text_of};
+use street_line::reply_text;
+use tapes::{Retold, Told, retell, text_of};
 
 /// Two links, 10 and 20, one behind the other, and a vehicle.
 const LOAD_AND_ENTER: &str =

@@ -14,7 +14,7 @@ use Rattle.street_base.specs.Effects.{named_lane}
 use Rattle.street_base.specs.Shown.{shown_lane}
 use Rattle.street_base.specs.Machine.{first_of, lane_tests, lane_refusal, closure_refusal, closed_after}
 use Rattle.street_base.specs.Outcomes.{MayStarveUnder}
-use Rattle.street_traffic.specs.Streets.{StreetsView, StandsFor as StreetsStandFor, Goes}
+use Rattle.street_engine.specs.Streets.{StreetsView, StandsFor as StreetsStandFor, Goes}
 use Rattle.street_engine.specs.Refines.{View, Serves}
 use Rattle.street_engine.proofs.Serving.{same-network, streets-refused, streets-starved, streets-starving, streets-done, streets-told}
 

@@ -16,7 +16,7 @@ use Rattle.street_base.specs.State.{Traffic}
 use Rattle.street_base.specs.Machine.{plan_links, enter_refusal, entered}
 use Rattle.street_base.specs.Outcomes.{MayStarveUnder}
 use Rattle.street_base.proofs.FirstBadLemmas.{first_bad-none}
-use Rattle.street_traffic.specs.Streets.{StreetsView, StandsFor as StreetsStandFor, Goes}
+use Rattle.street_engine.specs.Streets.{StreetsView, StandsFor as StreetsStandFor, Goes}
 use Rattle.street_engine.specs.Refines.{View, Serves}
 use Rattle.street_engine.proofs.Serving.{same-network, same-ends, streets-refused, streets-starved, streets-starving, streets-done}
 

@@ -10,7 +10,7 @@ use Rattle.street_base.specs.declared.reply.Outcome.TheVariants.{Whole, Starved}
 use Rattle.street_base.specs.Faults.{Fault, network_fault}
 use Rattle.street_base.specs.Machine.{bad_network, loaded, refusal, done, answered}
 use Rattle.street_base.specs.Outcomes.{MayStarve, MayStarveUnder}
-use Rattle.street_traffic.specs.Streets.{StreetsView, StandsFor as StreetsStandFor}
+use Rattle.street_engine.specs.Streets.{StreetsView, StandsFor as StreetsStandFor}
 use Rattle.street_engine.specs.Refines.{View, StandsFor, Serves}
 use Rattle.street_engine.proofs.Serving.{serves-refused, serves-starved, serves-done, at-none, at-some, some-stands, none-of}
 

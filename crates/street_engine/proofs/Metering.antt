@@ -17,7 +17,7 @@ use Rattle.street_base.specs.Effects.{named_lane, metered}
 use Rattle.street_base.specs.Shown.{shown_rows}
 use Rattle.street_base.specs.Machine.{first_of, lane_tests, is_past, closure_refusal, place_refusal, read_refusal, told_rows}
 use Rattle.street_base.specs.Outcomes.{MayStarveUnder}
-use Rattle.street_traffic.specs.Streets.{StreetsView, StandsFor as StreetsStandFor, Goes}
+use Rattle.street_engine.specs.Streets.{StreetsView, StandsFor as StreetsStandFor, Goes}
 use Rattle.street_engine.specs.Refines.{View, Serves}
 use Rattle.street_engine.proofs.Serving.{same-network, same-count, streets-refused, streets-starved, streets-starving, streets-done, streets-told}
 

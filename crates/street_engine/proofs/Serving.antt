@@ -10,7 +10,7 @@ use Rattle.street_base.specs.declared.reply.Outcome.TheVariants.{Whole, Starved}
 use Rattle.street_base.specs.State.{Traffic, State}
 use Rattle.street_base.specs.Machine.{refusal, done, answered}
 use Rattle.street_base.specs.Outcomes.{MayStarve, state_of_whole, reply_of_whole}
-use Rattle.street_traffic.specs.Streets.{StreetsView, StandsFor as StreetsStandFor, Goes}
+use Rattle.street_engine.specs.Streets.{StreetsView, StandsFor as StreetsStandFor, Goes}
 use Rattle.street_engine.specs.Refines.{View, StandsFor, Serves}
 
 -- ---- any state

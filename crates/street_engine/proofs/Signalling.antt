@@ -19,7 +19,7 @@ use Rattle.street_base.specs.Effects.{plan_of, signalled}
 use Rattle.street_base.specs.Machine.{first_of, signal_refusal}
 use Rattle.street_base.specs.Outcomes.{MayStarveUnder}
 use Rattle.street_node.specs.Greens.{ShowsAs, node_id}
-use Rattle.street_traffic.specs.Streets.{StreetsView, StandsFor as StreetsStandFor, Goes}
+use Rattle.street_engine.specs.Streets.{StreetsView, StandsFor as StreetsStandFor, Goes}
 use Rattle.street_engine.specs.Refines.{View, Serves}
 use Rattle.street_engine.proofs.Serving.{same-network, streets-refused, streets-starving, streets-done}
 

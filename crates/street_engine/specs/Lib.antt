@@ -1,1 +1,5 @@
 pub mod Refines
+pub mod Together
+pub mod Sites
+pub mod Streets
+pub mod Ending

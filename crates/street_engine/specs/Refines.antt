@@ -7,7 +7,7 @@ use Rattle.street_base.specs.declared.reply.Outcome.{Outcome}
 use Rattle.street_base.specs.State.{State}
 use Rattle.street_base.specs.Outcomes.{Answers}
 use Rattle.street_base.specs.Run.{Runs}
-use Rattle.street_traffic.specs.Streets.{StreetsView, StandsFor as StreetsStandFor}
+use Rattle.street_engine.specs.Streets.{StreetsView, StandsFor as StreetsStandFor}
 
 -- what contracts see of an engine: nothing loaded, or its streets
 abbrev pub View : Type 0

@@ -5,10 +5,10 @@ ghost use Rattle.std.specs.Prelude.{◌≡◌};
 ghost use Rattle.street_base.specs.declared.command.Command.TheVariants.{Advance, Count};
 ghost use Rattle.street_engine.specs.Refines.{Serves};
 
+use crate::Streets;
 use std::thread::Threads;
 use street_base::{LAST_CLOCK, Outcome, Refusal, Reply};
 use street_tile::Gate;
-use street_traffic::Streets;
 
 const MOST_STEPS: u64 = 10_000;
 

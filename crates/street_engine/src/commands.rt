@@ -5,6 +5,7 @@ ghost use Rattle.std.specs.Prelude.{◌≡◌, ◌≤◌};
 ghost use Rattle.street_base.specs.declared.command.Command.TheVariants.{Load};
 ghost use Rattle.street_engine.specs.Refines.{Serves};
 
+use crate::Streets;
 use crate::clock::{advance, count};
 use crate::meters::{place_meter, read_meter};
 use crate::places::{close_lane, lane, reopen_lane, signal};
@@ -14,7 +15,6 @@ use std::thread::Threads;
 use street_base::{Command, NetSpec, Outcome, Refusal, Reply};
 use street_net::NetFault;
 use street_tile::Gate;
-use street_traffic::Streets;
 
 /// Applies one command: what it answers, and under which outcome. Steps are made by so many workers, 1 to 64.
 pub(crate) fn apply<R: Threads + Sync, G: Gate + Sync>(

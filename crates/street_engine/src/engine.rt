@@ -4,13 +4,12 @@
 ghost use Rattle.std.specs.Prelude.{◌≡◌, ◌≤◌, IfOk, OnErr, None};
 ghost use Rattle.street_engine.specs.Refines.{StandsFor, Serves, ServesAll};
 
-use crate::commands;
+use crate::{Streets, commands};
 use std::alloc::{AllocError, Global};
 use std::marker::Model;
 use std::thread::Threads;
 use street_base::{Command, Outcome, Reply};
 use street_tile::Gate;
-use street_traffic::Streets;
 
 /// Serves commands over one network, or over nothing loaded. The gate is called by the workers of each step.
 pub struct Engine<G: Gate + Sync + Drop> {

@@ -5,10 +5,10 @@ ghost use Rattle.std.specs.Prelude.{◌≡◌};
 ghost use Rattle.street_base.specs.declared.command.Command.TheVariants.{PlaceMeter, ReadMeter};
 ghost use Rattle.street_engine.specs.Refines.{Serves};
 
+use crate::Streets;
 use crate::naming::named_cells;
 use std::alloc::Global;
 use street_base::{Outcome, Refusal, Reply};
-use street_traffic::Streets;
 
 const MOST_PERIOD: u64 = 100_000;
 

@@ -5,11 +5,11 @@ ghost use Rattle.std.specs.Prelude.{◌≡◌};
 ghost use Rattle.street_base.specs.declared.command.Command.TheVariants.{Signal, CloseLane, ReopenLane, Lane};
 ghost use Rattle.street_engine.specs.Refines.{Serves};
 
+use crate::Streets;
 use crate::naming::{named_cells, named_lane};
 use std::alloc::Global;
 use street_base::{Outcome, PhaseSpec, Refusal, Reply};
 use street_node::{SignalFault, SignalPlan};
-use street_traffic::Streets;
 
 /// Takes memory for the plan.
 pub(crate) fn signal(

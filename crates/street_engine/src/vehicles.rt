@@ -9,11 +9,11 @@ ghost use Rattle.street_base.specs.State.{Traffic};
 ghost use Rattle.street_base.specs.Machine.{enter_refusal};
 ghost use Rattle.street_engine.specs.Refines.{Serves};
 
+use crate::Streets;
 use crate::naming::lane_number;
 use std::alloc::Global;
 use street_base::{CarNo, LAST_CLOCK, Outcome, Refusal, Reply, Size, Step, Whereabouts};
 use street_net::{Network, PlanFault};
-use street_traffic::Streets;
 
 const MOST_VEHICLES: CarNo = 1_000_000;
 

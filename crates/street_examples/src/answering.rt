@@ -1,7 +1,7 @@
 //! What is answered to the lines of a session.
 ghost use Rattle.std.specs.Prelude.{◌≤◌, None, IfOk};
 ghost use Rattle.street_base.specs.State.{State};
-ghost use Rattle.street_ends.specs.Lines.{lines_of};
+ghost use Rattle.street_stream.specs.Lines.{lines_of};
 ghost use Rattle.street_line.specs.Engines.{MachineServes};
 ghost use Rattle.street_line.specs.Running.{Goes};
 

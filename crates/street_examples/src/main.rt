@@ -6,12 +6,15 @@
 #![tactic(auto)]
 
 mod answering;
+mod document;
+mod folder;
+mod session;
 
 use answering::answers;
+use session::{Session, same_lines};
 use std::process::ExitCode;
 use std::thread::Threads;
 use std::{env, fs, io};
-use street_transcript::{Session, document, folder, same_lines};
 
 fn main(rt: HostRuntime) -> ExitCode {
     let agree = match named_sessions(&rt) {

@@ -5,7 +5,7 @@ use Rattle.std.specs.Option.{option_map, option_and_then}
 use Rattle.std.proofs.lemmas.Bool.{cases_eq, eq-eqb, ne_eqb}
 use Rattle.std.proofs.lemmas.List.{get_or-set_other}
 use Rattle.street_base.specs.declared.car.Car.{Car}
-use Rattle.street_change.specs.Changed.{KeepsRest}
+use Rattle.street_rule.specs.Changed.{KeepsRest}
 use Rattle.street_rule.specs.Pass.{Moves, stopped, left_lists}
 use Rattle.street_yard.specs.Yard.{Kept, Yard, list_at, entry_at, place_of, place_set, without, Has, Away, IsLoose, IsWhole}
 use Rattle.street_yard.proofs.Keys.{has_or_away, has-later, listed_within}

@@ -4,10 +4,10 @@ use Rattle.std.proofs.lemmas.List.Sums.{sum_by-cons}
 use Rattle.std.specs.List.{count_by}
 use Rattle.street_base.specs.declared.command.Command.{Command}
 use Rattle.street_base.specs.declared.reply.Starved.{Starved as NoMemory}
-use Rattle.street_ends.specs.Handling.{Effect, has_reply as effect_has_reply, text_in, Handles, output, calls_in, replies_in, IsTally as IsTallyOf, Breaks as LinesBreak, Whole, Broke}
-use Rattle.street_ends.specs.declared.answer.Cause.{Cause}
-use Rattle.street_ends.specs.declared.answer.Cause.TheVariants.{Run, Line}
-use Rattle.street_ends.specs.declared.tally.Tally.{Tally}
+use Rattle.street_stream.specs.Handling.{Effect, has_reply as effect_has_reply, text_in, Handles, output, calls_in, replies_in, IsTally as IsTallyOf, Breaks as LinesBreak, Whole, Broke}
+use Rattle.street_stream.specs.declared.answer.Cause.{Cause}
+use Rattle.street_stream.specs.declared.answer.Cause.TheVariants.{Run, Line}
+use Rattle.street_stream.specs.declared.tally.Tally.{Tally}
 use Rattle.street_line.specs.Faults.{Breaks, ServedInPart, kind_of}
 use Rattle.street_line.specs.Running.{Said, silent, faulty, calls, is_call, has_reply, said, Done, Goes, IsTally, ServedWhole}
 use Rattle.street_line.specs.Serving.{effect_of, IsServed}

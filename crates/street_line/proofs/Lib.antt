@@ -1,3 +1,4 @@
 pub mod LineLemmas
 pub mod Handling
 pub mod EngineLemmas
+pub mod Alone

@@ -5,14 +5,14 @@ use Rattle.std.proofs.lemmas.Bool.{cases_lt}
 use Rattle.serde_json.specs.Data.{Data}
 use Rattle.serde_json.specs.Written.{compact_text}
 use Rattle.street_base.specs.declared.command.Command.{Command}
-use Rattle.street_ends.specs.Lines.{is_blank, kept}
+use Rattle.street_stream.specs.Lines.{is_blank, kept}
 use Rattle.street_line.specs.Running.{silent, faulty, calls, said, said_by, has_reply, served_line, Said, Done}
 use Rattle.street_line.specs.declared.service.Served.{Served}
 use Rattle.street_line.specs.declared.service.Served.TheVariants.{Answered, Full}
-use Rattle.street_printing.specs.Printing.{line_of, reply_data, reply_line, error_data}
-use Rattle.street_reading.specs.Reading.{reading, longest_line, Fails}
-use Rattle.street_reading.specs.declared.fault.LineFault.{LineFault}
-use Rattle.street_reading.specs.declared.fault.LineFault.TheVariants.{LineTooLong, NotJson, BadCommand, Starved}
+use Rattle.street_text.specs.Printing.{line_of, reply_data, reply_line, error_data}
+use Rattle.street_text.specs.Reading.{reading, longest_line, Fails}
+use Rattle.street_text.specs.declared.fault.LineFault.{LineFault}
+use Rattle.street_text.specs.declared.fault.LineFault.TheVariants.{LineTooLong, NotJson, BadCommand, Starved}
 use Rattle.street_text.specs.FaultLines.{fault_line}
 
 both_long : (a b : List ℕ) → longest_line < length a → longest_line < length b → reading a ≡ reading b

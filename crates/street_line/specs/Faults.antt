@@ -5,14 +5,14 @@ use Rattle.std.specs.List.{count_by}
 use Rattle.std.specs.Io.KnownBytes.{Appends, Consumes}
 use Rattle.street_base.specs.declared.command.Command.{Command}
 use Rattle.street_base.specs.declared.reply.Starved.{Starved as NoMemory}
-use Rattle.street_ends.specs.Faults.{IsAtRead}
-use Rattle.street_ends.specs.Lines.{cut, lines_of}
-use Rattle.street_ends.specs.declared.answer.Cause.{Cause}
-use Rattle.street_ends.specs.declared.answer.Cause.TheVariants.{Run, Line}
-use Rattle.street_ends.specs.declared.tally.FaultKind.{FaultKind}
-use Rattle.street_ends.specs.declared.tally.FaultKind.TheVariants.{Starved}
-use Rattle.street_ends.specs.declared.tally.RunFault.{RunFault}
-use Rattle.street_ends.specs.declared.tally.Tally.{Tally}
+use Rattle.street_stream.specs.Faults.{IsAtRead}
+use Rattle.street_stream.specs.Lines.{cut, lines_of}
+use Rattle.street_stream.specs.declared.answer.Cause.{Cause}
+use Rattle.street_stream.specs.declared.answer.Cause.TheVariants.{Run, Line}
+use Rattle.street_stream.specs.declared.tally.FaultKind.{FaultKind}
+use Rattle.street_stream.specs.declared.tally.FaultKind.TheVariants.{Starved}
+use Rattle.street_stream.specs.declared.tally.RunFault.{RunFault}
+use Rattle.street_stream.specs.declared.tally.Tally.{Tally}
 use Rattle.street_line.specs.declared.service.Served.{Served}
 use Rattle.street_line.specs.Running.{is_call, has_reply, said, Goes, IsTally}
 

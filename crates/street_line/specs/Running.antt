@@ -4,13 +4,13 @@ use Rattle.std.specs.Prelude.{◌≡◌, ℕ, List, [], ◌∷◌, ◌++◌, len
 use Rattle.std.specs.Io.KnownBytes.{Appends, Consumes, IsAtEnd}
 use Rattle.std.specs.List.{count_by}
 use Rattle.street_base.specs.declared.command.Command.{Command}
-use Rattle.street_ends.specs.Lines.{is_blank, lines_of}
-use Rattle.street_ends.specs.declared.tally.Tally.{Tally}
+use Rattle.street_stream.specs.Lines.{is_blank, lines_of}
+use Rattle.street_stream.specs.declared.tally.Tally.{Tally}
 use Rattle.street_line.specs.declared.service.Served.{Served}
 use Rattle.street_line.specs.declared.service.Served.TheVariants.{Answered, Full}
-use Rattle.street_printing.specs.Printing.{line_of, error_data, reply_line}
-use Rattle.street_reading.specs.Reading.{reading}
-use Rattle.street_reading.specs.declared.fault.LineFault.{LineFault}
+use Rattle.street_text.specs.Printing.{line_of, error_data, reply_line}
+use Rattle.street_text.specs.Reading.{reading}
+use Rattle.street_text.specs.declared.fault.LineFault.{LineFault}
 use Rattle.street_text.specs.FaultLines.{fault_line}
 
 -- ---- one line

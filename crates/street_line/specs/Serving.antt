@@ -2,7 +2,7 @@
 -- Source: this profile.
 use Rattle.std.specs.Prelude.{◌≡◌, List, ℕ, Bool, true, false, Option, Some, None}
 use Rattle.street_base.specs.declared.command.Command.{Command}
-use Rattle.street_ends.specs.Handling.{Effect}
+use Rattle.street_stream.specs.Handling.{Effect}
 use Rattle.street_line.specs.Running.{Said, is_call, has_reply, said, Done}
 use Rattle.street_line.specs.declared.service.Served.{Served}
 

@@ -3,8 +3,8 @@
 //! Source: this profile.
 ghost use Rattle.std.specs.Prelude.{◌≡◌, ◌≤◌, IfOk, IfErr};
 ghost use Rattle.street_base.specs.State.{State};
-ghost use Rattle.street_ends.specs.Ends.{IsFresh};
-ghost use Rattle.street_ends.specs.Faults.{IsCaused};
+ghost use Rattle.street_stream.specs.Ends.{IsFresh};
+ghost use Rattle.street_stream.specs.Faults.{IsCaused};
 ghost use Rattle.street_engine.specs.Refines.{StandsFor};
 ghost use Rattle.street_line.specs.Engines.{MachineServes};
 ghost use Rattle.street_line.specs.Faults.{ServedInPart};
@@ -17,8 +17,8 @@ use std::io::{Read, Write};
 use std::marker::Model;
 use std::thread::Threads;
 use street_base::Command;
-use street_ends::{Counted, RunFault, Tally};
 use street_engine::{Engine, Unwatched};
+use street_stream::{Counted, RunFault, Tally};
 
 /// An engine as a service, with the runtime whose threads its workers run on.
 pub struct EngineSession<'a, R: Threads + Sync> {

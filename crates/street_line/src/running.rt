@@ -2,8 +2,8 @@
 //!
 //! Source: this profile. Each reply is written, and passed on, before the next read.
 ghost use Rattle.std.specs.Prelude.{◌≡◌, ◌≤◌, IfOk, IfErr};
-ghost use Rattle.street_ends.specs.Ends.{IsFresh};
-ghost use Rattle.street_ends.specs.Faults.{IsCaused};
+ghost use Rattle.street_stream.specs.Ends.{IsFresh};
+ghost use Rattle.street_stream.specs.Faults.{IsCaused};
 ghost use Rattle.street_line.specs.Faults.{ServedInPart, kind_of};
 ghost use Rattle.street_line.specs.Running.{ServedWhole};
 
@@ -12,7 +12,7 @@ use crate::serving::Serving;
 use std::alloc::Global;
 use std::io::{Read, Write};
 use street_base::Starved;
-use street_ends::{Cause, Counted, FaultKind, Limits, RunFault, Tally, drive_lines};
+use street_stream::{Cause, Counted, FaultKind, Limits, RunFault, Tally, drive_lines};
 use street_text::LONGEST_LINE;
 
 /// The most calls of `read` in one run.

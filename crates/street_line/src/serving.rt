@@ -2,8 +2,8 @@
 //!
 //! Source: this profile.
 ghost use Rattle.std.specs.Prelude.{◌≡◌, IfOk, OnErr};
-ghost use Rattle.street_ends.specs.Handling.{Effect, Gives};
-ghost use Rattle.street_reading.specs.Reading.{reading};
+ghost use Rattle.street_stream.specs.Handling.{Effect, Gives};
+ghost use Rattle.street_text.specs.Reading.{reading};
 ghost use Rattle.street_line.specs.Running.{said_by};
 ghost use Rattle.street_line.specs.Serving.{IsAnswered};
 
@@ -11,7 +11,7 @@ use crate::service::Service;
 use crate::writing::served_text;
 use std::alloc::Global;
 use street_base::Starved;
-use street_ends::{Answer, LineHandler, PartialLine};
+use street_stream::{Answer, LineHandler, PartialLine};
 use street_text::{fault_text, read_command};
 
 /// A service as a handler of lines.
@@ -52,7 +52,7 @@ fn answer<S: Service>(alloc: Global, service: &mut S, line: &[u8]) -> Result<Ans
 impl<'a, S: Service> LineHandler for Serving<'a, S> {
     ghost use Rattle.std.specs.Prelude.{◌≡◌};
     ghost use Rattle.street_line.specs.Serving.{IsServed};
-    ghost use Rattle.street_reading.specs.Reading.{longest_line};
+    ghost use Rattle.street_text.specs.Reading.{longest_line};
 
     type Stop = Starved;
 

@@ -3,7 +3,7 @@
 use std::alloc::Global;
 use std::process::Abort;
 use std::test::Fail;
-use street_ends::{
+use street_stream::{
     Answer, Cause, Counted, FaultKind, Halt, Limits, LineHandler, PartialLine, Tally, drive_lines,
 };
 

@@ -6,7 +6,7 @@ use std::io::{Read, Write};
 use std::process::Abort;
 use std::test::Fail;
 use street_base::Starved;
-use street_ends::{Counted, FaultKind, PartialLine, Tally, flush_out, write_reply, write_text};
+use street_stream::{Counted, FaultKind, PartialLine, Tally, flush_out, write_reply, write_text};
 
 /// Takes bytes while there is room, three at most at a time, and then fails or takes none.
 #[derive(Drop)]

@@ -4,7 +4,7 @@ use std::alloc::{AllocError, Global};
 use std::process::Abort;
 use std::test::Fail;
 use street_base::{Command, GreenSpec, LinkSpec, NetSpec, NodeSpec, PhaseSpec, TurnSpec};
-use street_reading::{LineFault, read_command};
+use street_text::{LineFault, read_command};
 
 /// The name of a command.
 fn name(command: &Command) -> &'static str {

@@ -8,10 +8,9 @@ use std::sync::Wait;
 use std::thread::{Threads, join};
 use street_base::{Command, Outcome, Reply};
 use street_desk::{Desk, Journal, Pass};
-use street_ends::Counted;
 use street_engine::{Engine, Unwatched};
-use street_replay::{replay, upgrade};
-use street_tape::write_tape;
+use street_stream::Counted;
+use street_tape::{replay, upgrade, write_tape};
 
 /// The calls of both, and one more for a call that is starved.
 const CALLS: u64 = 7;

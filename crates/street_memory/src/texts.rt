@@ -3,8 +3,7 @@
 use crate::calls::Stop;
 use std::alloc::Global;
 use street_base::{Command, Reply};
-use street_printing::reply_text;
-use street_reading::{LineFault, read_command};
+use street_text::{LineFault, read_command, reply_text};
 
 /// The command of a line.
 pub(crate) fn read(alloc: Global, line: &str) -> Result<Command, Stop> {

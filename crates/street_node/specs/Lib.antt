@@ -1,1 +1,3 @@
 pub mod Greens
+pub mod Buffers
+pub mod Releases

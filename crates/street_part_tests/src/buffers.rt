@@ -2,7 +2,7 @@
 
 ghost use Rattle.std.specs.Prelude.{◌≡◌, ◌≤◌, ◌∷◌, [], length, IfOk};
 ghost use Rattle.street_base.specs.Limits.{most_plan};
-ghost use Rattle.street_buffer.specs.Buffers.{AreIn, AreOf, HaveShortPlans};
+ghost use Rattle.street_node.specs.Buffers.{AreIn, AreOf, HaveShortPlans};
 
 use crate::nets;
 use crate::nets::{link, node, turn};
@@ -10,8 +10,8 @@ use std::alloc::{AllocError, Global};
 use std::process::Abort;
 use std::test::Fail;
 use street_base::{Car, CarNo, LinkIx, LinkSpec, Plan, Size, Speed, Step};
-use street_buffer::{Buffers, Released};
 use street_net::Network;
+use street_node::{Buffers, Released};
 use street_yard::{ListId, Yard};
 
 /// Nodes 1 to 4, with buffers of 2; link 10 from 1 and link 20 from 2 run to 3, and turn into link 30 from there to 4, whose

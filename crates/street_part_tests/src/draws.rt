@@ -3,7 +3,7 @@
 use std::process::Abort;
 use std::test::Fail;
 use street_base::Starved;
-use street_draw::{Dice, draw};
+use street_rule::{Dice, draw};
 
 /// A seed, a vehicle and a place, and their draw.
 type Known = (u64, u32, u32, u16);

@@ -3,9 +3,10 @@
 //! Source: this profile.
 ghost use Rattle.std.specs.Prelude.{◌≡◌, ◌<◌, All, IfOk, length, vec_len};
 ghost use Rattle.street_desk.specs.Passes.{DeskView};
-ghost use Rattle.street_options.specs.Words.{IsInRange};
+ghost use Rattle.street_runs.specs.Words.{IsInRange};
 
 use crate::outputs::{STANDARD_INPUT, STANDARD_OUTPUT, keep_tape, print_text};
+use crate::{Fault, Options};
 use std::alloc::Global;
 use std::fs::File;
 use std::io;
@@ -16,10 +17,7 @@ use std::thread::Threads;
 use street_base::Starved;
 use street_desk::{Desk, Pass};
 use street_engine::{Engine, Unwatched};
-use street_fault::Fault;
-use street_line::Counted;
-use street_options::Options;
-use street_session::{DeskSession, Script, run_alone, run_scripts};
+use street_line::{Counted, DeskSession, Script, run_alone, run_scripts};
 
 /// Serves standard input as one session, writes each reply as it comes, and at the end the tape, if one is asked for.
 ///

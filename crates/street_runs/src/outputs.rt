@@ -4,6 +4,7 @@
 ghost use Rattle.std.specs.Io.KnownBytes.{Appends};
 ghost use Rattle.std.specs.Prelude.{◌≡◌, OnOk};
 
+use crate::Fault;
 use std::alloc::Global;
 use std::fs::File;
 use std::io;
@@ -11,7 +12,6 @@ use std::io::Write;
 use std::rt::Files;
 use street_desk::{Desk, Journal, Pass};
 use street_engine::Unwatched;
-use street_fault::Fault;
 use street_line::Counted;
 use street_tape::write_tape;
 
@@ -25,7 +25,9 @@ pub const STANDARD_OUTPUT: &str = "standard output";
 pub fn print_text<W: Write>(writer: &mut Counted<W>, text: &[u8]) -> Result<(), Fault<'static>>
     ensures written { OnOk result (Appends (W.contents writer.old.end) (W.contents writer.new.end) text.now) }
 {
-    if street_ends::write_text(writer, text).is_err() || street_ends::flush_out(writer).is_err() {
+    if street_stream::write_text(writer, text).is_err()
+        || street_stream::flush_out(writer).is_err()
+    {
         return Err(Fault::Write(STANDARD_OUTPUT));
     }
     Ok(())

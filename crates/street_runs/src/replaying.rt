@@ -3,6 +3,7 @@
 //! Source: this profile.
 ghost use Rattle.std.specs.Prelude.{◌≤◌};
 
+use crate::Fault;
 use crate::outputs::{STANDARD_OUTPUT, open_file, print_text};
 use std::fs::File;
 use std::io;
@@ -10,9 +11,8 @@ use std::rt::Files;
 use std::thread::Threads;
 use street_base::Command;
 use street_engine::{Engine, Unwatched};
-use street_fault::Fault;
 use street_line::{Counted, reply_text};
-use street_replay::{replay, upgrade};
+use street_tape::{replay, upgrade};
 
 /// Replays a tape from nothing loaded, writes its replies in the tape's order, and then what a count answers.
 ///

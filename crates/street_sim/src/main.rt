@@ -4,7 +4,7 @@
 //! upgraded.
 #![tactic(auto)]
 
-ghost use Rattle.street_options.specs.Words.{IsInRange};
+ghost use Rattle.street_runs.specs.Words.{IsInRange};
 
 use std::fs::File;
 use std::process::ExitCode;
@@ -12,9 +12,10 @@ use std::rt::Files;
 use std::sync::Wait;
 use std::thread::Threads;
 use std::{env, io};
-use street_fault::Fault;
-use street_options::{Options, WordsFault, options, reason};
-use street_runs::{STANDARD_OUTPUT, replay_tape, serve_input, serve_scripts, upgrade_tape};
+use street_runs::{
+    Fault, Options, STANDARD_OUTPUT, WordsFault, options, reason, replay_tape, serve_input,
+    serve_scripts, upgrade_tape,
+};
 
 fn main(rt: HostRuntime) -> ExitCode {
     match program_words(&rt) {

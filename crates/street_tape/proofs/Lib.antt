@@ -3,3 +3,8 @@ pub mod EntryData
 pub mod Told
 pub mod Sending
 pub mod Taken
+pub mod Legal
+pub mod Counts
+pub mod GoodTapes
+pub mod Replayed
+pub mod Upgraded

@@ -3,8 +3,8 @@ use Rattle.std.proofs.Common.{◌≡◌, ℕ, ◌+◌, ◌-◌, ◌<◌, ◌≤�
 use Rattle.std.proofs.lemmas.Bool.{cases_lt, eqb-true, eqb-false, ne_eqb, le-leb, leb-true}
 use Rattle.std.proofs.lemmas.List.{take_all, length-take-le}
 use Rattle.street_desk.specs.declared.journal.Entry.{Entry}
-use Rattle.street_ends.specs.Lines.{kept}
-use Rattle.street_reading.specs.declared.fault.LineFault.{LineFault}
+use Rattle.street_stream.specs.Lines.{kept}
+use Rattle.street_text.specs.declared.fault.LineFault.{LineFault}
 use Rattle.street_tape.specs.Entries.{longest_tape_line, tape_value, head_reading, entry_reading, after_call, is_sized, is_whole, may_have, onto, entries_of, calls_after, calls_in, all_after, tape_in}
 use Rattle.street_tape.specs.Reading.{Takes, Refuses, may_end, calls_of, TakesAll}
 use Rattle.street_tape.specs.declared.head.Head.{Head}

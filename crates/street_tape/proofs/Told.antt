@@ -7,8 +7,8 @@ use Rattle.serde_json.specs.Data.{Data, depth}
 use Rattle.serde_json.specs.Read.{max_depth}
 use Rattle.serde_json.specs.Written.{compact_text}
 use Rattle.street_desk.specs.declared.journal.Entry.{Entry}
-use Rattle.street_ends.specs.Lines.{lines_of}
-use Rattle.street_reading.proofs.Texts.{value_read}
+use Rattle.street_stream.specs.Lines.{lines_of}
+use Rattle.street_text.proofs.Texts.{value_read}
 use Rattle.street_tape.specs.Entries.{longest_tape_line, tape_value, head_reading, entry_reading, entries_of, tape_in, tape_reading, EntryFits, TapeFits}
 use Rattle.street_tape.specs.Tapes.{head_data, head_line, old_head_data, old_head_line, entry_data, entry_line, entry_lines, tape_text, old_tape_text}
 use Rattle.street_tape.specs.declared.head.Head.TheVariants.{Version1, Version2}

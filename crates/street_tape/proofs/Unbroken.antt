@@ -7,7 +7,7 @@ use Rattle.std.proofs.lemmas.Str.Parse.{digit_from_value}
 use Rattle.json.specs.Print.{quoted}
 use Rattle.serde_json.specs.Data.{Num, unsigned, negative, float, Data, null, boolean, number, string, array, object, Items, no_items, item, Members, no_members, member}
 use Rattle.serde_json.specs.Written.{compact_text, items_text, members_text, comma_if}
-use Rattle.street_ends.specs.Lines.{cut, onto_first, if_any, lines_of}
+use Rattle.street_stream.specs.Lines.{cut, onto_first, if_any, lines_of}
 use Rattle.street_text.proofs.Plain.{IsPlain, AreItemsPlain, AreMembersPlain}
 
 -- no byte of it is LF

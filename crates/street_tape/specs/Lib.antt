@@ -2,3 +2,8 @@ pub mod Tapes
 pub mod Entries
 pub mod Reading
 pub mod Written
+pub mod Replies
+pub mod BadTapes
+pub mod Faults
+pub mod Handling
+pub mod Upgrades

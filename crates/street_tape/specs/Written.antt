@@ -2,10 +2,10 @@
 -- Source: this profile.
 use Rattle.std.specs.Prelude.{◌≡◌, ℕ, ◌+◌, ◌≤◌, List, length, take, Option, ⊤}
 use Rattle.std.specs.Io.KnownBytes.{Appends}
-use Rattle.street_ends.specs.Ends.{HasFailed}
-use Rattle.street_ends.specs.declared.counted.Counted.{Counted}
-use Rattle.street_ends.specs.declared.tally.FaultKind.{FaultKind}
-use Rattle.street_ends.specs.declared.tally.FaultKind.TheVariants.{Read, Write, Starved, Endless}
+use Rattle.street_stream.specs.Ends.{HasFailed}
+use Rattle.street_stream.specs.declared.counted.Counted.{Counted}
+use Rattle.street_stream.specs.declared.tally.FaultKind.{FaultKind}
+use Rattle.street_stream.specs.declared.tally.FaultKind.TheVariants.{Read, Write, Starved, Endless}
 
 -- the first bytes of the text were written, and counted
 pub record IsPrefix (before : Option (List ℕ)) (old : ℕ) (text : List ℕ) (after : Option (List ℕ)) (new : ℕ) : Type 0 where

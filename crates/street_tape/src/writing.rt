@@ -3,8 +3,8 @@
 //! Source: this profile.
 ghost use Rattle.std.specs.Prelude.{◌≡◌, ◌≤◌, ◌+◌, ◌-◌, ◌^◌, ◌++◌, OnOk, IfOk, IfErr, length, take};
 ghost use Rattle.std.specs.Io.KnownBytes.{Appends};
-ghost use Rattle.street_ends.specs.Ends.{HasFailed, IsFresh};
-ghost use Rattle.street_ends.specs.declared.tally.FaultKind.TheVariants as kinds;
+ghost use Rattle.street_stream.specs.Ends.{HasFailed, IsFresh};
+ghost use Rattle.street_stream.specs.declared.tally.FaultKind.TheVariants as kinds;
 ghost use Rattle.street_tape.specs.Tapes.{head_line, tape_text};
 ghost use Rattle.street_tape.specs.Written.{IsPrefix, IsCausedByWriting};
 
@@ -12,7 +12,7 @@ use crate::texts::{entry_text, head_text};
 use std::alloc::Global;
 use std::io::Write;
 use street_desk::Journal;
-use street_ends::{Counted, FaultKind, RunFault, Tally, flush_out, write_text};
+use street_stream::{Counted, FaultKind, RunFault, Tally, flush_out, write_text};
 
 /// Writes a line, and counts what went out of it.
 fn write_line<W: Write>(

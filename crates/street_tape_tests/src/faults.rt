@@ -1,7 +1,7 @@
 //! The texts of the faults of the program.
 
 use std::test::Fail;
-use street_fault::Fault;
+use street_runs::Fault;
 
 #[test]
 fn faults_are_told(rt: HostRuntime) -> Result<(), Fail> {

@@ -10,8 +10,8 @@ use std::test::Fail;
 use std::thread::Threads;
 use street_base::{Command, Outcome};
 use street_desk::{Desk, Entry, Journal, Pass};
-use street_ends::{Counted, FaultKind, RunFault, Tally};
 use street_engine::{Engine, Unwatched};
+use street_stream::{Counted, FaultKind, RunFault, Tally};
 use street_tape::{Head, Stop, Tape, entry_text, head_text, read_entry, read_head, write_tape};
 use street_text::{LineFault, read_command};
 

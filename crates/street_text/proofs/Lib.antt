@@ -1,3 +1,8 @@
 pub mod Plain
 pub mod CommandData
 pub mod Again
+pub mod ListEntries
+pub mod Texts
+pub mod Items
+pub mod Floats
+pub mod Puts

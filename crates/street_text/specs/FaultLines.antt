@@ -1,9 +1,9 @@
 -- The line that answers a faulty line.
 -- Source: this profile.
 use Rattle.std.specs.Prelude.{ℕ, List, Option, option_map}
-use Rattle.street_printing.specs.Printing.{line_of, error_data}
-use Rattle.street_reading.specs.declared.fault.LineFault.{LineFault}
-use Rattle.street_reading.specs.Faults.{number_of, name_of}
+use Rattle.street_text.specs.Printing.{line_of, error_data}
+use Rattle.street_text.specs.declared.fault.LineFault.{LineFault}
+use Rattle.street_text.specs.Faults.{number_of, name_of}
 
 -- its number and its name; want of memory has no line
 abbrev pub fault_line : LineFault → Option (List ℕ)

@@ -4,13 +4,13 @@
 ghost use Rattle.std.specs.Prelude.{◌≡◌, ◌≤◌, ◌==◌, IfOk, Ok, Some, None, if◌then◌else◌, length};
 ghost use Rattle.serde_json.specs.View.{view};
 ghost use Rattle.street_base.specs.declared.command.Command.TheVariants.{Load, Enter, Signal, Advance, PlaceMeter, ReadMeter, Lane, Count};
-ghost use Rattle.street_reading.specs.Reading.{longest_line, reading};
+ghost use Rattle.street_text.specs.Reading.{longest_line, reading};
 ghost use Rattle.street_text.specs.CommandTexts.{stretch_data_of, car_data_of, command_data, text_of};
 
+use crate::{Member, object_value};
 use serde_json::Value;
 use std::alloc::{AllocError, Global};
 use street_base::{Command, NetSpec, PhaseSpec, Starved};
-use street_printing::{Member, object_value};
 
 fn load_value(alloc: Global, net: &NetSpec) -> Result<Value, AllocError>
     ensures { IfOk result (λ v. view v ≡ command_data (Load net.now)) }

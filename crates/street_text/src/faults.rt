@@ -4,10 +4,9 @@
 ghost use Rattle.std.specs.Prelude.{◌≡◌, IfOk, Some};
 ghost use Rattle.street_text.specs.FaultLines.{fault_line};
 
+use crate::{LineFault, error_text};
 use std::alloc::Global;
 use street_base::Starved;
-use street_printing::error_text;
-use street_reading::LineFault;
 
 /// The line that answers a faulty line. Want of memory has none: it is answered by itself.
 ///

@@ -7,7 +7,7 @@ use street_base::{
     BufferEntry, CellEntry, End, Listing, MeterRow, Part, Refusal, Reply, RunningRow, Stretch,
     WaitingEntry, Whereabouts,
 };
-use street_printing::reply_text;
+use street_text::reply_text;
 
 fn listing<T: Copy>(alloc: Global, entries: &[T]) -> Result<Listing<T>, Fail> {
     Ok(Listing::from_vec(Vec::from_slice(alloc, entries)?))

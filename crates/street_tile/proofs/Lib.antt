@@ -25,3 +25,5 @@ mod Cutting
 mod Making
 mod Writing
 pub mod Seeking
+pub mod Stepping
+mod Hinting

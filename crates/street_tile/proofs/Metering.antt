@@ -22,7 +22,7 @@ use Rattle.street_lanes.specs.Lanes.{Lanes, IsOf, lane_of, place_at, no_place, s
 use Rattle.street_lanes.specs.Driving.{cells_on}
 use Rattle.street_meter.specs.Meter.{Meter, Stands, detector_of, next_step}
 use Rattle.street_rule.specs.declared.watch.Watch.{Watch}
-use Rattle.street_gauge.specs.Gauges.{Gauges, cleared, watch_of, triple_of, GoesOn, Notes, AllGoOn, AllNote, MeterStands, MetersStandFor}
+use Rattle.street_lanes.specs.Gauges.{Gauges, cleared, watch_of, triple_of, GoesOn, Notes, AllGoOn, AllNote, MeterStands, MetersStandFor}
 use Rattle.street_tile.specs.Tiles.{Part, AreBare, AreDue, sizes_of}
 use Rattle.street_tile.specs.Metering.{no_gauges, gauges_at, bare, KeepMeters, HaveNoted, detectors_on, MetersStand}
 use Rattle.street_tile.proofs.Going.{even-of}

@@ -11,7 +11,7 @@ use Rattle.street_base.specs.Step.{changed, driven, arrival, leaver_of}
 use Rattle.street_lanes.specs.Views.{LaneStands}
 use Rattle.street_lanes.specs.Lanes.{Lanes, AllLanes, Same, place_at}
 use Rattle.street_lanes.specs.Whole.{IsOn, LanesStand, LanesGo, AllFree}
-use Rattle.street_gauge.specs.Gauges.{Gauges}
+use Rattle.street_lanes.specs.Gauges.{Gauges}
 use Rattle.street_tile.specs.Halves.{Entry, vehicle_in, crossing, let_go, placed, placed_lane}
 use Rattle.street_tile.specs.Tiles.{Part, IsTileOf, StandsFor, Shows, ShowSignals, ArePairs, mouth, nobody, is_own}
 use Rattle.street_tile.specs.Metering.{KeepMeters, HaveWatched}

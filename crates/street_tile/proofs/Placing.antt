@@ -11,7 +11,7 @@ use Rattle.street_base.specs.Network.{Place, is_place, link_at}
 use Rattle.street_base.specs.State.{Traffic, Detector}
 use Rattle.street_base.proofs.ReleaseLemmas.{is_place-same, is_place-refl}
 use Rattle.street_meter.specs.Meter.{Meter, next_step}
-use Rattle.street_gauge.specs.Gauges.{Gauges, MeterStands, MetersStandFor, Placed}
+use Rattle.street_lanes.specs.Gauges.{Gauges, MeterStands, MetersStandFor, Placed}
 use Rattle.street_tile.specs.Tiles.{Part, IsTileOf, StandsFor, AreDue, sizes_of}
 use Rattle.street_tile.specs.Metering.{gauges_at, no_gauges, detectors_on, MetersStand, PlacesMeter}
 use Rattle.street_tile.proofs.Going.{same-none}

@@ -4,7 +4,7 @@ use Rattle.std.proofs.lemmas.Option.{slice_get_within, slice_get-get_or}
 use Rattle.street_base.specs.declared.net.NetSpec.{NetSpec}
 use Rattle.street_base.specs.State.{no_lane, lane_at}
 use Rattle.street_lanes.specs.Lanes.{lane_of}
-use Rattle.street_gauge.specs.Gauges.{Gauges}
+use Rattle.street_lanes.specs.Gauges.{Gauges}
 use Rattle.street_tile.specs.Tiles.{Part, IsTileOf}
 use Rattle.street_tile.specs.Metering.{HaveNoted, gauges_at, noted_by}
 use Rattle.street_tile.specs.Phases.{Ticks, ticked}

@@ -10,7 +10,7 @@ use Rattle.street_base.specs.State.{Traffic, LaneState, Detector}
 use Rattle.street_base.specs.Step.{noted}
 use Rattle.street_lanes.specs.Views.{LaneStands}
 use Rattle.street_lanes.specs.Lanes.{Lanes, lane_of}
-use Rattle.street_gauge.specs.Gauges.{Gauges, watch_of, AllGoOn, AllNote, MetersStandFor}
+use Rattle.street_lanes.specs.Gauges.{Gauges, watch_of, AllGoOn, AllNote, MetersStandFor}
 use Rattle.street_tile.specs.Tiles.{Part, StandsFor, SameTile}
 
 -- what stands for a lane's detectors where there are none

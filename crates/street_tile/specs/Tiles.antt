@@ -15,7 +15,7 @@ use Rattle.street_lanes.specs.Lanes.{Lanes, IsOf, Same, no_place}
 use Rattle.street_lanes.specs.Whole.{IsOn, LanesStand}
 use Rattle.street_lanes.specs.Driving.{PlanStands, cells_on}
 use Rattle.street_meter.specs.Meter.{next_step}
-use Rattle.street_gauge.specs.Gauges.{Gauges}
+use Rattle.street_lanes.specs.Gauges.{Gauges}
 use Rattle.street_tile.specs.Halves.{Entry}
 
 -- ---- the network

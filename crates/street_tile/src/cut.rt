@@ -16,8 +16,7 @@ use crate::tile::Tile;
 use crate::view::slot;
 use std::alloc::{AllocError, Global};
 use street_base::{CarNo, CellNo, LaneNo, LinkIx, Starved, Step};
-use street_gauge::Gauges;
-use street_lanes::Lanes;
+use street_lanes::{Gauges, Lanes};
 use street_net::{LaneId, Network};
 use street_node::SignalPlan;
 

@@ -11,14 +11,13 @@ ghost use Rattle.street_lanes.specs.Views.{LaneStands};
 ghost use Rattle.street_lanes.specs.Lanes.{Same, Others, IsOf, lane_of, place_at};
 ghost use Rattle.street_lanes.specs.Whole.{IsOn, LanesStand};
 ghost use Rattle.street_lanes.specs.Driving.{cells_on};
-ghost use Rattle.street_gauge.specs.Gauges.{watch_of};
+ghost use Rattle.street_lanes.specs.Gauges.{watch_of};
 ghost use Rattle.street_tile.specs.Tiles.{IsRoads, ArePairs, ShowSignals, is_own, mouth, sizes_of};
 ghost use Rattle.street_tile.specs.Metering.{KeepMeters, HaveWatched};
 
 use crate::view::slot;
 use street_base::{CarNo, Step};
-use street_gauge::Gauges;
-use street_lanes::Lanes;
+use street_lanes::{Gauges, Lanes};
 use street_net::Network;
 use street_node::SignalPlan;
 

@@ -14,8 +14,7 @@ ghost use Rattle.street_tile.specs.Metering.{HaveNoted, MetersStand, PlacesMeter
 use crate::tile::Tile;
 use std::alloc::Global;
 use street_base::{CellNo, Reply, Starved};
-use street_gauge::Gauges;
-use street_lanes::Lanes;
+use street_lanes::{Gauges, Lanes};
 use street_net::{LaneId, Network};
 
 /// The detectors of each of these lanes note the step. Where `has_meters` is false there are none, and no lane is looked at.

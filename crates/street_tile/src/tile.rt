@@ -21,8 +21,7 @@ use crate::show::copy_lanes;
 use crate::view::{View, slot};
 use std::marker::Model;
 use street_base::{CarNo, Starved, Step};
-use street_gauge::Gauges;
-use street_lanes::Lanes;
+use street_lanes::{Gauges, Lanes};
 use street_net::Network;
 use street_node::SignalPlan;
 

@@ -9,8 +9,7 @@ use std::alloc::Global;
 use std::process::Abort;
 use std::test::Fail;
 use street_base::{LinkIx, Reply, Starved};
-use street_gauge::Gauges;
-use street_lanes::Lanes;
+use street_lanes::{Gauges, Lanes};
 use street_net::LaneId;
 
 /// The lane of the link.

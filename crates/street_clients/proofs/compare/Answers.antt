@@ -1,5 +1,5 @@
 use Rattle.std.proofs.Common.{ℕ, List, subst, Decides}
-use Rattle.street_pair.specs.Replies.{Agrees}
+use Rattle.street_clients.specs.Replies.{Agrees}
 use Rattle.street_clients.proofs.compare.Goals as goal
 
 pub returns : goal.returns

@@ -1,7 +1,7 @@
 use Rattle.std.proofs.Common.{refl, arith}
 use Rattle.street_base.specs.declared.command.Command.TheVariants.{Advance}
 use Rattle.street_engine.proofs.Serving.{not-loaded}
-use Rattle.street_engine.proofs.Stepping.{too-many-steps, past-the-end, all-made, none-made, some-made}
+use Rattle.street_engine.proofs.Steps.{too-many-steps, past-the-end, all-made, none-made, some-made}
 use Rattle.street_engine.proofs.clock.advance.Goals as goal
 
 pub returns-in_default : goal.returns-in_default

@@ -6,7 +6,7 @@ use Rattle.street_base.specs.declared.command.Command.TheVariants.{Enter}
 use Rattle.street_base.specs.Limits.{most_plan}
 use Rattle.street_base.specs.Machine.{plan_links, entered}
 use Rattle.street_net.proofs.Planning.{taken}
-use Rattle.street_traffic.specs.Streets.{StandsFor as StreetsStandFor}
+use Rattle.street_engine.specs.Streets.{StandsFor as StreetsStandFor}
 use Rattle.street_engine.proofs.Serving.{not-loaded}
 use Rattle.street_engine.proofs.Entering.{too-many, enter-refused, enter-starving, enter-starved, enter-done, short-plan}
 use Rattle.street_engine.proofs.vehicles.enter.Goals as goal

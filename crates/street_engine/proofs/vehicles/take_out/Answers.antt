@@ -2,7 +2,7 @@ use Rattle.std.proofs.Common.{refl, arith, ap, sym, ◌∙◌}
 use Rattle.std.specs.Prelude.{is_some}
 use Rattle.street_base.specs.declared.command.Command.TheVariants.{TakeOut}
 use Rattle.street_engine.proofs.Serving.{not-loaded}
-use Rattle.street_engine.proofs.Finding.{takeout-unknown, takeout-gone, takeout-done}
+use Rattle.street_engine.proofs.Found.{takeout-unknown, takeout-gone, takeout-done}
 use Rattle.street_engine.proofs.vehicles.take_out.Goals as goal
 
 pub returns-in_default : goal.returns-in_default

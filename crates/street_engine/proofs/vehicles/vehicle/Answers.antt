@@ -1,7 +1,7 @@
 use Rattle.std.proofs.Common.{refl, arith, sym, ◌∙◌}
 use Rattle.street_base.specs.declared.command.Command.TheVariants.{Vehicle}
 use Rattle.street_engine.proofs.Serving.{not-loaded}
-use Rattle.street_engine.proofs.Finding.{vehicle-unknown, vehicle-ended, vehicle-found, vehicle-nowhere, vehicle-starved}
+use Rattle.street_engine.proofs.Found.{vehicle-unknown, vehicle-ended, vehicle-found, vehicle-nowhere, vehicle-starved}
 use Rattle.street_engine.proofs.vehicles.vehicle.Goals as goal
 
 pub returns-in_default : goal.returns-in_default

@@ -1,5 +1,5 @@
 use Rattle.std.proofs.lemmas.Result.{IfOk-weaker, IfErr-weaker}
-use Rattle.street_ends.specs.Lines.{lines_of}
+use Rattle.street_stream.specs.Lines.{lines_of}
 use Rattle.street_line.proofs.EngineLemmas.{goes-machine, breaks-machine}
 use Rattle.street_line.proofs.engines.run_engine.Goals as goal
 

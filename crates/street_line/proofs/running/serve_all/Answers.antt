@@ -1,4 +1,4 @@
-use Rattle.street_ends.proofs.Parted.{whole_part, broke_part}
+use Rattle.street_stream.proofs.Parted.{whole_part, broke_part}
 use Rattle.street_line.proofs.Handling.{LeavesState, served_whole, served_in_part}
 use Rattle.street_line.specs.Serving.{IsServed}
 use Rattle.street_line.proofs.running.serve_all.Goals as goal

@@ -1,9 +1,9 @@
 use Rattle.std.proofs.Common.{refl, sym, ap, Some}
-use Rattle.street_ends.specs.Handling.{GivesText}
+use Rattle.street_stream.specs.Handling.{GivesText}
 use Rattle.street_line.proofs.LineLemmas.{refused, served_some}
 use Rattle.street_line.specs.Running.{faulty, calls, served_line}
 use Rattle.street_line.specs.Serving.{effect_of}
-use Rattle.street_reading.specs.Reading.{reading}
+use Rattle.street_text.specs.Reading.{reading}
 use Rattle.street_line.proofs.serving.answer.Goals as goal
 use Rattle.street_line.proofs.serving.answer.Goals.{in-Ok-served_text, in-Err-served_text}
 

@@ -1,7 +1,7 @@
 use Rattle.std.proofs.Common.{rules, ◌≡◌, List, All, sym, ap, subst, ◌∙◌, ◌++◌}
 use Rattle.std.proofs.Math.ListN.{take, length, drop}
 use Rattle.std.proofs.Math.Seq.{take-append_seam}
-use Rattle.street_session.specs.declared.script.Script.{Script}
+use Rattle.street_line.specs.declared.script.Script.{Script}
 use Rattle.street_runs.proofs.clients.serve_scripts.Goals as goal
 
 pub keep_tape-taped-requires : goal.keep_tape-taped-requires

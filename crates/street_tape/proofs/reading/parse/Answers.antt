@@ -1,5 +1,5 @@
 use Rattle.std.proofs.Common.{inl, inr, lt-ltb, le-ltb, length, refl}
-use Rattle.street_reading.proofs.Texts.{value_read, value_refused}
+use Rattle.street_text.proofs.Texts.{value_read, value_refused}
 use Rattle.street_tape.specs.Entries.{tape_value, longest_tape_line}
 use Rattle.street_tape.proofs.reading.parse.Goals as goal
 

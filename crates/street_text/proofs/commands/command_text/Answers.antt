@@ -3,7 +3,7 @@ use Rattle.serde_json.specs.Data.{depth}
 use Rattle.serde_json.specs.Read.{max_depth}
 use Rattle.serde_json.specs.Written.{compact_text, has_float}
 use Rattle.serde_json.specs.View.{view}
-use Rattle.street_reading.proofs.Texts.{command_read}
+use Rattle.street_text.proofs.Texts.{command_read}
 use Rattle.street_text.specs.CommandTexts.{command_data, text_of}
 use Rattle.street_text.proofs.Again.{command_again}
 use Rattle.street_text.proofs.CommandData.{whole_command, shallow_command}

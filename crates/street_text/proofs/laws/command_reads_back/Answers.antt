@@ -1,7 +1,7 @@
 use Rattle.std.proofs.Common.{refl, true}
 use Rattle.street_text.specs.CommandTexts.{command_data, text_of}
 use Rattle.street_text.proofs.CommandData.{shallow_command}
-use Rattle.street_reading.proofs.Texts.{command_read}
+use Rattle.street_text.proofs.Texts.{command_read}
 use Rattle.street_text.proofs.Again.{command_again, command_plain}
 use Rattle.street_text.proofs.Plain.{plain_read, plain_utf8}
 use Rattle.street_text.proofs.laws.command_reads_back.Goals as goal

@@ -6,7 +6,7 @@ use Rattle.street_lanes.specs.Lanes.{place_at}
 use Rattle.street_base.specs.State.{lane_at}
 use Rattle.street_base.specs.Step.{drive_on}
 use Rattle.street_rule.specs.Watching.{watched}
-use Rattle.street_gauge.specs.Gauges.{cleared}
+use Rattle.street_lanes.specs.Gauges.{cleared}
 use Rattle.street_tile.proofs.Driving.{plan-shown}
 use Rattle.street_tile.proofs.Metering.{map-twice}
 use Rattle.street_tile.proofs.lanes.drive_lane.Goals as goal

@@ -10,7 +10,7 @@ use Rattle.street_lanes.specs.Views.{LaneStands}
 use Rattle.street_lanes.specs.Lanes.{lane_of, place_at}
 use Rattle.street_lanes.specs.Whole.{IsOn, LanesStand}
 use Rattle.street_lanes.specs.Driving.{cells_on}
-use Rattle.street_gauge.specs.Gauges.{watch_of}
+use Rattle.street_lanes.specs.Gauges.{watch_of}
 use Rattle.street_tile.specs.Tiles.{ShowSignals, slot_of}
 use Rattle.street_tile.proofs.Going.{same-then, same-long, of-same, even-of, lanes-here, lanes-next, lanes-all, place-is}
 use Rattle.street_tile.proofs.Driving.{lane_at-driven, arrivals-more, arrivals-all}

@@ -5,7 +5,7 @@ use Rattle.street_base.specs.State.{Traffic}
 use Rattle.street_base.specs.Step.{driven_lane, arrival, leaver_of}
 use Rattle.street_lanes.specs.Lanes.{AllLanes, Same}
 use Rattle.street_lanes.specs.Whole.{IsOn, LanesStand}
-use Rattle.street_gauge.specs.Gauges.{watch_of}
+use Rattle.street_lanes.specs.Gauges.{watch_of}
 use Rattle.street_tile.specs.Tiles.{IsRoads, ShowSignals}
 use Rattle.street_tile.specs.Metering.{KeepMeters, gauges_at}
 use Rattle.street_tile.proofs.Going.{LanesDone}

@@ -3,7 +3,7 @@ use Rattle.std.specs.Prelude.{OnOk, OnErr}
 use Rattle.std.proofs.lemmas.Result.{IfOk-weaker, on_ok_weaker, on_err_weaker}
 use Rattle.street_base.specs.Network.{link_at}
 use Rattle.street_net.specs.Tables.{place_of}
-use Rattle.street_gauge.specs.Gauges.{Gauges, Placed}
+use Rattle.street_lanes.specs.Gauges.{Gauges, Placed}
 use Rattle.street_tile.proofs.Placing.{seen-there, seen-sized, seen-meters, seen-placed, seen-same, placed-or-not}
 use Rattle.street_tile.proofs.tile.Tile.place_meter.Goals as goal
 

@@ -1,7 +1,7 @@
 use Rattle.std.proofs.Common.{subst, sym, arith}
 use Rattle.std.proofs.lemmas.Result.{IfOk-weaker}
 use Rattle.street_net.specs.Tables.{place_of}
-use Rattle.street_gauge.specs.Gauges.{Gauges, MetersStandFor}
+use Rattle.street_lanes.specs.Gauges.{Gauges, MetersStandFor}
 use Rattle.street_tile.specs.Metering.{detectors_on}
 use Rattle.street_tile.proofs.Placing.{seen-there, seen-meters}
 use Rattle.street_tile.proofs.tile.Tile.read_meter.Goals as goal

@@ -1,0 +1,56 @@
+-- What two clients of a desk are told, and the tape of their calls.
+-- Source: this profile.
+use Rattle.std.specs.Prelude.{◌≡◌, ℕ, ◌≤◌, List, [], ◌++◌, length, Some, IfSome}
+use Rattle.street_clients.specs.declared.desks.Client.{Client}
+use Rattle.street_clients.specs.declared.tapes.Told.{Told}
+use Rattle.street_desk.specs.declared.journal.Entry.{Entry}
+use Rattle.street_desk.specs.History.{BeginsWith, IsHistory}
+use Rattle.street_desk.specs.Passes.{DeskView, PassView}
+use Rattle.street_line.specs.Running.{Goes}
+use Rattle.street_line.specs.Sessions.{DeskServes}
+use Rattle.street_tape.specs.Tapes.{tape_text}
+
+-- a pass of the desk that calls as this session, and has seen nothing
+pub record IsNew (desk : DeskView) (session : ℕ) (pass : PassView) : Type 0 where
+  pub of_desk : pass.desk ≡ desk
+  pub least : pass.least ≡ session
+  pub none : pass.seen ≡ []
+
+-- the replies, if there are any, are the whole output of lines of which these are the first
+abbrev pub Replied : PassView → List (List ℕ) → Client → Type 0
+Replied before firsts client =
+    IfSome client.replies (λ replies. (more : List (List ℕ)) × Goes DeskServes before (firsts ++ more) replies.items client.pass)
+
+-- the tape of a history of at least so many calls, which begins with what each of two passes has seen
+pub record IsWhole (sessions calls : ℕ) (one two : PassView) (tape : List ℕ) : Type 0 where
+  pub history : List Entry
+  pub is_history : IsHistory sessions history
+  pub long : calls ≤ length history
+  pub text : tape ≡ tape_text history
+  pub first_seen : BeginsWith history one.seen
+  pub second_seen : BeginsWith history two.seen
+
+-- what both were replied, and the tape of their desk
+pub record EndsDesk (sessions calls : ℕ) (one two : Client) (told : Told) : Type 0 where
+  pub tape : IsWhole sessions calls one.pass two.pass told.tape.items
+  pub first : one.replies ≡ Some told.first
+  pub second : two.replies ≡ Some told.second
+
+-- the replies are the whole output of lines of which these are the first, from the session's first call on; each is the machine's at the place of its call in the history
+pub record IsTold (session : ℕ) (firsts : List (List ℕ)) (replies : List ℕ) (history : List Entry) : Type 0 where
+  pub before : PassView
+  pub after : PassView
+  pub more : List (List ℕ)
+  pub least : before.least ≡ session
+  pub none : before.seen ≡ []
+  pub served : Goes DeskServes before (firsts ++ more) replies after
+  pub begins : BeginsWith history after.seen
+
+-- so of both sessions, in one history of at least so many calls, whose tape this is
+pub record AreTold (calls : ℕ) (firsts seconds : List (List ℕ)) (told : Told) : Type 0 where
+  pub history : List Entry
+  pub is_history : IsHistory 2 history
+  pub long : calls ≤ length history
+  pub tape : told.tape.items ≡ tape_text history
+  pub first : IsTold 0 firsts told.first.items history
+  pub second : IsTold 1 seconds told.second.items history

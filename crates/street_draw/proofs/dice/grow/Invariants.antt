@@ -1,5 +1,0 @@
-use Rattle.std.proofs.Common.{◌≡◌, ℕ, ◌++◌, replicate}
-use Rattle.street_draw.proofs.dice.grow.Given as goal
-
-abbrev pub invariant-loop : goal.invariant-loop
-invariant-loop l = (n : ℕ) × (l.kept.items ≡ l.initial.kept.items ++ replicate n l.first)

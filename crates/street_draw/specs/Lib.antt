@@ -1,2 +1,0 @@
-pub mod Odds
-pub mod Kept

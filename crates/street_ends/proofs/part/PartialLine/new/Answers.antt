@@ -1,6 +1,0 @@
-use Rattle.std.proofs.Common.{refl, ◌∙◌}
-use Rattle.street_ends.proofs.Parts.{kept_none}
-use Rattle.street_ends.proofs.part.PartialLine.new.Goals as goal
-
-pub returns : goal.returns
-returns c = record { limit = refl; bytes = c.new.ensures.items ∙ kept_none c.args.most; is_blank = refl }

@@ -1,0 +1,11 @@
+use Rattle.std.proofs.Common.{◌≡◌, ◌∙◌, ap}
+use Rattle.std.specs.Prelude.{Some, None, slice_get}
+use Rattle.street_engine.specs.Ending.{EndsView}
+use Rattle.street_engine.proofs.Ended.{one-taken}
+use Rattle.street_engine.proofs.ends.Ends.take.Goals as goal
+
+pub invariant_of-self : goal.invariant_of-self
+invariant_of-self c =
+    let s = c.self.inside in
+    let going : slice_get s.ends.items c.args.number ≡ Some None = ap (λ (e : EndsView). slice_get e.ends c.args.number) c.self.view_is ∙ c.requires in
+    one-taken s.ends.items s.arrived s.taken c.args.number c.self.invariant going c.from.result

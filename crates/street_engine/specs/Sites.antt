@@ -1,0 +1,21 @@
+-- Which detector of the machine is which of its lane's.
+-- Source: this profile.
+use Rattle.std.specs.Prelude.{◌≡◌, ◌<◌, ◌≤◌, ℕ, List, length, slice_get, slice_index_or}
+use Rattle.street_base.specs.declared.net.NetSpec.{NetSpec}
+use Rattle.street_base.specs.Limits.{most_detectors}
+use Rattle.street_base.specs.State.{Detector}
+use Rattle.street_net.specs.Tables.{place_of}
+use Rattle.street_lanes.specs.Lanes.{IsLane}
+use Rattle.street_tile.specs.Metering.{detectors_on}
+use Rattle.street_engine.specs.declared.sites.Site.{Site}
+
+-- detector i is the one with this number among those of this lane
+pub record IsSite (net : NetSpec) (ds : List Detector) (i : ℕ) (s : Site) : Type 0 where
+  pub lane : IsLane net (place_of s.at)
+  pub there : slice_get (detectors_on (place_of s.at) ds) s.number ≡ slice_get ds i
+
+-- each detector has its site, in their order, and there are no more than may stand
+pub record AreSites (net : NetSpec) (sites : List Site) (ds : List Detector) : Type 0 where
+  pub even : length sites ≡ length ds
+  pub few : length ds ≤ most_detectors
+  pub each : (i : ℕ) (d : Site) → i < length sites → IsSite net ds i (slice_index_or sites i d)

@@ -1,0 +1,119 @@
+//! How vehicles ended.
+//!
+//! Source: this profile.
+ghost use Rattle.std.specs.Prelude.{◌≡◌, ℕ, ◌+◌, ◌<◌, ◌≤◌, ◌++◌, ◌∷◌, [], length, Some, None, slice_get, slice_set, slice_index_or, OnOk};
+ghost use Rattle.std.specs.List.{count_by};
+ghost use Rattle.street_base.specs.declared.reply.End.TheVariants.{Arrived, Taken};
+ghost use Rattle.street_base.specs.Limits.{most_vehicles};
+ghost use Rattle.street_base.specs.Shown.{has_arrived, was_taken};
+
+use std::alloc::Global;
+use std::marker::Model;
+use street_base::{CarNo, End, Starved, Step};
+
+/// How each vehicle ended, if it did, by the numbers given so far; how many have arrived, and how many were taken out.
+#[derive(Drop)]
+pub(crate) struct Ends {
+    ends: Vec<Option<End>>,
+    arrived: CarNo,
+    taken: CarNo,
+}
+
+impl Model for Ends {
+    ghost use Rattle.std.specs.Prelude.{◌-◌, length, vec_capacity};
+    ghost use Rattle.street_engine.specs.Ending.{EndsView, AreCounted};
+
+    ghost Value = { EndsView };
+
+    ghost view = { λ e. record { ends = e.ends.items; room = vec_capacity e.ends - length e.ends.items } };
+
+    ghost invariant = { λ e. AreCounted e.ends.items e.arrived e.taken };
+}
+
+impl Ends {
+    /// No number is given.
+    pub(crate) fn new(alloc: Global) -> Ends
+        ensures { result.ends ≡ [] }
+    {
+        Ends {
+            ends: Vec::new(alloc),
+            arrived: 0,
+            taken: 0,
+        }
+    }
+
+    /// How many numbers are given.
+    pub(crate) fn len(&self) -> CarNo
+        ensures count { result ≡ length self.now.ends }
+        ensures few { length self.now.ends ≤ most_vehicles }
+    {
+        self.ends.len() as CarNo
+    }
+
+    /// How the vehicle of a number ended, if it did.
+    pub(crate) fn get(&self, number: CarNo) -> Option<End>
+        ensures { result ≡ slice_index_or self.now.ends number None }
+    {
+        match self.ends.get(number as usize) {
+            Some(end) => *end,
+            None => None,
+        }
+    }
+
+    /// How many have arrived.
+    pub(crate) fn arrived(&self) -> CarNo
+        ensures { result ≡ count_by has_arrived self.now.ends }
+    {
+        self.arrived
+    }
+
+    /// How many were taken out.
+    pub(crate) fn taken(&self) -> CarNo
+        ensures { result ≡ count_by was_taken self.now.ends }
+    {
+        self.taken
+    }
+
+    /// Makes room for one more number.
+    ///
+    /// # Errors
+    /// Memory was refused.
+    pub(crate) fn reserve(&mut self) -> Result<(), Starved>
+        ensures room { OnOk result (1 ≤ self.new.room) }
+        ensures kept { self.new.ends ≡ self.old.ends }
+    {
+        self.ends.reserve(1)?;
+        Ok(())
+    }
+
+    /// One more number is given, for which there is room.
+    pub(crate) fn give(&mut self)
+        requires room { 1 ≤ self.old.room }
+        requires few { length self.old.ends < most_vehicles }
+        ensures { self.new.ends ≡ self.old.ends ++ None ∷ [] }
+    {
+        self.ends.push_reserved(None);
+    }
+
+    /// A vehicle that had not ended has arrived in this step.
+    pub(crate) fn arrive(&mut self, number: CarNo, clock: Step)
+        requires { slice_get self.old.ends number ≡ Some None }
+        ensures { self.new.ends ≡ slice_set self.old.ends number (Some (Arrived clock)) }
+    {
+        self.ends[number as usize] = Some(End::Arrived {
+            step: u64::from(clock),
+        });
+        self.arrived += 1;
+    }
+
+    /// A vehicle that had not ended was taken out at this clock.
+    pub(crate) fn take(&mut self, number: CarNo, clock: Step)
+        requires { slice_get self.old.ends number ≡ Some None }
+        ensures { self.new.ends ≡ slice_set self.old.ends number (Some (Taken clock)) }
+    {
+        self.ends[number as usize] = Some(End::Taken {
+            step: u64::from(clock),
+        });
+        self.taken += 1;
+    }
+}

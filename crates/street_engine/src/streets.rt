@@ -1,0 +1,406 @@
+//! The traffic on a loaded network.
+ghost use Rattle.std.specs.Prelude.{◌≡◌, ℕ, ◌+◌, ◌<◌, ◌≤◌, List, length, Some, None, option_map, slice_get, slice_index_or, min, true, false, IfOk, IfErr, OnOk, OnErr};
+ghost use Rattle.std.specs.List.{All};
+ghost use Rattle.street_base.specs.Limits.{last_clock, most_plan, most_vehicles, most_period, most_detectors};
+ghost use Rattle.street_base.specs.Network.{link_at, node_of};
+ghost use Rattle.street_base.specs.Faults.{network_fault};
+ghost use Rattle.street_base.specs.Signal.{SignalPlan as PlanSeen};
+ghost use Rattle.street_base.specs.State.{Traffic, lane_at};
+ghost use Rattle.street_base.specs.Step.{step, steps};
+ghost use Rattle.street_base.specs.Closing.{with_closure};
+ghost use Rattle.street_base.specs.Effects.{signalled, taken_out, metered};
+ghost use Rattle.street_base.specs.Machine.{loaded, entered, plan_links, closed_after, seen};
+ghost use Rattle.street_base.specs.Shown.{shown_lane, shown_rows, census, in_cells};
+ghost use Rattle.street_net.specs.Tables.{place_of};
+ghost use Rattle.street_net.specs.Refused.{TellsFault};
+ghost use Rattle.street_node.specs.Greens.{ShowsAs};
+ghost use Rattle.street_lanes.specs.Lanes.{IsLane};
+ghost use Rattle.street_tile.specs.Tiles.{IsPrepared};
+ghost use Rattle.street_engine.specs.Streets.{StandsFor, Goes};
+
+use crate::ends::Ends;
+use crate::sites::Site;
+use crate::{detectors, finding, single, stepping};
+use std::alloc::Global;
+use std::marker::Model;
+use std::thread::Threads;
+use street_base::{
+    Car, CarNo, CellNo, End, LaneNo, NetSpec, NodeIx, Plan, Reply, Size, Starved, Step, Whereabouts,
+};
+use street_net::{LaneId, NetFault, Network};
+use street_node::SignalPlan;
+use street_tile::{Gate, Hints, Tile, View, step_by};
+
+/// For how many steps what the gate said of threads holds.
+const STEPS_BETWEEN_COUNTS: u64 = 16;
+
+/// A loaded network, its clock, its tiles, how each vehicle ended, on which link it was last put, and where each detector is.
+pub struct Streets {
+    network: Network,
+    clock: Step,
+    tiles: Vec<Tile>,
+    view: View,
+    ends: Ends,
+    hints: Hints,
+    sites: Vec<Site>,
+}
+
+impl Drop for Streets {
+    fn drop(self) {
+        let Streets {
+            network: _,
+            clock: _,
+            tiles: _,
+            view: _,
+            ends: _,
+            hints: _,
+            sites: _,
+        } = self;
+    }
+}
+
+impl Model for Streets {
+    ghost use Rattle.std.specs.Prelude.{length};
+    ghost use Rattle.street_engine.specs.Streets.{StreetsView, IsKept};
+
+    ghost Value = { StreetsView };
+
+    ghost view = { λ s. record { network = s.network; sites = s.sites.items; clock = s.clock; tiles = s.tiles.items; ends = s.ends.ends } };
+
+    ghost invariant = { λ s. IsKept (record { network = s.network; sites = s.sites.items; clock = s.clock; tiles = s.tiles.items; ends = s.ends.ends }) (length s.view) };
+}
+
+impl Streets {
+    /// The streets of a network with no vehicle, for so many workers, 1 to 64.
+    ///
+    /// # Errors
+    /// The network's first fault, or want of memory.
+    pub fn load(alloc: Global, net: &NetSpec, workers: usize) -> Result<Streets, NetFault>
+        requires some { 1 ≤ workers }
+        requires few { workers ≤ 64 }
+        ensures stands { IfOk result (λ streets. StandsFor streets (loaded net.now)) }
+        ensures tiles { IfOk result (λ streets. length streets.tiles ≡ min workers (length net.now.nodes)) }
+        ensures faultless { OnOk result (network_fault net.now ≡ None) }
+        ensures fault { IfErr result (TellsFault (network_fault net.now)) }
+    {
+        let network = Network::build(alloc, net)?;
+        let Ok(tiles) = Tile::cut(alloc, &network, workers) else {
+            return Err(NetFault::Starved);
+        };
+        let Ok(view) = View::new(alloc, &network) else {
+            return Err(NetFault::Starved);
+        };
+        Ok(Streets {
+            network,
+            clock: net.start as Step,
+            tiles,
+            view,
+            ends: Ends::new(alloc),
+            hints: Hints::new(alloc),
+            sites: Vec::new(alloc),
+        })
+    }
+
+    /// The network.
+    pub fn network(&self) -> &Network
+        ensures { result.now ≡ self.now.network }
+    {
+        &self.network
+    }
+
+    /// The clock.
+    pub fn clock(&self) -> Step
+        ensures clock { result ≡ self.now.clock }
+        ensures in_time { self.now.clock ≤ last_clock }
+    {
+        self.clock
+    }
+
+    /// How many vehicles were ever admitted.
+    pub fn admitted(&self) -> CarNo
+        ensures count { result ≡ length self.now.ends }
+        ensures few { length self.now.ends ≤ most_vehicles }
+    {
+        self.ends.len()
+    }
+
+    /// How a vehicle ended, if it did.
+    pub fn end_of(&self, number: CarNo) -> Option<End>
+        ensures { result ≡ slice_index_or self.now.ends number None }
+    {
+        self.ends.get(number)
+    }
+
+    /// One more vehicle waits on a lane of the first link of its plan. Fewer than 1,000,000 were admitted before it.
+    ///
+    /// # Errors
+    /// Memory was refused; the streets stand for what they stood for.
+    pub fn admit(
+        &mut self,
+        alloc: Global,
+        plan: Plan,
+        lane: LaneNo,
+        depart: Step,
+        size: Size,
+    ) -> Result<(), Starved>
+        requires some { 0 < length plan }
+        requires links { (ids : List ℕ) × (plan ≡ plan_links self.old.network ids) }
+        requires short { length plan ≤ most_plan }
+        requires lane { lane < (link_at self.old.network (slice_index_or plan 0 0)).lanes }
+        requires few { length self.old.ends < most_vehicles }
+        ensures waits { OnOk result ((ids : List ℕ) → plan ≡ plan_links self.old.network ids → Goes (λ m. entered m ids lane depart size) self.old self.new) }
+        ensures starved { OnErr result (Goes (λ m. m) self.old self.new) }
+    {
+        let at = LaneId {
+            link: plan.as_slice()[0],
+            lane,
+        };
+        let car = Car {
+            plan: Box::new(alloc, plan)?,
+            number: self.ends.len(),
+            cell: 0,
+            step: depart,
+            at: 0,
+            speed: 0,
+            size,
+        };
+        self.ends.reserve()?;
+        self.hints.reserve()?;
+        single::admit(&self.network, &mut self.tiles, at, car)?;
+        self.ends.give();
+        self.hints.give(at.link);
+        Ok(())
+    }
+
+    /// A node has this signal plan from the next step on. Takes no memory.
+    pub fn set_signal(&mut self, node: NodeIx, plan: SignalPlan)
+        requires { node < length self.old.network.nodes }
+        ensures { (id : ℕ) → (other : PlanSeen) → node_of self.old.network id ≡ Some node → ShowsAs plan other
+            → Goes (λ m. signalled m id other) self.old self.new }
+    {
+        single::set_signal(&self.network, &mut self.tiles, node, plan);
+    }
+
+    /// Closes cells of a lane, and tells how many of its cells are closed then.
+    ///
+    /// # Errors
+    /// Memory was refused; the streets stand for what they stood for.
+    pub fn close(&mut self, at: LaneId, first: CellNo, last: CellNo) -> Result<u64, Starved>
+        requires lane { IsLane self.old.network (place_of at) }
+        requires order { first ≤ last }
+        requires within { last < (link_at self.old.network at.link).length }
+        ensures closes { OnOk result (Goes (with_closure true (place_of at) first last) self.old self.new) }
+        ensures count { IfOk result (λ count. (m : Traffic) → StandsFor self.old m → count ≡ closed_after true first last (lane_at m (place_of at))) }
+        ensures starved { OnErr result (Goes (λ m. m) self.old self.new) }
+    {
+        single::close(&self.network, &mut self.tiles, at, first, last)
+    }
+
+    /// Opens cells of a lane again, and tells how many of its cells are closed then.
+    ///
+    /// # Errors
+    /// Memory was refused; the streets stand for what they stood for.
+    pub fn reopen(&mut self, at: LaneId, first: CellNo, last: CellNo) -> Result<u64, Starved>
+        requires lane { IsLane self.old.network (place_of at) }
+        requires order { first ≤ last }
+        requires within { last < (link_at self.old.network at.link).length }
+        ensures opens { OnOk result (Goes (with_closure false (place_of at) first last) self.old self.new) }
+        ensures count { IfOk result (λ count. (m : Traffic) → StandsFor self.old m → count ≡ closed_after false first last (lane_at m (place_of at))) }
+        ensures starved { OnErr result (Goes (λ m. m) self.old self.new) }
+    {
+        single::reopen(&self.network, &mut self.tiles, at, first, last)
+    }
+
+    /// Takes a vehicle out that has not ended, wherever it is. Takes no memory.
+    pub fn take_out(&mut self, number: CarNo)
+        requires given { number < length self.old.ends }
+        requires going { slice_index_or self.old.ends number None ≡ None }
+        ensures { Goes (λ m. taken_out m number) self.old self.new }
+    {
+        let hint = self.hints.get(number);
+        finding::take_out(&self.network, &mut self.tiles, hint, number);
+        self.ends.take(number, self.clock);
+    }
+
+    /// Where a vehicle is that has not ended. Takes memory for the plan that it answers.
+    ///
+    /// # Errors
+    /// Memory for the plan was refused.
+    pub fn find(&self, alloc: Global, number: CarNo) -> Result<Option<Whereabouts>, Starved>
+        ensures { IfOk result (λ found. (m : Traffic) → StandsFor self.now m → found ≡ seen m number) }
+    {
+        finding::find(
+            alloc,
+            &self.network,
+            &self.tiles,
+            self.hints.get(number),
+            number,
+        )
+    }
+
+    /// All of a lane.
+    ///
+    /// # Errors
+    /// Memory for the lists was refused.
+    pub fn lane(&self, alloc: Global, at: LaneId) -> Result<Reply, Starved>
+        requires { IsLane self.now.network (place_of at) }
+        ensures { IfOk result (λ reply. (m : Traffic) → StandsFor self.now m → reply ≡ shown_lane (lane_at m (place_of at))) }
+    {
+        single::lane(alloc, &self.network, &self.tiles, at)
+    }
+
+    /// How many detectors stand.
+    pub fn detectors(&self) -> usize
+        ensures { result ≡ length self.now.sites }
+    {
+        self.sites.len()
+    }
+
+    /// One more detector stands in a cell of a lane, with a period of 1 to 100,000 steps; it notes from the next step on.
+    /// Fewer than 1,024 stood before it. Answers its number.
+    ///
+    /// # Errors
+    /// Memory was refused; the streets stand for what they stood for.
+    pub fn place_meter(
+        &mut self,
+        alloc: Global,
+        at: LaneId,
+        cell: CellNo,
+        period: u32,
+    ) -> Result<usize, Starved>
+        requires lane { IsLane self.old.network (place_of at) }
+        requires cell { cell < (link_at self.old.network at.link).length }
+        requires some { 1 ≤ period }
+        requires short { period ≤ most_period }
+        requires few { length self.old.sites < most_detectors }
+        ensures placed { OnOk result (Goes (λ m. metered m (place_of at) cell period) self.old self.new) }
+        ensures number { IfOk result (λ number. number ≡ length self.old.sites) }
+        ensures starved { OnErr result (Goes (λ m. m) self.old self.new) }
+    {
+        let LaneId { link, lane } = at;
+        let detector = self.sites.len();
+        self.sites.reserve(1)?;
+        let number = detectors::place(
+            alloc,
+            &self.network,
+            &mut self.tiles,
+            LaneId { link, lane },
+            cell,
+            period,
+        )?;
+        self.sites.push_reserved(Site {
+            at: LaneId { link, lane },
+            number,
+        });
+        Ok(detector)
+    }
+
+    /// The rows of a detector, if there is one of this number. Takes memory for the list of rows.
+    ///
+    /// # Errors
+    /// Memory for the list was refused.
+    pub fn read_meter(&self, alloc: Global, number: usize) -> Result<Option<Reply>, Starved>
+        ensures { IfOk result (λ found. (m : Traffic) → StandsFor self.now m
+            → found ≡ option_map shown_rows (slice_get m.detectors number)) }
+    {
+        match self.sites.get(number) {
+            Some(site) => {
+                detectors::read(alloc, &self.network, &self.tiles, site.at, site.number)
+            }
+            None => Ok(None),
+        }
+    }
+
+    /// The clock, and how many vehicles stand where or have ended how. Looks at counts that are kept.
+    pub fn census(&self) -> Reply
+        ensures { (m : Traffic) → StandsFor self.now m → result ≡ census m }
+    {
+        let admitted = u64::from(self.ends.len());
+        let sizes = finding::sizes(&self.network, &self.tiles);
+        Reply::Census {
+            admitted,
+            arrived: u64::from(self.ends.arrived()),
+            buffers: sizes.buffers,
+            cells: sizes.cells,
+            clock: u64::from(self.clock),
+            taken: u64::from(self.ends.taken()),
+            waiting: sizes.waiting,
+        }
+    }
+
+    /// Takes the memory for a step.
+    ///
+    /// # Errors
+    /// Memory was refused.
+    fn prepare(&mut self) -> Result<(), Starved>
+        ensures prepared { OnOk result (All IsPrepared self.new.tiles) }
+        ensures clock { self.new.clock ≡ self.old.clock }
+        ensures kept { Goes (λ m. m) self.old self.new }
+    {
+        stepping::prepare(&self.network, &mut self.tiles)
+    }
+
+    /// How many vehicles are in cells.
+    fn in_cells(&self) -> u64
+        ensures { (m : Traffic) → StandsFor self.now m → result ≡ in_cells m }
+    {
+        // Its clause `few` bounds the sums.
+        let _admitted = self.ends.len();
+        finding::sizes(&self.network, &self.tiles).cells
+    }
+
+    /// How many threads the next step takes, after so many others of the same advance that took so many: one for each tile
+    /// where the gate lets the workers share it, else the caller's alone. The gate is asked once in 16 steps, since the count
+    /// looks at each lane.
+    fn threads<G: Gate>(&self, gate: &G, done: u64, before: usize) -> usize
+        requires { 0 < before }
+        ensures { 0 < result }
+    {
+        if done % STEPS_BETWEEN_COUNTS != 0 {
+            return before;
+        }
+        let tiles = self.tiles.len();
+        if tiles > 1 && gate.shares(self.in_cells()) {
+            return tiles;
+        }
+        1
+    }
+
+    /// One step, by so many threads at most. Takes no memory.
+    fn step<R: Threads + Sync, G: Gate + Sync>(&mut self, rt: &R, gate: &G, threads: usize)
+        requires some { 0 < threads }
+        requires prepared { All IsPrepared self.old.tiles }
+        requires in_time { self.old.clock < last_clock }
+        ensures clock { self.new.clock ≡ self.old.clock + 1 }
+        ensures step { Goes step self.old self.new }
+    {
+        step_by(
+            rt,
+            &self.network,
+            &mut self.tiles,
+            &mut self.view,
+            &mut self.hints,
+            gate,
+            threads,
+        );
+        stepping::note_arrivals(&mut self.tiles, &mut self.ends, self.clock);
+        self.clock += 1;
+    }
+
+    /// So many steps, or fewer where memory was refused for one: tells how many.
+    pub fn steps<R: Threads + Sync, G: Gate + Sync>(&mut self, rt: &R, gate: &G, count: u64) -> u64
+        requires { self.old.clock + count ≤ last_clock }
+        ensures most { result ≤ count }
+        ensures steps { Goes (steps result) self.old self.new }
+    {
+        let mut threads = 1;
+        for done in 0..count {
+            if self.prepare().is_err() {
+                return done;
+            }
+            threads = self.threads(gate, done, threads);
+            self.step(rt, gate, threads);
+        }
+        count
+    }
+}

@@ -1,4 +1,0 @@
-mod Clearing
-mod Noting
-mod Reading
-mod Placing

@@ -1,3 +1,0 @@
-pub mod Gauges
-pub mod Kept
-pub mod Inside

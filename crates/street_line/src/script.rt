@@ -1,0 +1,119 @@
+//! Scripts: files of commands, each served as a session on a thread of its own.
+//!
+//! Source: this profile.
+ghost use Rattle.std.specs.Prelude.{◌≡◌, ◌↔◌, ◌⊎◌, ◌<◌, ℕ, List, [], ◌∷◌, All, IfSome, IsNone, IsSome, length, slice_index_or};
+ghost use Rattle.street_desk.specs.Passes.{DeskView};
+ghost use Rattle.street_stream.specs.declared.tally.FaultKind.TheVariants as kinds;
+ghost use Rattle.street_line.specs.declared.script.Script.{Script};
+ghost use Rattle.street_line.specs.Scripts.{IsRun, Served, in_memory as memory_kind};
+
+use crate::session::DeskSession;
+use crate::sessions::run_session;
+use crate::{Counted, FaultKind};
+use std::alloc::Global;
+use std::fs::File;
+use std::io::{ErrorKind, Read};
+use std::rt::Files;
+use std::sync::Wait;
+use std::thread;
+use std::thread::Threads;
+
+/// A file of commands, with the session that serves it.
+#[derive(Drop)]
+pub struct Script<'a, R: Threads + Wait + Sync> {
+    /// The file, until it is served.
+    pub file: Option<File>,
+    /// Who calls.
+    pub session: DeskSession<'a, R>,
+    /// The lines of reply.
+    pub replies: Vec<u8>,
+    /// What ended the script before its file did: `Read` where the file could not be opened or read, `Starved`, or
+    /// `Endless`. No script has `Write`.
+    pub fault: Option<FaultKind>,
+}
+
+impl<'a, R: Threads + Wait + Sync> Script<'a, R> {
+    /// A script whose file is opened, or has the fault that it could not be.
+    pub fn open<F: Files<File = File>>(
+        files: &F,
+        alloc: Global,
+        name: &str,
+        session: DeskSession<'a, R>,
+    ) -> Script<'a, R>
+        ensures session { result.session ≡ session.entry }
+        ensures replies { result.replies.items ≡ [] }
+        ensures fault { IsNone result.fault ↔ IsSome result.file }
+        ensures kinds { IfSome result.fault (λ kind. (kind ≡ kinds.Read) ⊎ (kind ≡ kinds.Starved)) }
+    {
+        let (file, fault) = match File::open(files, name) {
+            Ok(file) => (Some(file), None),
+            Err(error) if error.kind() == ErrorKind::OutOfMemory => (
+                None,
+                Some(FaultKind::Starved),
+            ),
+            Err(_) => (None, Some(FaultKind::Read)),
+        };
+        Script {
+            file,
+            session,
+            replies: Vec::new(alloc),
+            fault,
+        }
+    }
+
+    /// Serves all lines of the file, if it was opened, and keeps the replies.
+    fn run(&mut self, alloc: Global)
+        ensures desk { self.new.session.desk ≡ self.old.session.desk }
+        ensures run { IsRun self.old self.new }
+    {
+        if let Some(file) = self.file.take() {
+            (self.replies, self.fault) = answer_all(alloc, &mut self.session, file);
+        }
+    }
+}
+
+/// The replies to the lines of a text, served as `run_session` does, and what ended them before the text did: want of memory
+/// to keep them is told as that, and never as a failed write.
+pub fn answer_all<R: Threads + Wait + Sync, D: Read + Drop>(
+    alloc: Global,
+    session: &mut DeskSession<'_, R>,
+    reader: D,
+) -> (Vec<u8>, Option<FaultKind>)
+    ensures desk { session.new.desk ≡ session.old.desk }
+    ensures served { (text : List ℕ) × Served session.old text result.0.items result.1 session.new }
+{
+    let mut reader = Counted::new(reader);
+    let mut writer = Counted::new(Vec::new(alloc));
+    match run_session(alloc, session, &mut reader, &mut writer) {
+        Ok(_) => (writer.end, None),
+        Err(fault) => (writer.end, Some(in_memory(fault.kind))),
+    }
+}
+
+/// Replies go to memory, where a write fails for want of memory alone.
+fn in_memory(kind: FaultKind) -> FaultKind
+    ensures { result ≡ memory_kind kind }
+{
+    match kind {
+        FaultKind::Write => FaultKind::Starved,
+        other => other,
+    }
+}
+
+/// Serves each script on a thread of its own; one for which no thread can be started is served after another, on a thread
+/// that is there. Returns when all have ended.
+pub fn run_scripts<R: Threads + Wait + Sync>(rt: &R, alloc: Global, scripts: &mut [Script<'_, R>])
+    ensures each { (i : ℕ) (d : Script R) → i < length scripts.old → IsRun (slice_index_or scripts.old i d) (slice_index_or scripts.new i d) }
+    ensures same { length scripts.new ≡ length scripts.old }
+    ensures desks { (desk : DeskView) → All (λ s. s.session.desk ≡ desk) scripts.old → All (λ s. s.session.desk ≡ desk) scripts.new }
+{
+    let threads = scripts.len();
+    if threads > 0 {
+        thread::for_each_mut(
+            rt,
+            scripts,
+            threads,
+            &|_, script: &mut Script<'_, R>| script.run(alloc),
+        );
+    }
+}

@@ -1,0 +1,71 @@
+//! Lines served through a desk.
+//!
+//! Source: this profile.
+ghost use Rattle.std.specs.Prelude.{◌≡◌, ◌≤◌, IfOk, IfErr};
+ghost use Rattle.street_stream.specs.Ends.{IsFresh};
+ghost use Rattle.street_stream.specs.Faults.{IsCaused};
+ghost use Rattle.street_line.specs.Faults.{ServedInPart};
+ghost use Rattle.street_line.specs.Running.{ServedWhole};
+ghost use Rattle.street_line.specs.Sessions.{AloneServes, DeskServes, IsAlone};
+
+use crate::session::DeskSession;
+use crate::{Counted, RunFault, Tally, run_lines};
+use std::alloc::Global;
+use std::io::{Read, Write};
+use std::sync::Wait;
+use std::thread::Threads;
+
+/// Serves the lines of a text through a desk, beside the desk's other callers, as `run_lines` of street_line does: each
+/// command is a call of the pass, and its reply is the machine's at the point where the call stands in the desk's one
+/// history. After a fault the same holds of the lines that were served.
+///
+/// # Errors
+///
+/// Those of `run_lines`.
+pub fn run_session<R: Threads + Wait + Sync, D: Read, W: Write>(
+    alloc: Global,
+    session: &mut DeskSession<'_, R>,
+    reader: &mut Counted<D>,
+    writer: &mut Counted<W>,
+) -> Result<Tally, RunFault>
+    requires reader { IsFresh reader.old }
+    requires writer { IsFresh writer.old }
+    ensures served { IfOk result (λ tally. ServedWhole DeskServes session.old (D.remaining reader.old.end) (W.contents writer.old.end)
+        session.new (D.remaining reader.new.end) (W.contents writer.new.end) tally) }
+    ensures broken { IfErr result (λ fault. ServedInPart DeskServes session.old (D.remaining reader.old.end) (W.contents writer.old.end)
+        session.new (D.remaining reader.new.end) (W.contents writer.new.end) fault) }
+    ensures caused { IfErr result (λ fault. IsCaused fault.kind reader.new writer.new 1000000000) }
+    ensures bounded { reader.new.calls ≤ 1000000000 }
+    ensures same { session.new.desk ≡ session.old.desk }
+{
+    run_lines(alloc, session, reader, writer)
+}
+
+/// Serves the lines of a text through a desk that has one session alone: what is written is what the machine says to these
+/// lines, each command being applied as long as the desk has a place for it, and told as full from then on. The history
+/// is that of the calls, and nobody else's. After a fault the same holds of the lines that were served.
+///
+/// # Errors
+///
+/// Those of `run_lines`.
+pub fn run_alone<R: Threads + Wait + Sync, D: Read, W: Write>(
+    alloc: Global,
+    session: &mut DeskSession<'_, R>,
+    reader: &mut Counted<D>,
+    writer: &mut Counted<W>,
+) -> Result<Tally, RunFault>
+    requires alone { IsAlone session.old }
+    requires reader { IsFresh reader.old }
+    requires writer { IsFresh writer.old }
+    ensures served { IfOk result (λ tally. ServedWhole (AloneServes session.old.desk.calls)
+        session.old.seen (D.remaining reader.old.end) (W.contents writer.old.end)
+        session.new.seen (D.remaining reader.new.end) (W.contents writer.new.end) tally) }
+    ensures broken { IfErr result (λ fault. ServedInPart (AloneServes session.old.desk.calls)
+        session.old.seen (D.remaining reader.old.end) (W.contents writer.old.end)
+        session.new.seen (D.remaining reader.new.end) (W.contents writer.new.end) fault) }
+    ensures caused { IfErr result (λ fault. IsCaused fault.kind reader.new writer.new 1000000000) }
+    ensures bounded { reader.new.calls ≤ 1000000000 }
+    ensures same { session.new.desk ≡ session.old.desk }
+{
+    run_session(alloc, session, reader, writer)
+}

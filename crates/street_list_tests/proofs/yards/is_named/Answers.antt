@@ -1,6 +1,0 @@
-use Rattle.std.proofs.Common.{rules}
-use Rattle.street_yard.proofs.Callers.{loose_has_entry}
-use Rattle.street_list_tests.proofs.yards.is_named.Goals as goal
-
-pub returns : goal.returns
-returns g c = loose_has_entry c.args.yard.now c.args.key.0 (c.is_loose.ensures.0 (search rules))

@@ -1,0 +1,128 @@
+-- The release phase of one node: which fronts go, whereto, and what is left.
+-- Source: this profile.
+use Rattle.std.specs.Prelude.{◌≡◌, ◌≢◌, ℕ, ◌+◌, ◌*◌, ◌<◌, ◌==◌, nat_le, min, List, ◌++◌, length, map, drop, take, filter_map, Bool, true, false, not, ◌&&◌, Option, Some, None, option_map, option_and_then, slice_get, slice_index_or, if◌then◌else◌}
+use Rattle.std.specs.List.{All, list_any}
+use Rattle.std.specs.Option.{option_map_or}
+use Rattle.street_base.specs.declared.net.NetSpec.{NetSpec}
+use Rattle.street_base.specs.declared.car.Car.{Car}
+use Rattle.street_base.specs.Vehicle.{Vehicle, vehicle_of, next_link}
+use Rattle.street_base.specs.Lane.{is_free}
+use Rattle.street_base.specs.Network.{Place, link_at, node_of, turn}
+use Rattle.street_base.specs.State.{Traffic, Queued, lane_at}
+use Rattle.street_base.specs.Release.{target, may_give, gives, entering}
+use Rattle.street_net.specs.Tables.{in_places, turn_by_position}
+use Rattle.street_yard.specs.Yard.{Yard, Kept, list_at, entry_at, car_of, without, first_or, Away, IsWhole}
+use Rattle.street_yard.specs.Listed.{vehicle_with}
+use Rattle.street_node.specs.Buffers.{queue_of}
+use Rattle.street_node.specs.declared.release.Released.{Released}
+
+-- ---- who crosses, by the machine
+
+-- a vehicle on its way from a buffer into a lane, as it enters it
+pub record Crossing : Type 0 where
+  pub from : Place
+  pub to : Place
+  pub vehicle : Vehicle
+
+-- who crosses from this buffer: if its front goes, the one who enters the lane that it leads to
+abbrev pub crossing : Traffic → Place → Option Crossing
+crossing m from = if gives m from then option_and_then (λ to. option_map (λ v. record { from = from; to = to; vehicle = v }) (entering m to)) (target m from) else None
+
+-- the queue of this buffer after the releases
+abbrev pub queue_after : Traffic → Place → List Queued
+queue_after m from = if gives m from then drop 1 (lane_at m from).queue else (lane_at m from).queue
+
+-- ---- mouths
+
+-- it is a lane of the network whose link begins at this node
+abbrev pub begins_at : NetSpec → ℕ → Place → Bool
+begins_at net node p = option_map_or (λ begin. begin == node) (node_of net (link_at net p.link).from) false
+
+pub record IsAhead (net : NetSpec) (node : ℕ) (p : Place) : Type 0 where
+  pub link : p.link < length net.links
+  pub lane : p.lane < (link_at net p.link).lanes
+  pub begins : begins_at net node p ≡ true
+
+-- mouths are listed two a link
+abbrev pub slot_of : Place → ℕ
+slot_of p = 2 * p.link + p.lane
+
+abbrev pub mouth : List Bool → Place → Bool
+mouth mouths p = slice_index_or mouths (slot_of p) false
+
+-- ---- what the buffers and the mouths of a node stand for
+
+-- these lists stand for queues, one for each lane that runs to the node
+abbrev pub StandFor : NetSpec → ℕ → List ℕ → Yard → (Place → List Queued) → Type 0
+StandFor net node ns y queue = (k : ℕ) (p : Place) → slice_get (in_places net node) k ≡ Some p → queue_of y (slice_index_or ns k 0) ≡ queue p
+
+-- traffic in which the lists are the buffers, and the mouths show whether cell 0 is free of the lanes ahead
+pub record Shows (net : NetSpec) (node clock : ℕ) (ns : List ℕ) (y : Yard) (mouths : List Bool) (m : Traffic) : Type 0 where
+  pub network : m.network ≡ net
+  pub in_time : m.clock ≡ clock
+  pub queues : StandFor net node ns y (λ p. (lane_at m p).queue)
+  pub shown : (p : Place) → IsAhead net node p → mouth mouths p ≡ is_free (lane_at m p).track 0
+
+-- ---- what the code tells
+
+-- the lane that a released vehicle enters
+abbrev pub lane_to : Released → Place
+lane_to r = record { link = r.turn.next; lane = r.turn.next_lane }
+
+-- the lane whose buffer it leaves
+abbrev pub lane_from : Released → Place
+lane_from r = record { link = r.turn.link; lane = r.turn.lane }
+
+-- who crosses, as it stands in the yard
+abbrev pub crossing_in : Yard → Released → Option Crossing
+crossing_in y r = option_map (λ v. record { from = lane_from r; to = lane_to r; vehicle = v }) (vehicle_with y r.key.0)
+
+-- what is kept of a vehicle that is sent on: it is on no list, no faster than the limit, and one further in its plan
+abbrev pub sent_on : ℕ → Kept → Kept
+sent_on limit e = record e { car = record e.car { speed = min e.car.speed limit; at = e.car.at + 1 }; list = None }
+
+-- where a front goes, if it is ready
+abbrev pub way_out : NetSpec → ℕ → Place → Option Queued → Option Place
+way_out net clock from = option_and_then (λ q. if nat_le q.ready clock then option_and_then (λ next. option_map (λ t. record { link = next; lane = t.next_lane }) (turn net from next)) (next_link q.vehicle) else None)
+
+-- the first of a list, with its turn
+pub record IsFront (net : NetSpec) (y : Yard) (from : Place) (n : ℕ) (r : Released) : Type 0 where
+  pub car : Car
+  pub held : car_of y r.key.0 ≡ Some car
+  pub first : first_or (list_at y n) None ≡ Some r.key.0
+  pub next : next_link (vehicle_of car) ≡ Some r.turn.next
+  pub turn : option_map (turn_by_position from r.turn.next) (turn net from r.turn.next) ≡ Some r.turn
+
+-- a vehicle of list n is sent on
+pub record SendsOn (old new : Yard) (n key limit : ℕ) : Type 0 where
+  pub list : list_at new n ≡ without key (list_at old n)
+  pub others : (j : ℕ) → j ≢ n → list_at new j ≡ list_at old j
+  pub sent : entry_at new key ≡ option_map (sent_on limit) (entry_at old key)
+  pub entries : (j : ℕ) → j ≢ key → entry_at new j ≡ entry_at old j
+  pub count : length new.lists ≡ length old.lists
+  pub room : new.room ≡ old.room
+  pub whole : IsWhole new
+
+-- ---- the walk over the first k buffers
+
+-- those told are sent on, and no other; only these buffers have changed
+pub record Sends (net : NetSpec) (ns : List ℕ) (old new : Yard) (more : List Released) : Type 0 where
+  pub sent : All (λ r. entry_at new r.key.0 ≡ option_map (sent_on (link_at net r.turn.next).limit) (entry_at old r.key.0)) more
+  pub rest : (key : ℕ) → All (λ r. key ≢ r.key.0) more → entry_at new key ≡ entry_at old key
+  pub lists : (n : ℕ) → Away n ns → list_at new n ≡ list_at old n
+  pub count : length new.lists ≡ length old.lists
+  pub room : new.room ≡ old.room
+
+-- of the first k buffers each front went that goes by the machine, in their order, and no other; a mouth is open yet if
+-- none of them is ready to go there
+pub record Goes (net : NetSpec) (node : ℕ) (ns : List ℕ) (m : Traffic) (k : ℕ) (new : Yard) (mouths : List Bool) (more : List Released) : Type 0 where
+  pub queues : (j : ℕ) (p : Place) → j < k → slice_get (in_places net node) j ≡ Some p → queue_of new (slice_index_or ns j 0) ≡ queue_after m p
+  pub shut : (p : Place) → IsAhead net node p → mouth mouths p ≡ is_free (lane_at m p).track 0 && not (list_any (may_give m p) (take k (in_places net node)))
+  pub crossings : map (crossing_in new) more ≡ map (λ c. Some c) (filter_map (crossing m) (take k (in_places net node)))
+
+-- the releases of a node: in any traffic that the lists and the mouths stand for, those of its buffers
+pub record Releases (net : NetSpec) (node clock : ℕ) (ns : List ℕ) (old new : Yard) (open_old open_new : List Bool) (before after : List Released) : Type 0 where
+  pub more : List Released
+  pub told : after ≡ before ++ more
+  pub sends : Sends net ns old new more
+  pub goes : (m : Traffic) → Shows net node clock ns old open_old m → Goes net node ns m (length (in_places net node)) new open_new more

@@ -1,0 +1,138 @@
+//! Releases from the buffers of one node.
+//!
+//! Source: this profile.
+ghost use Rattle.std.specs.Prelude.{◌≡◌, ◌+◌, ◌*◌, ◌<◌, ◌≤◌, ◌++◌, ◌∷◌, [], true, false, length, map, option_map, slice_get, slice_set, vec_len, vec_capacity, IfSome, IsSomeAnd, Some};
+ghost use Rattle.street_base.specs.Network.{link_at};
+ghost use Rattle.street_base.specs.Vehicle.{vehicle_of, next_link};
+ghost use Rattle.street_net.specs.Tables.{place_of as lane_of, in_places};
+ghost use Rattle.street_yard.specs.Yard.{car_of, place_of};
+ghost use Rattle.street_yard.specs.View.{viewed};
+ghost use Rattle.street_node.specs.Buffers.{queue_of, AreListed, HaveShortPlans};
+ghost use Rattle.street_node.specs.Releases.{way_out, lane_to, slot_of, mouth, IsFront, SendsOn, Goes, Releases};
+
+use street_base::{LaneNo, LinkIx, NodeIx, Speed, Step, Turn};
+use street_net::{LaneId, Network};
+use street_yard::{CarView, Key, ListId, Yard};
+
+/// A vehicle on its way from a buffer into a lane of its next link.
+#[derive(Clone, Copy)]
+pub struct Released {
+    /// The vehicle's key, which is on no list.
+    pub key: Key,
+    /// Its turn: the lane that it comes from, and the lane that it enters.
+    pub turn: Turn,
+}
+
+/// The link after the present one of a car's plan.
+fn next_link(car: &CarView<'_>) -> Option<LinkIx>
+    ensures { result ≡ next_link (vehicle_of (viewed car.now)) }
+{
+    car.plan.as_slice().get(usize::from(car.at) + 1).copied()
+}
+
+/// The front of a lane's buffer, if it is ready and has a turn to go.
+fn front_to_go(
+    network: &Network,
+    yard: &Yard,
+    step: Step,
+    from: LaneId,
+    list: ListId,
+) -> Option<Released>
+    requires { list.0 < length yard.now.lists }
+    ensures way { option_map lane_to result ≡ way_out network.now step (lane_of from) (slice_get (queue_of yard.now list.0) 0) }
+    ensures front { IfSome result (IsFront network.now yard.now (lane_of from) list.0) }
+{
+    let key = yard.list_front(list)?;
+    let car = yard.car(key);
+    if car.step > step {
+        return None;
+    }
+    let next = next_link(&car)?;
+    let turn = network.turn(from.link, from.lane, next)?;
+    Some(Released { key, turn })
+}
+
+/// A vehicle leaves its buffer for its next link, where it is at most as fast as allowed.
+fn send_on(yard: &mut Yard, list: ListId, key: Key, limit: Speed)
+    requires list { place_of yard.old key.0 ≡ Some list.0 }
+    requires next { IsSomeAnd (car_of yard.old key.0) (λ c. c.at < 65535) }
+    ensures { SendsOn yard.old yard.new list.0 key.0 limit }
+{
+    let car = yard.car(key);
+    let speed = car.speed.min(limit);
+    let at = car.at + 1;
+    yard.unlink(key);
+    yard.set_speed(key, speed);
+    yard.set_at(key, at);
+    yard.whole();
+}
+
+/// Where the mouth of a lane stands, two a link.
+fn slot(link: LinkIx, lane: LaneNo) -> usize
+    requires { 2 * link + lane < 18446744073709551616 }
+    ensures { result ≡ 2 * link + lane }
+{
+    2 * link.position() + usize::from(lane)
+}
+
+/// A front goes, if the mouth that its turn leads to is open, which then closes.
+fn release_front(
+    network: &Network,
+    yard: &mut Yard,
+    list: ListId,
+    front: &Released,
+    mouths: &mut [bool],
+    released: &mut Vec<Released>,
+)
+    requires list { place_of yard.old front.now.key.0 ≡ Some list.0 }
+    requires next { IsSomeAnd (car_of yard.old front.now.key.0) (λ c. c.at < 65535) }
+    requires link { front.now.turn.next < length network.now.links }
+    requires lane { front.now.turn.next_lane < 2 }
+    requires mouths { length mouths.old ≡ 2 * length network.now.links }
+    requires room { vec_len released.old < vec_capacity released.old }
+    ensures shut { mouth mouths.old (lane_to front.now) ≡ false → (yard.new ≡ yard.old) × (mouths.new ≡ mouths.old) × (released.new.items ≡ released.old.items) }
+    ensures goes { mouth mouths.old (lane_to front.now) ≡ true → SendsOn yard.old yard.new list.0 front.now.key.0 (link_at network.now front.now.turn.next).limit }
+    ensures closes { mouth mouths.old (lane_to front.now) ≡ true → mouths.new ≡ slice_set mouths.old (slot_of (lane_to front.now)) false }
+    ensures told { mouth mouths.old (lane_to front.now) ≡ true → released.new.items ≡ released.old.items ++ front.now ∷ [] }
+    ensures grown { vec_len released.new ≤ vec_len released.old + 1 }
+    ensures capacity { vec_capacity released.old ≤ vec_capacity released.new }
+{
+    let slot = slot(front.turn.next, front.turn.next_lane);
+    if !mouths[slot] {
+        return;
+    }
+    mouths[slot] = false;
+    let limit = network.limit_of(front.turn.next);
+    send_on(yard, list, front.key, limit);
+    released.push_reserved(*front);
+}
+
+/// The fronts of a node's buffers that are ready go in order, each to a lane whose mouth is open, and closes it.
+pub(crate) fn release_lanes(
+    network: &Network,
+    node: NodeIx,
+    lists: &[ListId],
+    yard: &mut Yard,
+    step: Step,
+    mouths: &mut [bool],
+    released: &mut Vec<Released>,
+)
+    requires node { node < length network.now.nodes }
+    requires one_each { length lists.now ≡ length (in_places network.now node) }
+    requires lists { AreListed yard.old (map (λ l. l.0) lists.now) }
+    requires plans { HaveShortPlans yard.old }
+    requires mouths { length mouths.old ≡ 2 * length network.now.links }
+    requires room { vec_len released.old + length lists.now ≤ vec_capacity released.old }
+    ensures releases { Releases network.now node step (map (λ l. l.0) lists.now) yard.old yard.new mouths.old mouths.new released.old.items released.new.items }
+    ensures capacity { vec_capacity released.old ≤ vec_capacity released.new }
+{
+    yard.whole();
+    let _faultless = network.spec();
+    let lanes = network.in_lanes(node);
+    for k in 0..lanes.len() {
+        let list = lists[k];
+        if let Some(front) = front_to_go(network, yard, step, lanes[k], list) {
+            release_front(network, yard, list, &front, mouths, released);
+        }
+    }
+}

@@ -1,2 +1,0 @@
-pub mod ListEntries
-pub mod Texts

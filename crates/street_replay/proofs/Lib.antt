@@ -1,5 +1,0 @@
-pub mod Legal
-pub mod Counts
-pub mod GoodTapes
-pub mod Replayed
-pub mod Upgraded

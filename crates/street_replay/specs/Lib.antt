@@ -1,5 +1,0 @@
-pub mod Replies
-pub mod BadTapes
-pub mod Faults
-pub mod Handling
-pub mod Upgrades

@@ -1,0 +1,37 @@
+-- Lane changes of a link, on the lists that its lanes stand for.
+-- Source: this profile.
+use Rattle.std.specs.Prelude.{◌≡◌, ℕ, List, map, length, Some}
+use Rattle.street_base.specs.State.{Traffic, LaneState}
+use Rattle.street_base.specs.Step.{weave_on, woven_lanes}
+use Rattle.street_yard.specs.Yard.{Yard, list_at, entry_at, car_of, place_of, Has, Away, IsWhole}
+use Rattle.street_rule.specs.Road.{Road, tracks}
+
+-- the lists of a link stand for the tracks of these lanes
+abbrev pub StandsFor : Yard → Road → List LaneState → Type 0
+StandsFor y road lanes = tracks y road ≡ map (λ lane. lane.track) lanes
+
+-- whatever lanes of whatever traffic the lists of the link stood for, they now stand for those lanes after lane changes
+abbrev pub Changes : Yard → Yard → Road → ℕ → Type 0
+Changes old new road step =
+    (m : Traffic) (lanes : List LaneState) → m.network ≡ road.network → m.clock ≡ step
+    → StandsFor old road lanes → StandsFor new road (woven_lanes (weave_on m road.link) lanes)
+
+-- the key is on none of the lists
+abbrev pub IsOff : Yard → List ℕ → ℕ → Type 0
+IsOff y lists k = (n : ℕ) → place_of y k ≡ Some n → Away n lists
+
+-- the key is on one of the lists
+pub record IsOn (y : Yard) (lists : List ℕ) (k : ℕ) : Type 0 where
+  pub list : ℕ
+  pub among : Has lists list
+  pub on : place_of y k ≡ Some list
+
+-- what lane changes keep: the lists of all other lanes, every car, all of each key on no list of the link, and whoever is on one stays on the link
+pub record KeepsRest (old new : Yard) (lists : List ℕ) : Type 0 where
+  pub others : (n : ℕ) → Away n lists → list_at new n ≡ list_at old n
+  pub cars : (k : ℕ) → car_of new k ≡ car_of old k
+  pub entries : (k : ℕ) → IsOff old lists k → entry_at new k ≡ entry_at old k
+  pub stays : (k : ℕ) → IsOn old lists k → IsOn new lists k
+  pub count : length new.lists ≡ length old.lists
+  pub room : new.room ≡ old.room
+  pub whole : IsWhole new

@@ -1,0 +1,116 @@
+//! A link, as a network has it and as a yard keeps it.
+ghost use Rattle.std.specs.Prelude.{◌≡◌, ◌∷◌, ◌<◌, ◌≤◌, [], length, map, Option, option_map};
+ghost use Rattle.std.specs.Option.{option_to_list};
+ghost use Rattle.street_base.specs.Network.{link_at};
+ghost use Rattle.street_gap.specs.Closed.{IsWithin};
+ghost use Rattle.street_rule.specs.Road.{lane_of, lane_seen, length_of};
+
+use std::marker::Model;
+use street_base::{CellNo, LaneNo, LinkIx, Speed};
+use street_gap::Closures;
+use street_net::Network;
+use street_yard::ListId;
+
+/// A lane: the list of its vehicles, the front first, and its closed cells.
+#[derive(Clone, Copy)]
+pub struct RoadLane<'a> {
+    /// The list of its vehicles.
+    pub list: ListId,
+    /// Its closed cells.
+    pub closures: &'a Closures,
+}
+
+/// A link of a network, with its one or two lanes. Contracts see the network, the link's position, and for each lane the
+/// list and the closed stretches.
+#[derive(Drop)]
+pub struct Road<'a> {
+    network: &'a Network,
+    link: LinkIx,
+    length: CellNo,
+    limit: Speed,
+    first: RoadLane<'a>,
+    second: Option<RoadLane<'a>>,
+}
+
+impl<'a> Model for Road<'a> {
+    ghost use Rattle.street_rule.specs.Road.{Road as Link};
+
+    ghost Value = { Link };
+
+    ghost use Rattle.street_rule.specs.Inside.{seen, IsSound};
+
+    ghost view = { seen };
+
+    ghost invariant = { IsSound };
+}
+
+impl<'a> Road<'a> {
+    /// A link of the network, by its position, with its lanes.
+    pub fn new(
+        network: &'a Network,
+        link: LinkIx,
+        first: RoadLane<'a>,
+        second: Option<RoadLane<'a>>,
+    ) -> Road<'a>
+        requires { link < length network.now.links }
+        ensures { result ≡ record { network = network.now; link = link; lanes = lane_seen first.entry ∷ option_to_list (option_map lane_seen second.entry) } }
+    {
+        Road {
+            network,
+            link,
+            length: network.length_of(link),
+            limit: network.limit_of(link),
+            first,
+            second,
+        }
+    }
+
+    /// The network.
+    pub fn network(&self) -> &'a Network
+        ensures { result.now ≡ self.now.network }
+    {
+        self.network
+    }
+
+    /// The link's position in the network.
+    pub fn link(&self) -> LinkIx
+        ensures value { result ≡ self.now.link }
+        ensures within { result < length self.now.network.links }
+    {
+        self.link
+    }
+
+    /// How many cells each lane has.
+    pub fn length(&self) -> CellNo
+        ensures { result ≡ length_of self.now }
+    {
+        self.length
+    }
+
+    /// The greatest speed on the link.
+    pub fn limit(&self) -> Speed
+        ensures { result ≡ (link_at self.now.network self.now.link).limit }
+    {
+        self.limit
+    }
+
+    /// How many lanes there are: 1 or 2.
+    pub fn lanes(&self) -> LaneNo
+        ensures value { result ≡ length self.now.lanes }
+        ensures some { 1 ≤ result }
+        ensures few { result ≤ 2 }
+    {
+        if self.second.is_some() { 2 } else { 1 }
+    }
+
+    /// The lane of a number.
+    pub fn lane(&self, lane: LaneNo) -> RoadLane<'a>
+        requires { lane < length self.now.lanes }
+        ensures { lane_seen result ≡ lane_of self.now lane }
+    {
+        match self.second {
+            Some(second) if lane == 1 => second,
+            _ => self.first,
+        }
+    }
+}

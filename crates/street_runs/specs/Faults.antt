@@ -1,0 +1,28 @@
+-- How the program tells its faults.
+-- Source: this profile.
+use Rattle.std.specs.Prelude.{ℕ, List}
+use Rattle.std.specs.Borrow.{Bor}
+use Rattle.street_stream.specs.declared.tally.FaultKind.{FaultKind}
+use Rattle.street_stream.specs.declared.tally.FaultKind.TheVariants as kind
+use Rattle.street_tape.specs.declared.fault.TapeFault.{TapeFault}
+use Rattle.street_tape.specs.declared.fault.TapeFault.TheVariants as tape
+use Rattle.street_runs.specs.declared.fault.Fault.{Fault}
+use Rattle.street_runs.specs.declared.fault.Fault.TheVariants.{BadArguments, BadTape, Endless, OutOfMemory, Read, Write}
+
+-- the status that the program ends with: 2 for the words, 1 for all else
+abbrev pub status_of : Fault → ℕ
+status_of BadArguments = 2
+status_of _ = 1
+
+-- a run reads one thing and writes another
+abbrev pub fault_of_run : FaultKind → Bor (List ℕ) → Bor (List ℕ) → Fault
+fault_of_run kind.Read from to = Read from
+fault_of_run kind.Write from to = Write to
+fault_of_run kind.Starved from to = OutOfMemory
+fault_of_run kind.Endless from to = Endless
+
+-- a replay or an upgrade reads a tape; what is no tape at all is wrong at its first line
+abbrev pub fault_of_tape : TapeFault → Bor (List ℕ) → Bor (List ℕ) → Fault
+fault_of_tape tape.NotTape from to = BadTape 1
+fault_of_tape (tape.BadEntry line) from to = BadTape line
+fault_of_tape (tape.Run fault) from to = fault_of_run fault.kind from to

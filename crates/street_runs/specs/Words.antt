@@ -1,0 +1,28 @@
+-- What the words of the command line ask for.
+-- Source: this profile.
+use Rattle.std.specs.Prelude.{◌≡◌, ◌≢◌, ◌≤◌, vec_len, IsSome, None}
+use Rattle.clap.specs.Words.{kind_of}
+use Rattle.clap.specs.declared.error.Error.{Error}
+use Rattle.clap.specs.declared.error.kind.ErrorKind.TheVariants.{DisplayHelp, OutOfMemory}
+use Rattle.street_runs.specs.declared.words.Options.{Options}
+use Rattle.street_runs.specs.declared.words.WordsFault.{WordsFault}
+use Rattle.street_runs.specs.declared.words.WordsFault.TheVariants.{Bad, Help, Starved}
+
+-- each number is in its range
+pub record IsInRange (found : Options) : Type 0 where
+  pub some_workers : 1 ≤ found.workers
+  pub few_workers : found.workers ≤ 64
+  pub some_calls : 1 ≤ found.calls
+  pub few_calls : found.calls ≤ 1000000
+  pub few_scripts : vec_len found.scripts ≤ 1024
+
+-- a replay stands with neither scripts nor a tape to write, and so does an upgrade; one of them stands without the other
+pub record StandsTogether (found : Options) : Type 0 where
+  pub replay : IsSome found.replay → (found.tape ≡ None) × (vec_len found.scripts ≡ 0)
+  pub upgrade : IsSome found.upgrade → (found.tape ≡ None) × (found.replay ≡ None) × (vec_len found.scripts ≡ 0)
+
+-- the fault that tells of the parser's error
+abbrev pub ToldOf : Error → WordsFault → Type 0
+ToldOf error (Bad text) = (text ≡ error) × (kind_of error ≢ DisplayHelp) × (kind_of error ≢ OutOfMemory)
+ToldOf error (Help text) = (text ≡ error) × (kind_of error ≡ DisplayHelp)
+ToldOf error Starved = kind_of error ≡ OutOfMemory

@@ -1,0 +1,85 @@
+//! What the program tells where it does not end as it should.
+//!
+//! Source: this profile.
+ghost use Rattle.std.specs.Prelude.{◌≡◌};
+ghost use Rattle.street_runs.specs.Faults.{fault_of_run, fault_of_tape, status_of};
+
+use std::fmt;
+use street_base::Starved;
+use street_stream::FaultKind;
+use street_tape::TapeFault;
+
+/// A fault of the program. Files are told by their names as they were given.
+#[derive(Debug, Clone, Copy, PartialEq, Eq)]
+pub enum Fault<'a> {
+    /// The words of the command line are no options.
+    BadArguments,
+    /// A file, or standard input, could not be read.
+    Read(&'a str),
+    /// A file, or standard output, could not be written.
+    Write(&'a str),
+    /// Memory was refused.
+    OutOfMemory,
+    /// A reader has no end.
+    Endless,
+    /// A line of a tape, the first being 1, is no line of a tape.
+    BadTape { line: u128 },
+}
+
+impl fmt::Display for Fault<'_> {
+    fn fmt<W: fmt::Write>(&self, f: &mut fmt::Formatter<W>) -> fmt::Result {
+        match self {
+            Fault::BadArguments => write!(f, "bad arguments"),
+            Fault::Read(name) => write!(f, "cannot read {name}"),
+            Fault::Write(name) => write!(f, "cannot write {name}"),
+            Fault::OutOfMemory => write!(f, "out of memory"),
+            Fault::Endless => write!(f, "endless input"),
+            Fault::BadTape { line } => write!(f, "bad tape at line {line}"),
+        }
+    }
+}
+
+impl<'a> Fault<'a> {
+    /// The status that the program ends with.
+    pub fn status(self) -> u8
+        ensures { result ≡ status_of self.entry }
+    {
+        match self {
+            Fault::BadArguments => 2,
+            _ => 1,
+        }
+    }
+
+    /// The fault of a run that reads one thing and writes another, by their names.
+    pub fn of_run(kind: FaultKind, read: &'a str, written: &'a str) -> Fault<'a>
+        ensures { result ≡ fault_of_run kind read.entry written.entry }
+    {
+        match kind {
+            FaultKind::Read => Fault::Read(read),
+            FaultKind::Write => Fault::Write(written),
+            FaultKind::Starved => Fault::OutOfMemory,
+            FaultKind::Endless => Fault::Endless,
+        }
+    }
+
+    /// The fault of a replay or an upgrade, by the names of the tape and of what is written.
+    pub fn of_tape(fault: TapeFault, tape: &'a str, written: &'a str) -> Fault<'a>
+        ensures { result ≡ fault_of_tape fault tape.entry written.entry }
+    {
+        match fault {
+            TapeFault::NotTape => Fault::BadTape { line: 1 },
+            TapeFault::BadEntry { line } => Fault::BadTape { line },
+            TapeFault::Run(fault) => Fault::of_run(fault.kind, tape, written),
+        }
+    }
+}
+
+impl From<Starved> for Fault<'_> {
+    ghost use Rattle.street_runs.specs.declared.fault.Fault.TheVariants.{OutOfMemory};
+
+    ghost from_gives = { λ _ fault. fault ≡ OutOfMemory };
+
+    fn from(_error: Starved) -> Self {
+        Fault::OutOfMemory
+    }
+}

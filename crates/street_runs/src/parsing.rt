@@ -1,0 +1,156 @@
+//! From the words of the command line to options.
+//!
+//! Source: this profile.
+ghost use Rattle.std.specs.Prelude.{◌≤◌, ◌≡◌, [], IfOk, IfSome, IsNone, codes, map, option_map, unwrap_or, vec_len};
+ghost use Rattle.clap.specs.Words.{found_of, matched_of, raw_values};
+ghost use Rattle.street_runs.specs.Words.{IsInRange, StandsTogether};
+
+use crate::command::streetsim;
+use crate::words::{Options, WordsFault};
+use clap::error::ErrorKind;
+use clap::{ArgMatches, Command};
+use std::alloc::{AllocError, Global};
+
+/// The most workers, and how many there are where the words do not say.
+const MOST_WORKERS: u64 = 64;
+
+const WORKERS: u64 = 1;
+
+/// The most calls, and how many there is a place for where the words do not say.
+const MOST_CALLS: u64 = 1_000_000;
+
+const CALLS: u64 = 65_536;
+
+/// The most scripts.
+const MOST_SCRIPTS: usize = 1_024;
+
+/// The number that a word says, where it is from 1 to `most`.
+fn number_of(word: &str, most: u64) -> Option<u64>
+    ensures { IfSome result (λ n. (1 ≤ n) × (n ≤ most)) }
+{
+    match word.parse::<u64>() {
+        Ok(number) if 1 <= number && number <= most => Some(number),
+        _ => None,
+    }
+}
+
+/// The number of an option, from 1 to `most`, or the default where the option is not used.
+fn number(
+    alloc: Global,
+    command: &mut Command<'_>,
+    matches: &ArgMatches<'_>,
+    name: &str,
+    default: u64,
+    most: u64,
+) -> Result<u64, WordsFault>
+    requires { (1 ≤ default) × (default ≤ most) }
+    ensures { IfOk result (λ n. (1 ≤ n) × (n ≤ most)) }
+{
+    let Some(word) = matches.get_str(name) else {
+        return Ok(default);
+    };
+    if let Some(number) = number_of(word, most) {
+        return Ok(number);
+    }
+    let text = format!(in alloc;
+        "invalid value '{word}' for '--{name} <N>': it is not a number from 1 to {most}"
+    )?;
+    Err(bad_words(command, ErrorKind::ValueValidation, text.as_str()))
+}
+
+/// The fault that tells what is wrong with the words.
+fn bad_words(command: &mut Command<'_>, kind: ErrorKind, text: &str) -> WordsFault {
+    match command.error(kind, text) {
+        Ok(error) => WordsFault::Bad(error),
+        Err(_) => WordsFault::Starved,
+    }
+}
+
+/// The options that words ask for. The first word is the program's name; with no words there are the defaults.
+///
+/// # Errors
+///
+/// `Help`, with the parser's text, where a word asks for help; `Bad`, with a text that says which word, where something
+/// else is wrong; `Starved` where memory was refused. Of several wrong things the parser's is told first.
+pub fn options<'a>(alloc: Global, words: &'a [String]) -> Result<Options<'a>, WordsFault>
+    ensures ranges { IfOk result IsInRange }
+    ensures together { IfOk result StandsTogether }
+{
+    match streetsim(alloc) {
+        Ok(mut command) => asked(alloc, &mut command, words),
+        Err(_) => Err(WordsFault::Starved),
+    }
+}
+
+/// The options that words ask this command for.
+fn asked<'a>(
+    alloc: Global,
+    command: &mut Command<'a>,
+    words: &'a [String],
+) -> Result<Options<'a>, WordsFault>
+    ensures ranges { IfOk result IsInRange }
+    ensures together { IfOk result StandsTogether }
+{
+    let matches = command.try_get_matches_from_mut(words)?;
+    matched(alloc, command, &matches)
+}
+
+/// The options that the parser's matches say.
+fn matched<'a>(
+    alloc: Global,
+    command: &mut Command<'a>,
+    matches: &ArgMatches<'a>,
+) -> Result<Options<'a>, WordsFault>
+    ensures ranges { IfOk result IsInRange }
+    ensures together { IfOk result StandsTogether }
+{
+    let workers = number(alloc, command, matches, "workers", WORKERS, MOST_WORKERS)?;
+    let calls = number(alloc, command, matches, "calls", CALLS, MOST_CALLS)?;
+    let found = Options {
+        workers: workers as u32,
+        calls,
+        tape: matches.get_str("tape"),
+        replay: matches.get_str("replay"),
+        upgrade: matches.get_str("upgrade"),
+        scripts: named_scripts(alloc, matches)?,
+    };
+    match misfit(&found) {
+        Some((kind, text)) => Err(bad_words(command, kind, text)),
+        None => Ok(found),
+    }
+}
+
+/// The scripts that the words name, in order.
+fn named_scripts<'a>(alloc: Global, matches: &ArgMatches<'a>) -> Result<Vec<&'a str>, AllocError>
+    ensures { IfOk result (λ v. map (λ s. s.now) v.items
+        ≡ unwrap_or (option_map raw_values (matched_of (found_of matches.now) (codes "script"))) []) }
+{
+    let mut scripts = Vec::new(alloc);
+    if let Some(names) = matches.get_strs("script") {
+        scripts.extend_from_slice(names)?;
+    }
+    Ok(scripts)
+}
+
+/// What is wrong with these options together, if anything is.
+fn misfit(found: &Options<'_>) -> Option<(ErrorKind, &'static str)>
+    ensures { IsNone result → StandsTogether found.now × (vec_len found.now.scripts ≤ 1024) }
+{
+    let serves = found.tape.is_some() || !found.scripts.is_empty();
+    if found.replay.is_some() && serves {
+        return Some((
+            ErrorKind::ArgumentConflict,
+            "the argument '--replay <FILE>' cannot be used with scripts or with '--tape <FILE>'",
+        ));
+    }
+    if found.upgrade.is_some() && (serves || found.replay.is_some()) {
+        return Some((
+            ErrorKind::ArgumentConflict,
+            "the argument '--upgrade <FILE>' cannot be used with scripts, '--tape <FILE>' or '--replay <FILE>'",
+        ));
+    }
+    if found.scripts.len() > MOST_SCRIPTS {
+        return Some((ErrorKind::TooManyValues, "more than 1024 scripts"));
+    }
+    None
+}

@@ -1,0 +1,12 @@
+use Rattle.std.proofs.Common.{◌≡◌, List, ℕ, ◌*◌}
+use Rattle.std.specs.Io.KnownBytes.{Consumes}
+use Rattle.street_stream.specs.Progress.{Feeds, Grows}
+use Rattle.street_stream.proofs.driver.drive_all.Given as goal
+
+abbrev pub invariant-loop : goal.invariant-loop
+invariant-loop g l =
+    (text : List ℕ) × Consumes (g.R.Read.remaining l.fn.reader.end) (g.R.Read.remaining l.reader.end) text
+    × Feeds g.H.LineHandler.takes g.H.LineHandler.longest l.fn.handler (g.W.Write.contents l.fn.writer.end) l.fn.progress text
+    l.handler (g.W.Write.contents l.writer.end) l.progress
+    × Grows l.fn.progress.tally l.progress.tally (l.counter * 4096)
+    × (l.reader.calls ≡ l.counter)

@@ -1,0 +1,128 @@
+-- Lines that are handled one after another.
+-- Source: this profile.
+use Rattle.std.specs.Prelude.{◌≡◌, ℕ, ◌+◌, ◌<◌, ◌≤◌, ◌⊎◌, List, [], ◌∷◌, ◌++◌, length, take, Bool, true, false, Option, Some, None, Result, Ok, Err, Vec}
+use Rattle.std.specs.List.{count_by}
+use Rattle.std.specs.Io.KnownBytes.{Appends, Consumes, IsAtEnd}
+use Rattle.std.specs.declared.alloc.Global.{Global}
+use Rattle.street_base.specs.declared.reply.Starved.{Starved}
+use Rattle.street_stream.specs.Faults.{IsAtRead}
+use Rattle.street_stream.specs.Lines.{cut, lines_of}
+use Rattle.street_stream.specs.declared.answer.Answer.{Answer}
+use Rattle.street_stream.specs.declared.answer.Cause.{Cause}
+use Rattle.street_stream.specs.declared.answer.Cause.TheVariants.{Run, Line}
+use Rattle.street_stream.specs.declared.tally.Tally.{Tally}
+
+-- ---- one line
+
+-- what a line gives: whether it is a call, and the text of its reply, if it gets one
+pub record Effect : Type 0 where
+  pub is_call : Bool
+  pub reply : Option (List ℕ)
+
+abbrev pub has_text : Option (List ℕ) → Bool
+has_text None = false
+has_text (Some out) = true
+
+abbrev pub text_in : Option (List ℕ) → List ℕ
+text_in None = []
+text_in (Some out) = out
+
+abbrev pub has_reply : Effect → Bool
+has_reply e = has_text e.reply
+
+-- the text is that of the reply, or memory was wanting for a reply of some bytes
+abbrev pub GivesText : Result (Option (Vec ℕ Global)) Starved → Option (List ℕ) → Type 0
+GivesText (Ok None) reply = reply ≡ None
+GivesText (Ok (Some text)) reply = reply ≡ Some text.items
+GivesText (Err starved) reply = (out : List ℕ) × (0 < length out) × (reply ≡ Some out)
+
+pub record Gives (answer : Answer) (effect : Effect) : Type 0 where
+  pub is_call : answer.is_call ≡ effect.is_call
+  pub text : GivesText answer.reply effect.reply
+
+-- ---- lines
+
+-- the lines, one after another
+abbrev pub Handles : {S : Type 0} → (S → List ℕ → Effect → S → Type 0) → S → List (List ℕ) → List Effect → S → Type 0
+Handles takes old [] effects new = (new ≡ old) × (effects ≡ [])
+Handles {S} takes old (l ∷ ls) effects new =
+    (mid : S) × (first : Effect) × (rest : List Effect) × takes old l first mid × Handles takes mid ls rest new × (effects ≡ first ∷ rest)
+
+-- the texts of their replies, in their order
+abbrev pub output : List Effect → List ℕ
+output [] = []
+output (e ∷ es) = text_in e.reply ++ output es
+
+abbrev pub calls_in : List Effect → ℕ
+calls_in es = count_by (λ e. e.is_call) es
+
+abbrev pub replies_in : List Effect → ℕ
+replies_in es = count_by has_reply es
+
+-- the tally of lines, and of what they gave
+pub record IsTally (tally : Tally) (ls : List (List ℕ)) (es : List Effect) : Type 0 where
+  pub lines : tally.lines ≡ length ls
+  pub calls : tally.calls ≡ calls_in es
+  pub replies : tally.replies ≡ replies_in es
+  pub bytes : tally.bytes ≡ length (output es)
+
+-- ---- whole runs
+
+-- all lines of a text that was read to its end were handled
+pub record Whole {S : Type 0} (takes : S → List ℕ → Effect → S → Type 0) (start : S) (unread before : Option (List ℕ))
+    (now : S) (left after : Option (List ℕ)) (tally : Tally) : Type 0 where
+  pub text : List ℕ
+  pub effects : List Effect
+  pub read : Consumes unread left text
+  pub at_end : IsAtEnd left
+  pub handled : Handles takes start (lines_of text) effects now
+  pub written : Appends before after (output effects)
+  pub counted : IsTally tally (lines_of text) effects
+
+-- ---- broken runs
+
+-- the text ends with the end of a line: LF, or the end of all
+abbrev pub EndsLine : List ℕ → List ℕ → Type 0 → Type 0
+EndsLine text rest at_end = ((front : List ℕ) × (text ≡ front ++ 10 ∷ [])) ⊎ ((rest ≡ []) × at_end)
+
+-- this line of the text follows these, and was read to its end
+pub record IsNext (at_end : Type 0) (text : List ℕ) (done : List (List ℕ)) (line : List ℕ) : Type 0 where
+  pub first : List ℕ
+  pub rest : List ℕ
+  pub split : text ≡ first ++ rest
+  pub ended : EndsLine first rest at_end
+  pub lines : lines_of first ≡ done ++ line ∷ []
+
+-- a line that ended the run is counted, and all before it is whole; a fault of the run leaves the state of the lines that were handled, and at a read
+-- these are all lines that were read to their end, and their replies are whole
+abbrev pub Leaves : {S Stop : Type 0} → (S → List ℕ → Stop → S → Type 0)
+    → Type 0 → List ℕ → List (List ℕ) → List Effect → S → S → Cause Stop → Tally → Type 0
+Leaves stops at_end text done effects mid now (Run kind) tally =
+    (now ≡ mid) × (tally.lines ≡ length done) × (IsAtRead kind → (done ≡ (cut text).0) × (tally.bytes ≡ length (output effects)))
+Leaves stops at_end text done effects mid now (Line stop) tally =
+    (line : List ℕ) × IsNext at_end text done line × stops mid line stop now × (tally.lines ≡ length done + 1) × (tally.bytes ≡ length (output effects))
+
+-- the first lines of the text were handled, and of their output the first bytes are written; the last reply alone may be cut off
+pub record Breaks {S Stop : Type 0} (takes : S → List ℕ → Effect → S → Type 0) (stops : S → List ℕ → Stop → S → Type 0) (at_end : Type 0)
+    (start : S) (before : Option (List ℕ)) (text : List ℕ) (now : S) (after : Option (List ℕ)) (cause : Cause Stop) (tally : Tally) : Type 0 where
+  -- the lines that were handled, those that were not, and what the first gave
+  pub done : List (List ℕ)
+  pub rest : List (List ℕ)
+  pub effects : List Effect
+  pub mid : S
+  pub first_lines : lines_of text ≡ done ++ rest
+  pub handled : Handles takes start done effects mid
+  -- what is written of it
+  pub within : tally.bytes ≤ length (output effects)
+  pub written : Appends before after (take tally.bytes (output effects))
+  pub calls : tally.calls ≡ calls_in effects
+  pub replies : ((tally.bytes ≡ length (output effects)) × (tally.replies ≡ replies_in effects))
+      ⊎ ((tally.bytes < length (output effects)) × (tally.replies + 1 ≡ replies_in effects))
+  pub leaves : Leaves stops at_end text done effects mid now cause tally
+
+-- so of what was read
+pub record Broke {S Stop : Type 0} (takes : S → List ℕ → Effect → S → Type 0) (stops : S → List ℕ → Stop → S → Type 0)
+    (start : S) (unread before : Option (List ℕ)) (now : S) (left after : Option (List ℕ)) (cause : Cause Stop) (tally : Tally) : Type 0 where
+  pub text : List ℕ
+  pub read : Consumes unread left text
+  pub breaks : Breaks takes stops (IsAtEnd left) start before text now after cause tally

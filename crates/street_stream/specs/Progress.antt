@@ -1,0 +1,98 @@
+-- A run of lines as far as it has come.
+-- Source: this profile.
+use Rattle.std.specs.Prelude.{◌≡◌, ℕ, ◌+◌, ◌*◌, ◌^◌, ◌<◌, ◌≤◌, List, [], ◌++◌, length, take, if◌then◌else◌, Option, Some, ⊤}
+use Rattle.std.specs.Io.KnownBytes.{Appends}
+use Rattle.street_stream.specs.Faults.{IsAtLine}
+use Rattle.street_stream.specs.Handling.{Effect, has_reply, text_in, Handles, output, IsTally, Breaks}
+use Rattle.street_stream.specs.Lines.{cut, lines_of, IsPart}
+use Rattle.street_stream.specs.declared.answer.Cause.{Cause}
+use Rattle.street_stream.specs.declared.answer.Cause.TheVariants.{Run, Line}
+use Rattle.street_stream.specs.declared.driver.Progress.{Progress}
+use Rattle.street_stream.specs.declared.part.PartialLine.{PartialLine}
+use Rattle.street_stream.specs.declared.tally.Tally.{Tally}
+
+-- every count is bounded by that of lines
+pub record IsWithin (tally : Tally) : Type 0 where
+  pub calls : tally.calls ≤ tally.lines
+  pub replies : tally.replies ≤ tally.lines
+  pub bytes : tally.bytes ≤ tally.lines * 2 ^ 64
+
+-- at most n lines more
+pub record Grows (old new : Tally) (n : ℕ) : Type 0 where
+  pub lines : new.lines ≤ old.lines + n
+  pub within : IsWithin new
+
+-- a tally counts one line more, and what it gave
+pub record Counts (old new : Tally) (e : Effect) : Type 0 where
+  pub lines : new.lines ≡ old.lines + 1
+  pub calls : new.calls ≡ old.calls + (if e.is_call then 1 else 0)
+  pub replies : new.replies ≡ old.replies + (if has_reply e then 1 else 0)
+  pub bytes : new.bytes ≡ old.bytes + length (text_in e.reply)
+
+-- a line that ended the run: nothing was called or written of it
+pub record IsUntouched (before : Option (List ℕ)) (old : Tally) (after : Option (List ℕ)) (new : Tally) : Type 0 where
+  pub written : Appends before after []
+  pub lines : new.lines ≡ old.lines + 1
+  pub calls : new.calls ≡ old.calls
+  pub replies : new.replies ≡ old.replies
+  pub bytes : new.bytes ≡ old.bytes
+
+-- a line that was handled, of whose reply only the first bytes were written
+pub record IsHalf {S : Type 0} (takes : S → List ℕ → Effect → S → Type 0) (old : S) (before : Option (List ℕ)) (tally : Tally) (line : List ℕ)
+    (new : S) (after : Option (List ℕ)) (counted : Tally) : Type 0 where
+  pub effect : Effect
+  pub out : List ℕ
+  pub sent : ℕ
+  pub taken : takes old line effect new
+  pub reply : effect.reply ≡ Some out
+  pub less : sent < length out
+  pub written : Appends before after (take sent out)
+  pub lines : counted.lines ≡ tally.lines + 1
+  pub calls : counted.calls ≡ tally.calls + (if effect.is_call then 1 else 0)
+  pub replies : counted.replies ≡ tally.replies
+  pub bytes : counted.bytes ≡ tally.bytes + sent
+
+-- a line ended the run, or its reply was not written whole
+abbrev pub LineBreaks : {S Stop : Type 0} (takes : S → List ℕ → Effect → S → Type 0) (stops : S → List ℕ → Stop → S → Type 0)
+    → S → Option (List ℕ) → Tally → List ℕ → S → Option (List ℕ) → Cause Stop → Tally → Type 0
+LineBreaks takes stops old before tally line new after (Run kind) counted = IsAtLine kind × IsHalf takes old before tally line new after counted
+LineBreaks takes stops old before tally line new after (Line stop) counted = stops old line stop new × IsUntouched before tally after counted
+
+module _ {S : Type 0} (takes : S → List ℕ → Effect → S → Type 0) (longest : ℕ) where
+  -- the line of this part was handled, and counted
+  abbrev pub Taken : S → Option (List ℕ) → PartialLine → Tally → S → Option (List ℕ) → Tally → Type 0
+  Taken old before part tally new after counted =
+      (line : List ℕ) → IsPart longest part line
+      → (effect : Effect) × takes old line effect new × Appends before after (text_in effect.reply) × Counts tally counted effect
+
+  -- the lines that have ended were handled and counted, and the part is of the line that has not
+  abbrev pub Stands : S → Option (List ℕ) → List ℕ → S → Option (List ℕ) → Progress → Type 0
+  Stands start before seen now after progress =
+      (effects : List Effect) × Handles takes start (cut seen).0 effects now × Appends before after (output effects)
+      × IsPart longest progress.part (cut seen).1 × IsTally progress.tally (cut seen).0 effects
+
+  -- from one such state to the next
+  abbrev pub Feeds : S → Option (List ℕ) → Progress → List ℕ → S → Option (List ℕ) → Progress → Type 0
+  Feeds old written progress bytes new written_then fed =
+      (start : S) (before : Option (List ℕ)) (seen : List ℕ) → Stands start before seen old written progress
+      → Stands start before (seen ++ bytes) new written_then fed
+
+  -- the text ends
+  abbrev pub Finishes : S → Option (List ℕ) → Progress → S → Option (List ℕ) → Tally → Type 0
+  Finishes old written progress new written_then tally =
+      (start : S) (before : Option (List ℕ)) (seen : List ℕ) → Stands start before seen old written progress
+      → (effects : List Effect) × Handles takes start (lines_of seen) effects new × Appends before written_then (output effects)
+      × IsTally tally (lines_of seen) effects
+
+module _ {S Stop : Type 0} (takes : S → List ℕ → Effect → S → Type 0) (stops : S → List ℕ → Stop → S → Type 0) (longest : ℕ) where
+  -- the run ended while these bytes were fed, whatever follows them in the text
+  abbrev pub FeedBreaks : S → Option (List ℕ) → Progress → List ℕ → S → Option (List ℕ) → Cause Stop → Tally → Type 0
+  FeedBreaks old written progress bytes new written_then cause tally =
+      (start : S) (before : Option (List ℕ)) (seen : List ℕ) → Stands takes longest start before seen old written progress
+      → (more : List ℕ) → Breaks takes stops ⊥ start before (seen ++ (bytes ++ more)) new written_then cause tally
+
+  -- the run ended at the end of the text
+  abbrev pub FinishBreaks : S → Option (List ℕ) → Progress → S → Option (List ℕ) → Cause Stop → Tally → Type 0
+  FinishBreaks old written progress new written_then cause tally =
+      (start : S) (before : Option (List ℕ)) (seen : List ℕ) → Stands takes longest start before seen old written progress
+      → Breaks takes stops ⊤ start before seen new written_then cause tally

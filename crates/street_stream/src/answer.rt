@@ -1,0 +1,52 @@
+//! What a line gave, and why a run of lines ends.
+//!
+//! Source: this profile.
+ghost use Rattle.std.specs.Prelude.{◌≡◌};
+ghost use Rattle.street_stream.specs.declared.tally.FaultKind.TheVariants as kinds;
+ghost use Rattle.street_stream.specs.declared.answer.Cause.TheVariants as causes;
+
+use crate::tally::{FaultKind, Tally};
+use street_base::Starved;
+
+/// What a line gave.
+#[derive(Drop)]
+pub struct Answer {
+    /// Whether it was a call, which the tally counts.
+    pub is_call: bool,
+    /// The text of its reply with LF, or none where it gets no reply; or memory was wanting for the text.
+    pub reply: Result<Option<Vec<u8>>, Starved>,
+}
+
+/// Why a run of lines ended before its text did.
+#[derive(Drop)]
+pub enum Cause<S> {
+    /// A read or a write failed, memory was wanting, or the reads ran out.
+    Run(FaultKind),
+    /// A line ended it.
+    Line(S),
+}
+
+/// A run of lines that ended before its text did.
+#[derive(Drop)]
+pub struct Halt<S> {
+    /// Why.
+    pub cause: Cause<S>,
+    /// What was done before; a line that ended the run is counted among the lines.
+    pub tally: Tally,
+}
+
+impl<S> From<FaultKind> for Cause<S> {
+    ghost from_gives = { λ kind cause. cause ≡ causes.Run kind };
+
+    fn from(kind: FaultKind) -> Cause<S> {
+        Cause::Run(kind)
+    }
+}
+
+impl<S> From<Starved> for Cause<S> {
+    ghost from_gives = { λ _ cause. cause ≡ causes.Run kinds.Starved };
+
+    fn from(_error: Starved) -> Cause<S> {
+        Cause::Run(FaultKind::Starved)
+    }
+}

@@ -1,0 +1,115 @@
+//! Readers and writers that count their calls.
+//!
+//! Source: this profile. Counts stop at the greatest `u64`.
+ghost use Rattle.std.specs.Prelude.{◌≡◌, ◌==◌, OnOk, OnErr, IfOk, if◌then◌else◌};
+ghost use Rattle.std.specs.Io.KnownBytes.{Keeps, ReadConsumes, WriteAppends};
+ghost use Rattle.std.specs.Io.{ReadsAtMost, WritesAtMost};
+ghost use Rattle.street_stream.specs.Ends.{one_more, IsFresh};
+
+use std::io;
+use std::io::{Read, Write};
+
+/// A reader or a writer with the numbers of its calls, of those that failed, and of writes that took no byte.
+#[derive(Drop)]
+pub struct Counted<T> {
+    /// The reader or writer.
+    pub end: T,
+    calls: u64,
+    failures: u64,
+    empty_writes: u64,
+}
+
+impl<T> Counted<T> {
+    /// An end of which nothing was called yet. It takes no memory.
+    pub fn new(end: T) -> Counted<T>
+        ensures end { result.end ≡ end }
+        ensures fresh { IsFresh result }
+    {
+        Counted {
+            end,
+            calls: 0,
+            failures: 0,
+            empty_writes: 0,
+        }
+    }
+
+    /// How often it was called to read, to write or to flush.
+    pub fn calls(&self) -> u64
+        ensures { result ≡ self.now.calls }
+    {
+        self.calls
+    }
+
+    /// How many of these calls failed.
+    pub fn failures(&self) -> u64
+        ensures { result ≡ self.now.failures }
+    {
+        self.failures
+    }
+
+    /// How many writes took no byte.
+    pub fn empty_writes(&self) -> u64
+        ensures { result ≡ self.now.empty_writes }
+    {
+        self.empty_writes
+    }
+}
+
+impl<R: Read> Read for Counted<R> {
+    ghost remaining = { λ c. R.remaining c.end };
+
+    fn read(&mut self, buffer: &mut [u8]) -> io::Result<usize>
+        ensures bound { ReadsAtMost result buffer.new }
+        ensures bytes { ReadConsumes (R.remaining self.old.end) (R.remaining self.new.end) result buffer.new }
+        ensures calls { self.new.calls ≡ one_more self.old.calls }
+        ensures given { OnOk result (self.new.failures ≡ self.old.failures) }
+        ensures failed { OnErr result (self.new.failures ≡ one_more self.old.failures) }
+        ensures empty { self.new.empty_writes ≡ self.old.empty_writes }
+    {
+        self.calls = self.calls.saturating_add(1);
+        let result = self.end.read(buffer);
+        if result.is_err() {
+            self.failures = self.failures.saturating_add(1);
+        }
+        result
+    }
+}
+
+impl<W: Write> Write for Counted<W> {
+    ghost contents = { λ c. W.contents c.end };
+
+    fn write(&mut self, bytes: &[u8]) -> io::Result<usize>
+        ensures bound { WritesAtMost result bytes.now }
+        ensures bytes { WriteAppends (W.contents self.old.end) (W.contents self.new.end) result bytes.now }
+        ensures calls { self.new.calls ≡ one_more self.old.calls }
+        ensures taken { OnOk result (self.new.failures ≡ self.old.failures) }
+        ensures empty { IfOk result (λ n. self.new.empty_writes
+            ≡ (if n == 0 then one_more self.old.empty_writes else self.old.empty_writes)) }
+        ensures failed { OnErr result (self.new.failures ≡ one_more self.old.failures) }
+        ensures none { OnErr result (self.new.empty_writes ≡ self.old.empty_writes) }
+    {
+        self.calls = self.calls.saturating_add(1);
+        let result = self.end.write(bytes);
+        match result {
+            Ok(0) => self.empty_writes = self.empty_writes.saturating_add(1),
+            Ok(_) => {}
+            Err(_) => self.failures = self.failures.saturating_add(1),
+        }
+        result
+    }
+
+    fn flush(&mut self) -> io::Result<()>
+        ensures bytes { Keeps (W.contents self.old.end) (W.contents self.new.end) }
+        ensures calls { self.new.calls ≡ one_more self.old.calls }
+        ensures done { OnOk result (self.new.failures ≡ self.old.failures) }
+        ensures failed { OnErr result (self.new.failures ≡ one_more self.old.failures) }
+        ensures empty { self.new.empty_writes ≡ self.old.empty_writes }
+    {
+        self.calls = self.calls.saturating_add(1);
+        let result = self.end.flush();
+        if result.is_err() {
+            self.failures = self.failures.saturating_add(1);
+        }
+        result
+    }
+}

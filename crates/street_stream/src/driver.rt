@@ -1,0 +1,273 @@
+//! The lines of a text, cut out of reads and handled one after another.
+//!
+//! Source: this profile. Each reply is written, and passed on, before the next read.
+ghost use Rattle.std.specs.Prelude.{◌≡◌, ◌+◌, ◌^◌, ◌<◌, ◌≤◌, ℕ, List, [], ◌∷◌, IfOk, OnOk, IfErr, length};
+ghost use Rattle.std.specs.Io.KnownBytes.{Consumes, IsAtEnd};
+ghost use Rattle.street_stream.specs.Ends.{IsFresh};
+ghost use Rattle.street_stream.specs.Faults.{IsCausedBy, IsCausedByLine};
+ghost use Rattle.street_stream.specs.Handling.{Whole, Broke, IsTally};
+ghost use Rattle.street_stream.specs.Lines.{IsPart};
+ghost use Rattle.street_stream.specs.Progress.{IsWithin, Grows, Taken, LineBreaks, Feeds, FeedBreaks, Finishes, FinishBreaks};
+
+use crate::answer::{Answer, Cause, Halt};
+use crate::counted::Counted;
+use crate::handler::LineHandler;
+use crate::part::PartialLine;
+use crate::tally::{FaultKind, Tally};
+use crate::writing::{flush_out, write_reply};
+use std::alloc::Global;
+use std::io::{Read, Write};
+
+/// What a run may come to.
+#[derive(Debug, Clone, Copy, PartialEq, Eq)]
+pub struct Limits {
+    /// The most bytes of a line, its LF not counted.
+    pub line: usize,
+    /// The most calls of `read`.
+    pub reads: u32,
+}
+
+/// A run as far as it has come: the line that has not ended, and the tally of those that have.
+#[derive(Drop)]
+struct Progress {
+    part: PartialLine,
+    tally: Tally,
+}
+
+/// A line has ended: it is handled, and its reply written.
+fn end_line<H: LineHandler, W: Write>(
+    alloc: Global,
+    handler: &mut H,
+    writer: &mut Counted<W>,
+    part: &PartialLine,
+    tally: &mut Tally,
+) -> Result<(), Cause<H::Stop>>
+    requires ready { H.ready }
+    requires within { IsWithin tally.old }
+    requires room { tally.old.lines < 2 ^ 62 }
+    ensures taken { OnOk result (Taken H.takes H.longest handler.old (W.contents writer.old.end) part.now tally.old
+        handler.new (W.contents writer.new.end) tally.new) }
+    ensures grows { OnOk result (Grows tally.old tally.new 1) }
+    ensures broken { IfErr result (λ cause. (line : List ℕ) → IsPart H.longest part.now line
+        → LineBreaks H.takes H.stops handler.old (W.contents writer.old.end) tally.old line
+        handler.new (W.contents writer.new.end) cause tally.new) }
+    ensures caused { IfErr result (λ cause. IsCausedByLine cause writer.new) }
+{
+    tally.lines += 1;
+    let answer = match handler.take(alloc, part) {
+        Ok(answer) => answer,
+        Err(stop) => return Err(Cause::Line(stop)),
+    };
+    let Answer { is_call, reply } = answer;
+    if is_call {
+        tally.calls += 1;
+    }
+    if let Some(text) = reply? {
+        write_reply(writer, text.as_slice(), tally)?;
+    }
+    Ok(())
+}
+
+/// A byte more of the text.
+fn take_byte<H: LineHandler, W: Write>(
+    alloc: Global,
+    handler: &mut H,
+    writer: &mut Counted<W>,
+    progress: &mut Progress,
+    byte: u8,
+) -> Result<(), Cause<H::Stop>>
+    requires ready { H.ready }
+    requires within { IsWithin progress.old.tally }
+    requires room { progress.old.tally.lines < 2 ^ 62 }
+    ensures feeds { OnOk result (Feeds H.takes H.longest handler.old (W.contents writer.old.end) progress.old (byte ∷ [])
+        handler.new (W.contents writer.new.end) progress.new) }
+    ensures grows { OnOk result (Grows progress.old.tally progress.new.tally 1) }
+    ensures broken { IfErr result (λ cause. FeedBreaks H.takes H.stops H.longest handler.old (W.contents writer.old.end)
+        progress.old (byte ∷ []) handler.new (W.contents writer.new.end) cause progress.new.tally) }
+    ensures caused { IfErr result (λ cause. IsCausedByLine cause writer.new) }
+{
+    if byte == b'\n' {
+        end_line(alloc, handler, writer, &progress.part, &mut progress.tally)?;
+        progress.part.clear();
+        return Ok(());
+    }
+    progress.part.push(byte)?;
+    Ok(())
+}
+
+/// Some bytes more of the text.
+fn feed<H: LineHandler, W: Write>(
+    alloc: Global,
+    handler: &mut H,
+    writer: &mut Counted<W>,
+    progress: &mut Progress,
+    bytes: &[u8],
+) -> Result<(), Cause<H::Stop>>
+    requires ready { H.ready }
+    requires within { IsWithin progress.old.tally }
+    requires room { progress.old.tally.lines + length bytes.now < 2 ^ 62 }
+    ensures feeds { OnOk result (Feeds H.takes H.longest handler.old (W.contents writer.old.end) progress.old bytes.now
+        handler.new (W.contents writer.new.end) progress.new) }
+    ensures grows { OnOk result (Grows progress.old.tally progress.new.tally (length bytes.now)) }
+    ensures broken { IfErr result (λ cause. FeedBreaks H.takes H.stops H.longest handler.old (W.contents writer.old.end)
+        progress.old bytes.now handler.new (W.contents writer.new.end) cause progress.new.tally) }
+    ensures caused { IfErr result (λ cause. IsCausedByLine cause writer.new) }
+{
+    for byte in bytes {
+        take_byte(alloc, handler, writer, progress, *byte)?;
+    }
+    Ok(())
+}
+
+/// Some bytes more of the text, and their replies passed on.
+fn feed_through<H: LineHandler, W: Write>(
+    alloc: Global,
+    handler: &mut H,
+    writer: &mut Counted<W>,
+    progress: &mut Progress,
+    bytes: &[u8],
+) -> Result<(), Cause<H::Stop>>
+    requires ready { H.ready }
+    requires within { IsWithin progress.old.tally }
+    requires room { progress.old.tally.lines + length bytes.now < 2 ^ 62 }
+    ensures feeds { OnOk result (Feeds H.takes H.longest handler.old (W.contents writer.old.end) progress.old bytes.now
+        handler.new (W.contents writer.new.end) progress.new) }
+    ensures grows { OnOk result (Grows progress.old.tally progress.new.tally (length bytes.now)) }
+    ensures broken { IfErr result (λ cause. FeedBreaks H.takes H.stops H.longest handler.old (W.contents writer.old.end)
+        progress.old bytes.now handler.new (W.contents writer.new.end) cause progress.new.tally) }
+    ensures caused { IfErr result (λ cause. IsCausedByLine cause writer.new) }
+{
+    feed(alloc, handler, writer, progress, bytes)?;
+    flush_out(writer)?;
+    Ok(())
+}
+
+/// The text has ended, perhaps within a line.
+fn finish<H: LineHandler, W: Write>(
+    alloc: Global,
+    handler: &mut H,
+    writer: &mut Counted<W>,
+    progress: &mut Progress,
+) -> Result<(), Cause<H::Stop>>
+    requires ready { H.ready }
+    requires within { IsWithin progress.old.tally }
+    requires room { progress.old.tally.lines < 2 ^ 62 }
+    ensures finishes { OnOk result (Finishes H.takes H.longest handler.old (W.contents writer.old.end) progress.old
+        handler.new (W.contents writer.new.end) progress.new.tally) }
+    ensures grows { OnOk result (Grows progress.old.tally progress.new.tally 1) }
+    ensures broken { IfErr result (λ cause. FinishBreaks H.takes H.stops H.longest handler.old (W.contents writer.old.end)
+        progress.old handler.new (W.contents writer.new.end) cause progress.new.tally) }
+    ensures caused { IfErr result (λ cause. IsCausedByLine cause writer.new) }
+{
+    if progress.part.as_slice().is_empty() {
+        return Ok(());
+    }
+    end_line(alloc, handler, writer, &progress.part, &mut progress.tally)?;
+    Ok(())
+}
+
+/// The text has ended, and its last replies are passed on.
+fn finish_through<H: LineHandler, W: Write>(
+    alloc: Global,
+    handler: &mut H,
+    writer: &mut Counted<W>,
+    progress: &mut Progress,
+) -> Result<(), Cause<H::Stop>>
+    requires ready { H.ready }
+    requires within { IsWithin progress.old.tally }
+    requires room { progress.old.tally.lines < 2 ^ 62 }
+    ensures finishes { OnOk result (Finishes H.takes H.longest handler.old (W.contents writer.old.end) progress.old
+        handler.new (W.contents writer.new.end) progress.new.tally) }
+    ensures grows { OnOk result (Grows progress.old.tally progress.new.tally 1) }
+    ensures broken { IfErr result (λ cause. FinishBreaks H.takes H.stops H.longest handler.old (W.contents writer.old.end)
+        progress.old handler.new (W.contents writer.new.end) cause progress.new.tally) }
+    ensures caused { IfErr result (λ cause. IsCausedByLine cause writer.new) }
+{
+    finish(alloc, handler, writer, progress)?;
+    flush_out(writer)?;
+    Ok(())
+}
+
+/// Reads the text to its end, and handles its lines.
+fn drive_all<H: LineHandler, R: Read, W: Write>(
+    alloc: Global,
+    handler: &mut H,
+    reader: &mut Counted<R>,
+    writer: &mut Counted<W>,
+    reads: u32,
+    progress: &mut Progress,
+) -> Result<(), Cause<H::Stop>>
+    requires ready { H.ready }
+    requires fresh { IsFresh reader.old }
+    requires part { IsPart H.longest progress.old.part [] }
+    requires tally { IsTally progress.old.tally [] [] }
+    ensures whole { OnOk result (Whole H.takes handler.old (R.remaining reader.old.end) (W.contents writer.old.end)
+        handler.new (R.remaining reader.new.end) (W.contents writer.new.end) progress.new.tally) }
+    ensures few { OnOk result (progress.new.tally.lines < 2 ^ 62) }
+    ensures broken { IfErr result (λ cause. Broke H.takes H.stops handler.old (R.remaining reader.old.end) (W.contents writer.old.end)
+        handler.new (R.remaining reader.new.end) (W.contents writer.new.end) cause progress.new.tally) }
+    ensures caused { IfErr result (λ cause. IsCausedBy cause reader.new writer.new reads) }
+    ensures bounded { reader.new.calls ≤ reads }
+{
+    let mut buffer = [0u8; 4096];
+    for _ in 0..reads {
+        let count = match reader.read(&mut buffer) {
+            Ok(count) => count,
+            Err(_) => return Err(Cause::Run(FaultKind::Read)),
+        };
+        if count == 0 {
+            finish_through(alloc, handler, writer, progress)?;
+            return Ok(());
+        }
+        feed_through(alloc, handler, writer, progress, &buffer[..count])?;
+    }
+    Err(Cause::Run(FaultKind::Endless))
+}
+
+/// Hands each line of a text to the handler, in order and once, and writes each reply, and passes it on, before the next
+/// read. Reads up to 4,096 bytes at a time.
+///
+/// A line ends with LF or where the text ends; a last part of no bytes is no line. Of a line no more is kept than one byte
+/// above the most that it may have. The ends are fresh: nothing was called of them yet.
+///
+/// # Errors
+///
+/// `Line` where a line ended the run. `Run` with `Read` where a read failed; `Write` where a write or a flush failed, or a
+/// write took no bytes; `Starved` where memory was wanting to keep a line or for the text of a reply; `Endless` after so many
+/// reads. After either no more is read or handled; what was done till then is `Broke` of `specs/Handling`.
+pub fn drive_lines<H: LineHandler, R: Read, W: Write>(
+    alloc: Global,
+    handler: &mut H,
+    reader: &mut Counted<R>,
+    writer: &mut Counted<W>,
+    limits: Limits,
+) -> Result<Tally, Halt<H::Stop>>
+    requires ready { H.ready }
+    requires longest { limits.line ≡ H.longest }
+    requires reader { IsFresh reader.old }
+    requires writer { IsFresh writer.old }
+    ensures whole { IfOk result (λ tally. Whole H.takes handler.old (R.remaining reader.old.end) (W.contents writer.old.end)
+        handler.new (R.remaining reader.new.end) (W.contents writer.new.end) tally) }
+    ensures few { IfOk result (λ tally. tally.lines < 2 ^ 62) }
+    ensures broken { IfErr result (λ halt. Broke H.takes H.stops handler.old (R.remaining reader.old.end) (W.contents writer.old.end)
+        handler.new (R.remaining reader.new.end) (W.contents writer.new.end) halt.cause halt.tally) }
+    ensures caused { IfErr result (λ halt. IsCausedBy halt.cause reader.new writer.new limits.reads) }
+    ensures bounded { reader.new.calls ≤ limits.reads }
+{
+    let mut progress = Progress {
+        part: PartialLine::new(alloc, limits.line),
+        tally: Tally {
+            lines: 0,
+            calls: 0,
+            replies: 0,
+            bytes: 0,
+        },
+    };
+    match drive_all(alloc, handler, reader, writer, limits.reads, &mut progress) {
+        Ok(()) => Ok(progress.tally),
+        Err(cause) => Err(Halt {
+            cause,
+            tally: progress.tally,
+        }),
+    }
+}

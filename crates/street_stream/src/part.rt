@@ -1,0 +1,81 @@
+//! A line as far as it was read.
+//!
+//! Source: this profile. A line of spaces, tabs and CR alone is blank, however long it is.
+ghost use Rattle.std.specs.Prelude.{◌≡◌, List, ℕ, [], ◌∷◌, ◌++◌, OnOk};
+ghost use Rattle.street_stream.specs.Lines.{is_space, is_blank, kept, IsPart};
+
+use std::alloc::Global;
+use street_base::Starved;
+
+fn is_space(byte: u8) -> bool
+    ensures { result ≡ is_space byte }
+{
+    byte == b' ' || byte == b'\t' || byte == b'\r'
+}
+
+/// The first bytes of a line, one more than a line may have, and whether all of it is blank.
+#[derive(Drop)]
+pub struct PartialLine {
+    bytes: Vec<u8>,
+    is_blank: bool,
+    most: usize,
+}
+
+/// Takes a byte more of a line, unless enough is kept to tell that it has more than `most` bytes.
+fn keep(bytes: &mut Vec<u8>, byte: u8, most: usize) -> Result<(), Starved>
+    ensures { (line : List ℕ) → bytes.old.items ≡ kept most line → OnOk result (bytes.new.items ≡ kept most (line ++ byte ∷ [])) }
+{
+    if bytes.len() > most {
+        return Ok(());
+    }
+    bytes.push(byte)?;
+    Ok(())
+}
+
+impl PartialLine {
+    /// Nothing of a line that may have `most` bytes.
+    pub fn new(alloc: Global, most: usize) -> PartialLine
+        ensures { IsPart most result [] }
+    {
+        PartialLine {
+            bytes: Vec::new(alloc),
+            is_blank: true,
+            most,
+        }
+    }
+
+    /// A byte more, which is not LF.
+    ///
+    /// # Errors
+    ///
+    /// `Starved` where there was no memory for it.
+    pub fn push(&mut self, byte: u8) -> Result<(), Starved>
+        ensures { (most : ℕ) (line : List ℕ) → IsPart most self.old line → OnOk result (IsPart most self.new (line ++ byte ∷ [])) }
+    {
+        keep(&mut self.bytes, byte, self.most)?;
+        self.is_blank = self.is_blank & is_space(byte);
+        Ok(())
+    }
+
+    /// Nothing of the next line.
+    pub fn clear(&mut self)
+        ensures { (most : ℕ) (line : List ℕ) → IsPart most self.old line → IsPart most self.new [] }
+    {
+        self.bytes.clear();
+        self.is_blank = true;
+    }
+
+    /// What is kept of the line.
+    pub fn as_slice(&self) -> &[u8]
+        ensures { (most : ℕ) (line : List ℕ) → IsPart most self.now line → result.now ≡ kept most line }
+    {
+        self.bytes.as_slice()
+    }
+
+    /// Whether the line is blank.
+    pub fn is_blank(&self) -> bool
+        ensures { (most : ℕ) (line : List ℕ) → IsPart most self.now line → result ≡ is_blank line }
+    {
+        self.is_blank
+    }
+}

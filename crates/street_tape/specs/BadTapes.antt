@@ -1,0 +1,33 @@
+-- Texts that are no tapes, and tapes with a line that is bad or missing.
+-- Source: this profile.
+use Rattle.std.specs.Prelude.{◌≡◌, ℕ, ◌+◌, ◌<◌, ◌⊎◌, List, [], ◌∷◌, ◌++◌, length, Some, None, Ok}
+use Rattle.street_desk.specs.declared.journal.Entry.{Entry}
+use Rattle.street_stream.specs.Handling.{IsNext}
+use Rattle.street_stream.specs.Lines.{lines_of}
+use Rattle.street_tape.specs.Entries.{head_reading, calls_in, tape_in}
+use Rattle.street_tape.specs.declared.head.Head.{Head}
+
+-- the first line, read to its end, is not that of a tape of a known version; or the text ends without any line
+abbrev pub IsNoTape : Type 0 → List ℕ → Type 0
+IsNoTape at_end text =
+    ((line : List ℕ) × IsNext at_end text [] line × ((head : Head) → head_reading line ≡ Ok head → ⊥))
+    ⊎ (at_end × (lines_of text ≡ []))
+
+-- the calls of the first lines of a tape, which are good
+pub record SaysCalls (Good : List Entry → Type 0) (ls : List (List ℕ)) (es : List Entry) : Type 0 where
+  pub says : calls_in ls ≡ Some es
+  pub good : Good es
+
+-- the line after these was read to its end, and with it they say no good calls; or the text ends after them, and before all calls that its first line tells
+abbrev pub IsBadAfter : Type 0 → (List Entry → Type 0) → List ℕ → List (List ℕ) → Type 0
+IsBadAfter at_end Good text done =
+    ((line : List ℕ) × IsNext at_end text done line × ((es : List Entry) → SaysCalls Good (done ++ line ∷ []) es → ⊥))
+    ⊎ (at_end × (lines_of text ≡ done) × (tape_in done ≡ None))
+
+-- the line of this number, counted from 1, is bad or missing, and those before it say these calls
+pub record IsBadAt (at_end : Type 0) (Good : List Entry → Type 0) (text : List ℕ) (es : List Entry) (number : ℕ) : Type 0 where
+  pub done : List (List ℕ)
+  pub some : 0 < length done
+  pub calls : SaysCalls Good done es
+  pub bad : IsBadAfter at_end Good text done
+  pub number_is : number ≡ length done + 1

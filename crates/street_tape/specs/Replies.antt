@@ -1,0 +1,46 @@
+-- What the calls of a tape give when they are replayed.
+-- Source: this profile. Each call goes as it went at the desk: whole, not at all, or as far as the steps that were made.
+use Rattle.std.specs.Prelude.{◌≡◌, ℕ, List, [], ◌∷◌, ◌++◌, length, Option, Some, None, ⊤}
+use Rattle.street_base.specs.declared.command.Command.{Command}
+use Rattle.street_base.specs.declared.reply.Outcome.{Outcome}
+use Rattle.street_base.specs.declared.reply.Outcome.TheVariants.{Whole, Starved, Short}
+use Rattle.street_base.specs.declared.reply.Reply.{Reply}
+use Rattle.street_base.specs.declared.reply.Reply.TheVariants.{Clock}
+use Rattle.street_base.specs.Outcomes.{MayBeShort, state_after}
+use Rattle.street_base.specs.State.{State}
+use Rattle.street_desk.specs.declared.journal.Entry.{Entry}
+use Rattle.street_desk.specs.History.{answers_from}
+use Rattle.street_stream.specs.declared.tally.Tally.{Tally}
+use Rattle.street_text.specs.Printing.{reply_line}
+
+-- a call can be replayed, but one that says a number of steps which the machine would not make there as a part of it
+abbrev pub IsReplayable : State → Command → Outcome → Type 0
+IsReplayable m c Whole = ⊤
+IsReplayable m c Starved = ⊤
+IsReplayable m c (Short k) = MayBeShort m c k
+
+-- each of these calls, one after another
+abbrev pub AreReplayable : State → List Entry → Type 0
+AreReplayable m [] = ⊤
+AreReplayable m (e ∷ es) = IsReplayable m e.command e.outcome × AreReplayable (state_after m e.command e.outcome) es
+
+-- the reply lines of these answers, in their order
+abbrev pub reply_lines : List (Reply × Outcome) → List ℕ
+reply_lines [] = []
+reply_lines (a ∷ more) = reply_line a.0 ++ reply_lines more
+
+-- the machine's replies to these calls, with their outcomes
+abbrev pub output_from : State → List Entry → List ℕ
+output_from m es = reply_lines (answers_from m es)
+
+-- the clock that a reply to an advance tells
+abbrev pub clock_in : Reply → Option ℕ
+clock_in (Clock clock) = Some clock
+clock_in reply = None
+
+-- the tally of a whole tape of these calls: the first line, and a line, a call and a reply for each of them
+pub record IsTapeTally (tally : Tally) (ls : List (List ℕ)) (es : List Entry) (out : List ℕ) : Type 0 where
+  pub lines : tally.lines ≡ length ls
+  pub calls : tally.calls ≡ length es
+  pub replies : tally.replies ≡ length es
+  pub bytes : tally.bytes ≡ length out

@@ -1,0 +1,98 @@
+-- What an upgrade leaves.
+-- Source: this profile. Nothing is applied; what is written is the tape of version 2.
+use Rattle.std.specs.Prelude.{◌≡◌, ℕ, ◌+◌, ◌⊎◌, List, [], ◌++◌, length, Bool, true, false, Option, Some, None, ⊤}
+use Rattle.std.specs.Io.KnownBytes.{Appends, Consumes, IsAtEnd}
+use Rattle.street_desk.specs.declared.journal.Entry.{Entry}
+use Rattle.street_stream.specs.Handling.{Effect}
+use Rattle.street_stream.specs.Lines.{lines_of}
+use Rattle.street_stream.specs.declared.counted.Counted.{Counted}
+use Rattle.street_stream.specs.declared.tally.FaultKind.{FaultKind}
+use Rattle.street_stream.specs.declared.tally.FaultKind.TheVariants.{Starved}
+use Rattle.street_stream.specs.declared.tally.Tally.{Tally}
+use Rattle.street_tape.specs.BadTapes.{IsNoTape, IsBadAt}
+use Rattle.street_tape.specs.declared.fault.TapeFault.{TapeFault}
+use Rattle.street_tape.specs.declared.fault.TapeFault.TheVariants.{NotTape, BadEntry, Run}
+use Rattle.street_tape.specs.declared.upgrading.Upgrading.{Upgrading}
+use Rattle.street_tape.specs.Entries.{calls_in, tape_reading}
+use Rattle.street_tape.specs.Reading.{Takes, Refuses}
+use Rattle.street_tape.specs.Tapes.{entry_line, tape_text}
+use Rattle.street_tape.specs.Written.{IsPrefix, IsCausedByWriting}
+use Rattle.street_tape.specs.declared.tape.Stop.{Stop}
+
+-- the tally of a whole upgrade: no reply is written, but the tape of the calls
+pub record IsUpgradeTally (tally : Tally) (ls : List (List ℕ)) (es : List Entry) : Type 0 where
+  pub lines : tally.lines ≡ length ls
+  pub calls : tally.calls ≡ length es
+  pub replies : tally.replies ≡ 0
+  pub bytes : tally.bytes ≡ length (tape_text es)
+
+abbrev pub with_bytes : Tally → ℕ → Tally
+with_bytes tally bytes = record { lines = tally.lines; calls = tally.calls; replies = tally.replies; bytes = bytes }
+
+-- the tape was read to its end, and the tape of version 2 of its calls is written
+pub record UpgradesWhole (unread before left after : Option (List ℕ)) (tally : Tally) : Type 0 where
+  pub text : List ℕ
+  pub entries : List Entry
+  pub read : Consumes unread left text
+  pub at_end : IsAtEnd left
+  pub says : tape_reading text ≡ Some entries
+  pub written : Appends before after (tape_text entries)
+  pub counted : IsUpgradeTally tally (lines_of text) entries
+
+-- the first bytes of the tape are written, and none before the other was read to its end
+pub record Cuts (at_end : Type 0) (before : Option (List ℕ)) (text : List ℕ) (after : Option (List ℕ)) (kind : FaultKind) (tally : Tally) : Type 0 where
+  pub done : List (List ℕ)
+  pub rest : List (List ℕ)
+  pub entries : List Entry
+  pub first_lines : lines_of text ≡ done ++ rest
+  pub says : calls_in done ≡ Some entries
+  pub written : IsPrefix before 0 (tape_text entries) after tally.bytes
+  pub whole : (tally.bytes ≡ 0) ⊎ (at_end × (tape_reading text ≡ Some entries))
+  -- a line that memory was wanting for was taken up, but not kept
+  pub lines : (tally.lines ≡ length done) ⊎ ((kind ≡ Starved) × (tally.lines ≡ length done + 1))
+  pub calls : tally.calls ≡ length entries
+  pub replies : tally.replies ≡ 0
+
+-- what each fault leaves: nothing where the tape is bad
+abbrev pub UpgradeBreaks : Type 0 → Option (List ℕ) → List ℕ → Option (List ℕ) → TapeFault → Type 0
+UpgradeBreaks at_end before text after NotTape = IsNoTape at_end text × Appends before after []
+UpgradeBreaks at_end before text after (BadEntry line) = (es : List Entry) × IsBadAt at_end (λ es. ⊤) text es line × Appends before after []
+UpgradeBreaks at_end before text after (Run fault) = Cuts at_end before text after fault.kind fault.tally
+
+-- so of what was read
+pub record UpgradeStops (unread before left after : Option (List ℕ)) (fault : TapeFault) : Type 0 where
+  pub text : List ℕ
+  pub read : Consumes unread left text
+  pub breaks : UpgradeBreaks (IsAtEnd left) before text after fault
+
+-- ---- the end of an upgrade
+
+-- of the text only the first bytes were written, and counted
+abbrev pub CutShort : Tally → Option (List ℕ) → List ℕ → Option (List ℕ) → TapeFault → Type 0
+CutShort tally before text after NotTape = ⊥
+CutShort tally before text after (BadEntry line) = ⊥
+CutShort tally before text after (Run told) = (told.tally ≡ with_bytes tally told.tally.bytes) × IsPrefix before 0 text after told.tally.bytes
+
+abbrev pub IsCausedByWrite : {W : Type 0} → TapeFault → Counted W → Type 0
+IsCausedByWrite NotTape writer = ⊥
+IsCausedByWrite (BadEntry line) writer = ⊥
+IsCausedByWrite (Run told) writer = IsCausedByWriting told.kind writer
+
+-- ---- an upgrade as a handler of lines
+
+abbrev pub line_of_call : Option Entry → List ℕ
+line_of_call None = []
+line_of_call (Some e) = entry_line e
+
+abbrev pub is_call : Option Entry → Bool
+is_call None = false
+is_call (Some e) = true
+
+-- the line of its call, if it says one, was kept
+abbrev pub UpgradesLine : Upgrading → List ℕ → Effect → Upgrading → Type 0
+UpgradesLine old line effect new =
+    (call : Option Entry) × Takes old.tape.rest line call new.tape.rest × (new.lines.items ≡ old.lines.items ++ line_of_call call)
+    × (effect ≡ record { is_call = is_call call; reply = None })
+
+abbrev pub RefusesLine : Upgrading → List ℕ → Stop → Upgrading → Type 0
+RefusesLine old line stop new = Refuses old.tape.rest line stop

@@ -1,0 +1,138 @@
+//! One call of a tape, applied as it went at the desk.
+//!
+//! Source: this profile.
+ghost use Rattle.std.specs.Prelude.{◌≡◌, ℕ, Option, IfOk, IfErr, MatchBool, None, nat_le, ◌&&◌, ◌+◌};
+ghost use Rattle.street_base.specs.declared.command.Command.TheVariants.{Advance};
+ghost use Rattle.street_base.specs.declared.reply.Outcome.TheVariants.{Whole, Short};
+ghost use Rattle.street_base.specs.Limits.{last_clock, most_steps};
+ghost use Rattle.street_base.specs.Machine.{refusal};
+ghost use Rattle.street_base.specs.Outcomes.{reply_to, state_after};
+ghost use Rattle.street_base.specs.State.{State};
+ghost use Rattle.street_engine.specs.Refines.{StandsFor};
+ghost use Rattle.street_tape.specs.Handling.{CallStops};
+ghost use Rattle.street_tape.specs.Replies.{IsReplayable, clock_in};
+
+use crate::Stop;
+use std::thread::Threads;
+use street_base::{Command, LAST_CLOCK, Outcome, Reply};
+use street_desk::Entry;
+use street_engine::{Engine, Gate};
+
+/// The most steps of one advance.
+const MOST_STEPS: u64 = 10_000;
+
+/// Whether so many steps are no more than those of one advance, and lead from the clock no further than the last.
+fn is_within(clock: u64, steps: u64) -> bool
+    ensures { result ≡ (nat_le steps most_steps && nat_le (clock + steps) last_clock) }
+{
+    let last = u64::from(LAST_CLOCK);
+    steps <= MOST_STEPS && clock <= last && clock + steps <= last
+}
+
+/// Whether the machine would not refuse an advance of so many steps. An advance of 0 steps tells the clock, and changes
+/// nothing.
+fn may_advance<R: Threads + Sync, G: Gate + Sync + Drop>(
+    rt: &R,
+    engine: &mut Engine<G>,
+    steps: u64,
+) -> bool
+    ensures { (old : State) → StandsFor engine.old old → StandsFor engine.new old
+        × MatchBool result (refusal old (Advance steps) ≡ None) (refusal old (Advance steps) ≡ None → ⊥) }
+{
+    let (reply, _) = engine.apply(rt, &Command::Advance { steps: 0 });
+    match reply {
+        Reply::Clock { clock } => is_within(clock, steps),
+        _ => false,
+    }
+}
+
+/// A call that was done whole.
+fn call_whole<R: Threads + Sync, G: Gate + Sync + Drop>(
+    rt: &R,
+    engine: &mut Engine<G>,
+    command: &Command,
+) -> Result<Reply, Stop>
+    ensures done { IfOk result (λ reply. (old : State) → StandsFor engine.old old
+        → (reply ≡ reply_to old command.now Whole) × StandsFor engine.new (state_after old command.now Whole)) }
+    ensures stops { IfErr result (λ stop. (old : State) → StandsFor engine.old old
+        → CallStops old command.now Whole engine.new stop) }
+{
+    let (reply, outcome) = engine.apply(rt, command);
+    match outcome {
+        Outcome::Whole => Ok(reply),
+        _ => Err(Stop::Starved),
+    }
+}
+
+/// The clock that a reply to an advance tells.
+fn clock_of(reply: &Reply) -> Option<u64>
+    ensures { result ≡ clock_in reply.now }
+{
+    match reply {
+        Reply::Clock { clock } => Some(*clock),
+        _ => None,
+    }
+}
+
+/// An advance that was done whole; its reply tells the clock where it was not refused.
+fn advance_whole<R: Threads + Sync, G: Gate + Sync + Drop>(
+    rt: &R,
+    engine: &mut Engine<G>,
+    steps: u64,
+) -> Result<Option<u64>, Stop>
+    ensures done { IfOk result (λ clock. (old : State) → StandsFor engine.old old
+        → (clock ≡ clock_in (reply_to old (Advance steps) Whole)) × StandsFor engine.new (state_after old (Advance steps) Whole)) }
+    ensures stops { IfErr result (λ stop. (old : State) → StandsFor engine.old old
+        → CallStops old (Advance steps) Whole engine.new stop) }
+{
+    let reply = call_whole(rt, engine, &Command::Advance { steps })?;
+    Ok(clock_of(&reply))
+}
+
+/// A call of which so many steps were made: an advance of these steps alone.
+fn call_short<R: Threads + Sync, G: Gate + Sync + Drop>(
+    rt: &R,
+    engine: &mut Engine<G>,
+    command: &Command,
+    made: u64,
+) -> Result<Reply, Stop>
+    ensures done { IfOk result (λ reply. (old : State) → StandsFor engine.old old
+        → IsReplayable old command.now (Short made)
+        × (reply ≡ reply_to old command.now (Short made)) × StandsFor engine.new (state_after old command.now (Short made))) }
+    ensures stops { IfErr result (λ stop. (old : State) → StandsFor engine.old old
+        → CallStops old command.now (Short made) engine.new stop) }
+{
+    let Command::Advance { steps } = command else {
+        return Err(Stop::BadEntry);
+    };
+    if made == 0 || made >= *steps {
+        return Err(Stop::BadEntry);
+    }
+    if !may_advance(rt, engine, *steps) {
+        return Err(Stop::BadEntry);
+    }
+    match advance_whole(rt, engine, made)? {
+        Some(clock) => Ok(Reply::Short { clock, short: made }),
+        None => Err(Stop::BadEntry),
+    }
+}
+
+/// A call of a tape, as it went at the desk.
+pub(crate) fn call_again<R: Threads + Sync, G: Gate + Sync + Drop>(
+    rt: &R,
+    engine: &mut Engine<G>,
+    call: &Entry,
+) -> Result<Reply, Stop>
+    ensures done { IfOk result (λ reply. (old : State) → StandsFor engine.old old
+        → IsReplayable old call.now.command call.now.outcome
+        × (reply ≡ reply_to old call.now.command call.now.outcome)
+        × StandsFor engine.new (state_after old call.now.command call.now.outcome)) }
+    ensures stops { IfErr result (λ stop. (old : State) → StandsFor engine.old old
+        → CallStops old call.now.command call.now.outcome engine.new stop) }
+{
+    match call.outcome {
+        Outcome::Whole => call_whole(rt, engine, &call.command),
+        Outcome::Starved => Ok(Reply::Starved),
+        Outcome::Short(made) => call_short(rt, engine, &call.command, made),
+    }
+}

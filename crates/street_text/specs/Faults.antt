@@ -1,0 +1,19 @@
+-- The numbers and names of a line's faults.
+-- Source: this profile.
+use Rattle.std.specs.Prelude.{ℕ, List, Option, Some, None, codes}
+use Rattle.street_text.specs.declared.fault.LineFault.{LineFault}
+use Rattle.street_text.specs.declared.fault.LineFault.TheVariants.{LineTooLong, NotJson, BadCommand, Starved}
+
+-- the number that a reply line tells a fault by; want of memory ends a run, and has none
+abbrev pub number_of : LineFault → Option ℕ
+number_of LineTooLong = Some 22
+number_of NotJson = Some 20
+number_of BadCommand = Some 21
+number_of Starved = None
+
+-- its name
+abbrev pub name_of : LineFault → List ℕ
+name_of LineTooLong = codes "LineTooLong"
+name_of NotJson = codes "NotJson"
+name_of BadCommand = codes "BadCommand"
+name_of Starved = codes "Starved"

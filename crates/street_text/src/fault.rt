@@ -1,0 +1,50 @@
+//! Faults of a line.
+//!
+//! Source: this profile.
+ghost use Rattle.std.specs.Prelude.{◌≡◌};
+ghost use Rattle.street_text.specs.Faults.{number_of, name_of};
+
+use thiserror::Error;
+
+/// Why a line gave no command. They are tested in the order of the variants.
+#[derive(Debug, Clone, Copy, PartialEq, Eq, Error)]
+pub enum LineFault {
+    /// It has more than 1,048,576 bytes.
+    #[error("the line is too long")]
+    LineTooLong,
+    /// It is not UTF-8, is no JSON value, or is nested too deeply.
+    #[error("the line is no JSON value")]
+    NotJson,
+    /// Its value is no command: a field is missing or of another kind, or `cmd` is not known.
+    #[error("the line is no command")]
+    BadCommand,
+    /// The reading found no memory.
+    #[error("out of memory")]
+    Starved,
+}
+
+impl LineFault {
+    /// The number that a reply line tells it by. Want of memory ends a run, and has none.
+    pub fn number(self) -> Option<u64>
+        ensures { result ≡ number_of self }
+    {
+        match self {
+            LineFault::LineTooLong => Some(22),
+            LineFault::NotJson => Some(20),
+            LineFault::BadCommand => Some(21),
+            LineFault::Starved => None,
+        }
+    }
+
+    /// Its name.
+    pub fn name(self) -> &'static str
+        ensures { result.now ≡ name_of self }
+    {
+        match self {
+            LineFault::LineTooLong => "LineTooLong",
+            LineFault::NotJson => "NotJson",
+            LineFault::BadCommand => "BadCommand",
+            LineFault::Starved => "Starved",
+        }
+    }
+}

@@ -1,0 +1,162 @@
+//! The lists of a reply or a command: numbers, and rows of numbers.
+//!
+//! Source: this profile.
+ghost use Rattle.std.specs.Prelude.{◌≡◌, IfOk};
+ghost use Rattle.serde_json.specs.Data.{Data, array};
+ghost use Rattle.serde_json.specs.View.{view};
+ghost use Rattle.street_text.specs.Printing.{items_from, number_data, meter_data, running_data, buffer_data, cell_data, stretch_data, waiting_data, node_data, link_data, turn_data, green_data, phase_data};
+
+use serde_json::{Value, json};
+use std::alloc::{AllocError, Global};
+use street_base::{
+    BufferEntry, CellEntry, GreenSpec, LinkSpec, MeterRow, NodeSpec, PhaseSpec, RunningRow,
+    Stretch, TurnSpec, WaitingEntry,
+};
+
+/// What stands in a list of a reply or a command.
+pub trait Printed {
+    ghost prints: { Self → Data };
+
+    /// Its JSON value.
+    fn to_value(&self, alloc: Global) -> Result<Value, AllocError>
+        ensures { IfOk result (λ v. view v ≡ prints self.now) };
+}
+
+/// The entries of a list, in order.
+///
+/// # Errors
+///
+/// `AllocError` where there was no memory for it.
+#[tactic(auto, using(crate::proofs::Items::one_more_item, crate::proofs::Items::before_end))]
+pub fn list_value<T: Printed>(alloc: Global, list: &[T]) -> Result<Value, AllocError>
+    ensures { IfOk result (λ v. view v ≡ array (items_from T.prints list.now)) }
+{
+    let mut items = Vec::new(alloc);
+    for entry in list {
+        items.push(entry.to_value(alloc)?)?;
+    }
+    Ok(Value::Array(items))
+}
+
+impl Printed for u64 {
+    ghost prints = { number_data };
+
+    fn to_value(&self, _alloc: Global) -> Result<Value, AllocError> {
+        Ok(Value::from(*self))
+    }
+}
+
+impl Printed for MeterRow {
+    ghost prints = { meter_data };
+
+    fn to_value(&self, alloc: Global) -> Result<Value, AllocError> {
+        list_value(
+            alloc,
+            &[self.start, self.passes, self.speeds, self.occupied],
+        )
+    }
+}
+
+impl Printed for RunningRow {
+    ghost prints = { running_data };
+
+    fn to_value(&self, alloc: Global) -> Result<Value, AllocError> {
+        list_value(
+            alloc,
+            &[
+                self.start,
+                self.steps,
+                self.passes,
+                self.speeds,
+                self.occupied,
+            ],
+        )
+    }
+}
+
+impl Printed for BufferEntry {
+    ghost prints = { buffer_data };
+
+    fn to_value(&self, alloc: Global) -> Result<Value, AllocError> {
+        list_value(alloc, &[self.car, self.speed, self.ready])
+    }
+}
+
+impl Printed for CellEntry {
+    ghost prints = { cell_data };
+
+    fn to_value(&self, alloc: Global) -> Result<Value, AllocError> {
+        if self.size > 1 {
+            list_value(alloc, &[self.car, self.cell, self.speed, self.size])
+        } else {
+            list_value(alloc, &[self.car, self.cell, self.speed])
+        }
+    }
+}
+
+impl Printed for Stretch {
+    ghost prints = { stretch_data };
+
+    fn to_value(&self, alloc: Global) -> Result<Value, AllocError> {
+        list_value(alloc, &[self.first, self.last])
+    }
+}
+
+impl Printed for WaitingEntry {
+    ghost prints = { waiting_data };
+
+    fn to_value(&self, alloc: Global) -> Result<Value, AllocError> {
+        list_value(alloc, &[self.car, self.depart])
+    }
+}
+
+impl Printed for NodeSpec {
+    ghost prints = { node_data };
+
+    fn to_value(&self, alloc: Global) -> Result<Value, AllocError> {
+        list_value(alloc, &[self.id, self.residence, self.capacity])
+    }
+}
+
+impl Printed for LinkSpec {
+    ghost prints = { link_data };
+
+    fn to_value(&self, alloc: Global) -> Result<Value, AllocError> {
+        list_value(
+            alloc,
+            &[
+                self.id,
+                self.from,
+                self.to,
+                self.lanes,
+                self.length,
+                self.limit,
+            ],
+        )
+    }
+}
+
+impl Printed for TurnSpec {
+    ghost prints = { turn_data };
+
+    fn to_value(&self, alloc: Global) -> Result<Value, AllocError> {
+        list_value(alloc, &[self.link, self.lane, self.next, self.next_lane])
+    }
+}
+
+impl Printed for GreenSpec {
+    ghost prints = { green_data };
+
+    fn to_value(&self, alloc: Global) -> Result<Value, AllocError> {
+        list_value(alloc, &[self.link, self.lane, self.next])
+    }
+}
+
+impl Printed for PhaseSpec {
+    ghost prints = { phase_data };
+
+    fn to_value(&self, alloc: Global) -> Result<Value, AllocError> {
+        let greens = list_value(alloc, self.greens.as_slice())?;
+        json!(in alloc; [self.duration, greens])
+    }
+}

@@ -1,0 +1,311 @@
+//! One step of all tiles, phase by phase, each phase by workers.
+//!
+//! Source: this profile, whose five phases a step has in this order.
+ghost use Rattle.std.specs.Prelude.{◌≡◌, ℕ, ◌+◌, ◌*◌, ◌<◌, ◌≤◌, length, List, [], ◌∷◌, ◌++◌, filter_map, slice_index_or, true};
+ghost use Rattle.std.specs.List.{All};
+ghost use Rattle.street_base.specs.Limits.{last_clock};
+ghost use Rattle.street_base.specs.State.{Traffic};
+ghost use Rattle.street_base.specs.Step.{changed, step, arrival, leaver_of};
+ghost use Rattle.street_net.specs.Tables.{place_of};
+ghost use Rattle.street_lanes.specs.Lanes.{IsLane};
+ghost use Rattle.street_tile.specs.Halves.{Entry};
+ghost use Rattle.street_tile.specs.Tiles.{Part, IsTileOf, IsIdle, IsPrepared, Each, AreTiles, AllStand, Shows, ShowsOwn, is_own, nobody};
+ghost use Rattle.street_tile.specs.Metering.{AllMetersStand};
+ghost use Rattle.street_tile.specs.Phases.{Changes, Moves, Releases, Enters, Ticks};
+ghost use Rattle.street_tile.specs.Moves.{Awaits, IsMoved, all_handed, received};
+ghost use Rattle.street_tile.specs.Hinted.{KeepsHints};
+
+use crate::{Gate, Hints, Tile, View};
+use std::thread;
+use std::thread::Threads;
+use street_net::{LaneId, Network};
+
+/// Phase 0 of all tiles.
+fn all_lanes<R: Threads + Sync, G: Gate + Sync>(
+    rt: &R,
+    net: &Network,
+    tiles: &mut [Tile],
+    gate: &G,
+    threads: usize,
+)
+    requires some { 0 < threads }
+    requires few { length tiles.old ≤ 64 }
+    requires tiles { All (IsTileOf net.now) tiles.old }
+    ensures { Each (Changes net.now) tiles.old tiles.new }
+{
+    thread::for_each_mut(
+        rt,
+        tiles,
+        threads,
+        &|i, tile: &mut Tile|
+            requires { (i < 64) × IsTileOf net.now tile.now }
+            ensures { Changes net.entry.now tile.entry.now tile.exit.now }
+        {
+            gate.arrive(i as u32, 0, tile);
+            tile.phase_lanes(net);
+            gate.leave(i as u32, 0, tile);
+        },
+    );
+}
+
+/// Phase 1 of all tiles.
+fn all_motion<R: Threads + Sync, G: Gate + Sync>(
+    rt: &R,
+    net: &Network,
+    tiles: &mut [Tile],
+    gate: &G,
+    threads: usize,
+)
+    requires some { 0 < threads }
+    requires few { length tiles.old ≤ 64 }
+    requires tiles { All (IsTileOf net.now) tiles.old }
+    requires none { All (λ x. x.arrived ≡ []) tiles.old }
+    requires in_time { All (λ x. x.clock < last_clock) tiles.old }
+    ensures { Each (Moves net.now) tiles.old tiles.new }
+{
+    thread::for_each_mut(
+        rt,
+        tiles,
+        threads,
+        &|i, tile: &mut Tile|
+            requires { (i < 64) × IsTileOf net.now tile.now × (tile.now.arrived ≡ []) × (tile.now.clock < last_clock) }
+            ensures { Moves net.entry.now tile.entry.now tile.exit.now }
+        {
+            gate.arrive(i as u32, 1, tile);
+            tile.phase_motion(net);
+            gate.leave(i as u32, 1, tile);
+        },
+    );
+}
+
+/// Phase 2 of all tiles.
+fn all_release<R: Threads + Sync, G: Gate + Sync>(
+    rt: &R,
+    net: &Network,
+    tiles: &mut [Tile],
+    view: &View,
+    gate: &G,
+    threads: usize,
+)
+    requires some { 0 < threads }
+    requires few { length tiles.old ≤ 64 }
+    requires tiles { All (IsTileOf net.now) tiles.old }
+    requires empty { All (λ x. x.handed ≡ []) tiles.old }
+    requires view { length view.now ≡ 2 * length net.now.links }
+    ensures { Each (Releases net.now view.now) tiles.old tiles.new }
+{
+    thread::for_each_mut(
+        rt,
+        tiles,
+        threads,
+        &|i, tile: &mut Tile|
+            requires { (i < 64) × IsTileOf net.now tile.now × (tile.now.handed ≡ []) × (length view.now ≡ 2 * length net.now.links) }
+            ensures { Releases net.entry.now view.entry.now tile.entry.now tile.exit.now }
+        {
+            gate.arrive(i as u32, 2, tile);
+            tile.phase_release(net, view);
+            gate.leave(i as u32, 2, tile);
+        },
+    );
+}
+
+/// Phase 3 of all tiles.
+fn all_enter<R: Threads + Sync, G: Gate + Sync>(
+    rt: &R,
+    net: &Network,
+    tiles: &mut [Tile],
+    gate: &G,
+    threads: usize,
+)
+    requires some { 0 < threads }
+    requires few { length tiles.old ≤ 64 }
+    requires tiles { All (IsTileOf net.now) tiles.old }
+    requires prepared { All IsPrepared tiles.old }
+    ensures { Each (Enters net.now) tiles.old tiles.new }
+{
+    thread::for_each_mut(
+        rt,
+        tiles,
+        threads,
+        &|i, tile: &mut Tile|
+            requires { (i < 64) × IsTileOf net.now tile.now × IsPrepared tile.now }
+            ensures { Enters net.entry.now tile.entry.now tile.exit.now }
+        {
+            gate.arrive(i as u32, 3, tile);
+            tile.phase_enter(net);
+            gate.leave(i as u32, 3, tile);
+        },
+    );
+}
+
+/// Phase 4 of all tiles.
+fn all_meter<R: Threads + Sync, G: Gate + Sync>(
+    rt: &R,
+    net: &Network,
+    tiles: &mut [Tile],
+    gate: &G,
+    threads: usize,
+)
+    requires some { 0 < threads }
+    requires few { length tiles.old ≤ 64 }
+    requires tiles { All (IsTileOf net.now) tiles.old }
+    requires in_time { All (λ x. x.clock < last_clock) tiles.old }
+    ensures { Each (Ticks net.now) tiles.old tiles.new }
+{
+    thread::for_each_mut(
+        rt,
+        tiles,
+        threads,
+        &|i, tile: &mut Tile|
+            requires { (i < 64) × IsTileOf net.now tile.now × (tile.now.clock < last_clock) }
+            ensures { Ticks net.entry.now tile.entry.now tile.exit.now }
+        {
+            gate.arrive(i as u32, 4, tile);
+            tile.phase_meter(net);
+            gate.leave(i as u32, 4, tile);
+        },
+    );
+}
+
+/// Each tile shows its mouths, which it found itself: the calling thread only copies.
+fn publish(net: &Network, tiles: &[Tile], view: &mut View)
+    requires tiles { AreTiles net.now tiles.now }
+    requires shown { All ShowsOwn tiles.now }
+    requires view { length view.old ≡ 2 * length net.now.links }
+    ensures shows { (m : Traffic) → AllStand net.now tiles.now m → Shows net.now view.new m }
+    ensures wide { length view.new ≡ length view.old }
+{
+    for i in 0..tiles.len() {
+        tiles[i].mouths(net, view);
+    }
+}
+
+/// Which of so many tiles owns a lane: that of the node to which its link runs. Of one tile, without a look at the network.
+fn owner(net: &Network, tiles: &[Tile], to: LaneId) -> usize
+    requires tiles { AreTiles net.now tiles.now }
+    requires lane { IsLane net.now (place_of to) }
+    ensures inside { result < length tiles.now }
+    ensures own { (d : Part) → is_own net.now (slice_index_or tiles.now result d).low
+        (slice_index_or tiles.now result d).high (place_of to) ≡ true }
+{
+    if tiles.len() == 1 {
+        return 0;
+    }
+    let nodes = net.spec().nodes.as_slice().len();
+    let node = net.end_of(to.link).position();
+    ((node + 1) * tiles.len() - 1) / nodes
+}
+
+/// The last hand-over of a tile is moved to the tile that owns its lane.
+fn move_one(net: &Network, tiles: &mut [Tile], hints: &mut Hints, i: usize)
+    requires inside { i < length tiles.old }
+    requires tiles { AreTiles net.now tiles.old }
+    requires lanes { All (λ x. All (λ e. IsLane net.now e.to) x.handed) tiles.old }
+    requires awaits { (es : List Entry) × All (Awaits es) tiles.old }
+    ensures moved { (left : List Entry) → (e : Entry) → (es : List Entry) → (d : Part)
+        → (slice_index_or tiles.old i d).handed ≡ left ++ e ∷ [] → All (Awaits es) tiles.old
+        → IsMoved i left (e ∷ es) tiles.old tiles.new }
+    ensures hints { KeepsHints hints.old hints.new }
+{
+    if let Some(hand_over) = tiles[i].next_hand_over() {
+        hints.follow(&hand_over);
+        let j = owner(net, tiles, hand_over.to());
+        tiles[j].bring(net, hand_over);
+    }
+}
+
+/// The hand-overs of a tile are moved to the tiles that own their lanes.
+fn move_from(net: &Network, tiles: &mut [Tile], hints: &mut Hints, i: usize)
+    requires inside { i < length tiles.old }
+    requires tiles { AreTiles net.now tiles.old }
+    requires lanes { All (λ x. All (λ e. IsLane net.now e.to) x.handed) tiles.old }
+    requires awaits { (es : List Entry) × All (Awaits es) tiles.old }
+    ensures moved { (es : List Entry) → (d : Part) → All (Awaits es) tiles.old
+        → IsMoved i [] ((slice_index_or tiles.old i d).handed ++ es) tiles.old tiles.new }
+    ensures hints { KeepsHints hints.old hints.new }
+{
+    let count = tiles[i].hand_overs();
+    for k in 0..count {
+        move_one(net, tiles, hints, i);
+    }
+}
+
+/// Each hand-over is moved to the tile that owns its lane.
+fn move_all(net: &Network, tiles: &mut [Tile], hints: &mut Hints)
+    requires tiles { AreTiles net.now tiles.old }
+    requires nobody { All (λ x. x.coming ≡ nobody x) tiles.old }
+    requires lanes { All (λ x. All (λ e. IsLane net.now e.to) x.handed) tiles.old }
+    ensures moved { Each (λ x y. y ≡ received (all_handed tiles.old) x) tiles.old tiles.new }
+    ensures hints { KeepsHints hints.old hints.new }
+{
+    for i in 0..tiles.len() {
+        move_from(net, tiles, hints, i);
+    }
+}
+
+/// One step, each phase by so many threads at most: whatever state the tiles stood for, they then stand for the next one, and
+/// hold the numbers of those who arrived. With one thread the caller's runs all tiles in turn and starts none. The hints follow
+/// who enters another link. Takes no memory.
+pub fn step_by<R: Threads + Sync, G: Gate + Sync>(
+    rt: &R,
+    net: &Network,
+    tiles: &mut [Tile],
+    view: &mut View,
+    hints: &mut Hints,
+    gate: &G,
+    threads: usize,
+)
+    requires some { 0 < threads }
+    requires tiles { AreTiles net.now tiles.old }
+    requires few { length tiles.old ≤ 64 }
+    requires idle { All IsIdle tiles.old }
+    requires prepared { All IsPrepared tiles.old }
+    requires view { length view.old ≡ 2 * length net.now.links }
+    requires stand { (m : Traffic) × AllStand net.now tiles.old m × (m.clock < last_clock) }
+    ensures machine { (m : Traffic) → AllStand net.now tiles.old m → AllStand net.now tiles.new (step m) }
+    ensures arrived { (m : Traffic) → AllStand net.now tiles.old m
+        → Each (λ x y. y.arrived ≡ filter_map (λ p. arrival (leaver_of (changed m) p)) x.own.places) tiles.old tiles.new }
+    ensures meters { (m : Traffic) → AllStand net.now tiles.old m → AllMetersStand tiles.old m
+        → AllMetersStand tiles.new (step m) }
+    ensures tiles { AreTiles net.now tiles.new }
+    ensures handed { All (λ x. (x.handed ≡ []) × (x.coming ≡ nobody x)) tiles.new }
+    ensures view { length view.new ≡ length view.old }
+    ensures hints { KeepsHints hints.old hints.new }
+{
+    all_lanes(rt, net, tiles, gate, threads);
+    all_motion(rt, net, tiles, gate, threads);
+    publish(net, tiles, view);
+    all_release(rt, net, tiles, view, gate, threads);
+    move_all(net, tiles, hints);
+    all_enter(rt, net, tiles, gate, threads);
+    all_meter(rt, net, tiles, gate, threads);
+}
+
+/// The step with a thread for each tile.
+pub fn step_all<R: Threads + Sync, G: Gate + Sync>(
+    rt: &R,
+    net: &Network,
+    tiles: &mut [Tile],
+    view: &mut View,
+    hints: &mut Hints,
+    gate: &G,
+)
+    requires tiles { AreTiles net.now tiles.old }
+    requires few { length tiles.old ≤ 64 }
+    requires idle { All IsIdle tiles.old }
+    requires prepared { All IsPrepared tiles.old }
+    requires view { length view.old ≡ 2 * length net.now.links }
+    requires stand { (m : Traffic) × AllStand net.now tiles.old m × (m.clock < last_clock) }
+    ensures machine { (m : Traffic) → AllStand net.now tiles.old m → AllStand net.now tiles.new (step m) }
+    ensures arrived { (m : Traffic) → AllStand net.now tiles.old m
+        → Each (λ x y. y.arrived ≡ filter_map (λ p. arrival (leaver_of (changed m) p)) x.own.places) tiles.old tiles.new }
+    ensures meters { (m : Traffic) → AllStand net.now tiles.old m → AllMetersStand tiles.old m
+        → AllMetersStand tiles.new (step m) }
+    ensures tiles { AreTiles net.now tiles.new }
+    ensures handed { All (λ x. (x.handed ≡ []) × (x.coming ≡ nobody x)) tiles.new }
+    ensures view { length view.new ≡ length view.old }
+    ensures hints { KeepsHints hints.old hints.new }
+{
+    let threads = tiles.len().max(1);
+    step_by(rt, net, tiles, view, hints, gate, threads);
+}

@@ -1,4 +1,0 @@
-pub mod Together
-pub mod Sites
-pub mod Streets
-pub mod Ending
