@@ -84,7 +84,7 @@ class Definitions:
 
     def lines(self, text):
         """The lines of a text, by the definition; for short texts alone, since each line doubles its work."""
-        return [bytes(line) for line in self.word("street_ends.specs.Lines", "lines_of")(list(text))]
+        return [bytes(line) for line in self.word("street_stream.specs.Lines", "lines_of")(list(text))]
 
     # ---- tapes
 
@@ -101,11 +101,11 @@ class Definitions:
         """The replies to these calls from nothing loaded."""
         answers = self.word("street_desk.specs.History", "answers_of")(calls)
         self.program.forget()
-        return [without_end(self.word("street_printing.specs.Printing", "reply_line")(reply)) for reply, _ in answers]
+        return [without_end(self.word("street_text.specs.Printing", "reply_line")(reply)) for reply, _ in answers]
 
     def count(self, state):
         """The reply to a count, with which a replay ends."""
-        return without_end(self.word("street_printing.specs.Printing", "reply_line")(self.call(state, Variant("Command.Count"))[0]))
+        return without_end(self.word("street_text.specs.Printing", "reply_line")(self.call(state, Variant("Command.Count"))[0]))
 
     # ---- rows
 

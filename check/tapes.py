@@ -89,7 +89,7 @@ class Replay:
         """How many of the first calls the machine can have answered so, and the state after these."""
         state = NONE
         for at, call in enumerate(calls):
-            if not self.definitions.word("street_replay.specs.Replies", "IsReplayable")(state, call.v_command, call.v_outcome):
+            if not self.definitions.word("street_tape.specs.Replies", "IsReplayable")(state, call.v_command, call.v_outcome):
                 return at, state
             state = self.definitions.word("street_base.specs.Outcomes", "state_after")(state, call.v_command, call.v_outcome)
             self.definitions.program.forget()
