@@ -1,9 +1,8 @@
 """The kit's rt, with the sum of each crate's sources made once in a run, and a lock on the crate alone.
 
-rt makes the sum anew on each way by which one crate uses another, some 1,600,000 times a file for the program: minutes, in which
-nothing is proved. It also keeps every other rt out of the crates below, so that no two crates are proved at once. The sources must
-not change while this runs, and the crates below must be proved, as in the copy of ./build. With a kit in which rt is made
-otherwise, rt runs as it is.
+rt makes the sum anew on each way by which one crate uses another, and keeps every other rt out of the crates below, so that no two
+crates are proved at once. The sources must not change while this runs, and the crates below must be proved, as in the copy of
+./build. With a kit in which rt is made otherwise, rt runs as it is.
 """
 import os
 import shutil
