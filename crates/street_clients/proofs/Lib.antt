@@ -1,4 +1,4 @@
 pub mod Lines
 pub mod Pairs
-pub mod Served
+pub mod Told
 pub mod Stopped

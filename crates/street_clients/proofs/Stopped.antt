@@ -13,7 +13,7 @@ use Rattle.street_clients.specs.declared.tapes.Retold.{Retold}
 use Rattle.street_desk.specs.declared.journal.Entry.{Entry}
 use Rattle.street_desk.specs.History.{state_of}
 use Rattle.street_stream.specs.declared.tally.Tally.{Tally}
-use Rattle.street_engine.specs.Refines.{View, Serves}
+use Rattle.street_engine.specs.Refines.{EngineView, Serves}
 use Rattle.street_tape.specs.declared.fault.TapeFault.{TapeFault}
 use Rattle.street_tape.specs.Faults.{ReplaysWhole, ReplayStops, TapeBreaks}
 use Rattle.street_tape.specs.Replies.{output_from}
@@ -27,7 +27,7 @@ counted m reply (Short k) h is = absurd h
 
 -- the reader had this text, and the writer nothing
 module _ (had left : Option (List ℕ)) (before text : List ℕ) (from : had ≡ Some text) (none : before ≡ []) where
-  pub retold : (after : List ℕ) (view now : View) (tally : Tally) (count : Reply) (outcome : Outcome) (told : Retold) → ReplaysWhole had (Some before) view left (Some after) tally
+  pub retold : (after : List ℕ) (view now : EngineView) (tally : Tally) (count : Reply) (outcome : Outcome) (told : Retold) → ReplaysWhole had (Some before) view left (Some after) tally
       → Serves view Count count outcome now → told.replies.items ≡ after → told.count ≡ count → IsRetold text told
   retold after view now tally count outcome told run serves replies is =
       let served = (serves (state_of run.entries) run.state).1 in
@@ -40,7 +40,7 @@ module _ (had left : Option (List ℕ)) (before text : List ℕ) (from : had ≡
         count = is ∙ counted (state_of run.entries) count outcome served.allowed served.reply_is;
       }
 
-  pub stopped : (view : View) (after : Option (List ℕ)) (fault : TapeFault) → ReplayStops had (Some before) view left after fault → IsStopped text fault
+  pub stopped : (view : EngineView) (after : Option (List ℕ)) (fault : TapeFault) → ReplayStops had (Some before) view left after fault → IsStopped text fault
   stopped view after fault run = record {
     read = run.text;
     left = left;

@@ -10,7 +10,7 @@ use Rattle.street_clients.specs.declared.tapes.Told.{Told}
 use Rattle.street_desk.specs.declared.journal.Entry.{Entry}
 use Rattle.street_desk.specs.History.{state_of}
 use Rattle.street_stream.specs.Lines.{cut}
-use Rattle.street_engine.specs.Refines.{View}
+use Rattle.street_engine.specs.Refines.{EngineView}
 use Rattle.street_text.specs.declared.fault.LineFault.{LineFault}
 use Rattle.street_tape.specs.declared.fault.TapeFault.{TapeFault}
 use Rattle.street_tape.specs.Faults.{TapeBreaks}
@@ -31,7 +31,7 @@ pub record IsRetold (text : List ℕ) (told : Retold) : Type 0 where
 pub record IsStopped (text : List ℕ) (fault : TapeFault) : Type 0 where
   pub read : List ℕ
   pub left : Option (List ℕ)
-  pub view : View
+  pub view : EngineView
   pub after : Option (List ℕ)
   pub consumed : Consumes (Some text) left read
   pub breaks : TapeBreaks (IsAtEnd left) None (Some []) read view after fault

@@ -6,7 +6,7 @@ use Rattle.street_clients.specs.declared.tapes.Told.{Told}
 use Rattle.street_desk.specs.declared.journal.Entry.{Entry}
 use Rattle.street_desk.specs.History.{BeginsWith, IsHistory}
 use Rattle.street_desk.specs.Passes.{DeskView, PassView}
-use Rattle.street_line.specs.Running.{Goes}
+use Rattle.street_line.specs.Runs.{Goes}
 use Rattle.street_line.specs.Sessions.{DeskServes}
 use Rattle.street_tape.specs.Tapes.{tape_text}
 

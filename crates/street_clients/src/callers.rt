@@ -2,7 +2,7 @@
 ghost use Rattle.std.specs.Prelude.{◌≡◌, ◌≤◌, ℕ, List, ◌++◌, IfSome};
 ghost use Rattle.street_clients.specs.Told.{AreTold, Replied};
 ghost use Rattle.street_stream.specs.Lines.{lines_of};
-ghost use Rattle.street_line.specs.Running.{Goes};
+ghost use Rattle.street_line.specs.Runs.{Goes};
 ghost use Rattle.street_line.specs.Sessions.{DeskServes};
 
 use crate::desks::{Client, desk_of_two, end_desk};
@@ -44,7 +44,7 @@ fn serve_lines<R: Threads + Wait + Sync>(
     let mut reader = Counted::new(lines.as_bytes());
     let mut writer = Counted::new(Vec::new(alloc));
     match run_session(alloc, session, &mut reader, &mut writer) {
-        Ok(_tally) => Some(writer.end),
+        Ok(_tally) => Some(writer.stream),
         Err(_fault) => None,
     }
 }

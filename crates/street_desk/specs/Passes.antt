@@ -7,7 +7,7 @@ use Rattle.street_base.specs.declared.reply.Outcome.{Outcome}
 use Rattle.street_base.specs.declared.reply.Reply.{Reply}
 use Rattle.street_base.specs.Outcomes.{reply_to}
 use Rattle.street_desk.specs.declared.journal.Entry.{Entry}
-use Rattle.street_desk.specs.declared.view.View.{View}
+use Rattle.street_desk.specs.declared.view.SeatView.{SeatView}
 use Rattle.street_desk.specs.History.{entry, state_of, calls_of, BeginsWith, IsHistory}
 
 -- ---- what contracts see
@@ -32,17 +32,17 @@ pub record NoteView : Type 0 where
   pub seen : List Entry
   pub count : ℕ
 
-abbrev pub desk_view : TableId → View → DeskView
+abbrev pub desk_view : TableId → SeatView → DeskView
 desk_view t v = record { table = t; calls = v.calls; sessions = v.sessions }
 
-abbrev pub pass_view : TableId → View → PassView
+abbrev pub pass_view : TableId → SeatView → PassView
 pass_view t v = record { desk = desk_view t v; seen = v.seen; count = v.count; least = v.least; greatest = v.greatest }
 
-abbrev pub note_view : TableId → View → NoteView
+abbrev pub note_view : TableId → SeatView → NoteView
 note_view t v = record { desk = desk_view t v; seen = v.seen; count = v.count }
 
 -- a view that a pass rests with between calls
-pub record Rests (v : View) : Type 0 where
+pub record Rests (v : SeatView) : Type 0 where
   pub turn : v.turn ≡ false
   pub owns : v.owns ≡ true
   pub live : v.live ≡ true
@@ -84,7 +84,7 @@ pub record Filled (p q : PassView) : Type 0 where
   pub count : p.count ≤ length q.seen
 
 -- n calls were found finished
-pub record Served (p : PassView) (n : ℕ) (q : PassView) : Type 0 where
+pub record ServedCount (p : PassView) (n : ℕ) (q : PassView) : Type 0 where
   pub learns : Learns p q
   pub count : q.count ≡ n
   pub long : length q.seen ≤ n

@@ -6,7 +6,7 @@ use mathlib.Core.Option as maybe
 use lib.ListN.{get_elem?}
 use Rattle.atomic_table.specs.Table.{State}
 use Rattle.street_desk.specs.declared.journal.Entry.{Entry}
-use Rattle.street_desk.specs.declared.view.View.{View}
+use Rattle.street_desk.specs.declared.view.SeatView.{SeatView}
 use Rattle.street_desk.specs.History.{IsHistory, BeginsWith, calls_of}
 
 -- what lies in the slot: an engine with this journal, and room for so many calls
@@ -31,7 +31,7 @@ home_of maybe.none r = maybe.some (Some r)
 home_of (maybe.some seat) r = maybe.none
 
 -- a view knows of the history what is true: it has seen beginnings of it and all calls of the session that it calls as, and no call bears another session that it owns
-pub record Knows (calls sessions : ℕ) (history : List Entry) (busy : Turn) (seat : ℕ) (v : View) : Type 0 where
+pub record Knows (calls sessions : ℕ) (history : List Entry) (busy : Turn) (seat : ℕ) (v : SeatView) : Type 0 where
   pub seen : BeginsWith history v.seen
   pub also : BeginsWith history v.also
   pub count : v.count ≤ length history
@@ -42,23 +42,23 @@ pub record Knows (calls sessions : ℕ) (history : List Entry) (busy : Turn) (se
   pub limits : v.live ≡ true → (v.calls ≡ calls) × (v.sessions ≡ sessions)
 
 -- two views own different sessions
-abbrev pub Apart : View → View → Type 0
+abbrev pub Apart : SeatView → SeatView → Type 0
 Apart v w = v.owns ≡ true → w.owns ≡ true → (v.greatest < w.least) ⊎ (w.greatest < v.least)
 
-abbrev pub AllApart : List View → Type 0
-AllApart views = (i j : ℕ) (v w : View) → i ≢ j → get_elem? views i ≡ maybe.some v → get_elem? views j ≡ maybe.some w → Apart v w
+abbrev pub AllApart : List SeatView → Type 0
+AllApart views = (i j : ℕ) (v w : SeatView) → i ≢ j → get_elem? views i ≡ maybe.some v → get_elem? views j ≡ maybe.some w → Apart v w
 
 -- there is one legal history; at an even word it is the journal in the slot
-pub record Kept (calls sessions : ℕ) (s : State (Option Recorded) View) : Type 0 where
+pub record KeepsRule (calls sessions : ℕ) (s : State (Option Recorded) SeatView) : Type 0 where
   pub history : List Entry
   pub turn : Turn
   pub word : s.words ≡ (2 * length history + turn_bit turn) ∷ []
   pub home : s.homes ≡ home_of turn (recorded history calls) ∷ []
   pub is_history : IsHistory sessions history
   pub room : length history ≤ calls
-  pub seats : (j : ℕ) (v : View) → get_elem? s.views j ≡ maybe.some v → Knows calls sessions history turn j v
+  pub seats : (j : ℕ) (v : SeatView) → get_elem? s.views j ≡ maybe.some v → Knows calls sessions history turn j v
   pub apart : AllApart s.views
 
 -- the first view has seen nothing and owns every session
-abbrev pub first_view : ℕ → ℕ → View
+abbrev pub first_view : ℕ → ℕ → SeatView
 first_view calls sessions = record { seen = []; also = []; count = 0; turn = false; owns = true; least = 0; greatest = sessions - 1; calls = calls; sessions = sessions; live = true }

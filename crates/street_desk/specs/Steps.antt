@@ -3,26 +3,26 @@
 use Rattle.std.specs.Prelude.{◌≡◌, ◌≢◌, ℕ, ◌+◌, ◌-◌, ◌*◌, ◌%◌, ◌/◌, ◌<◌, ◌≤◌, List, [], ◌∷◌, length, Bool, true, false, leb, if◌then◌else◌, Option, Some}
 use Rattle.atomic_table.specs.Table.{Me, Step}
 use Rattle.street_desk.specs.declared.journal.Entry.{Entry}
-use Rattle.street_desk.specs.declared.view.View.{View}
+use Rattle.street_desk.specs.declared.view.SeatView.{SeatView}
 use Rattle.street_desk.specs.History.{IsLegal, AllBelow, BeginsWith, calls_of}
 use Rattle.street_desk.specs.Rule.{Recorded, recorded}
 
 -- a seat: its view, and the slots that it holds
 abbrev pub Sat : Type 0
-Sat = Me (Option Recorded) View
+Sat = Me (Option Recorded) SeatView
 
 -- ---- a load and a turn
 
 -- the view after a load
-abbrev pub looked : View → List Entry → ℕ → View
+abbrev pub looked : SeatView → List Entry → ℕ → SeatView
 looked v seen count = record v { seen = seen; also = []; count = count }
 
 -- the view as a turn begins or ends
-abbrev pub with_turn : View → List Entry → Bool → View
+abbrev pub with_turn : SeatView → List Entry → Bool → SeatView
 with_turn v seen turn = record v { seen = seen; also = []; turn = turn }
 
 -- what is seen afterwards is legal and begins with what was seen and heard, with no new call of its own
-pub record Sees (v : View) (history : List Entry) : Type 0 where
+pub record Sees (v : SeatView) (history : List Entry) : Type 0 where
   pub legal : IsLegal history
   pub below : v.live ≡ true → AllBelow v.sessions history
   pub inside : v.owns ≡ true → v.live ≡ true → v.least < v.sessions
@@ -32,7 +32,7 @@ pub record Sees (v : View) (history : List Entry) : Type 0 where
   pub unused : v.owns ≡ true → (n : ℕ) → v.least < n → n ≤ v.greatest → calls_of n history ≡ []
 
 -- a load found the word n: half of it is the count, and an even word shows the whole history
-pub record Looks (v : View) (n : ℕ) (w : View) : Type 0 where
+pub record Looks (v : SeatView) (n : ℕ) (w : SeatView) : Type 0 where
   pub is : w ≡ looked v w.seen (n / 2)
   pub sees : Sees v w.seen
   pub count : v.count ≤ n / 2
@@ -44,7 +44,7 @@ abbrev pub look : Step (Option Recorded) → Sat → ℕ → Sat → Type 0
 look st m n m' = (m'.1 ≡ m.1) × Looks m.0 n m'.0
 
 -- a compare-exchange won at the word n: the turn, the whole history, and the engine in hand
-pub record Grabs (v : View) (n : ℕ) (w : View) (slots : List (ℕ × Option Recorded)) : Type 0 where
+pub record Grabs (v : SeatView) (n : ℕ) (w : SeatView) (slots : List (ℕ × Option Recorded)) : Type 0 where
   pub is : w ≡ with_turn v w.seen true
   pub sees : Sees v w.seen
   pub count : v.count ≤ length w.seen
@@ -62,15 +62,15 @@ release st m n m' = (r : Recorded) → m.1 ≡ (0, Some r) ∷ [] → m' ≡ (wi
 -- ---- seats split and joined
 
 -- a pass without its greatest session
-abbrev pub less_one : View → View
+abbrev pub less_one : SeatView → SeatView
 less_one v = record v { also = []; turn = false; greatest = v.greatest - 1 }
 
 -- a pass that has seen the same and owns that session
-abbrev pub last_one : View → View
+abbrev pub last_one : SeatView → SeatView
 last_one v = record v { also = []; turn = false; least = v.greatest }
 
 -- a note has seen the same and owns none
-abbrev pub noted : View → View
+abbrev pub noted : SeatView → SeatView
 noted v = record v { also = []; turn = false; owns = false; least = 0; greatest = 0 }
 
 abbrev pub longer : List Entry → List Entry → List Entry
@@ -80,9 +80,9 @@ abbrev pub most : ℕ → ℕ → ℕ
 most a b = if leb b a then a else b
 
 -- the hearer keeps both lists until it loads, and takes the greater count
-abbrev pub heard : View → View → View
+abbrev pub heard : SeatView → SeatView → SeatView
 heard v w = record v { also = w.seen; count = most v.count w.count; turn = false }
 
 -- what the note is left with
-abbrev pub spent_view : View
+abbrev pub spent_view : SeatView
 spent_view = record { seen = []; also = []; count = 0; turn = false; owns = false; least = 0; greatest = 0; calls = 0; sessions = 0; live = false }

@@ -9,12 +9,12 @@ ghost use Rattle.street_desk.specs.declared.faults.SplitFault.TheVariants.{Singl
 ghost use Rattle.street_desk.specs.History.{entry, state_of, IsLegal};
 ghost use Rattle.street_desk.specs.Rule.{recorded};
 ghost use Rattle.street_desk.specs.Steps.{Looks, Grabs, with_turn};
-ghost use Rattle.street_desk.specs.Passes.{desk_view, pass_view, Rests, first_pass, without_last, of_last, Answered, Filled, Served, OwnsUnused, Heard, Finished};
+ghost use Rattle.street_desk.specs.Passes.{desk_view, pass_view, Rests, first_pass, without_last, of_last, Answered, Filled, ServedCount, OwnsUnused, Heard, Finished};
 
 use crate::faults::{Full, SplitFault, Torn};
 use crate::journal::{Journal, Recorder};
-use crate::pass::{Chair, Note, Pass};
-use crate::view::{Grab, Hearsay, Last, Limits, Look, Release, Turns, View};
+use crate::pass::{DeskSeat, Note, Pass};
+use crate::view::{DeskLimits, Grab, Hearsay, Last, Look, Release, SeatView, Turns};
 use atomic_table::Table;
 use std::alloc::{AllocError, Global};
 use std::marker::Model;
@@ -31,7 +31,7 @@ const TRIES: u32 = 64;
 /// An engine that many threads call in turn, each with a pass of its own.
 #[derive(Drop)]
 pub struct Desk<G: Gate + Sync + Drop + Send> {
-    table: Table<Option<Recorder<G>>, View, Limits, Turns, Global>,
+    table: Table<Option<Recorder<G>>, SeatView, DeskLimits, Turns, Global>,
     calls: u64,
     sleepers: AtomicU64,
 }
@@ -56,7 +56,7 @@ impl<G: Gate + Sync + Drop + Send> Model for Desk<G> {
 
 impl<G: Gate + Sync + Drop + Send> Desk<G> {
     /// A load of the turn word.
-    fn look(&self, seat: &mut Chair<G>) -> u64
+    fn look(&self, seat: &mut DeskSeat<G>) -> u64
         requires { seat.old.table_id ≡ self.now.table }
         ensures same { (seat.new.table_id ≡ seat.old.table_id) × (seat.new.id ≡ seat.old.id) × (seat.new.me.1 ≡ seat.old.me.1) }
         ensures looks { Looks seat.old.me.0 result seat.new.me.0 }
@@ -65,7 +65,7 @@ impl<G: Gate + Sync + Drop + Send> Desk<G> {
     }
 
     /// Takes the turn where the word is as it was found. Answers whether it did.
-    fn grab(&self, seat: &mut Chair<G>, at: u64) -> bool
+    fn grab(&self, seat: &mut DeskSeat<G>, at: u64) -> bool
         requires desk { seat.old.table_id ≡ self.now.table }
         requires rests { (seat.old.me.1 ≡ []) × (seat.old.me.0.live ≡ true) }
         requires even { (at % 2 ≡ 0) × (at < 2 ^ 63) }
@@ -84,7 +84,7 @@ impl<G: Gate + Sync + Drop + Send> Desk<G> {
     fn turn<R: Threads + Sync>(
         &self,
         rt: &R,
-        seat: &mut Chair<G>,
+        seat: &mut DeskSeat<G>,
         at: u64,
         session: u64,
         command: Command,
@@ -138,7 +138,7 @@ impl<G: Gate + Sync + Drop + Send> Desk<G> {
     fn call_from<R: Threads + Wait + Sync>(
         &self,
         rt: &R,
-        seat: &mut Chair<G>,
+        seat: &mut DeskSeat<G>,
         session: u64,
         command: Command,
     ) -> Result<Reply, Full>
@@ -194,7 +194,7 @@ impl<G: Gate + Sync + Drop + Send> Desk<G> {
         let recorder = Recorder::new(alloc, engine, calls)?;
         let mut slots = Vec::with_capacity(alloc, 1)?;
         slots.push_reserved(Some(recorder));
-        let limits = Limits { calls, sessions };
+        let limits = DeskLimits { calls, sessions };
         let Ok((table, seat)) = Table::new(alloc, &[0], slots, &limits) else {
             return Err(Starved);
         };
@@ -269,7 +269,7 @@ impl<G: Gate + Sync + Drop + Send> Desk<G> {
     /// The number of finished calls, which the pass then knows. Waits for nobody.
     pub fn served(&self, pass: &mut Pass<G>) -> u64
         requires { pass.old.desk ≡ self.now }
-        ensures { Served pass.old result pass.new }
+        ensures { ServedCount pass.old result pass.new }
     {
         self.look(&mut pass.seat) / 2
     }

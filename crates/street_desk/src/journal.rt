@@ -52,10 +52,10 @@ impl Journal {
     }
 
     /// The call at a position, counted from 0.
-    pub fn entry(&self, at: usize) -> Option<&Entry>
-        ensures { option_copied result ≡ slice_get self.now at }
+    pub fn entry(&self, index: usize) -> Option<&Entry>
+        ensures { option_copied result ≡ slice_get self.now index }
     {
-        self.entries.get(at)
+        self.entries.get(index)
     }
 }
 

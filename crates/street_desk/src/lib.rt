@@ -2,7 +2,7 @@
 //!
 //! A [`Desk`] keeps an engine with its [`Journal`]. A caller has a [`Pass`], which knows what its caller has seen of the
 //! history: `specs/History` says what a history is and when it is legal, `specs/Passes` what each call tells. The rule that
-//! all steps on the desk's one word keep is `Kept` of `specs/Rule`.
+//! all steps on the desk's one word keep is `KeepsRule` of `specs/Rule`.
 #![tactic(auto)]
 
 mod desk;

@@ -3,18 +3,18 @@
 //! Source: this profile.
 
 use crate::journal::Recorder;
-use crate::view::View;
+use crate::view::SeatView;
 use atomic_table::Seat;
 use std::marker::Model;
 use street_engine::Gate;
 
 /// A seat at the desk's table.
-pub(crate) type Chair<G> = Seat<Option<Recorder<G>>, View>;
+pub(crate) type DeskSeat<G> = Seat<Option<Recorder<G>>, SeatView>;
 
 /// What one caller knows of a desk, and the session numbers that it owns. It calls as the least of them.
 #[derive(Drop)]
 pub struct Pass<G: Gate + Sync + Drop> {
-    pub(crate) seat: Chair<G>,
+    pub(crate) seat: DeskSeat<G>,
     pub(crate) least: u64,
     pub(crate) greatest: u64,
 }
@@ -37,7 +37,7 @@ impl<G: Gate + Sync + Drop> Model for Pass<G> {
 /// What a pass had seen, for another to hear.
 #[derive(Drop)]
 pub struct Note<G: Gate + Sync + Drop> {
-    pub(crate) seat: Chair<G>,
+    pub(crate) seat: DeskSeat<G>,
 }
 
 impl<G: Gate + Sync + Drop> Model for Note<G> {

@@ -11,7 +11,7 @@ use std::collections::LinkedList;
 use street_engine::Gate;
 
 /// What a seat knows. No value of it is made.
-pub struct View {
+pub struct SeatView {
     /// The history seen.
     pub seen: LinkedList<Entry>,
     /// What was heard of the history, until the next load.
@@ -36,7 +36,7 @@ pub struct View {
 
 /// How many calls a desk takes, and how many sessions it has.
 #[derive(Clone, Copy, Drop)]
-pub struct Limits {
+pub struct DeskLimits {
     pub calls: u64,
     pub sessions: u64,
 }
@@ -44,10 +44,10 @@ pub struct Limits {
 /// The rule of the table.
 pub struct Turns;
 
-impl<G: Gate + Sync + Drop> TableRule<Option<Recorder<G>>, View, Limits> for Turns {
-    ghost use Rattle.street_desk.specs.Rule.{Kept, first_view};
+impl<G: Gate + Sync + Drop> TableRule<Option<Recorder<G>>, SeatView, DeskLimits> for Turns {
+    ghost use Rattle.street_desk.specs.Rule.{KeepsRule, first_view};
 
-    ghost holds = { λ k. Kept k.calls k.sessions };
+    ghost holds = { λ k. KeepsRule k.calls k.sessions };
 
     ghost first = { λ k. first_view k.calls k.sessions };
 }
@@ -55,7 +55,7 @@ impl<G: Gate + Sync + Drop> TableRule<Option<Recorder<G>>, View, Limits> for Tur
 /// A load.
 pub(crate) struct Look;
 
-impl<G: Gate + Sync + Drop> Play<Option<Recorder<G>>, View> for Look {
+impl<G: Gate + Sync + Drop> Play<Option<Recorder<G>>, SeatView> for Look {
     ghost use Rattle.street_desk.specs.Steps.{look};
 
     ghost then = { look };
@@ -64,7 +64,7 @@ impl<G: Gate + Sync + Drop> Play<Option<Recorder<G>>, View> for Look {
 /// A compare-exchange, which may take the turn.
 pub(crate) struct Grab;
 
-impl<G: Gate + Sync + Drop> Play<Option<Recorder<G>>, View> for Grab {
+impl<G: Gate + Sync + Drop> Play<Option<Recorder<G>>, SeatView> for Grab {
     ghost use Rattle.street_desk.specs.Steps.{grab};
 
     ghost then = { grab };
@@ -73,7 +73,7 @@ impl<G: Gate + Sync + Drop> Play<Option<Recorder<G>>, View> for Grab {
 /// The store that gives the turn back.
 pub(crate) struct Release;
 
-impl<G: Gate + Sync + Drop> Play<Option<Recorder<G>>, View> for Release {
+impl<G: Gate + Sync + Drop> Play<Option<Recorder<G>>, SeatView> for Release {
     ghost use Rattle.street_desk.specs.Steps.{release};
 
     ghost then = { release };
@@ -82,7 +82,7 @@ impl<G: Gate + Sync + Drop> Play<Option<Recorder<G>>, View> for Release {
 /// The greatest session number goes to a pass of its own.
 pub(crate) struct Last;
 
-impl Split<View> for Last {
+impl Split<SeatView> for Last {
     ghost use Rattle.street_desk.specs.Steps.{less_one, last_one};
 
     ghost left = { less_one };
@@ -93,7 +93,7 @@ impl Split<View> for Last {
 /// A note is made, and heard.
 pub(crate) struct Hearsay;
 
-impl Split<View> for Hearsay {
+impl Split<SeatView> for Hearsay {
     ghost use Rattle.street_desk.specs.Steps.{noted};
 
     ghost left = { λ v. v };
@@ -101,7 +101,7 @@ impl Split<View> for Hearsay {
     ghost right = { noted };
 }
 
-impl Join<View> for Hearsay {
+impl Join<SeatView> for Hearsay {
     ghost use Rattle.street_desk.specs.Steps.{heard, spent_view};
 
     ghost both = { heard };

@@ -1,25 +1,25 @@
-pub mod Serving
-pub mod Running
-pub mod Loading
-pub mod Steps
-pub mod Found
+pub mod Serves
+pub mod ServesAll
+pub mod LoadCommand
+pub mod AdvanceCommand
+pub mod VehicleCommands
 pub mod Numbers
-pub mod Closing
-pub mod Signalling
-pub mod Entering
-pub mod Metering
-mod Siting
+pub mod LaneCommands
+pub mod SignalCommand
+pub mod EnterCommand
+pub mod DetectorCommands
+mod Sites
 mod Together
-mod Placing
-mod StreetSignals
+mod LaneUpdate
+mod SignalPlans
 mod Sums
 mod Ones
-mod Taking
-mod StreetMeters
-mod Seeing
-mod Counting
+mod TakenOut
+mod PlacedDetector
+mod Seen
+mod LaneCounts
 mod Arrivals
-mod Coming
-mod Stepped
-mod Ended
-mod Standing
+mod AreComing
+mod StepArrivals
+mod AreCounted
+mod StreetsStandFor

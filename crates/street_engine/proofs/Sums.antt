@@ -15,10 +15,10 @@ use Rattle.street_base.proofs.ReleaseLemmas.{sums-same}
 use Rattle.street_base.proofs.ReleaseCountLemmas.{sums-among}
 use Rattle.street_base.proofs.CensusLemmas.{HasShape, over_lanes-places}
 use Rattle.street_tile.specs.Tiles.{Part, IsRoads, is_own}
-use Rattle.street_tile.specs.Moves.{all_places}
+use Rattle.street_tile.specs.HandOvers.{all_places}
 use Rattle.street_tile.proofs.Rows.{InRow, AreInRow}
-use Rattle.street_tile.proofs.Owning.{lane-of}
-use Rattle.street_tile.proofs.Tiling.{row-le}
+use Rattle.street_tile.proofs.OwnLanes.{lane-of}
+use Rattle.street_tile.proofs.LaneOwners.{row-le}
 
 -- a number where a test holds, and else 0
 abbrev gate : Bool → ℕ → ℕ

@@ -8,11 +8,11 @@ use Rattle.street_base.specs.State.{Traffic}
 use Rattle.street_lanes.specs.Whole.{IsOn}
 use Rattle.street_tile.specs.Tiles.{Part, AreTiles, AllStand, StandsFor, SameTile, Each, IsIdle}
 use Rattle.street_tile.specs.Commands.{DoesIf, KeepsAll}
-use Rattle.street_tile.specs.Metering.{MetersStand}
-use Rattle.street_tile.proofs.Keeping.{tile-none}
-use Rattle.street_tile.proofs.Stepping.{tiles-same}
+use Rattle.street_tile.specs.TileDetectors.{MetersStand}
+use Rattle.street_tile.proofs.SameTile.{tile-none}
+use Rattle.street_tile.proofs.BetweenPhases.{tiles-same}
 use Rattle.street_engine.specs.Together.{AllDoIf, AllKeep}
-use Rattle.street_engine.proofs.Siting.{same-meters}
+use Rattle.street_engine.proofs.Sites.{same-meters}
 
 set-same : (xs : List Part) (i : ℕ) (y d : Part) → i < length xs → SameTile (get_or xs i d) y → Each SameTile xs (set xs i y)
 set-same xs i y d h same k e l = elim (cases_eq k i) as (λ _. SameTile (get_or xs k e) (get_or (set xs i y) k e)) [
@@ -66,17 +66,17 @@ module _ (net : NetSpec) (P : Traffic → Type 0) (f : Traffic → Traffic) (xs 
   pub one-does : ((m : Traffic) → (f m).detectors ≡ m.detectors) → DoesIf net P f (get_or xs i d) y → AllDoIf net P f xs (set xs i y)
   one-does detectors does = one-goes does.same (idle-does net P f (get_or xs i d) y does)
       (λ m holds s. does.stands m s.on holds (s.each i d h))
-      (λ m holds s kept. same-meters (get_or xs i d) y m (f m) does.same.own.places does.gauges (detectors m) kept)
+      (λ m holds s kept. same-meters (get_or xs i d) y m (f m) does.same.own.places does.detectors (detectors m) kept)
       (λ k e m other l kept. same-meters (get_or xs k e) (get_or xs k e) m (f m) refl refl (detectors m) kept)
 
 -- a tile that is as it was, reserved room apart
 keeps-does : (net : NetSpec) (x y : Part) → KeepsAll x y → DoesIf net (λ m. Unit {0}) (λ m. m) x y
 keeps-does net x y e = subst (DoesIf net (λ m. Unit {0}) (λ m. m) x) (sym e) (record {
-  same = record { low = refl; high = refl; links = refl; own = record { places = refl; sizes = refl; loose = refl; odds = refl }; gauged = refl };
+  same = record { low = refl; high = refl; links = refl; own = record { places = refl; sizes = refl; loose = refl; odds = refl }; sized = refl };
   handed = refl;
   coming = refl;
   arrived = refl;
-  gauges = refl;
+  detectors = refl;
   stands = λ m on holds s. record { clock = s.clock; lanes = s.lanes; none_loose = s.none_loose; signals = s.signals };
 })
 

@@ -2,4 +2,4 @@ pub mod Refines
 pub mod Together
 pub mod Sites
 pub mod Streets
-pub mod Ending
+pub mod Ends

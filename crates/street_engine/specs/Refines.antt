@@ -7,23 +7,23 @@ use Rattle.street_base.specs.declared.reply.Outcome.{Outcome}
 use Rattle.street_base.specs.State.{State}
 use Rattle.street_base.specs.Outcomes.{Answers}
 use Rattle.street_base.specs.Run.{Runs}
-use Rattle.street_engine.specs.Streets.{StreetsView, StandsFor as StreetsStandFor}
+use Rattle.street_engine.specs.Streets.{StreetsView, StreetsStandFor}
 
 -- what contracts see of an engine: nothing loaded, or its streets
-abbrev pub View : Type 0
-View = Option StreetsView
+abbrev pub EngineView : Type 0
+EngineView = Option StreetsView
 
 -- an engine stands for a state of the machine: both have nothing loaded, or its streets stand for the traffic
-unfoldable pub StandsFor : View → State → Type 0
+unfoldable pub StandsFor : EngineView → State → Type 0
 StandsFor None None = Unit {0}
 StandsFor None (Some m) = ⊥
 StandsFor (Some x) None = ⊥
 StandsFor (Some x) (Some m) = StreetsStandFor x m
 
 -- whatever state it stood for, it then stands for the machine's, and the reply is the machine's
-abbrev pub Serves : View → Command → Reply → Outcome → View → Type 0
+abbrev pub Serves : EngineView → Command → Reply → Outcome → EngineView → Type 0
 Serves before command reply outcome after = (old : State) → StandsFor before old → (new : State) × Answers old command reply outcome new × StandsFor after new
 
 -- the same for a list of commands
-abbrev pub ServesAll : View → List Command → List (Reply × Outcome) → View → Type 0
+abbrev pub ServesAll : EngineView → List Command → List (Reply × Outcome) → EngineView → Type 0
 ServesAll before commands replies after = (old : State) → StandsFor before old → (new : State) × Runs old commands replies new × StandsFor after new

@@ -6,16 +6,16 @@ use Rattle.street_base.specs.Limits.{most_detectors}
 use Rattle.street_base.specs.State.{Detector}
 use Rattle.street_net.specs.Tables.{place_of}
 use Rattle.street_lanes.specs.Lanes.{IsLane}
-use Rattle.street_tile.specs.Metering.{detectors_on}
-use Rattle.street_engine.specs.declared.sites.Site.{Site}
+use Rattle.street_tile.specs.TileDetectors.{detectors_on}
+use Rattle.street_engine.specs.declared.sites.DetectorSite.{DetectorSite}
 
 -- detector i is the one with this number among those of this lane
-pub record IsSite (net : NetSpec) (ds : List Detector) (i : ℕ) (s : Site) : Type 0 where
+pub record IsDetectorSite (net : NetSpec) (ds : List Detector) (i : ℕ) (s : DetectorSite) : Type 0 where
   pub lane : IsLane net (place_of s.at)
   pub there : slice_get (detectors_on (place_of s.at) ds) s.number ≡ slice_get ds i
 
 -- each detector has its site, in their order, and there are no more than may stand
-pub record AreSites (net : NetSpec) (sites : List Site) (ds : List Detector) : Type 0 where
+pub record AreDetectorSites (net : NetSpec) (sites : List DetectorSite) (ds : List Detector) : Type 0 where
   pub even : length sites ≡ length ds
   pub few : length ds ≤ most_detectors
-  pub each : (i : ℕ) (d : Site) → i < length sites → IsSite net ds i (slice_index_or sites i d)
+  pub each : (i : ℕ) (d : DetectorSite) → i < length sites → IsDetectorSite net ds i (slice_index_or sites i d)

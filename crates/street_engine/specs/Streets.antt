@@ -8,14 +8,14 @@ use Rattle.street_base.specs.Limits.{last_clock}
 use Rattle.street_base.specs.State.{Traffic}
 use Rattle.street_base.specs.Census.{IsSound}
 use Rattle.street_tile.specs.Tiles.{Part, AreTiles, AllStand, IsIdle}
-use Rattle.street_tile.specs.Metering.{AllMetersStand}
-use Rattle.street_engine.specs.declared.sites.Site.{Site}
-use Rattle.street_engine.specs.Sites.{AreSites}
+use Rattle.street_tile.specs.TileDetectors.{AllMetersStand}
+use Rattle.street_engine.specs.declared.sites.DetectorSite.{DetectorSite}
+use Rattle.street_engine.specs.Sites.{AreDetectorSites}
 
 -- the network, where each detector is, the clock, the tiles, and how each vehicle ended
 pub record StreetsView : Type 0 where
   pub network : NetSpec
-  pub sites : List Site
+  pub sites : List DetectorSite
   pub clock : ℕ
   pub tiles : List Part
   pub ends : List (Option End)
@@ -28,15 +28,15 @@ pub record IsTrafficOf (x : StreetsView) (m : Traffic) : Type 0 where
   pub sound : IsSound m
   pub signals : length m.signals ≡ length x.network.nodes
   pub meters : AllMetersStand x.tiles m
-  pub sites : AreSites x.network x.sites m.detectors
+  pub sites : AreDetectorSites x.network x.sites m.detectors
 
 -- it stands for this traffic of the machine
-unfoldable pub StandsFor : StreetsView → Traffic → Type 0
-StandsFor x m = IsTrafficOf x m
+unfoldable pub StreetsStandFor : StreetsView → Traffic → Type 0
+StreetsStandFor x m = IsTrafficOf x m
 
 -- whatever traffic it stood for, it then stands for f of that
-abbrev pub Goes : (Traffic → Traffic) → StreetsView → StreetsView → Type 0
-Goes f x y = (m : Traffic) → StandsFor x m → StandsFor y (f m)
+abbrev pub StreetsGo : (Traffic → Traffic) → StreetsView → StreetsView → Type 0
+StreetsGo f x y = (m : Traffic) → StreetsStandFor x m → StreetsStandFor y (f m)
 
 -- what is kept between commands: idle tiles of the network, at most one a worker, a view of its lanes, a clock in its range; and there is traffic for which all this stands
 pub record IsKept (x : StreetsView) (mouths : ℕ) : Type 0 where

@@ -5,7 +5,7 @@ use Rattle.std.specs.List.{All}
 use Rattle.street_base.specs.declared.net.NetSpec.{NetSpec}
 use Rattle.street_base.specs.State.{Traffic}
 use Rattle.street_tile.specs.Tiles.{Part, AreTiles, AllStand, IsIdle}
-use Rattle.street_tile.specs.Metering.{AllMetersStand}
+use Rattle.street_tile.specs.TileDetectors.{AllMetersStand}
 
 -- whatever traffic the tiles stood for, if P held of that, they then stand for f of it, and so do their detectors; they are tiles of the network still, and idle
 pub record AllDoIf (net : NetSpec) (P : Traffic → Type 0) (f : Traffic → Traffic) (xs ys : List Part) : Type 0 where

@@ -6,10 +6,10 @@ ghost use Rattle.street_base.specs.declared.command.Command.TheVariants.{Load};
 ghost use Rattle.street_engine.specs.Refines.{Serves};
 
 use crate::Streets;
-use crate::clock::{advance, count};
-use crate::meters::{place_meter, read_meter};
-use crate::places::{close_lane, lane, reopen_lane, signal};
-use crate::vehicles::{enter, take_out, vehicle};
+use crate::clock_commands::{advance, count};
+use crate::detector_commands::{place_meter, read_meter};
+use crate::lane_commands::{close_lane, lane, reopen_lane, signal};
+use crate::vehicle_commands::{enter, take_out, vehicle};
 use std::alloc::Global;
 use std::thread::Threads;
 use street_base::{Command, NetSpec, Outcome, Refusal, Reply};

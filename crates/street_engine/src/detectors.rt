@@ -11,7 +11,7 @@ ghost use Rattle.street_base.specs.State.{Traffic};
 ghost use Rattle.street_net.specs.Tables.{place_of};
 ghost use Rattle.street_lanes.specs.Lanes.{IsLane};
 ghost use Rattle.street_tile.specs.Tiles.{AreTiles, AllStand, IsIdle};
-ghost use Rattle.street_tile.specs.Metering.{AllMetersStand, detectors_on};
+ghost use Rattle.street_tile.specs.TileDetectors.{AllMetersStand, detectors_on};
 ghost use Rattle.street_engine.specs.Together.{AllDoIf, AllKeep};
 
 use crate::owners::owner_of_link;

@@ -21,7 +21,7 @@ pub(crate) struct Ends {
 
 impl Model for Ends {
     ghost use Rattle.std.specs.Prelude.{◌-◌, length, vec_capacity};
-    ghost use Rattle.street_engine.specs.Ending.{EndsView, AreCounted};
+    ghost use Rattle.street_engine.specs.Ends.{EndsView, AreCounted};
 
     ghost Value = { EndsView };
 

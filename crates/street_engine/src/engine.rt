@@ -32,9 +32,9 @@ impl<G: Gate + Sync + Drop> Drop for Engine<G> {
 
 impl<G: Gate + Sync + Drop> Model for Engine<G> {
     ghost use Rattle.std.specs.Prelude.{◌≤◌};
-    ghost use Rattle.street_engine.specs.Refines.{View};
+    ghost use Rattle.street_engine.specs.Refines.{EngineView};
 
-    ghost Value = { View };
+    ghost Value = { EngineView };
 
     ghost view = { λ e. e.streets };
 

@@ -4,7 +4,7 @@ use street_net::LaneId;
 
 /// Where a detector is: its lane, and its number among the detectors of that lane.
 #[derive(Clone, Copy)]
-pub struct Site {
+pub struct DetectorSite {
     /// The lane.
     pub at: LaneId,
     /// The number, from 0.

@@ -16,11 +16,11 @@ ghost use Rattle.street_net.specs.Refused.{TellsFault};
 ghost use Rattle.street_node.specs.Greens.{ShowsAs};
 ghost use Rattle.street_lanes.specs.Lanes.{IsLane};
 ghost use Rattle.street_tile.specs.Tiles.{IsPrepared};
-ghost use Rattle.street_engine.specs.Streets.{StandsFor, Goes};
+ghost use Rattle.street_engine.specs.Streets.{StreetsStandFor, StreetsGo};
 
 use crate::ends::Ends;
-use crate::sites::Site;
-use crate::{detectors, finding, single, stepping};
+use crate::sites::DetectorSite;
+use crate::{detectors, lanes, step_parts, vehicles};
 use std::alloc::Global;
 use std::marker::Model;
 use std::thread::Threads;
@@ -42,7 +42,7 @@ pub struct Streets {
     view: View,
     ends: Ends,
     hints: Hints,
-    sites: Vec<Site>,
+    sites: Vec<DetectorSite>,
 }
 
 impl Drop for Streets {
@@ -78,7 +78,7 @@ impl Streets {
     pub fn load(alloc: Global, net: &NetSpec, workers: usize) -> Result<Streets, NetFault>
         requires some { 1 ≤ workers }
         requires few { workers ≤ 64 }
-        ensures stands { IfOk result (λ streets. StandsFor streets (loaded net.now)) }
+        ensures stands { IfOk result (λ streets. StreetsStandFor streets (loaded net.now)) }
         ensures tiles { IfOk result (λ streets. length streets.tiles ≡ min workers (length net.now.nodes)) }
         ensures faultless { OnOk result (network_fault net.now ≡ None) }
         ensures fault { IfErr result (TellsFault (network_fault net.now)) }
@@ -148,8 +148,8 @@ impl Streets {
         requires short { length plan ≤ most_plan }
         requires lane { lane < (link_at self.old.network (slice_index_or plan 0 0)).lanes }
         requires few { length self.old.ends < most_vehicles }
-        ensures waits { OnOk result ((ids : List ℕ) → plan ≡ plan_links self.old.network ids → Goes (λ m. entered m ids lane depart size) self.old self.new) }
-        ensures starved { OnErr result (Goes (λ m. m) self.old self.new) }
+        ensures waits { OnOk result ((ids : List ℕ) → plan ≡ plan_links self.old.network ids → StreetsGo (λ m. entered m ids lane depart size) self.old self.new) }
+        ensures starved { OnErr result (StreetsGo (λ m. m) self.old self.new) }
     {
         let at = LaneId {
             link: plan.as_slice()[0],
@@ -166,7 +166,7 @@ impl Streets {
         };
         self.ends.reserve()?;
         self.hints.reserve()?;
-        single::admit(&self.network, &mut self.tiles, at, car)?;
+        lanes::admit(&self.network, &mut self.tiles, at, car)?;
         self.ends.give();
         self.hints.give(at.link);
         Ok(())
@@ -176,9 +176,9 @@ impl Streets {
     pub fn set_signal(&mut self, node: NodeIx, plan: SignalPlan)
         requires { node < length self.old.network.nodes }
         ensures { (id : ℕ) → (other : PlanSeen) → node_of self.old.network id ≡ Some node → ShowsAs plan other
-            → Goes (λ m. signalled m id other) self.old self.new }
+            → StreetsGo (λ m. signalled m id other) self.old self.new }
     {
-        single::set_signal(&self.network, &mut self.tiles, node, plan);
+        lanes::set_signal(&self.network, &mut self.tiles, node, plan);
     }
 
     /// Closes cells of a lane, and tells how many of its cells are closed then.
@@ -189,11 +189,11 @@ impl Streets {
         requires lane { IsLane self.old.network (place_of at) }
         requires order { first ≤ last }
         requires within { last < (link_at self.old.network at.link).length }
-        ensures closes { OnOk result (Goes (with_closure true (place_of at) first last) self.old self.new) }
-        ensures count { IfOk result (λ count. (m : Traffic) → StandsFor self.old m → count ≡ closed_after true first last (lane_at m (place_of at))) }
-        ensures starved { OnErr result (Goes (λ m. m) self.old self.new) }
+        ensures closes { OnOk result (StreetsGo (with_closure true (place_of at) first last) self.old self.new) }
+        ensures count { IfOk result (λ count. (m : Traffic) → StreetsStandFor self.old m → count ≡ closed_after true first last (lane_at m (place_of at))) }
+        ensures starved { OnErr result (StreetsGo (λ m. m) self.old self.new) }
     {
-        single::close(&self.network, &mut self.tiles, at, first, last)
+        lanes::close(&self.network, &mut self.tiles, at, first, last)
     }
 
     /// Opens cells of a lane again, and tells how many of its cells are closed then.
@@ -204,21 +204,21 @@ impl Streets {
         requires lane { IsLane self.old.network (place_of at) }
         requires order { first ≤ last }
         requires within { last < (link_at self.old.network at.link).length }
-        ensures opens { OnOk result (Goes (with_closure false (place_of at) first last) self.old self.new) }
-        ensures count { IfOk result (λ count. (m : Traffic) → StandsFor self.old m → count ≡ closed_after false first last (lane_at m (place_of at))) }
-        ensures starved { OnErr result (Goes (λ m. m) self.old self.new) }
+        ensures opens { OnOk result (StreetsGo (with_closure false (place_of at) first last) self.old self.new) }
+        ensures count { IfOk result (λ count. (m : Traffic) → StreetsStandFor self.old m → count ≡ closed_after false first last (lane_at m (place_of at))) }
+        ensures starved { OnErr result (StreetsGo (λ m. m) self.old self.new) }
     {
-        single::reopen(&self.network, &mut self.tiles, at, first, last)
+        lanes::reopen(&self.network, &mut self.tiles, at, first, last)
     }
 
     /// Takes a vehicle out that has not ended, wherever it is. Takes no memory.
     pub fn take_out(&mut self, number: CarNo)
         requires given { number < length self.old.ends }
         requires going { slice_index_or self.old.ends number None ≡ None }
-        ensures { Goes (λ m. taken_out m number) self.old self.new }
+        ensures { StreetsGo (λ m. taken_out m number) self.old self.new }
     {
         let hint = self.hints.get(number);
-        finding::take_out(&self.network, &mut self.tiles, hint, number);
+        vehicles::take_out(&self.network, &mut self.tiles, hint, number);
         self.ends.take(number, self.clock);
     }
 
@@ -227,9 +227,9 @@ impl Streets {
     /// # Errors
     /// Memory for the plan was refused.
     pub fn find(&self, alloc: Global, number: CarNo) -> Result<Option<Whereabouts>, Starved>
-        ensures { IfOk result (λ found. (m : Traffic) → StandsFor self.now m → found ≡ seen m number) }
+        ensures { IfOk result (λ found. (m : Traffic) → StreetsStandFor self.now m → found ≡ seen m number) }
     {
-        finding::find(
+        vehicles::find(
             alloc,
             &self.network,
             &self.tiles,
@@ -244,9 +244,9 @@ impl Streets {
     /// Memory for the lists was refused.
     pub fn lane(&self, alloc: Global, at: LaneId) -> Result<Reply, Starved>
         requires { IsLane self.now.network (place_of at) }
-        ensures { IfOk result (λ reply. (m : Traffic) → StandsFor self.now m → reply ≡ shown_lane (lane_at m (place_of at))) }
+        ensures { IfOk result (λ reply. (m : Traffic) → StreetsStandFor self.now m → reply ≡ shown_lane (lane_at m (place_of at))) }
     {
-        single::lane(alloc, &self.network, &self.tiles, at)
+        lanes::lane(alloc, &self.network, &self.tiles, at)
     }
 
     /// How many detectors stand.
@@ -273,9 +273,9 @@ impl Streets {
         requires some { 1 ≤ period }
         requires short { period ≤ most_period }
         requires few { length self.old.sites < most_detectors }
-        ensures placed { OnOk result (Goes (λ m. metered m (place_of at) cell period) self.old self.new) }
+        ensures placed { OnOk result (StreetsGo (λ m. metered m (place_of at) cell period) self.old self.new) }
         ensures number { IfOk result (λ number. number ≡ length self.old.sites) }
-        ensures starved { OnErr result (Goes (λ m. m) self.old self.new) }
+        ensures starved { OnErr result (StreetsGo (λ m. m) self.old self.new) }
     {
         let LaneId { link, lane } = at;
         let detector = self.sites.len();
@@ -288,7 +288,7 @@ impl Streets {
             cell,
             period,
         )?;
-        self.sites.push_reserved(Site {
+        self.sites.push_reserved(DetectorSite {
             at: LaneId { link, lane },
             number,
         });
@@ -300,7 +300,7 @@ impl Streets {
     /// # Errors
     /// Memory for the list was refused.
     pub fn read_meter(&self, alloc: Global, number: usize) -> Result<Option<Reply>, Starved>
-        ensures { IfOk result (λ found. (m : Traffic) → StandsFor self.now m
+        ensures { IfOk result (λ found. (m : Traffic) → StreetsStandFor self.now m
             → found ≡ option_map shown_rows (slice_get m.detectors number)) }
     {
         match self.sites.get(number) {
@@ -313,10 +313,10 @@ impl Streets {
 
     /// The clock, and how many vehicles stand where or have ended how. Looks at counts that are kept.
     pub fn census(&self) -> Reply
-        ensures { (m : Traffic) → StandsFor self.now m → result ≡ census m }
+        ensures { (m : Traffic) → StreetsStandFor self.now m → result ≡ census m }
     {
         let admitted = u64::from(self.ends.len());
-        let sizes = finding::sizes(&self.network, &self.tiles);
+        let sizes = vehicles::sizes(&self.network, &self.tiles);
         Reply::Census {
             admitted,
             arrived: u64::from(self.ends.arrived()),
@@ -335,18 +335,18 @@ impl Streets {
     fn prepare(&mut self) -> Result<(), Starved>
         ensures prepared { OnOk result (All IsPrepared self.new.tiles) }
         ensures clock { self.new.clock ≡ self.old.clock }
-        ensures kept { Goes (λ m. m) self.old self.new }
+        ensures kept { StreetsGo (λ m. m) self.old self.new }
     {
-        stepping::prepare(&self.network, &mut self.tiles)
+        step_parts::prepare(&self.network, &mut self.tiles)
     }
 
     /// How many vehicles are in cells.
     fn in_cells(&self) -> u64
-        ensures { (m : Traffic) → StandsFor self.now m → result ≡ in_cells m }
+        ensures { (m : Traffic) → StreetsStandFor self.now m → result ≡ in_cells m }
     {
         // Its clause `few` bounds the sums.
         let _admitted = self.ends.len();
-        finding::sizes(&self.network, &self.tiles).cells
+        vehicles::sizes(&self.network, &self.tiles).cells
     }
 
     /// How many threads the next step takes, after so many others of the same advance that took so many: one for each tile
@@ -372,7 +372,7 @@ impl Streets {
         requires prepared { All IsPrepared self.old.tiles }
         requires in_time { self.old.clock < last_clock }
         ensures clock { self.new.clock ≡ self.old.clock + 1 }
-        ensures step { Goes step self.old self.new }
+        ensures step { StreetsGo step self.old self.new }
     {
         step_by(
             rt,
@@ -383,7 +383,7 @@ impl Streets {
             gate,
             threads,
         );
-        stepping::note_arrivals(&mut self.tiles, &mut self.ends, self.clock);
+        step_parts::note_arrivals(&mut self.tiles, &mut self.ends, self.clock);
         self.clock += 1;
     }
 
@@ -391,7 +391,7 @@ impl Streets {
     pub fn steps<R: Threads + Sync, G: Gate + Sync>(&mut self, rt: &R, gate: &G, count: u64) -> u64
         requires { self.old.clock + count ≤ last_clock }
         ensures most { result ≤ count }
-        ensures steps { Goes (steps result) self.old self.new }
+        ensures steps { StreetsGo (steps result) self.old self.new }
     {
         let mut threads = 1;
         for done in 0..count {

@@ -1,113 +1,164 @@
-//! Commands that name a vehicle.
+//! Commands that name a vehicle, and the count of all.
+//!
+//! A vehicle is on one lane of one tile. First the lanes of the link are asked on which it was last put, then all tiles.
 //!
 //! Source: this profile.
-ghost use Rattle.std.specs.Prelude.{◌≡◌, ◌<◌, ◌≤◌, None, length, true};
-ghost use Rattle.street_base.specs.declared.command.Command.TheVariants.{Enter, TakeOut, Vehicle};
-ghost use Rattle.street_base.specs.Limits.{last_clock, most_vehicles, most_size};
-ghost use Rattle.street_base.specs.Faults.{is_within};
+ghost use Rattle.std.specs.Prelude.{◌≡◌, ◌<◌, ◌≤◌, length, slice_index_or, true, false, ℕ, IsSome, IfOk};
+ghost use Rattle.std.specs.List.{All};
+ghost use Rattle.street_base.specs.Limits.{most_vehicles};
 ghost use Rattle.street_base.specs.State.{Traffic};
-ghost use Rattle.street_base.specs.Machine.{enter_refusal};
-ghost use Rattle.street_engine.specs.Refines.{Serves};
+ghost use Rattle.street_base.specs.Census.{IsSound, IsWhole};
+ghost use Rattle.street_base.specs.Machine.{seen};
+ghost use Rattle.street_base.specs.Shown.{in_cells, in_buffers, in_wait};
+ghost use Rattle.street_net.specs.Tables.{place_of};
+ghost use Rattle.street_lanes.specs.Lanes.{IsLane};
+ghost use Rattle.street_tile.specs.Tiles.{Part, AreTiles, AllStand, IsIdle};
+ghost use Rattle.street_tile.specs.Commands.{without, HaveNot};
+ghost use Rattle.street_engine.specs.Together.{AllDoIf};
 
-use crate::Streets;
-use crate::naming::lane_number;
+use crate::owners::owner_of_link;
 use std::alloc::Global;
-use street_base::{CarNo, LAST_CLOCK, Outcome, Refusal, Reply, Size, Step, Whereabouts};
-use street_net::{Network, PlanFault};
+use street_base::{CarNo, LaneNo, LinkIx, Starved, Whereabouts};
+use street_net::{LaneId, Network};
+use street_tile::{Tile, TileSizes};
 
-const MOST_VEHICLES: CarNo = 1_000_000;
-
-/// Why a vehicle is refused where fewer than 1,000,000 were admitted: for its plan, or else its lane, or else its depart
-/// or its size. Takes no memory.
-fn entry_refusal(net: &Network, plan: &[u64], lane: u64, depart: u64, size: u64) -> Option<Refusal>
-    ensures refusal { (m : Traffic) → m.network ≡ net.now → length m.ends < most_vehicles
-        → result ≡ enter_refusal plan.now lane depart size m }
-    ensures in_time { result ≡ None → depart ≤ last_clock }
-    ensures sized { result ≡ None → is_within 1 most_size size ≡ true }
+/// The lanes of a link; none of a position past the last link.
+fn lanes_of(net: &Network, link: LinkIx) -> LaneNo
+    ensures { (lane : ℕ) → lane < result → IsLane net.now (record { link = link; lane = lane }) }
 {
-    match net.plan_refusal(plan, lane) {
-        Some(PlanFault::Bad { at }) => Some(Refusal::BadPlan { at }),
-        Some(PlanFault::Lane) => Some(Refusal::NoLane),
-        _ if depart > u64::from(LAST_CLOCK) || Size::new(size).is_none() => {
-            Some(Refusal::BadRange)
-        }
-        _ => None,
+    match net.spec().links.as_slice().get(link.position()) {
+        Some(it) => it.lanes as LaneNo,
+        None => 0,
     }
 }
 
-/// Takes memory for the vehicle and its plan.
-pub(crate) fn enter(
+/// Takes a vehicle out of a lane, and tells whether it was there.
+fn take_on(net: &Network, tiles: &mut [Tile], at: LaneId, number: CarNo) -> bool
+    requires tiles { AreTiles net.now tiles.old }
+    requires idle { All IsIdle tiles.old }
+    requires lane { IsLane net.now (place_of at) }
+    ensures taken { result ≡ true → AllDoIf net.now IsWhole (without number) tiles.old tiles.new }
+    ensures kept { result ≡ false → tiles.new ≡ tiles.old }
+{
+    let i = owner_of_link(net, tiles, at.link);
+    tiles[i].take_out_on(net, at, number).is_some()
+}
+
+/// Takes a vehicle out of the lanes of a link, and tells whether it was there.
+fn take_near(net: &Network, tiles: &mut [Tile], link: LinkIx, number: CarNo) -> bool
+    requires tiles { AreTiles net.now tiles.old }
+    requires idle { All IsIdle tiles.old }
+    ensures taken { result ≡ true → AllDoIf net.now IsWhole (without number) tiles.old tiles.new }
+    ensures kept { result ≡ false → tiles.new ≡ tiles.old }
+{
+    for lane in 0..lanes_of(net, link) {
+        if take_on(net, tiles, LaneId { link, lane }, number) {
+            return true;
+        }
+    }
+    false
+}
+
+/// Takes a vehicle out of a tile, and tells whether it was there.
+fn take_at(net: &Network, tiles: &mut [Tile], i: usize, number: CarNo) -> bool
+    requires tiles { AreTiles net.now tiles.old }
+    requires idle { All IsIdle tiles.old }
+    requires inside { i < length tiles.old }
+    ensures taken { result ≡ true → AllDoIf net.now IsWhole (without number) tiles.old tiles.new }
+    ensures kept { result ≡ false → tiles.new ≡ tiles.old }
+    ensures nowhere { result ≡ false → (m : Traffic) → IsWhole m → AllStand net.now tiles.old m → (d : Part) → HaveNot (slice_index_or tiles.old i d).own.places m number }
+{
+    tiles[i].take_out(net, number).is_some()
+}
+
+/// Takes a vehicle out, wherever it is; first the link is asked on which it may be. Takes no memory.
+pub(crate) fn take_out(net: &Network, tiles: &mut [Tile], hint: Option<LinkIx>, number: CarNo)
+    requires tiles { AreTiles net.now tiles.old }
+    requires idle { All IsIdle tiles.old }
+    ensures { AllDoIf net.now IsWhole (without number) tiles.old tiles.new }
+{
+    if let Some(link) = hint
+        && take_near(net, tiles, link, number)
+    {
+        return;
+    }
+    for i in 0..tiles.len() {
+        if take_at(net, tiles, i, number) {
+            return;
+        }
+    }
+}
+
+/// Where a vehicle is on the lanes of a link, if it is there.
+///
+/// # Errors
+/// Memory for the plan was refused.
+fn find_near(
     alloc: Global,
-    state: &mut Option<Streets>,
-    plan: &[u64],
-    lane: u64,
-    depart: u64,
-    size: u64,
-) -> (Reply, Outcome)
-    ensures { Serves state.old (Enter plan.now lane depart size) result.0 result.1 state.new }
+    net: &Network,
+    tiles: &[Tile],
+    link: LinkIx,
+    number: CarNo,
+) -> Result<Option<Whereabouts>, Starved>
+    requires { AreTiles net.now tiles.now }
+    ensures { IfOk result (λ found. IsSome found → (m : Traffic) → IsSound m → AllStand net.now tiles.now m → found ≡ seen m number) }
 {
-    let Some(streets) = state else {
-        return (Reply::Refused(Refusal::NotLoaded), Outcome::Whole);
-    };
-    let car = streets.admitted();
-    if car >= MOST_VEHICLES {
-        return (Reply::Refused(Refusal::TooMany), Outcome::Whole);
-    }
-    if let Some(refusal) = entry_refusal(streets.network(), plan, lane, depart, size) {
-        return (Reply::Refused(refusal), Outcome::Whole);
-    }
-    let Some(size) = Size::new(size) else {
-        unreachable!();
-    };
-    let Ok(links) = streets.network().check_plan(alloc, plan, lane) else {
-        return (Reply::Starved, Outcome::Starved);
-    };
-    let lane = lane_number(streets.network(), lane);
-    match streets.admit(alloc, links, lane, depart as Step, size) {
-        Ok(()) => {
-            let car = u64::from(car);
-            (Reply::Entered { car }, Outcome::Whole)
+    for lane in 0..lanes_of(net, link) {
+        let at = LaneId { link, lane };
+        let i = owner_of_link(net, tiles, link);
+        if let Some(found) = tiles[i].find_on(alloc, net, at, number)? {
+            return Ok(Some(found));
         }
-        Err(_) => (Reply::Starved, Outcome::Starved),
     }
+    Ok(None)
 }
 
-/// Takes no memory.
-pub(crate) fn take_out(state: &mut Option<Streets>, car: u64) -> (Reply, Outcome)
-    ensures { Serves state.old (TakeOut car) result.0 result.1 state.new }
+/// Where a vehicle is that has not ended; first the link is asked on which it may be. Takes memory for the plan that it
+/// answers.
+///
+/// # Errors
+/// Memory for the plan was refused.
+pub(crate) fn find(
+    alloc: Global,
+    net: &Network,
+    tiles: &[Tile],
+    hint: Option<LinkIx>,
+    number: CarNo,
+) -> Result<Option<Whereabouts>, Starved>
+    requires { AreTiles net.now tiles.now }
+    ensures { IfOk result (λ found. (m : Traffic) → IsSound m → AllStand net.now tiles.now m → found ≡ seen m number) }
 {
-    let Some(streets) = state else {
-        return (Reply::Refused(Refusal::NotLoaded), Outcome::Whole);
-    };
-    if car >= u64::from(streets.admitted()) {
-        return (Reply::Refused(Refusal::NoVehicle), Outcome::Whole);
+    if let Some(link) = hint
+        && let Some(found) = find_near(alloc, net, tiles, link, number)?
+    {
+        return Ok(Some(found));
     }
-    let number = car as CarNo;
-    if streets.end_of(number).is_some() {
-        return (Reply::Refused(Refusal::Gone), Outcome::Whole);
+    for i in 0..tiles.len() {
+        if let Some(found) = tiles[i].find(alloc, net, number)? {
+            return Ok(Some(found));
+        }
     }
-    streets.take_out(number);
-    (Reply::Taken { taken: car }, Outcome::Whole)
+    Ok(None)
 }
 
-/// Takes memory for the plan that it answers, where the vehicle has not ended.
-pub(crate) fn vehicle(alloc: Global, state: &Option<Streets>, car: u64) -> (Reply, Outcome)
-    ensures { Serves state.now (Vehicle car) result.0 result.1 state.now }
+/// How many vehicles are on the lanes of all tiles.
+pub(crate) fn sizes(net: &Network, tiles: &[Tile]) -> TileSizes
+    requires tiles { AreTiles net.now tiles.now }
+    requires stand { (m : Traffic) × AllStand net.now tiles.now m × IsSound m × (length m.ends ≤ most_vehicles) }
+    ensures cells { (m : Traffic) → AllStand net.now tiles.now m → result.cells ≡ in_cells m }
+    ensures buffers { (m : Traffic) → AllStand net.now tiles.now m → result.buffers ≡ in_buffers m }
+    ensures waiting { (m : Traffic) → AllStand net.now tiles.now m → result.waiting ≡ in_wait m }
 {
-    let Some(streets) = state else {
-        return (Reply::Refused(Refusal::NotLoaded), Outcome::Whole);
+    let mut all = TileSizes {
+        cells: 0,
+        buffers: 0,
+        waiting: 0,
     };
-    if car >= u64::from(streets.admitted()) {
-        return (Reply::Refused(Refusal::NoVehicle), Outcome::Whole);
+    for i in 0..tiles.len() {
+        let own = tiles[i].sizes();
+        all.cells += own.cells;
+        all.buffers += own.buffers;
+        all.waiting += own.waiting;
     }
-    let number = car as CarNo;
-    if let Some(end) = streets.end_of(number) {
-        let whereabouts = Whereabouts::Ended(end);
-        return (Reply::Vehicle { car, whereabouts }, Outcome::Whole);
-    }
-    match streets.find(alloc, number) {
-        Ok(Some(whereabouts)) => (Reply::Vehicle { car, whereabouts }, Outcome::Whole),
-        Ok(None) => (Reply::Refused(Refusal::NoVehicle), Outcome::Whole),
-        Err(_) => (Reply::Starved, Outcome::Starved),
-    }
+    all
 }

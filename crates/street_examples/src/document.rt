@@ -9,7 +9,7 @@ use std::mem;
 
 /// A document, as far as it was read.
 #[derive(Drop)]
-struct Reading<'a> {
+struct PartialDocument<'a> {
     alloc: Global,
     name: &'a str,
     chapter: Session,
@@ -18,7 +18,7 @@ struct Reading<'a> {
     rows: Vec<Session>,
 }
 
-impl Reading<'_> {
+impl PartialDocument<'_> {
     /// Takes a line more.
     fn take(&mut self, line: &str) -> Result<(), AllocError> {
         if self.is_in_block {
@@ -56,7 +56,7 @@ impl Reading<'_> {
 
     /// The sessions of the chapters, and then those of the rows.
     fn end(self) -> Result<Vec<Session>, AllocError> {
-        let Reading {
+        let PartialDocument {
             chapter,
             chapters: mut sessions,
             mut rows,
@@ -75,7 +75,7 @@ impl Reading<'_> {
 /// An error where memory was refused.
 pub fn sessions_of(alloc: Global, name: &str, text: &str) -> Result<Vec<Session>, AllocError> {
     let first = format!(in alloc; "{name}, before the chapters")?;
-    let mut reading = Reading {
+    let mut reading = PartialDocument {
         alloc,
         name,
         chapter: Session::new(alloc, first),

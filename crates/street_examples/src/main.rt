@@ -5,12 +5,12 @@
 //! and the replies of a session. The status is 1 where a session is answered otherwise.
 #![tactic(auto)]
 
-mod answering;
 mod document;
+mod engine_answers;
 mod folder;
 mod session;
 
-use answering::answers;
+use engine_answers::answers;
 use session::{Session, same_lines};
 use std::process::ExitCode;
 use std::thread::Threads;

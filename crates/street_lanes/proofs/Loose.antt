@@ -6,17 +6,17 @@ use Rattle.std.proofs.lemmas.Bool.{cases_eq, eq-eqb, ne_eqb}
 use Rattle.std.proofs.lemmas.List.{get_or-set_other}
 use Rattle.street_base.specs.declared.car.Car.{Car}
 use Rattle.street_rule.specs.Changed.{KeepsRest}
-use Rattle.street_rule.specs.Pass.{Moves, stopped, left_lists}
-use Rattle.street_yard.specs.Yard.{Kept, Yard, list_at, entry_at, place_of, place_set, without, Has, Away, IsLoose, IsWhole}
+use Rattle.street_rule.specs.Pass.{MovesList, stopped, left_lists}
+use Rattle.street_yard.specs.Yard.{YardEntry, Yard, list_at, entry_at, list_on, list_set, without, Has, Away, IsLoose, IsWhole}
 use Rattle.street_yard.proofs.Keys.{has_or_away, has-later, listed_within}
-use Rattle.street_yard.proofs.Callers.{entry-kept_set, entry-kept_set_other, list-written}
+use Rattle.street_yard.proofs.YardLemmas.{entry-kept_set, entry-kept_set_other, list-written}
 use Rattle.street_lanes.specs.Lists.{NoneLoose, NoneLooseBut}
 use Rattle.street_lanes.specs.Inside.{loose_one, loose_in}
-use Rattle.street_lanes.proofs.Touching.{loose-off}
+use Rattle.street_lanes.proofs.Touches.{loose-off}
 
 -- an entry on no list
-abbrev IsOff : Option Kept → Type 0
-IsOff o = IsSomeAnd o (λ (e : Kept). e.list ≡ None)
+abbrev IsOff : Option YardEntry → Type 0
+IsOff o = IsSomeAnd o (λ (e : YardEntry). e.list ≡ None)
 
 -- ---- all but one entry are as they were
 
@@ -31,19 +31,19 @@ loose-settled old new key others settled but k loose = elim (cases_eq k key) as 
 pub loose-but : (y : Yard) (key : ℕ) → NoneLoose y → NoneLooseBut key y
 loose-but y key none k loose = absurd (none k loose)
 
-on-list : (o : Option Kept) (list : ℕ) → IsOff (option_map (λ (e : Kept). record e { list = Some list }) o) → ⊥
+on-list : (o : Option YardEntry) (list : ℕ) → IsOff (option_map (λ (e : YardEntry). record e { list = Some list }) o) → ⊥
 on-list None list off = off
 on-list (Some e) list off = (let bad : ◌≡◌ {A = Option ℕ} (Some list) None = off in cc)
 
 -- the one has come on a list
-pub loose-placed : (old between new : Yard) (key list : ℕ) → ((k : ℕ) → k ≢ key → entry_at between k ≡ entry_at old k) → new.kept ≡ place_set between.kept key (Some list) → NoneLooseBut key old → NoneLoose new
+pub loose-placed : (old between new : Yard) (key list : ℕ) → ((k : ℕ) → k ≢ key → entry_at between k ≡ entry_at old k) → new.kept ≡ list_set between.kept key (Some list) → NoneLooseBut key old → NoneLoose new
 loose-placed old between new key list others placed but =
     loose-settled old new key
     (λ k ne. ap (λ es. get_or es k None) placed ∙ entry-kept_set_other between.kept key (λ e. record e { list = Some list }) k ne ∙ others k ne)
     (λ loose. on-list (get_or between.kept key None) list (subst IsOff (ap (λ es. get_or es key None) placed ∙ entry-kept_set between.kept key (λ e. record e { list = Some list })) loose))
     but
 
-gone : (es : List (Option Kept)) (k : ℕ) → get_or (set es k None) k None ≡ None
+gone : (es : List (Option YardEntry)) (k : ℕ) → get_or (set es k None) k None ≡ None
 gone [] k = refl
 gone (e ∷ es) zero = refl
 gone (e ∷ es) (suc k) = gone es k
@@ -58,12 +58,12 @@ loose-gone old between new key others taken but =
 
 -- ---- a pass over lists
 
-off-car : (o : Option Kept) → IsOff o → (c : Car) × (option_map (λ (e : Kept). e.car) o ≡ Some c)
+off-car : (o : Option YardEntry) → IsOff o → (c : Car) × (option_map (λ (e : YardEntry). e.car) o ≡ Some c)
 off-car None off = absurd off
 off-car (Some e) off = (e.car, refl)
 
 -- an entry that is there and not on none is on a list
-on-one : (o : Option Kept) → IsSome o → (IsOff o → ⊥) → (n : ℕ) × (option_and_then (λ (e : Kept). e.list) o ≡ Some n)
+on-one : (o : Option YardEntry) → IsSome o → (IsOff o → ⊥) → (n : ℕ) × (option_and_then (λ (e : YardEntry). e.list) o ≡ Some n)
 on-one None some on = absurd (cc)
 on-one (Some e) some on = by e.list refl
   where
@@ -71,16 +71,16 @@ on-one (Some e) some on = by e.list refl
     by None q = absurd (on q)
     by (Some n) q = (n, q)
 
-driven-there : (o : Option Kept) (c : Car) → option_map stopped (option_map (λ (e : Kept). e.car) o) ≡ Some c → IsSome o
+driven-there : (o : Option YardEntry) (c : Car) → option_map stopped (option_map (λ (e : YardEntry). e.car) o) ≡ Some c → IsSome o
 driven-there None c e = cc
 driven-there (Some k) c e = refl
 
-held-there : (o : Option Kept) (c : Car) → option_map (λ (e : Kept). e.car) o ≡ Some c → IsSome o
+held-there : (o : Option YardEntry) (c : Car) → option_map (λ (e : YardEntry). e.car) o ≡ Some c → IsSome o
 held-there None c e = cc
 held-there (Some k) c e = refl
 
 -- who is on no list is on none that is named
-off-named : (y : Yard) (k n : ℕ) → IsLoose y k → place_of y k ≡ Some n → ⊥
+off-named : (y : Yard) (k n : ℕ) → IsLoose y k → list_on y k ≡ Some n → ⊥
 off-named y k n loose on = (let bad : ◌≡◌ {A = Option ℕ} (Some n) None = sym on ∙ loose-off y k loose in cc)
 
 has-without : (a k : ℕ) (us vs : List ℕ) → k ≢ a → Has (without a (us ++ k ∷ vs)) k
@@ -97,7 +97,7 @@ still-listed lists n k (Some a) stays h =
     (subst (λ l. Has (without a l) k) (sym h.2) (has-without a k h.0 h.1 (λ e. stays (ap Some (sym e)))))
 
 -- motion: none but who has left
-pub loose-moved : (old new : Yard) (n : ℕ) (away : Option ℕ) → IsWhole old → Moves old new n away → NoneLoose old → (k : ℕ) → IsLoose new k → (away ≡ Some k → ⊥) → ⊥
+pub loose-moved : (old new : Yard) (n : ℕ) (away : Option ℕ) → IsWhole old → MovesList old new n away → NoneLoose old → (k : ℕ) → IsLoose new k → (away ≡ Some k → ⊥) → ⊥
 loose-moved old new n away whole moves none k loose stays =
     let c = off-car (entry_at new k) loose in
     let there = driven-there (entry_at old k) (stopped c.0) (sym (moves.cars k) ∙ ap (option_map stopped) c.1) in
@@ -111,8 +111,8 @@ loose-moved old new n away whole moves none k loose stays =
     ]
 
 -- lane changes: none
-pub loose-woven : (old new : Yard) (lists : List ℕ) → KeepsRest old new lists → NoneLoose old → NoneLoose new
-loose-woven old new lists rest none k loose =
+pub loose-changed : (old new : Yard) (lists : List ℕ) → KeepsRest old new lists → NoneLoose old → NoneLoose new
+loose-changed old new lists rest none k loose =
     let c = off-car (entry_at new k) loose in
     let at = on-one (entry_at old k) (held-there (entry_at old k) c.0 (sym (rest.cars k) ∙ c.1)) (none k) in
     elim (has_or_away at.0 lists) as (λ _. ⊥) [
@@ -125,14 +125,14 @@ loose-woven old new lists rest none k loose =
 pub nobody-loose : (y : Yard) → NoneLoose y → loose_in y ≡ []
 nobody-loose y none = by y.kept none
   where
-    listed : (e : Kept) (n : ℕ) → e.list ≡ Some n → loose_one (Some e) ≡ None
+    listed : (e : YardEntry) (n : ℕ) → e.list ≡ Some n → loose_one (Some e) ≡ None
     listed e n on = rw on refl
 
-    one : (e : Kept) (o : Option ℕ) → e.list ≡ o → (IsOff (Some e) → ⊥) → loose_one (Some e) ≡ None
+    one : (e : YardEntry) (o : Option ℕ) → e.list ≡ o → (IsOff (Some e) → ⊥) → loose_one (Some e) ≡ None
     one e None off on = absurd (on off)
     one e (Some n) at on = listed e n at
 
-    by : (es : List (Option Kept)) → ((k : ℕ) → IsOff (get_or es k None) → ⊥) → filter_map loose_one es ≡ []
+    by : (es : List (Option YardEntry)) → ((k : ℕ) → IsOff (get_or es k None) → ⊥) → filter_map loose_one es ≡ []
     by [] all = refl
     by (None ∷ es) all = by es (λ k. all (suc k))
     by (Some e ∷ es) all = rw (one e e.list refl (all 0)) (by es (λ k. all (suc k)))

@@ -2,7 +2,7 @@
 ghost use Rattle.std.specs.Prelude.{◌≡◌, ◌<◌, length, option_map};
 ghost use Rattle.street_yard.specs.Yard.{IsOnList};
 
-use crate::seeking::stands_on;
+use crate::search::stands_on;
 use std::alloc::{AllocError, Global};
 use street_base::{Car, CarNo, Step};
 use street_yard::{Key, ListId, Yard};

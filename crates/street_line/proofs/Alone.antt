@@ -13,7 +13,7 @@ use Rattle.street_stream.specs.declared.tally.Tally.{Tally}
 use Rattle.street_line.specs.declared.service.Served.{Served}
 use Rattle.street_line.specs.declared.service.Served.TheVariants.{Answered, Full}
 use Rattle.street_line.specs.Faults.{Breaks}
-use Rattle.street_line.specs.Running.{Said, silent, faulty, calls, said, Done, Goes}
+use Rattle.street_line.specs.Runs.{Said, silent, faulty, calls, said, Done, Goes}
 use Rattle.street_line.specs.Sessions.{AloneServes, DeskServes, IsAlone}
 
 -- ---- the desk stays

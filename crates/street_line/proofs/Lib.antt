@@ -1,4 +1,4 @@
-pub mod LineLemmas
-pub mod Handling
-pub mod EngineLemmas
+pub mod Said
+pub mod ServiceHandler
+pub mod EngineRuns
 pub mod Alone

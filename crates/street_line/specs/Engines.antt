@@ -5,13 +5,13 @@ use Rattle.street_base.specs.declared.command.Command.{Command}
 use Rattle.street_base.specs.declared.reply.Outcome.{Outcome}
 use Rattle.street_base.specs.State.{State}
 use Rattle.street_base.specs.Outcomes.{Answers}
-use Rattle.street_engine.specs.Refines.{View, Serves}
+use Rattle.street_engine.specs.Refines.{EngineView, Serves}
 use Rattle.street_line.specs.declared.service.Served.{Served}
 use Rattle.street_line.specs.declared.service.Served.TheVariants.{Answered, Full}
-use Rattle.street_line.specs.Running.{Said, silent, faulty, calls, said}
+use Rattle.street_line.specs.Runs.{Said, silent, faulty, calls, said}
 
 -- an engine answers every command, as the machine does under some outcome
-abbrev pub EngineServes : View → Command → Served → View → Type 0
+abbrev pub EngineServes : EngineView → Command → Served → EngineView → Type 0
 EngineServes before command (Answered reply) after = (outcome : Outcome) × Serves before command reply outcome after
 EngineServes before command Full after = ⊥
 

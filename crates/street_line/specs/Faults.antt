@@ -14,7 +14,7 @@ use Rattle.street_stream.specs.declared.tally.FaultKind.TheVariants.{Starved}
 use Rattle.street_stream.specs.declared.tally.RunFault.{RunFault}
 use Rattle.street_stream.specs.declared.tally.Tally.{Tally}
 use Rattle.street_line.specs.declared.service.Served.{Served}
-use Rattle.street_line.specs.Running.{is_call, has_reply, said, Goes, IsTally}
+use Rattle.street_line.specs.Runs.{is_call, has_reply, said, Goes, IsTally}
 
 -- a line ends a run only where memory was wanting to read it
 abbrev pub kind_of : Cause NoMemory → FaultKind

@@ -7,7 +7,7 @@ use Rattle.street_stream.specs.declared.tally.FaultKind.{FaultKind}
 use Rattle.street_stream.specs.declared.tally.FaultKind.TheVariants.{Read, Write, Starved, Endless}
 use Rattle.street_stream.specs.declared.tally.Tally.{Tally}
 use Rattle.street_line.specs.Faults.{Breaks}
-use Rattle.street_line.specs.Running.{Goes}
+use Rattle.street_line.specs.Runs.{Goes}
 use Rattle.street_line.specs.Sessions.{DeskServes}
 use Rattle.street_line.specs.declared.script.Script.{Script}
 
@@ -19,15 +19,15 @@ in_memory Starved = Starved
 in_memory Endless = Endless
 
 -- the replies are the output of the lines of this text, or as far as a fault let them be served
-abbrev pub Served : PassView → List ℕ → List ℕ → Option FaultKind → PassView → Type 0
-Served old text replies None new = Goes DeskServes old (lines_of text) replies new
-Served old text replies (Some fault) new = (kind : FaultKind) × (tally : Tally)
+abbrev pub ScriptServed : PassView → List ℕ → List ℕ → Option FaultKind → PassView → Type 0
+ScriptServed old text replies None new = Goes DeskServes old (lines_of text) replies new
+ScriptServed old text replies (Some fault) new = (kind : FaultKind) × (tally : Tally)
     × (fault ≡ in_memory kind) × Breaks DeskServes old (Some []) text new (Some replies) kind tally
 
 -- a file that was opened was served, whatever text it gave; without one nothing changed
 abbrev pub IsRunFrom : {F R : Type 0} → Option F → Script R → Script R → Type 0
 IsRunFrom None old new = (new.session ≡ old.session) × (new.replies ≡ old.replies) × (new.fault ≡ old.fault)
-IsRunFrom (Some file) old new = (text : List ℕ) × Served old.session text new.replies.items new.fault new.session
+IsRunFrom (Some file) old new = (text : List ℕ) × ScriptServed old.session text new.replies.items new.fault new.session
 
 abbrev pub IsRun : {R : Type 0} → Script R → Script R → Type 0
 IsRun old new = IsRunFrom old.file old new

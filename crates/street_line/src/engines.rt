@@ -3,14 +3,14 @@
 //! Source: this profile.
 ghost use Rattle.std.specs.Prelude.{◌≡◌, ◌≤◌, IfOk, IfErr};
 ghost use Rattle.street_base.specs.State.{State};
-ghost use Rattle.street_stream.specs.Ends.{IsFresh};
+ghost use Rattle.street_stream.specs.Streams.{IsFresh};
 ghost use Rattle.street_stream.specs.Faults.{IsCaused};
 ghost use Rattle.street_engine.specs.Refines.{StandsFor};
 ghost use Rattle.street_line.specs.Engines.{MachineServes};
 ghost use Rattle.street_line.specs.Faults.{ServedInPart};
-ghost use Rattle.street_line.specs.Running.{ServedWhole};
+ghost use Rattle.street_line.specs.Runs.{ServedWhole};
 
-use crate::running::run_lines;
+use crate::runs::run_lines;
 use crate::service::{Served, Service};
 use std::alloc::Global;
 use std::io::{Read, Write};
@@ -33,9 +33,9 @@ impl<'a, R: Threads + Sync> Drop for EngineSession<'a, R> {
 }
 
 impl<'a, R: Threads + Sync> Model for EngineSession<'a, R> {
-    ghost use Rattle.street_engine.specs.Refines.{View};
+    ghost use Rattle.street_engine.specs.Refines.{EngineView};
 
-    ghost Value = { View };
+    ghost Value = { EngineView };
 
     ghost view = { λ s. s.engine };
 }
@@ -88,12 +88,12 @@ pub fn run_engine<R: Threads + Sync, D: Read, W: Write>(
     requires writer { IsFresh writer.old }
     ensures served { IfOk result (λ tally. (old : State) → StandsFor session.old old
         → (new : State) × StandsFor session.new new
-        × ServedWhole MachineServes old (D.remaining reader.old.end) (W.contents writer.old.end)
-        new (D.remaining reader.new.end) (W.contents writer.new.end) tally) }
+        × ServedWhole MachineServes old (D.remaining reader.old.stream) (W.contents writer.old.stream)
+        new (D.remaining reader.new.stream) (W.contents writer.new.stream) tally) }
     ensures broken { IfErr result (λ fault. (old : State) → StandsFor session.old old
         → (new : State) × StandsFor session.new new
-        × ServedInPart MachineServes old (D.remaining reader.old.end) (W.contents writer.old.end)
-        new (D.remaining reader.new.end) (W.contents writer.new.end) fault) }
+        × ServedInPart MachineServes old (D.remaining reader.old.stream) (W.contents writer.old.stream)
+        new (D.remaining reader.new.stream) (W.contents writer.new.stream) fault) }
     ensures caused { IfErr result (λ fault. IsCaused fault.kind reader.new writer.new 1000000000) }
     ensures bounded { reader.new.calls ≤ 1000000000 }
 {

@@ -8,7 +8,7 @@ ghost use Rattle.street_base.specs.State.{State};
 ghost use Rattle.street_base.specs.declared.reply.Outcome.{Outcome};
 ghost use Rattle.street_base.specs.declared.reply.Reply.{Reply};
 ghost use Rattle.street_line.specs.Engines.{MachineServes, commands_of};
-ghost use Rattle.street_line.specs.Running.{Goes};
+ghost use Rattle.street_line.specs.Runs.{Goes};
 
 use street_base::census_holds;
 

@@ -1,28 +1,26 @@
-//! Lines: a whole text of lines served one after another.
+//! Lines: a whole text of lines served one after another, by an engine, or at a desk with one caller's pass.
 //!
-//! What a line says, and what a reply's line is, stands in `street_text`, and what an end counts in `street_ends`; their
-//! functions stand here too. What a text of lines gives is `Goes` of `specs/Running`, what a fault leaves is `Breaks` of
-//! `specs/Faults`, and what the machine serves is `MachineServes` of `specs/Engines`.
+//! What a text of lines gives is `Goes` of `specs/Runs`, what a fault leaves is `Breaks` of `specs/Faults`, and what the
+//! machine serves is `MachineServes` of `specs/Engines`. What a desk serves is `DeskServes` of `specs/Sessions`; where it has
+//! one session alone, what is served is `AloneServes` there. Scripts are sessions on threads of their own ([`run_scripts`]).
 //!
-//! Sessions at a desk: lines served by a desk with one caller's pass, and scripts on threads of their own.
-//!
-//! What a desk serves is `DeskServes` of `specs/Sessions`; where it has one session alone, what is served is
-//! `AloneServes` there.
+//! What a line says, and what a reply's line is, stands in `street_text`, and what a stream counts in `street_stream`; their
+//! functions are shown here too.
 #![tactic(auto)]
 
+mod answers;
 mod engines;
 mod laws;
-mod running;
+mod runs;
 mod script;
+mod server;
 mod service;
-mod serving;
 mod session;
 mod sessions;
-mod writing;
 
 pub use engines::{EngineSession, run_engine};
 pub use laws::lines_are_a_run;
-pub use running::{run_lines, run_lines_within};
+pub use runs::{run_lines, run_lines_within};
 pub use script::{Script, answer_all, run_scripts};
 pub use service::{Served, Service};
 pub use session::DeskSession;

@@ -5,7 +5,7 @@ ghost use Rattle.std.specs.Prelude.{◌≡◌, ◌↔◌, ◌⊎◌, ◌<◌, �
 ghost use Rattle.street_desk.specs.Passes.{DeskView};
 ghost use Rattle.street_stream.specs.declared.tally.FaultKind.TheVariants as kinds;
 ghost use Rattle.street_line.specs.declared.script.Script.{Script};
-ghost use Rattle.street_line.specs.Scripts.{IsRun, Served, in_memory as memory_kind};
+ghost use Rattle.street_line.specs.Scripts.{IsRun, ScriptServed, in_memory as memory_kind};
 
 use crate::session::DeskSession;
 use crate::sessions::run_session;
@@ -80,13 +80,13 @@ pub fn answer_all<R: Threads + Wait + Sync, D: Read + Drop>(
     reader: D,
 ) -> (Vec<u8>, Option<FaultKind>)
     ensures desk { session.new.desk ≡ session.old.desk }
-    ensures served { (text : List ℕ) × Served session.old text result.0.items result.1 session.new }
+    ensures served { (text : List ℕ) × ScriptServed session.old text result.0.items result.1 session.new }
 {
     let mut reader = Counted::new(reader);
     let mut writer = Counted::new(Vec::new(alloc));
     match run_session(alloc, session, &mut reader, &mut writer) {
-        Ok(_) => (writer.end, None),
-        Err(fault) => (writer.end, Some(in_memory(fault.kind))),
+        Ok(_) => (writer.stream, None),
+        Err(fault) => (writer.stream, Some(in_memory(fault.kind))),
     }
 }
 

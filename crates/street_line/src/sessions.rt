@@ -2,10 +2,10 @@
 //!
 //! Source: this profile.
 ghost use Rattle.std.specs.Prelude.{◌≡◌, ◌≤◌, IfOk, IfErr};
-ghost use Rattle.street_stream.specs.Ends.{IsFresh};
+ghost use Rattle.street_stream.specs.Streams.{IsFresh};
 ghost use Rattle.street_stream.specs.Faults.{IsCaused};
 ghost use Rattle.street_line.specs.Faults.{ServedInPart};
-ghost use Rattle.street_line.specs.Running.{ServedWhole};
+ghost use Rattle.street_line.specs.Runs.{ServedWhole};
 ghost use Rattle.street_line.specs.Sessions.{AloneServes, DeskServes, IsAlone};
 
 use crate::session::DeskSession;
@@ -30,10 +30,10 @@ pub fn run_session<R: Threads + Wait + Sync, D: Read, W: Write>(
 ) -> Result<Tally, RunFault>
     requires reader { IsFresh reader.old }
     requires writer { IsFresh writer.old }
-    ensures served { IfOk result (λ tally. ServedWhole DeskServes session.old (D.remaining reader.old.end) (W.contents writer.old.end)
-        session.new (D.remaining reader.new.end) (W.contents writer.new.end) tally) }
-    ensures broken { IfErr result (λ fault. ServedInPart DeskServes session.old (D.remaining reader.old.end) (W.contents writer.old.end)
-        session.new (D.remaining reader.new.end) (W.contents writer.new.end) fault) }
+    ensures served { IfOk result (λ tally. ServedWhole DeskServes session.old (D.remaining reader.old.stream) (W.contents writer.old.stream)
+        session.new (D.remaining reader.new.stream) (W.contents writer.new.stream) tally) }
+    ensures broken { IfErr result (λ fault. ServedInPart DeskServes session.old (D.remaining reader.old.stream) (W.contents writer.old.stream)
+        session.new (D.remaining reader.new.stream) (W.contents writer.new.stream) fault) }
     ensures caused { IfErr result (λ fault. IsCaused fault.kind reader.new writer.new 1000000000) }
     ensures bounded { reader.new.calls ≤ 1000000000 }
     ensures same { session.new.desk ≡ session.old.desk }
@@ -58,11 +58,11 @@ pub fn run_alone<R: Threads + Wait + Sync, D: Read, W: Write>(
     requires reader { IsFresh reader.old }
     requires writer { IsFresh writer.old }
     ensures served { IfOk result (λ tally. ServedWhole (AloneServes session.old.desk.calls)
-        session.old.seen (D.remaining reader.old.end) (W.contents writer.old.end)
-        session.new.seen (D.remaining reader.new.end) (W.contents writer.new.end) tally) }
+        session.old.seen (D.remaining reader.old.stream) (W.contents writer.old.stream)
+        session.new.seen (D.remaining reader.new.stream) (W.contents writer.new.stream) tally) }
     ensures broken { IfErr result (λ fault. ServedInPart (AloneServes session.old.desk.calls)
-        session.old.seen (D.remaining reader.old.end) (W.contents writer.old.end)
-        session.new.seen (D.remaining reader.new.end) (W.contents writer.new.end) fault) }
+        session.old.seen (D.remaining reader.old.stream) (W.contents writer.old.stream)
+        session.new.seen (D.remaining reader.new.stream) (W.contents writer.new.stream) fault) }
     ensures caused { IfErr result (λ fault. IsCaused fault.kind reader.new writer.new 1000000000) }
     ensures bounded { reader.new.calls ≤ 1000000000 }
     ensures same { session.new.desk ≡ session.old.desk }

@@ -3,7 +3,7 @@ use Rattle.std.proofs.Common.{ℕ, List, [], ◌∷◌, Option, Some, None, Resu
 use Rattle.std.specs.Prelude.{Vec}
 use Rattle.std.specs.declared.alloc.Global.{Global}
 use Rattle.street_base.specs.declared.reply.Starved.{Starved}
-use Rattle.street_stream.specs.Handling.{GivesText}
+use Rattle.street_stream.specs.HandledLines.{GivesText}
 
 -- each answer gives some text, or none
 pub some_text : (reply : Result (Option (Vec ℕ Global)) Starved) → (text : Option (List ℕ)) × GivesText reply text

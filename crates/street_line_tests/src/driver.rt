@@ -15,7 +15,7 @@ struct Stopped {
 
 /// Answers each line that is not blank by `ok`, and ends with a line `x`. A line has three bytes at most.
 #[derive(Drop)]
-struct Answering {
+struct Answerer {
     lines: u8,
 }
 
@@ -31,7 +31,7 @@ fn reply_to(alloc: Global, line: &PartialLine) -> Result<Option<Vec<u8>>, street
     Ok(Some(text))
 }
 
-impl LineHandler for Answering {
+impl LineHandler for Answerer {
     type Stop = Stopped;
 
     ghost longest = { 3 };
@@ -63,10 +63,10 @@ fn counts(tally: &Tally) -> (u128, u128, u128, u128) {
 fn drive(alloc: Global, text: &[u8], reads: u32) -> (Result<Tally, Halt<Stopped>>, Vec<u8>) {
     let mut reader = Counted::new(text);
     let mut writer = Counted::new(Vec::new(alloc));
-    let mut handler = Answering { lines: 0 };
+    let mut handler = Answerer { lines: 0 };
     let limits = Limits { line: 3, reads };
     let run = drive_lines(alloc, &mut handler, &mut reader, &mut writer, limits);
-    (run, writer.end)
+    (run, writer.stream)
 }
 
 #[test]

@@ -1,16 +1,5 @@
-//! Tests of lines: what a line reads as, and ends that count and fail.
-//!
-//! They stand in a crate of their own since a crate is proved once more for the tests that it has.
-//!
-//! Tests of a desk at which two callers take turns.
-//!
-//! They stand in a crate of their own since a crate is proved once more for the tests that it has.
-//!
-//! Tests of sessions at a desk, whole ones over bytes in memory among them.
-//!
-//! They stand in a crate of their own since a crate is proved once more for the tests that it has.
-//!
-//! Tests of lines that an engine serves, over ends in memory that fail when they are told to.
+//! Tests of lines: what a line reads as; streams that count and fail; a desk at which two callers take turns; sessions at a desk,
+//! whole ones over bytes in memory among them; and lines that an engine serves over streams that fail when they are told to.
 //!
 //! They stand in a crate of their own since a crate is proved once more for the tests that it has.
 #![tactic(auto)]
@@ -20,14 +9,14 @@ mod desk;
 #[cfg(test)]
 mod driver;
 #[cfg(test)]
-mod endings;
-#[cfg(test)]
-mod ends;
+mod line_commands;
 #[cfg(test)]
 mod lines;
 #[cfg(test)]
-mod reading;
+mod memory_streams;
 #[cfg(test)]
 mod scenes;
 #[cfg(test)]
 mod sessions;
+#[cfg(test)]
+mod streams;

@@ -1,8 +1,8 @@
-//! Whole runs over ends in memory. What is wanted was worked out by hand from the rules of lines and of motion.
+//! Whole runs over streams in memory. What is wanted was worked out by hand from the rules of lines and of motion.
 
 mod cases;
 mod faults;
-mod running;
+mod runs;
 
 use std::alloc::{AllocError, Global};
 use std::process::Abort;
@@ -49,7 +49,7 @@ fn served(alloc: Global, text: &[u8]) -> (Option<Tally>, Vec<u8>, u64) {
     let mut writer = Counted::new(Vec::new(alloc));
     let mut toy = Toy { clock: 0 };
     let tally = run_lines(alloc, &mut toy, &mut reader, &mut writer).ok();
-    (tally, writer.end, toy.clock)
+    (tally, writer.stream, toy.clock)
 }
 
 #[test]

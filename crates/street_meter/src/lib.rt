@@ -3,4 +3,4 @@
 
 mod meter;
 
-pub use meter::{Meter, Place, Rows};
+pub use meter::{Meter, MeterSite, Rows};

@@ -16,7 +16,7 @@ const KEPT_ROWS: usize = 32;
 
 /// Where a meter is.
 #[derive(Clone, Copy)]
-pub struct Place {
+pub struct MeterSite {
     /// The link.
     pub link: LinkIx,
     /// The lane of it.
@@ -36,7 +36,7 @@ pub struct Rows {
 
 /// What a cell's detector has noted, summed by periods: the running one and the last 32 full ones.
 pub struct Meter {
-    place: Place,
+    place: MeterSite,
     period: u32,
     start: Step,
     running: RunningRow,
@@ -115,7 +115,7 @@ impl Meter {
     ///
     /// # Errors
     /// Memory for the rows was wanting.
-    pub fn new(alloc: Global, place: Place, period: u32, start: Step) -> Result<Meter, Starved>
+    pub fn new(alloc: Global, place: MeterSite, period: u32, start: Step) -> Result<Meter, Starved>
         requires some { 1 ≤ period }
         requires short { period ≤ 100000 }
         requires start { start ≤ 1000000000 }
@@ -166,7 +166,7 @@ impl Meter {
     }
 
     /// Where the meter is.
-    pub fn place(&self) -> Place
+    pub fn place(&self) -> MeterSite
         ensures lane { self.now.place ≡ record { link = result.link; lane = result.lane } }
         ensures cell { self.now.cell ≡ result.cell }
     {

@@ -5,15 +5,15 @@
 #![tactic(auto)]
 
 mod briefs;
-mod checked;
 mod entries;
 mod faults;
 mod keys;
 mod lanes;
 mod lists;
+mod network;
 mod plans;
 mod turns;
 
-pub use checked::Network;
 pub use faults::{NetFault, PlanFault};
 pub use lanes::LaneId;
+pub use network::Network;

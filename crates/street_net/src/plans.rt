@@ -8,8 +8,8 @@ ghost use Rattle.street_base.specs.Faults.{is_bad_entry, plan_fault};
 ghost use Rattle.street_base.specs.Machine.{plan_links};
 ghost use Rattle.street_net.specs.Refused.{TellsRefusal, plan_refusal};
 
-use crate::checked::Network;
 use crate::faults::PlanFault;
+use crate::network::Network;
 use std::alloc::Global;
 use street_base::{LinkIx, Plan};
 

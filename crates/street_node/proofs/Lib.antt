@@ -1,13 +1,13 @@
-pub mod Finding
-pub mod Ranking
-pub mod Showing
-pub mod Judging
-pub mod Marking
-pub mod Building
-mod Joining
+pub mod GreenSearch
+pub mod TurnRank
+pub mod Shown
+pub mod GreenTurns
+pub mod LinkMarks
+pub mod KeptPlan
+mod Joins
 mod Queues
-mod Walking
-mod Landing
-mod Sending
-mod Releasing
+mod BufferWalk
+mod LaneWalk
+mod Sends
+mod ReleaseLemmas
 mod Steps

@@ -6,9 +6,9 @@ use Rattle.street_base.specs.declared.car.Car.{Car}
 use Rattle.street_base.specs.Vehicle.{vehicle_of}
 use Rattle.street_base.specs.State.{Queued}
 use Rattle.street_base.specs.Release.{on_next_link}
-use Rattle.street_yard.specs.Yard.{Kept, Yard, list_at, entry_at, car_of, place_of, first_or, Has, Away, IsApart, IsWhole}
+use Rattle.street_yard.specs.Yard.{YardEntry, Yard, list_at, entry_at, car_of, list_on, first_or, Has, Away, IsApart, IsWhole}
 use Rattle.street_yard.proofs.Keys.{has-later, has-away}
-use Rattle.street_yard.proofs.Callers.{head_is, on_has_entry, parts_apart, without-is}
+use Rattle.street_yard.proofs.YardLemmas.{head_is, on_has_entry, parts_apart, without-is}
 use Rattle.street_node.specs.Buffers.{queued_of, queue_of}
 use Rattle.street_node.specs.Releases.{sent_on, SendsOn}
 
@@ -18,7 +18,7 @@ pub head-of : (y : Yard) (n k : ℕ) → first_or (list_at y n) None ≡ Some k 
 head-of y n k h = head_is k (list_at y n) (Some k) refl (sym h)
 
 -- the front is on its list
-pub head-on : (y : Yard) (n k : ℕ) → IsWhole y → first_or (list_at y n) None ≡ Some k → place_of y k ≡ Some n
+pub head-on : (y : Yard) (n k : ℕ) → IsWhole y → first_or (list_at y n) None ≡ Some k → list_on y k ≡ Some n
 head-on y n k whole h = let at = head-of y n k h in whole.names k n ([], at.0, at.1)
 
 pub head-held : (y : Yard) (n k : ℕ) → IsWhole y → first_or (list_at y n) None ≡ Some k → IsSome (entry_at y k)
@@ -41,7 +41,7 @@ mapped-same f g [] same = refl
 mapped-same f g (x ∷ xs) same = rw (same x ([], xs, refl), mapped-same f g xs (λ z h. same z (has-later x z xs h))) refl
 
 held-same : (y now : Yard) (x : ℕ) → entry_at now x ≡ entry_at y x → option_map queued_of (car_of now x) ≡ option_map queued_of (car_of y x)
-held-same y now x e = ap (λ (o : Option Kept). option_map queued_of (option_map (λ (e : Kept). e.car) o)) e
+held-same y now x e = ap (λ (o : Option YardEntry). option_map queued_of (option_map (λ (e : YardEntry). e.car) o)) e
 
 pub queue-kept : (y now : Yard) (n : ℕ) → list_at now n ≡ list_at y n → ((x : ℕ) → Has (list_at y n) x → entry_at now x ≡ entry_at y x) → queue_of now n ≡ queue_of y n
 queue-kept y now n same entries =
@@ -50,7 +50,7 @@ queue-kept y now n same entries =
 
 -- ---- a front that is sent on
 
-some_car : (o : Option Kept) → IsSome o → (c : Car) × (option_map (λ (e : Kept). e.car) o ≡ Some c)
+some_car : (o : Option YardEntry) → IsSome o → (c : Car) × (option_map (λ (e : YardEntry). e.car) o ≡ Some c)
 some_car None h = absurd (cc)
 some_car (Some e) h = (e.car, refl)
 
@@ -71,17 +71,17 @@ module _ (y now : Yard) (n key limit : ℕ) (whole : IsWhole y) (first : first_o
   -- and the other buffers keep theirs
   pub queue-other : (j : ℕ) → j ≢ n → queue_of now j ≡ queue_of y j
   queue-other j ne = queue-kept y now j (s.others j ne) (λ x h. s.entries x (λ e.
-      let here : place_of y key ≡ Some j = subst (λ k. place_of y k ≡ Some j) e (whole.names x j h) in
+      let here : list_on y key ≡ Some j = subst (λ k. list_on y k ≡ Some j) e (whole.names x j h) in
       let both : ◌≡◌ {A = Option ℕ} (Some j) (Some n) = sym here ∙ head-on y n key whole first in
       let same : j ≡ n = cc in
       ne same))
 
-pub sent-vehicle : (limit : ℕ) (o : Option Kept) (car : Car) → option_map (λ (e : Kept). e.car) o ≡ Some car → option_map vehicle_of (option_map (λ (e : Kept). e.car) (option_map (sent_on limit) o)) ≡ Some (on_next_link limit (vehicle_of car))
+pub sent-vehicle : (limit : ℕ) (o : Option YardEntry) (car : Car) → option_map (λ (e : YardEntry). e.car) o ≡ Some car → option_map vehicle_of (option_map (λ (e : YardEntry). e.car) (option_map (sent_on limit) o)) ≡ Some (on_next_link limit (vehicle_of car))
 sent-vehicle limit None car e = cc
 sent-vehicle limit (Some k) car e = let same : k.car ≡ car = cc in ap (λ (c : Car). Some (on_next_link limit (vehicle_of c))) same
 
 -- who is sent on is on no list
-pub sent-loose : (limit : ℕ) (o : Option Kept) → option_and_then (λ (e : Kept). e.list) (option_map (sent_on limit) o) ≡ None
+pub sent-loose : (limit : ℕ) (o : Option YardEntry) → option_and_then (λ (e : YardEntry). e.list) (option_map (sent_on limit) o) ≡ None
 sent-loose limit None = refl
 sent-loose limit (Some e) = refl
 

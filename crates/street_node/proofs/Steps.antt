@@ -15,21 +15,21 @@ use Rattle.street_base.specs.Release.{may_give}
 use Rattle.street_net.specs.Tables.{place_of as place_of_lane, in_places}
 use Rattle.street_net.specs.declared.lanes.LaneId.{LaneId}
 use Rattle.street_yard.specs.declared.names.ListId.{ListId}
-use Rattle.street_yard.specs.Yard.{Kept, Yard, car_of, place_of, IsApart, IsWhole}
+use Rattle.street_yard.specs.Yard.{YardEntry, Yard, car_of, list_on, IsApart, IsWhole}
 use Rattle.street_node.specs.Buffers.{queue_of, HaveShortPlans}
-use Rattle.street_node.specs.Releases.{mouth, slot_of, lane_to, way_out, IsFront, SendsOn, Shows, Goes, crossing}
+use Rattle.street_node.specs.Releases.{mouth, slot_of, lane_to, way_out, IsFront, SendsOn, Shows, ReleasesFirst, crossing}
 use Rattle.street_node.specs.declared.release.Released.{Released}
-use Rattle.street_node.proofs.Joining.{Joins, way-joins}
+use Rattle.street_node.proofs.Joins.{Joins, way-joins}
 use Rattle.street_node.proofs.Queues.{head-on}
-use Rattle.street_node.proofs.Sending.{Walked, walk-start, walk-stays, walk-sends, untouched}
-use Rattle.street_node.proofs.Releasing.{goes-start, goes-none, goes-shut, goes-sent}
+use Rattle.street_node.proofs.Sends.{Walked, walk-start, walk-stays, walk-sends, untouched}
+use Rattle.street_node.proofs.ReleaseLemmas.{goes-start, goes-none, goes-shut, goes-sent}
 
 module _ (net : NetSpec) (faultless : network_fault net ≡ None) (node clock : ℕ) (ns : List ℕ) (apart : IsApart ns) (one_each : length ns ≡ length (in_places net node))
     (old : Yard) (mouths : List Bool) (wide : length mouths ≡ 2 * length net.links) where
   -- the first k buffers are done
   pub record AreDone (k : ℕ) (now : Yard) (open_now : List Bool) (more : List Released) : Type 0 where
     pub walked : Walked net ns old k now more
-    pub goes : (m : Traffic) → Shows net node clock ns old mouths m → Goes net node ns m k now open_now more
+    pub goes : (m : Traffic) → Shows net node clock ns old mouths m → ReleasesFirst net node ns m k now open_now more
 
   pub done-start : IsWhole old → AreDone 0 old mouths []
   done-start whole = record { walked = walk-start net ns apart old whole; goes = λ m shows. goes-start net faultless node clock ns apart one_each old mouths wide m shows }
@@ -64,9 +64,9 @@ module _ (net : NetSpec) (faultless : network_fault net ≡ None) (node clock : 
   -- a front has a next link, so its plan goes on
   pub front-short : (k : ℕ) (now : Yard) (open_now : List Bool) (more : List Released) (from : Place) (n : ℕ) (r : Released) → AreDone k now open_now more → HaveShortPlans old → IsFront net now from n r → IsSomeAnd (car_of now r.key.0) (λ c. c.at < 65535)
   front-short k now open_now more from n r d plans f =
-      let on : place_of now r.key.0 ≡ Some n = head-on now n r.key.0 d.walked.whole f.first in
+      let on : list_on now r.key.0 ≡ Some n = head-on now n r.key.0 d.walked.whole f.first in
       let same = untouched net ns apart old k now more d.walked r.key.0 n on in
-      let was : car_of old r.key.0 ≡ Some f.car = ap (option_map (λ (e : Kept). e.car)) (sym same) ∙ f.held in
+      let was : car_of old r.key.0 ≡ Some f.car = ap (option_map (λ (e : YardEntry). e.car)) (sym same) ∙ f.held in
       let short : length f.car.plan.value ≤ 1024 = plans r.key.0 f.car was in
       let there = slice_get_within (drop f.car.at f.car.plan.value) 1 r.turn.next f.next in
       let fits : f.car.at < 65535 = omega (arith, length-drop f.car.at f.car.plan.value) in
@@ -84,7 +84,7 @@ pub few-lists : (net : NetSpec) (node : ℕ) (lists : List ListId) (lanes : List
 few-lists net node lists lanes k e one h = (let a = length-map lanes place_of_lane in let b : length (map place_of_lane lanes) ≡ length (in_places net node) = ap length e in omega arith)
 
 -- past the last buffer all are done
-pub goes-all : (net : NetSpec) (node : ℕ) (ns : List ℕ) (m : Traffic) (k : ℕ) (now : Yard) (mouths : List Bool) (more : List Released) → length (in_places net node) ≤ k → Goes net node ns m k now mouths more → Goes net node ns m (length (in_places net node)) now mouths more
+pub goes-all : (net : NetSpec) (node : ℕ) (ns : List ℕ) (m : Traffic) (k : ℕ) (now : Yard) (mouths : List Bool) (more : List Released) → length (in_places net node) ≤ k → ReleasesFirst net node ns m k now mouths more → ReleasesFirst net node ns m (length (in_places net node)) now mouths more
 goes-all net node ns m k now mouths more all d =
     let same : take k (in_places net node) ≡ take (length (in_places net node)) (in_places net node) = take_all k (in_places net node) all ∙ sym (take_all (length (in_places net node)) (in_places net node) (omega arith)) in
     record {

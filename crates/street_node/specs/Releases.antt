@@ -11,7 +11,7 @@ use Rattle.street_base.specs.Network.{Place, link_at, node_of, turn}
 use Rattle.street_base.specs.State.{Traffic, Queued, lane_at}
 use Rattle.street_base.specs.Release.{target, may_give, gives, entering}
 use Rattle.street_net.specs.Tables.{in_places, turn_by_position}
-use Rattle.street_yard.specs.Yard.{Yard, Kept, list_at, entry_at, car_of, without, first_or, Away, IsWhole}
+use Rattle.street_yard.specs.Yard.{Yard, YardEntry, list_at, entry_at, car_of, without, first_or, Away, IsWhole}
 use Rattle.street_yard.specs.Listed.{vehicle_with}
 use Rattle.street_node.specs.Buffers.{queue_of}
 use Rattle.street_node.specs.declared.release.Released.{Released}
@@ -78,7 +78,7 @@ abbrev pub crossing_in : Yard → Released → Option Crossing
 crossing_in y r = option_map (λ v. record { from = lane_from r; to = lane_to r; vehicle = v }) (vehicle_with y r.key.0)
 
 -- what is kept of a vehicle that is sent on: it is on no list, no faster than the limit, and one further in its plan
-abbrev pub sent_on : ℕ → Kept → Kept
+abbrev pub sent_on : ℕ → YardEntry → YardEntry
 sent_on limit e = record e { car = record e.car { speed = min e.car.speed limit; at = e.car.at + 1 }; list = None }
 
 -- where a front goes, if it is ready
@@ -115,7 +115,7 @@ pub record Sends (net : NetSpec) (ns : List ℕ) (old new : Yard) (more : List R
 
 -- of the first k buffers each front went that goes by the machine, in their order, and no other; a mouth is open yet if
 -- none of them is ready to go there
-pub record Goes (net : NetSpec) (node : ℕ) (ns : List ℕ) (m : Traffic) (k : ℕ) (new : Yard) (mouths : List Bool) (more : List Released) : Type 0 where
+pub record ReleasesFirst (net : NetSpec) (node : ℕ) (ns : List ℕ) (m : Traffic) (k : ℕ) (new : Yard) (mouths : List Bool) (more : List Released) : Type 0 where
   pub queues : (j : ℕ) (p : Place) → j < k → slice_get (in_places net node) j ≡ Some p → queue_of new (slice_index_or ns j 0) ≡ queue_after m p
   pub shut : (p : Place) → IsAhead net node p → mouth mouths p ≡ is_free (lane_at m p).track 0 && not (list_any (may_give m p) (take k (in_places net node)))
   pub crossings : map (crossing_in new) more ≡ map (λ c. Some c) (filter_map (crossing m) (take k (in_places net node)))
@@ -125,4 +125,4 @@ pub record Releases (net : NetSpec) (node clock : ℕ) (ns : List ℕ) (old new 
   pub more : List Released
   pub told : after ≡ before ++ more
   pub sends : Sends net ns old new more
-  pub goes : (m : Traffic) → Shows net node clock ns old open_old m → Goes net node ns m (length (in_places net node)) new open_new more
+  pub goes : (m : Traffic) → Shows net node clock ns old open_old m → ReleasesFirst net node ns m (length (in_places net node)) new open_new more

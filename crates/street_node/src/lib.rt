@@ -1,13 +1,10 @@
 //! Nodes: their signal plans and buffers.
 //!
 //! A [`SignalPlan`] says of each turn and each step whether it is green. It is checked against the network when it is made.
-//! [`Buffers`] keeps the buffers of a node, and releases from them; it is shown here for callers, and made below.
-//!
-//! The buffers of a node: one for each lane that runs to it, in the order of release.
 //!
 //! A vehicle that leaves a lane by a turn waits in the lane's buffer for its residence, and longer while the lane that it
-//! turns to is not open. A buffer is a list of a yard; [`Buffers`] keeps which lists they are, and how many vehicles each
-//! holds.
+//! turns to is not open. A buffer is a list of a yard; [`Buffers`] keeps which lists the buffers of one node are, in the
+//! order of release, and how many vehicles each holds, and releases from them.
 #![tactic(auto)]
 
 mod buffers;

@@ -5,10 +5,10 @@ ghost use Rattle.std.specs.Prelude.{◌≡◌, ◌+◌, ◌*◌, ◌<◌, ◌≤
 ghost use Rattle.street_base.specs.Network.{link_at};
 ghost use Rattle.street_base.specs.Vehicle.{vehicle_of, next_link};
 ghost use Rattle.street_net.specs.Tables.{place_of as lane_of, in_places};
-ghost use Rattle.street_yard.specs.Yard.{car_of, place_of};
+ghost use Rattle.street_yard.specs.Yard.{car_of, list_on};
 ghost use Rattle.street_yard.specs.View.{viewed};
 ghost use Rattle.street_node.specs.Buffers.{queue_of, AreListed, HaveShortPlans};
-ghost use Rattle.street_node.specs.Releases.{way_out, lane_to, slot_of, mouth, IsFront, SendsOn, Goes, Releases};
+ghost use Rattle.street_node.specs.Releases.{way_out, lane_to, slot_of, mouth, IsFront, SendsOn, ReleasesFirst, Releases};
 
 use street_base::{LaneNo, LinkIx, NodeIx, Speed, Step, Turn};
 use street_net::{LaneId, Network};
@@ -54,7 +54,7 @@ fn front_to_go(
 
 /// A vehicle leaves its buffer for its next link, where it is at most as fast as allowed.
 fn send_on(yard: &mut Yard, list: ListId, key: Key, limit: Speed)
-    requires list { place_of yard.old key.0 ≡ Some list.0 }
+    requires list { list_on yard.old key.0 ≡ Some list.0 }
     requires next { IsSomeAnd (car_of yard.old key.0) (λ c. c.at < 65535) }
     ensures { SendsOn yard.old yard.new list.0 key.0 limit }
 {
@@ -84,7 +84,7 @@ fn release_front(
     mouths: &mut [bool],
     released: &mut Vec<Released>,
 )
-    requires list { place_of yard.old front.now.key.0 ≡ Some list.0 }
+    requires list { list_on yard.old front.now.key.0 ≡ Some list.0 }
     requires next { IsSomeAnd (car_of yard.old front.now.key.0) (λ c. c.at < 65535) }
     requires link { front.now.turn.next < length network.now.links }
     requires lane { front.now.turn.next_lane < 2 }

@@ -1,12 +1,5 @@
-//! Tests of the parts of a step, with values known beforehand: motion, buffers, draws, and the rows of detectors.
-//!
-//! They stand in a crate of their own since a crate is proved once more for the tests that it has.
-//!
-//! Tests of the lists of a lane, with values known beforehand: the arena, and gaps.
-//!
-//! They stand in a crate of their own since a crate is proved once more for the tests that it has.
-//!
-//! Tests of networks and of what stands on their nodes, with values known beforehand: loads, look-ups, plans, and signals.
+//! Tests of the parts of a step, with values known beforehand: the arena and gaps on the lists of a lane, motion, buffers, draws,
+//! the rows of detectors; networks with their look-ups and plans; signals.
 //!
 //! They stand in a crate of their own since a crate is proved once more for the tests that it has.
 #![tactic(auto)]

@@ -5,7 +5,7 @@ ghost use Rattle.street_meter.specs.Meter.{next_step};
 use std::process::Abort;
 use std::test::Fail;
 use street_base::{LinkIx, MeterRow, RunningRow};
-use street_meter::{Meter, Place};
+use street_meter::{Meter, MeterSite};
 
 /// The numbers of a row.
 fn numbers(row: &MeterRow) -> [u64; 4] {
@@ -18,8 +18,8 @@ fn running(row: RunningRow) -> [u64; 5] {
 }
 
 /// Cell 3 of the first link.
-fn place() -> Place {
-    Place {
+fn place() -> MeterSite {
+    MeterSite {
         link: LinkIx::new(0),
         lane: 0,
         cell: 3,

@@ -2,7 +2,7 @@
 
 ghost use Rattle.std.specs.Prelude.{◌≡◌, ◌-◌, ◌<◌, ℕ, [], IfOk, OnOk, length};
 ghost use Rattle.std.specs.List.{All};
-ghost use Rattle.street_rule.specs.Watching.{IsReady};
+ghost use Rattle.street_rule.specs.Watch.{IsReady};
 ghost use Rattle.street_yard.specs.Yard.{list_at};
 ghost use Rattle.street_yard.specs.Listed.{rear_at, AllAbove, IsLane};
 ghost use Rattle.street_gap.specs.Closed.{IsWithin};

@@ -7,17 +7,17 @@ use Rattle.std.proofs.lemmas.Bool.{cases_Bool, cases_lt, both_ways, cond-true, c
 use Rattle.std.proofs.lemmas.List.{append_assoc}
 use Rattle.street_yard.specs.Yard.{Yard, list_at, first_or, last_or, IsWhole}
 use Rattle.street_yard.proofs.Keys.{snoc_cases, last_or-push}
-use Rattle.street_yard.proofs.Callers.{AllAbove-lower}
+use Rattle.street_yard.proofs.YardLemmas.{AllAbove-lower}
 use Rattle.street_base.specs.Vehicle.{Vehicle, next_link}
 use Rattle.street_base.specs.Lane.{Track, vehicle_at, rear, is_covered, is_closed, is_free, are_free}
-use Rattle.street_base.specs.LaneChange.{Weave, free_ahead, free_behind, wishes, is_safe, changes}
+use Rattle.street_base.specs.LaneChange.{Changing, free_ahead, free_behind, wishes, is_safe, changes}
 use Rattle.street_base.proofs.CoverLemmas.{rear-le, free-uncovered, all-free}
 use Rattle.street_yard.specs.Listed.{cell_at, rear_at, vehicle_with, key_at, cells_at, IsFalling, IsLane, AllAbove}
 use Rattle.street_gap.specs.Closed.{entrance_after}
 use Rattle.street_gap.specs.Sight.{lesser}
 use Rattle.street_gap.proofs.Sights.{AllAbove-last, uncovered, obstacle-is, gap-behind-is, clear-of-key}
 use Rattle.street_rule.specs.Sight.{gap_between, gap_up, gap_down, has_room, has_room_between, wishes_with, decision}
-use Rattle.street_yard.proofs.Placed.{falling-below, falling-split, key_at-split, cells-length, seen-key, stands-key, covered-key}
+use Rattle.street_yard.proofs.FallingLists.{falling-below, falling-split, key_at-split, cells-length, seen-key, stands-key, covered-key}
 
 -- the track of a list, with these closed marks
 abbrev pub track : Yard → ℕ → ℕ → List Bool → Track
@@ -127,10 +127,10 @@ by_parts true false safe may = refl
 by_parts false true safe may = refl
 by_parts false false safe may = refl
 
-module _ (weave : Weave) (lane count : ℕ) (own_closed other_closed : List Bool) (y : Yard) (own other : ℕ) (whole : IsWhole y) (own_lane : IsLane y own count) (own_len : length own_closed ≡ count) where
+module _ (changing : Changing) (lane count : ℕ) (own_closed other_closed : List Bool) (y : Yard) (own other : ℕ) (whole : IsWhole y) (own_lane : IsLane y own count) (own_len : length own_closed ≡ count) where
   module _ (key : ℕ) (v : Vehicle) (is : vehicle_with y key ≡ Some v) where
-    as-read : key_at (cell_at y) (list_at y own) (cell_at y key) ≡ Some key → changes weave lane (track y own count own_closed) (track y other count other_closed) (cell_at y key)
-        ≡ (are_free (track y other count other_closed) (rear (cell_at y key) v) (cell_at y key) && wishes weave lane (track y own count own_closed) (track y other count other_closed) (cell_at y key) v && is_safe weave lane (track y own count own_closed) (track y other count other_closed) (cell_at y key) v && weave.may_change v.number)
+    as-read : key_at (cell_at y) (list_at y own) (cell_at y key) ≡ Some key → changes changing lane (track y own count own_closed) (track y other count other_closed) (cell_at y key)
+        ≡ (are_free (track y other count other_closed) (rear (cell_at y key) v) (cell_at y key) && wishes changing lane (track y own count own_closed) (track y other count other_closed) (cell_at y key) v && is_safe changing lane (track y own count own_closed) (track y other count other_closed) (cell_at y key) v && changing.may_change v.number)
     unfolding changes
     as-read at =
         let s = seen-key y own count whole own_lane.falls (cell_at y key) key at in
@@ -138,7 +138,7 @@ module _ (weave : Weave) (lane count : ℕ) (own_closed other_closed : List Bool
         rw there refl
 
     pub decides : (done rest : List ℕ) (ahead : Option ℕ) → list_at y own ≡ done ++ key ∷ rest → ahead ≡ option_map (rear_at y) (last_or done None)
-        → changes weave lane (track y own count own_closed) (track y other count other_closed) (cell_at y key) ≡ decision weave lane count own_closed ahead (track y other count other_closed) (cell_at y key) v
+        → changes changing lane (track y own count own_closed) (track y other count other_closed) (cell_at y key) ≡ decision changing lane count own_closed ahead (track y other count other_closed) (cell_at y key) v
     decides done rest ahead split ahead_is =
         let x = cell_at y key in
         let f : IsFalling (cell_at y) count (done ++ key ∷ rest) = subst (IsFalling (cell_at y) count) split own_lane.falls in
@@ -148,7 +148,7 @@ module _ (weave : Weave) (lane count : ℕ) (own_closed other_closed : List Bool
         let gap : free_ahead (track y own count own_closed) x ≡ gap_up own_closed ahead x =
         gap-ahead-is y own count whole own_lane done (key ∷ rest) split x parts.0 from own_closed own_len (clear-of-key y own count key done rest whole own_lane split) ∙ ap (λ o. gap_up own_closed o x) (sym ahead_is) in
         let size : length (cells_at y own count) ≡ count = cells-length y own count whole own_lane.falls in
-        let wish : wishes weave lane (track y own count own_closed) (track y other count other_closed) x v ≡ wishes_with weave lane count (gap_up own_closed ahead x) x v.speed (next_link v) = rw (gap, size) refl in
+        let wish : wishes changing lane (track y own count own_closed) (track y other count other_closed) x v ≡ wishes_with changing lane count (gap_up own_closed ahead x) x v.speed (next_link v) = rw (gap, size) refl in
         as-read at
-        ∙ by_parts (are_free (track y other count other_closed) (rear x v) x) (wishes weave lane (track y own count own_closed) (track y other count other_closed) x v) (is_safe weave lane (track y own count own_closed) (track y other count other_closed) x v) (weave.may_change v.number)
-        ∙ ap (λ w. w && (has_room (track y other count other_closed) x (rear x v) v.speed && weave.may_change v.number)) wish
+        ∙ by_parts (are_free (track y other count other_closed) (rear x v) x) (wishes changing lane (track y own count own_closed) (track y other count other_closed) x v) (is_safe changing lane (track y own count own_closed) (track y other count other_closed) x v) (changing.may_change v.number)
+        ∙ ap (λ w. w && (has_room (track y other count other_closed) x (rear x v) v.speed && changing.may_change v.number)) wish

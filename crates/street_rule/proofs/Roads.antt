@@ -6,14 +6,14 @@ use Rattle.street_base.specs.declared.net.NetSpec.{NetSpec}
 use Rattle.street_base.specs.Network.{serves}
 use Rattle.street_base.specs.Draw.{lane_draw}
 use Rattle.street_base.specs.Lane.{Track}
-use Rattle.street_base.specs.LaneChange.{Weave, woven}
+use Rattle.street_base.specs.LaneChange.{Changing, changed_cells}
 use Rattle.street_base.specs.State.{Traffic, LaneState}
-use Rattle.street_base.specs.Step.{weave_on, woven_lanes}
-use Rattle.street_yard.specs.Yard.{Yard, list_at, entry_at, car_of, place_of, Has, IsApart, IsWhole}
+use Rattle.street_base.specs.Step.{changing_on, changed_lanes}
+use Rattle.street_yard.specs.Yard.{Yard, list_at, entry_at, car_of, list_on, Has, IsApart, IsWhole}
 use Rattle.street_yard.specs.Listed.{cells_at, IsLane}
 use Rattle.street_yard.proofs.Keys.{has-away}
 use Rattle.street_rule.specs.Road.{RoadLane, Road, no_lane, lane_of, length_of, track_of, IsRoad}
-use Rattle.street_rule.specs.Sight.{weave_of}
+use Rattle.street_rule.specs.Sight.{changing_of}
 use Rattle.street_rule.specs.Relinked.{IsOnEither}
 use Rattle.street_rule.specs.Changed.{Changes, IsOn, KeepsRest}
 
@@ -42,61 +42,61 @@ two-apart (a ∷ b ∷ c ∷ ls) e h = absurd (omega arith)
 -- ---- the tracks
 
 -- a link of fewer than two lanes stays
-short-stays : (weave : Weave) (y : Yard) (count : ℕ) (ls : List RoadLane) (lanes : List LaneState) → length ls < 2 → map (track_of y count) ls ≡ map (λ lane. lane.track) lanes → woven_lanes weave lanes ≡ lanes
-short-stays weave y count ls [] h e = refl
-short-stays weave y count ls (p ∷ []) h e = refl
-short-stays weave y count (a ∷ b ∷ ls) (p ∷ q ∷ lanes) h e = absurd (omega arith)
-short-stays weave y count [] (p ∷ q ∷ lanes) h e = absurd (cc)
-short-stays weave y count (a ∷ []) (p ∷ q ∷ lanes) h e = absurd (let f = ap length e in omega arith)
+short-stays : (changing : Changing) (y : Yard) (count : ℕ) (ls : List RoadLane) (lanes : List LaneState) → length ls < 2 → map (track_of y count) ls ≡ map (λ lane. lane.track) lanes → changed_lanes changing lanes ≡ lanes
+short-stays changing y count ls [] h e = refl
+short-stays changing y count ls (p ∷ []) h e = refl
+short-stays changing y count (a ∷ b ∷ ls) (p ∷ q ∷ lanes) h e = absurd (omega arith)
+short-stays changing y count [] (p ∷ q ∷ lanes) h e = absurd (cc)
+short-stays changing y count (a ∷ []) (p ∷ q ∷ lanes) h e = absurd (let f = ap length e in omega arith)
 
 pub one-changes : (y : Yard) (road : Road) (step : ℕ) → length road.lanes < 2 → Changes y y road step
-one-changes y road step few m lanes net clock stands = stands ∙ ap (map (λ lane. lane.track)) (sym (short-stays (weave_on m road.link) y (length_of road) road.lanes lanes few stands))
+one-changes y road step few m lanes net clock stands = stands ∙ ap (map (λ lane. lane.track)) (sym (short-stays (changing_on m road.link) y (length_of road) road.lanes lanes few stands))
 
 -- what all vehicles of a link share
-weave_in : NetSpec → ℕ → ℕ → Weave
-weave_in net clock link = record {
+changing_in : NetSpec → ℕ → ℕ → Changing
+changing_in net clock link = record {
   zone = net.zone;
   serves = λ lane next. serves net (record { link = link; lane = lane }) next;
   may_change = λ number. nat_lt (lane_draw net.seed number clock) net.change;
 }
 
-weave-is : (m : Traffic) (road : Road) (step : ℕ) → m.network ≡ road.network → m.clock ≡ step → weave_of road step ≡ weave_on m road.link
-unfolding weave_in
-weave-is m road step net clock = sym (ap (λ n. weave_in n m.clock road.link) net ∙ ap (λ t. weave_in road.network t road.link) clock)
+changing-is : (m : Traffic) (road : Road) (step : ℕ) → m.network ≡ road.network → m.clock ≡ step → changing_of road step ≡ changing_on m road.link
+unfolding changing_in
+changing-is m road step net clock = sym (ap (λ n. changing_in n m.clock road.link) net ∙ ap (λ t. changing_in road.network t road.link) clock)
 
-with_woven : Weave → ℕ → Track → Track → Track
-with_woven weave lane own other = record own { cells = woven weave lane own other }
+with_changed_cells : Changing → ℕ → Track → Track → Track
+with_changed_cells changing lane own other = record own { cells = changed_cells changing lane own other }
 
 heads : (a b : Track) (xs ys : List Track) → a ∷ xs ≡ b ∷ ys → (a ≡ b) × (xs ≡ ys)
 heads a b xs ys e = (cc, cc)
 
-two-woven : (weave : Weave) (old now : Yard) (count : ℕ) (ls : List RoadLane) (lanes : List LaneState) → length ls ≡ 2
-    → cells_at now (get_or ls 0 no_lane).list count ≡ woven weave 0 (track_of old count (get_or ls 0 no_lane)) (track_of old count (get_or ls 1 no_lane))
-    → cells_at now (get_or ls 1 no_lane).list count ≡ woven weave 1 (track_of old count (get_or ls 1 no_lane)) (track_of old count (get_or ls 0 no_lane))
-    → map (track_of old count) ls ≡ map (λ lane. lane.track) lanes → map (track_of now count) ls ≡ map (λ lane. lane.track) (woven_lanes weave lanes)
-unfolding with_woven
-two-woven weave old now count (a ∷ b ∷ []) (p ∷ q ∷ []) e first second stands =
+two-changed : (changing : Changing) (old now : Yard) (count : ℕ) (ls : List RoadLane) (lanes : List LaneState) → length ls ≡ 2
+    → cells_at now (get_or ls 0 no_lane).list count ≡ changed_cells changing 0 (track_of old count (get_or ls 0 no_lane)) (track_of old count (get_or ls 1 no_lane))
+    → cells_at now (get_or ls 1 no_lane).list count ≡ changed_cells changing 1 (track_of old count (get_or ls 1 no_lane)) (track_of old count (get_or ls 0 no_lane))
+    → map (track_of old count) ls ≡ map (λ lane. lane.track) lanes → map (track_of now count) ls ≡ map (λ lane. lane.track) (changed_lanes changing lanes)
+unfolding with_changed_cells
+two-changed changing old now count (a ∷ b ∷ []) (p ∷ q ∷ []) e first second stands =
     let h = heads (track_of old count a) p.track (track_of old count b ∷ []) (q.track ∷ []) stands in
     let t = heads (track_of old count b) q.track [] [] h.1 in
-    let one : track_of now count a ≡ with_woven weave 0 p.track q.track =
-    ap (λ cs. record (track_of old count a) { cells = cs }) first ∙ ap (λ s. with_woven weave 0 s (track_of old count b)) h.0 ∙ ap (with_woven weave 0 p.track) t.0 in
-    let two : track_of now count b ≡ with_woven weave 1 q.track p.track =
-    ap (λ cs. record (track_of old count b) { cells = cs }) second ∙ ap (λ s. with_woven weave 1 s (track_of old count a)) t.0 ∙ ap (with_woven weave 1 q.track) h.0 in
-    ap (λ s. s ∷ track_of now count b ∷ []) one ∙ ap (λ s. with_woven weave 0 p.track q.track ∷ s ∷ []) two
-two-woven weave old now count (a ∷ b ∷ []) [] e first second stands = absurd (let f = ap length stands in omega arith)
-two-woven weave old now count (a ∷ b ∷ []) (p ∷ []) e first second stands = absurd (let f = ap length stands in omega arith)
-two-woven weave old now count (a ∷ b ∷ []) (p ∷ q ∷ r ∷ lanes) e first second stands = absurd (let f = ap length stands in omega arith)
-two-woven weave old now count [] lanes e first second stands = absurd (omega arith)
-two-woven weave old now count (a ∷ []) lanes e first second stands = absurd (omega arith)
-two-woven weave old now count (a ∷ b ∷ c ∷ ls) lanes e first second stands = absurd (omega arith)
+    let one : track_of now count a ≡ with_changed_cells changing 0 p.track q.track =
+    ap (λ cs. record (track_of old count a) { cells = cs }) first ∙ ap (λ s. with_changed_cells changing 0 s (track_of old count b)) h.0 ∙ ap (with_changed_cells changing 0 p.track) t.0 in
+    let two : track_of now count b ≡ with_changed_cells changing 1 q.track p.track =
+    ap (λ cs. record (track_of old count b) { cells = cs }) second ∙ ap (λ s. with_changed_cells changing 1 s (track_of old count a)) t.0 ∙ ap (with_changed_cells changing 1 q.track) h.0 in
+    ap (λ s. s ∷ track_of now count b ∷ []) one ∙ ap (λ s. with_changed_cells changing 0 p.track q.track ∷ s ∷ []) two
+two-changed changing old now count (a ∷ b ∷ []) [] e first second stands = absurd (let f = ap length stands in omega arith)
+two-changed changing old now count (a ∷ b ∷ []) (p ∷ []) e first second stands = absurd (let f = ap length stands in omega arith)
+two-changed changing old now count (a ∷ b ∷ []) (p ∷ q ∷ r ∷ lanes) e first second stands = absurd (let f = ap length stands in omega arith)
+two-changed changing old now count [] lanes e first second stands = absurd (omega arith)
+two-changed changing old now count (a ∷ []) lanes e first second stands = absurd (omega arith)
+two-changed changing old now count (a ∷ b ∷ c ∷ ls) lanes e first second stands = absurd (omega arith)
 
 pub two-changes : (old now : Yard) (road : Road) (step : ℕ) → length road.lanes ≡ 2
-    → cells_at now (lane_of road 0).list (length_of road) ≡ woven (weave_of road step) 0 (track_of old (length_of road) (lane_of road 0)) (track_of old (length_of road) (lane_of road 1))
-    → cells_at now (lane_of road 1).list (length_of road) ≡ woven (weave_of road step) 1 (track_of old (length_of road) (lane_of road 1)) (track_of old (length_of road) (lane_of road 0))
+    → cells_at now (lane_of road 0).list (length_of road) ≡ changed_cells (changing_of road step) 0 (track_of old (length_of road) (lane_of road 0)) (track_of old (length_of road) (lane_of road 1))
+    → cells_at now (lane_of road 1).list (length_of road) ≡ changed_cells (changing_of road step) 1 (track_of old (length_of road) (lane_of road 1)) (track_of old (length_of road) (lane_of road 0))
     → Changes old now road step
 two-changes old now road step two first second m lanes net clock stands =
-    two-woven (weave_of road step) old now (length_of road) road.lanes lanes two first second stands
-    ∙ ap (λ w. map (λ lane. lane.track) (woven_lanes w lanes)) (weave-is m road step net clock)
+    two-changed (changing_of road step) old now (length_of road) road.lanes lanes two first second stands
+    ∙ ap (λ w. map (λ lane. lane.track) (changed_lanes w lanes)) (changing-is m road step net clock)
 
 -- ---- the rest
 
@@ -104,7 +104,7 @@ two-changes old now road step two first second m lanes net clock stands =
 pub record KeepsElse (old new : Yard) (a b : ℕ) : Type 0 where
   pub lists : (n : ℕ) → n ≢ a → n ≢ b → list_at new n ≡ list_at old n
   pub cars : (k : ℕ) → car_of new k ≡ car_of old k
-  pub entries : (k : ℕ) → place_of old k ≢ Some a → place_of old k ≢ Some b → entry_at new k ≡ entry_at old k
+  pub entries : (k : ℕ) → list_on old k ≢ Some a → list_on old k ≢ Some b → entry_at new k ≡ entry_at old k
   pub stays : (k : ℕ) → IsOnEither old a b k → IsOnEither new a b k
   pub count : length new.lists ≡ length old.lists
   pub room : new.room ≡ old.room

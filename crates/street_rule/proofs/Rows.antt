@@ -2,7 +2,7 @@
 use Rattle.std.proofs.Common.{◌≡◌, ℕ, Bool, true, false, List, [], ◌∷◌, Option, Some, None, refl}
 use Rattle.std.specs.Prelude.{◌==◌}
 use Rattle.street_base.specs.Search.{least}
-use Rattle.street_base.specs.LaneChange.{Weave}
+use Rattle.street_base.specs.LaneChange.{Changing}
 use Rattle.street_gap.specs.declared.closures.Stretch.{Stretch}
 use Rattle.street_gap.specs.Closed.{closed_marks, are_open}
 use Rattle.street_rule.specs.Sight.{gap_up, wishes_with, has_room_between}
@@ -62,7 +62,7 @@ unfolding closed_marks least
 tail_beside_closed = (refl, refl)
 
 -- a turn zone of 10 cells, and lane 0 alone serves the next link
-abbrev low_serves : Weave
+abbrev low_serves : Changing
 low_serves = record { zone = 10; serves = λ lane next. lane == 0; may_change = λ number. true }
 
 -- whether the vehicle in cell x of a link of 20 cells wants the other lane

@@ -3,52 +3,52 @@ use Rattle.std.proofs.Common.{◌≡◌, ◌≢◌, ℕ, zero, suc, ◌-◌, ◌
 use Rattle.std.proofs.lemmas.Bool.{and_right, cond-false, le-ltb}
 use Rattle.street_base.specs.Vehicle.{Vehicle}
 use Rattle.street_base.specs.Lane.{Track, vehicle_at}
-use Rattle.street_base.specs.LaneChange.{Weave, changes, woven}
+use Rattle.street_base.specs.LaneChange.{Changing, changes, changed_cells}
 use Rattle.std.specs.Option.{option_map, unwrap_or}
-use Rattle.street_yard.specs.Yard.{Kept, Yard, list_at, place_of, first_or, IsWhole}
+use Rattle.street_yard.specs.Yard.{YardEntry, Yard, list_at, list_on, first_or, IsWhole}
 use Rattle.street_yard.specs.Listed.{IsLane}
 use Rattle.street_gap.specs.Closed.{closed_marks}
 use Rattle.street_rule.specs.Road.{RoadLane, Road, no_lane, lane_of, length_of, track_of, lists_of, IsRoad}
-use Rattle.street_rule.specs.Sight.{weave_of}
-use Rattle.street_rule.specs.Places.{IsFallen}
+use Rattle.street_rule.specs.Sight.{changing_of}
+use Rattle.street_rule.specs.Positions.{IsFallen}
 use Rattle.street_rule.specs.Marks.{Marks}
 use Rattle.street_rule.specs.Relinked.{HasNoMarks, Relinks}
 use Rattle.street_rule.specs.Changed.{Changes, KeepsRest}
 use Rattle.street_rule.proofs.Roads.{IsRoad-by, two-apart, two-changes, two-keeps}
-use Rattle.street_rule.proofs.Marking.{IsMarking, IsMarking-start}
+use Rattle.street_rule.proofs.MarkWalk.{IsMarking, IsMarking-start}
 use Rattle.street_rule.proofs.Unmarked.{Relinks-none}
-use Rattle.street_rule.proofs.ChangePassing.{marks-lane, second_falls, first_lane, second_lane, first_woven, second_woven, keeps, woven-is, settled-is}
+use Rattle.street_rule.proofs.LanePass.{marks-lane, second_falls, first_lane, second_lane, first_changed, second_changed, keeps, changed_cells-is, settled-is}
 
 -- ---- with no odds nobody changes
 
-module _ (weave : Weave) (never : (number : ℕ) → weave.may_change number ≡ false) where
-  never-by : (lane : ℕ) (own other : Track) (x : ℕ) (o : Option Vehicle) → vehicle_at own.cells x ≡ o → changes weave lane own other x ≡ false
+module _ (changing : Changing) (never : (number : ℕ) → changing.may_change number ≡ false) where
+  never-by : (lane : ℕ) (own other : Track) (x : ℕ) (o : Option Vehicle) → vehicle_at own.cells x ≡ o → changes changing lane own other x ≡ false
   unfolding changes
   never-by lane own other x None e = rw e refl
   never-by lane own other x (Some v) e = rw e (and_right _ _ (never v.number))
 
-  changes-never : (lane : ℕ) (own other : Track) (x : ℕ) → changes weave lane own other x ≡ false
+  changes-never : (lane : ℕ) (own other : Track) (x : ℕ) → changes changing lane own other x ≡ false
   changes-never lane own other x = never-by lane own other x (vehicle_at own.cells x) refl
 
-  never-woven : (lane : ℕ) (own other : Track) → own.cells ≡ woven weave lane own other
-  never-woven lane own other = woven-is weave lane own other own.cells refl (λ x.
-      sym (settled-is weave lane own other x
-      ∙ cond-false (changes weave (1 - lane) other own x) _ _ (changes-never (1 - lane) other own x)
-      ∙ cond-false (changes weave lane own other x) None (vehicle_at own.cells x) (changes-never lane own other x)))
+  never-changed : (lane : ℕ) (own other : Track) → own.cells ≡ changed_cells changing lane own other
+  never-changed lane own other = changed_cells-is changing lane own other own.cells refl (λ x.
+      sym (settled-is changing lane own other x
+      ∙ cond-false (changes changing (1 - lane) other own x) _ _ (changes-never (1 - lane) other own x)
+      ∙ cond-false (changes changing lane own other x) None (vehicle_at own.cells x) (changes-never lane own other x)))
 
 pub never-changes : (y : Yard) (road : Road) (step : ℕ) → length road.lanes ≡ 2 → road.network.change ≡ 0 → Changes y y road step
 never-changes y road step two none =
-    let never : (number : ℕ) → (weave_of road step).may_change number ≡ false = λ number. rw none (le-ltb _ 0 (omega arith)) in
+    let never : (number : ℕ) → (changing_of road step).may_change number ≡ false = λ number. rw none (le-ltb _ 0 (omega arith)) in
     two-changes y y road step two
-    (never-woven (weave_of road step) never 0 (track_of y (length_of road) (lane_of road 0)) (track_of y (length_of road) (lane_of road 1)))
-    (never-woven (weave_of road step) never 1 (track_of y (length_of road) (lane_of road 1)) (track_of y (length_of road) (lane_of road 0)))
+    (never-changed (changing_of road step) never 0 (track_of y (length_of road) (lane_of road 0)) (track_of y (length_of road) (lane_of road 1)))
+    (never-changed (changing_of road step) never 1 (track_of y (length_of road) (lane_of road 1)) (track_of y (length_of road) (lane_of road 0)))
 
 -- ---- a mark pass
 
 -- before the first vehicle of a lane of the road, or where there is none
 pub IsMarking-road : (y : Yard) (road : Road) (lane step : ℕ) (front : Option ℕ) → length road.lanes ≡ 2 → lane ≤ 1 → IsRoad y road → IsWhole y → front ≡ first_or (list_at y (lane_of road lane).list) None
     → IsMarking y y (lane_of road lane).list (lane_of road (1 - lane)).list
-    (changes (weave_of road step) lane (track_of y (length_of road) (lane_of road lane)) (track_of y (length_of road) (lane_of road (1 - lane)))) None None front false
+    (changes (changing_of road step) lane (track_of y (length_of road) (lane_of road lane)) (track_of y (length_of road) (lane_of road (1 - lane)))) None None front false
 IsMarking-road y road lane step front two few ok whole at =
     let here : lane < length road.lanes = omega arith in
     IsMarking-start y (lane_of road lane).list (lane_of road (1 - lane)).list (length_of road) _ front whole (ok.lanes lane no_lane here).stands at
@@ -68,8 +68,8 @@ some-same e = ap (λ o. unwrap_or o 0) e
 
 module _ (road : Road) (step : ℕ) (old m1 m2 : Yard) (first second : ℕ) (whole : IsWhole old) (ok : IsRoad old road) (two : length road.lanes ≡ 2)
     (first_is : first ≡ (lane_of road 0).list) (second_is : second ≡ (lane_of road 1).list)
-    (one : Marks old m1 (lane_of road 0).list (changes (weave_of road step) 0 (track_of old (length_of road) (lane_of road 0)) (track_of old (length_of road) (lane_of road 1))))
-    (both : Marks m1 m2 (lane_of road 1).list (changes (weave_of road step) 1 (track_of m1 (length_of road) (lane_of road 1)) (track_of m1 (length_of road) (lane_of road 0)))) where
+    (one : Marks old m1 (lane_of road 0).list (changes (changing_of road step) 0 (track_of old (length_of road) (lane_of road 0)) (track_of old (length_of road) (lane_of road 1))))
+    (both : Marks m1 m2 (lane_of road 1).list (changes (changing_of road step) 1 (track_of m1 (length_of road) (lane_of road 1)) (track_of m1 (length_of road) (lane_of road 0)))) where
   abbrev a : RoadLane
   a = lane_of road 0
 
@@ -92,9 +92,9 @@ module _ (road : Road) (step : ℕ) (old m1 m2 : Yard) (first second : ℕ) (who
 
   still : HasNoMarks m1 a.list → HasNoMarks m2 a.list
   still none k on =
-      let before : place_of m1 k ≡ Some a.list = sym (both.places k) ∙ on in
-      let off : place_of m1 k ≢ Some b.list = λ e. two-apart road.lanes two ok.apart (some-same (sym before ∙ e)) in
-      ap (λ o. unwrap_or (option_map (λ (e : Kept). e.mark) o) false) (both.others k off) ∙ none k before
+      let before : list_on m1 k ≡ Some a.list = sym (both.lists_on k) ∙ on in
+      let off : list_on m1 k ≢ Some b.list = λ e. two-apart road.lanes two ok.apart (some-same (sym before ∙ e)) in
+      ap (λ o. unwrap_or (option_map (λ (e : YardEntry). e.mark) o) false) (both.others k off) ∙ none k before
 
   pub first-stays : HasNoMarks m1 a.list → Relinks m2 m2 first second
   first-stays none = Relinks-none m2 first second both.whole (subst (HasNoMarks m2) (sym first_is) (still none))
@@ -107,7 +107,7 @@ module _ (road : Road) (step : ℕ) (old m1 m2 : Yard) (first second : ℕ) (who
     three = subst (λ n. Relinks m2 r1 a.list n) second_is (subst (λ n. Relinks m2 r1 n second) first_is carried)
 
     pub second-fallen : IsFallen r1 second
-    second-fallen = subst (IsFallen r1) (sym second_is) (second_falls (weave_of road step) old m1 m2 r1 a.list b.list count (closed_marks a.closed count) (closed_marks b.closed count) whole (two-apart road.lanes two ok.apart) a_ok b_ok one both three)
+    second-fallen = subst (IsFallen r1) (sym second_is) (second_falls (changing_of road step) old m1 m2 r1 a.list b.list count (closed_marks a.closed count) (closed_marks b.closed count) whole (two-apart road.lanes two ok.apart) a_ok b_ok one both three)
 
     module _ (now : Yard) (returned : Relinks r1 now second first) where
       four : Relinks r1 now b.list a.list
@@ -115,18 +115,18 @@ module _ (road : Road) (step : ℕ) (old m1 m2 : Yard) (first second : ℕ) (who
 
       pub all-change : Changes old now road step
       all-change = two-changes old now road step two
-          (first_woven (weave_of road step) old m1 m2 r1 a.list b.list count (closed_marks a.closed count) (closed_marks b.closed count) whole (two-apart road.lanes two ok.apart) a_ok b_ok one both three now four)
-          (second_woven (weave_of road step) old m1 m2 r1 a.list b.list count (closed_marks a.closed count) (closed_marks b.closed count) whole (two-apart road.lanes two ok.apart) a_ok b_ok one both three now four)
+          (first_changed (changing_of road step) old m1 m2 r1 a.list b.list count (closed_marks a.closed count) (closed_marks b.closed count) whole (two-apart road.lanes two ok.apart) a_ok b_ok one both three now four)
+          (second_changed (changing_of road step) old m1 m2 r1 a.list b.list count (closed_marks a.closed count) (closed_marks b.closed count) whole (two-apart road.lanes two ok.apart) a_ok b_ok one both three now four)
 
       rest : KeepsRest old now (lists_of road)
-      rest = two-keeps old now road.lanes two (keeps (weave_of road step) old m1 m2 r1 a.list b.list count (closed_marks a.closed count) (closed_marks b.closed count) whole (two-apart road.lanes two ok.apart) a_ok b_ok one both three now four)
+      rest = two-keeps old now road.lanes two (keeps (changing_of road step) old m1 m2 r1 a.list b.list count (closed_marks a.closed count) (closed_marks b.closed count) whole (two-apart road.lanes two ok.apart) a_ok b_ok one both three now four)
 
       pub all-keep : KeepsRest old now (lists_of road)
       all-keep = rest
 
       stand : (k : ℕ) → k < length road.lanes → IsLane now (get_or road.lanes k no_lane).list count
-      stand zero h = first_lane (weave_of road step) old m1 m2 r1 a.list b.list count (closed_marks a.closed count) (closed_marks b.closed count) whole (two-apart road.lanes two ok.apart) a_ok b_ok one both three now four
-      stand (suc zero) h = second_lane (weave_of road step) old m1 m2 r1 a.list b.list count (closed_marks a.closed count) (closed_marks b.closed count) whole (two-apart road.lanes two ok.apart) a_ok b_ok one both three now four
+      stand zero h = first_lane (changing_of road step) old m1 m2 r1 a.list b.list count (closed_marks a.closed count) (closed_marks b.closed count) whole (two-apart road.lanes two ok.apart) a_ok b_ok one both three now four
+      stand (suc zero) h = second_lane (changing_of road step) old m1 m2 r1 a.list b.list count (closed_marks a.closed count) (closed_marks b.closed count) whole (two-apart road.lanes two ok.apart) a_ok b_ok one both three now four
       stand (suc (suc k)) h = absurd (omega arith)
 
       pub all-road : IsRoad now road

@@ -2,8 +2,8 @@
 -- Source: this profile.
 use Rattle.std.specs.Prelude.{◌≡◌, ℕ, List, map, length, Some}
 use Rattle.street_base.specs.State.{Traffic, LaneState}
-use Rattle.street_base.specs.Step.{weave_on, woven_lanes}
-use Rattle.street_yard.specs.Yard.{Yard, list_at, entry_at, car_of, place_of, Has, Away, IsWhole}
+use Rattle.street_base.specs.Step.{changing_on, changed_lanes}
+use Rattle.street_yard.specs.Yard.{Yard, list_at, entry_at, car_of, list_on, Has, Away, IsWhole}
 use Rattle.street_rule.specs.Road.{Road, tracks}
 
 -- the lists of a link stand for the tracks of these lanes
@@ -14,17 +14,17 @@ StandsFor y road lanes = tracks y road ≡ map (λ lane. lane.track) lanes
 abbrev pub Changes : Yard → Yard → Road → ℕ → Type 0
 Changes old new road step =
     (m : Traffic) (lanes : List LaneState) → m.network ≡ road.network → m.clock ≡ step
-    → StandsFor old road lanes → StandsFor new road (woven_lanes (weave_on m road.link) lanes)
+    → StandsFor old road lanes → StandsFor new road (changed_lanes (changing_on m road.link) lanes)
 
 -- the key is on none of the lists
 abbrev pub IsOff : Yard → List ℕ → ℕ → Type 0
-IsOff y lists k = (n : ℕ) → place_of y k ≡ Some n → Away n lists
+IsOff y lists k = (n : ℕ) → list_on y k ≡ Some n → Away n lists
 
 -- the key is on one of the lists
 pub record IsOn (y : Yard) (lists : List ℕ) (k : ℕ) : Type 0 where
   pub list : ℕ
   pub among : Has lists list
-  pub on : place_of y k ≡ Some list
+  pub on : list_on y k ≡ Some list
 
 -- what lane changes keep: the lists of all other lanes, every car, all of each key on no list of the link, and whoever is on one stays on the link
 pub record KeepsRest (old new : Yard) (lists : List ℕ) : Type 0 where

@@ -8,7 +8,7 @@ use Rattle.street_base.specs.Network.{serves}
 use Rattle.street_base.specs.Draw.{lane_draw}
 use Rattle.street_base.specs.Vehicle.{Vehicle, next_link}
 use Rattle.street_base.specs.Lane.{Track, rear, are_free}
-use Rattle.street_base.specs.LaneChange.{Weave, free_ahead, free_behind, zone_wish}
+use Rattle.street_base.specs.LaneChange.{Changing, free_ahead, free_behind, zone_wish}
 use Rattle.street_rule.specs.Odds.{Odds}
 use Rattle.street_gap.specs.Closed.{entrance_after}
 use Rattle.street_gap.specs.Sight.{lesser}
@@ -19,8 +19,8 @@ abbrev pub odds_of : NetSpec → Odds
 odds_of net = record { seed = net.seed; dawdle = net.dawdle; change = net.change }
 
 -- what all vehicles of a link share in a step
-abbrev pub weave_of : Road → ℕ → Weave
-weave_of road step = record {
+abbrev pub changing_of : Road → ℕ → Changing
+changing_of road step = record {
   zone = road.network.zone;
   serves = λ lane next. serves road.network (record { link = road.link; lane = lane }) next;
   may_change = λ number. nat_lt (lane_draw road.network.seed number step) road.network.change;
@@ -39,10 +39,10 @@ abbrev pub gap_down : Option ℕ → ℕ → ℕ
 gap_down below x = unwrap_or (option_map (λ y. x - y - 1) below) 16
 
 -- a vehicle with this gap ahead wants the other lane: as it is slow, or in the turn zone for its next link
-abbrev pub wishes_with : Weave → ℕ → ℕ → ℕ → ℕ → ℕ → Option ℕ → Bool
-wishes_with weave lane count gap x speed next =
-    if nat_le count (x + weave.zone)
-    then option_map_or (λ n. zone_wish (weave.serves lane n) (weave.serves (1 - lane) n) (nat_lt gap (speed + 1))) next (nat_lt gap (speed + 1))
+abbrev pub wishes_with : Changing → ℕ → ℕ → ℕ → ℕ → ℕ → Option ℕ → Bool
+wishes_with changing lane count gap x speed next =
+    if nat_le count (x + changing.zone)
+    then option_map_or (λ n. zone_wish (changing.serves lane n) (changing.serves (1 - lane) n) (nat_lt gap (speed + 1))) next (nat_lt gap (speed + 1))
     else nat_lt gap (speed + 1)
 
 -- there is room for it on the other lane, with its front at x and its rear at r: the cells beside are free, the gap ahead long enough to speed up, the gap behind above 5
@@ -55,6 +55,6 @@ has_room_between closed is_open above below x r speed =
     is_open && (nat_lt (speed + 1) (gap_up closed above x) && nat_lt 5 (gap_down below r))
 
 -- whether the vehicle in cell x goes to the other lane, with the rear of the vehicle ahead of it in this cell
-abbrev pub decision : Weave → ℕ → ℕ → List Bool → Option ℕ → Track → ℕ → Vehicle → Bool
-decision weave lane count closed ahead other x v =
-    wishes_with weave lane count (gap_up closed ahead x) x v.speed (next_link v) && (has_room other x (rear x v) v.speed && weave.may_change v.number)
+abbrev pub decision : Changing → ℕ → ℕ → List Bool → Option ℕ → Track → ℕ → Vehicle → Bool
+decision changing lane count closed ahead other x v =
+    wishes_with changing lane count (gap_up closed ahead x) x v.speed (next_link v) && (has_room other x (rear x v) v.speed && changing.may_change v.number)

@@ -5,7 +5,7 @@
 ghost use Rattle.std.specs.Prelude.{◌≡◌, ℕ, ◌+◌, ◌-◌, ◌*◌, ◌/◌, ◌%◌, ◌^◌, ◌<◌, ◌==◌, ◌++◌, nat_lt, replicate, IfOk, IsTrue, ◌↔◌};
 ghost use Rattle.street_base.specs.Draw.{key_of_seed, lane_draw, dawdle_draw};
 ghost use Rattle.street_rule.specs.Odds.{Odds};
-ghost use Rattle.street_rule.specs.Kept.{IsKept, Asked};
+ghost use Rattle.street_rule.specs.KeptDraws.{IsKept, Asked};
 
 use crate::draws::generator;
 use rand_chacha::ChaCha20Rng;
@@ -61,7 +61,7 @@ const MOST_ASIDE: usize = 8_192;
 
 impl Model for Dice {
     ghost use Rattle.street_rule.specs.Odds.{Odds};
-    ghost use Rattle.street_rule.specs.Kept.{IsSound};
+    ghost use Rattle.street_rule.specs.KeptDraws.{IsSound};
 
     ghost Value = { Odds };
 

@@ -4,14 +4,14 @@
 ghost use Rattle.std.specs.Prelude.{◌≡◌, ℕ, ◌<◌, ◌≤◌, ◌-◌, length, Some, None, false, IsSome};
 ghost use Rattle.street_base.specs.LaneChange.{changes};
 ghost use Rattle.street_rule.specs.Road.{lane_of, length_of, track_of, lists_of, IsRoad};
-ghost use Rattle.street_rule.specs.Sight.{odds_of, weave_of};
+ghost use Rattle.street_rule.specs.Sight.{odds_of, changing_of};
 ghost use Rattle.street_rule.specs.Marks.{Marks};
 ghost use Rattle.street_rule.specs.Changed.{Changes, KeepsRest};
 ghost use Rattle.street_rule.specs.Relinked.{HasNoMarks};
 ghost use Rattle.street_yard.specs.Yard.{list_at, entry_at, mark_set, first_or};
 
 use crate::Dice;
-use crate::relink::relink;
+use crate::relinks::relink;
 use crate::road::Road;
 use crate::sight::{Outlook, decide, zone_begin};
 use street_base::{LaneNo, Step};
@@ -43,7 +43,7 @@ fn mark_from(
     requires road { IsRoad yard.old road.now }
     requires dice { dice.old ≡ odds_of road.now.network }
     requires front { Some front.0 ≡ first_or (list_at yard.old (lane_of road.now lane).list) None }
-    ensures marks { Marks yard.old yard.new (lane_of road.now lane).list (changes (weave_of road.now step) lane (track_of yard.old (length_of road.now) (lane_of road.now lane)) (track_of yard.old (length_of road.now) (lane_of road.now (1 - lane)))) }
+    ensures marks { Marks yard.old yard.new (lane_of road.now lane).list (changes (changing_of road.now step) lane (track_of yard.old (length_of road.now) (lane_of road.now lane)) (track_of yard.old (length_of road.now) (lane_of road.now (1 - lane)))) }
     ensures none { result ≡ false → HasNoMarks yard.new (lane_of road.now lane).list }
     ensures dice { dice.new ≡ dice.old }
 {
@@ -77,7 +77,7 @@ fn mark_pass(yard: &mut Yard, road: &Road<'_>, lane: LaneNo, step: Step, dice: &
     requires lane { lane ≤ 1 }
     requires road { IsRoad yard.old road.now }
     requires dice { dice.old ≡ odds_of road.now.network }
-    ensures marks { Marks yard.old yard.new (lane_of road.now lane).list (changes (weave_of road.now step) lane (track_of yard.old (length_of road.now) (lane_of road.now lane)) (track_of yard.old (length_of road.now) (lane_of road.now (1 - lane)))) }
+    ensures marks { Marks yard.old yard.new (lane_of road.now lane).list (changes (changing_of road.now step) lane (track_of yard.old (length_of road.now) (lane_of road.now lane)) (track_of yard.old (length_of road.now) (lane_of road.now (1 - lane)))) }
     ensures none { result ≡ false → HasNoMarks yard.new (lane_of road.now lane).list }
     ensures dice { dice.new ≡ dice.old }
 {

@@ -2,18 +2,18 @@
 //!
 //! Source: Rickert, Nagel, Schreckenberg and Latour 1996, with this profile's turn zone and closed cells.
 ghost use Rattle.std.specs.Prelude.{◌≡◌, ℕ, ◌<◌, ◌≤◌, ◌+◌, ◌-◌, nat_lt, Bool, List, Option, length, [], Some, option_map, false};
-ghost use Rattle.street_base.specs.LaneChange.{Weave};
+ghost use Rattle.street_base.specs.LaneChange.{Changing};
 ghost use Rattle.street_base.specs.Vehicle.{Vehicle};
-ghost use Rattle.street_yard.specs.Yard.{place_of};
+ghost use Rattle.street_yard.specs.Yard.{list_on};
 ghost use Rattle.street_yard.specs.Listed.{cell_at, vehicle_with};
 ghost use Rattle.street_gap.specs.Closed.{IsWithin, closed_marks, entrance_after, are_open};
 ghost use Rattle.street_gap.specs.Sight.{lesser};
 ghost use Rattle.street_rule.specs.Road.{length_of, lane_of, track_of, lane_seen, IsRoadLane, IsRoad};
-ghost use Rattle.street_rule.specs.Places.{IsUpTo, IsPlace};
-ghost use Rattle.street_rule.specs.Sight.{odds_of, weave_of, gap_between, gap_up, gap_down, wishes_with, has_room, has_room_between, decision};
+ghost use Rattle.street_rule.specs.Positions.{IsUpTo, IsPosition};
+ghost use Rattle.street_rule.specs.Sight.{odds_of, changing_of, gap_between, gap_up, gap_down, wishes_with, has_room, has_room_between, decision};
 
 use crate::Dice;
-use crate::places::{cell_of, last_above, next, rear_of};
+use crate::positions::{cell_of, last_above, next, rear_of};
 use crate::road::{Road, RoadLane};
 use street_base::{CellNo, LaneNo, LinkIx, Speed, Step};
 use street_gap::Closures;
@@ -73,7 +73,7 @@ fn wishes(
     next: Option<LinkIx>,
 ) -> bool
     requires { lane ≤ 1 }
-    ensures { (step : ℕ) → result ≡ wishes_with (weave_of road.now step) lane (length_of road.now) gap cell speed next }
+    ensures { (step : ℕ) → result ≡ wishes_with (changing_of road.now step) lane (length_of road.now) gap cell speed next }
 {
     let slow = gap < CellNo::from(speed) + 1;
     if road.network().spec().zone < u64::from(road.length().saturating_sub(cell)) {
@@ -121,7 +121,7 @@ fn may_wish(
     speed: Speed,
     next: Option<LinkIx>,
 ) -> bool
-    ensures { (weave : Weave) (lane count : ℕ) → zone ≡ count - weave.zone → result ≡ false → wishes_with weave lane count (gap_between obstacle cell) cell speed next ≡ false }
+    ensures { (changing : Changing) (lane count : ℕ) → zone ≡ count - changing.zone → result ≡ false → wishes_with changing lane count (gap_between obstacle cell) cell speed next ≡ false }
 {
     is_slow(obstacle, cell, speed) | (next.is_some() & (zone <= cell))
 }
@@ -157,7 +157,7 @@ fn look_beside(
     requires from { IsUpTo yard.now other.list.0 cell (option_map (λ k. k.0) from) }
     requires listed { other.list.0 < length yard.now.lists }
     requires rear { rear ≤ cell }
-    ensures place { IsPlace yard.now other.entry.list.0 cell (option_map (λ k. k.0) result.0) }
+    ensures position { IsPosition yard.now other.entry.list.0 cell (option_map (λ k. k.0) result.0) }
     ensures room { (count : ℕ) → IsRoadLane yard.now count (lane_seen other.entry) → result.1 ≡ has_room (track_of yard.now count (lane_seen other.entry)) cell rear speed }
 {
     yard.whole();
@@ -222,10 +222,10 @@ fn decide_beside(
     requires lane { lane ≤ 1 }
     requires road { IsRoad yard.now road.now }
     requires dice { dice.old ≡ odds_of road.now.network }
-    requires key { place_of yard.now key.0 ≡ Some (lane_of road.now lane).list }
+    requires key { list_on yard.now key.0 ≡ Some (lane_of road.now lane).list }
     requires above { IsUpTo yard.now (lane_of road.now (1 - lane)).list (cell_at yard.now key.0) (option_map (λ k. k.0) above) }
     ensures above { IsUpTo yard.now (lane_of road.now (1 - lane)).list (cell_at yard.now key.0) (option_map (λ k. k.0) result.above) }
-    ensures goes { (v : Vehicle) (closed : List Bool) (ahead : Option ℕ) → vehicle_with yard.now key.0 ≡ Some v → gap ≡ gap_up closed ahead (cell_at yard.now key.0) → result.goes ≡ decision (weave_of road.now step) lane (length_of road.now) closed ahead (track_of yard.now (length_of road.now) (lane_of road.now (1 - lane))) (cell_at yard.now key.0) v }
+    ensures goes { (v : Vehicle) (closed : List Bool) (ahead : Option ℕ) → vehicle_with yard.now key.0 ≡ Some v → gap ≡ gap_up closed ahead (cell_at yard.now key.0) → result.goes ≡ decision (changing_of road.now step) lane (length_of road.now) closed ahead (track_of yard.now (length_of road.now) (lane_of road.now (1 - lane))) (cell_at yard.now key.0) v }
     ensures dice { dice.new ≡ dice.old }
 {
     let cell = yard.cell(key);
@@ -262,10 +262,10 @@ pub(crate) fn decide(
     requires zone { outlook.zone ≡ length_of road.now - road.now.network.zone }
     requires road { IsRoad yard.now road.now }
     requires dice { dice.old ≡ odds_of road.now.network }
-    requires key { place_of yard.now key.0 ≡ Some (lane_of road.now outlook.lane).list }
+    requires key { list_on yard.now key.0 ≡ Some (lane_of road.now outlook.lane).list }
     requires above { IsUpTo yard.now (lane_of road.now (1 - outlook.lane)).list (cell_at yard.now key.0) (option_map (λ k. k.0) above) }
     ensures above { IsUpTo yard.now (lane_of road.now (1 - outlook.entry.lane)).list (cell_at yard.now key.0) (option_map (λ k. k.0) result.above) }
-    ensures goes { (v : Vehicle) → vehicle_with yard.now key.0 ≡ Some v → result.goes ≡ decision (weave_of road.now step) outlook.entry.lane (length_of road.now) (closed_marks (lane_of road.now outlook.entry.lane).closed (length_of road.now)) ahead (track_of yard.now (length_of road.now) (lane_of road.now (1 - outlook.entry.lane))) (cell_at yard.now key.0) v }
+    ensures goes { (v : Vehicle) → vehicle_with yard.now key.0 ≡ Some v → result.goes ≡ decision (changing_of road.now step) outlook.entry.lane (length_of road.now) (closed_marks (lane_of road.now outlook.entry.lane).closed (length_of road.now)) ahead (track_of yard.now (length_of road.now) (lane_of road.now (1 - outlook.entry.lane))) (cell_at yard.now key.0) v }
     ensures dice { dice.new ≡ dice.old }
 {
     let cell = yard.cell(key);

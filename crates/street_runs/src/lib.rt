@@ -1,29 +1,23 @@
-//! The runs of the program `streetsim`: standard input served, scripts served, a tape replayed or
-//! upgraded, each with its files.
+//! What the program `streetsim` does, as a library: the words of its command line, its runs, and its faults.
 //!
-//! A run ends with the first thing that goes wrong in it, told as a `Fault` of `street_fault`.
-//!
-//! The words of the command line of `streetsim`: which options there are, and what a list of words asks for.
-//!
-//! Faults of the program `streetsim`: their texts, the status that each ends with, and which one that of a run,
-//! a replay or an upgrade is.
-//!
-//! Which that is stands in `specs/Faults`.
+//! [`options`] says what a list of words asks for. A run serves standard input or scripts, replays a tape or upgrades it, each
+//! with its files, and ends with the first thing that goes wrong in it, told as a [`Fault`]. The texts of faults, the status
+//! that each ends with, and which one that of a run, a replay or an upgrade is, stand in `specs/Faults`.
 #![tactic(auto)]
 
 mod clients;
 mod command;
+mod command_line;
 mod fault;
 mod outputs;
-mod parsing;
 mod reasons;
-mod replaying;
+mod tapes;
 mod words;
 
 pub use clients::{serve_input, serve_scripts};
+pub use command_line::options;
 pub use fault::Fault;
 pub use outputs::STANDARD_OUTPUT;
-pub use parsing::options;
 pub use reasons::reason;
-pub use replaying::{replay_tape, upgrade_tape};
+pub use tapes::{replay_tape, upgrade_tape};
 pub use words::{Options, WordsFault};

@@ -23,7 +23,7 @@ pub const STANDARD_OUTPUT: &str = "standard output";
 
 /// Writes a text to standard output, and passes it on.
 pub fn print_text<W: Write>(writer: &mut Counted<W>, text: &[u8]) -> Result<(), Fault<'static>>
-    ensures written { OnOk result (Appends (W.contents writer.old.end) (W.contents writer.new.end) text.now) }
+    ensures written { OnOk result (Appends (W.contents writer.old.stream) (W.contents writer.new.stream) text.now) }
 {
     if street_stream::write_text(writer, text).is_err()
         || street_stream::flush_out(writer).is_err()

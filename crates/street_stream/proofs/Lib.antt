@@ -1,7 +1,7 @@
-pub mod Parts
+pub mod PartialLines
 pub mod Sent
-pub mod Cutting
-pub mod Handled
-pub mod Feeding
-pub mod Breaking
-pub mod Parted
+pub mod Cut
+pub mod Handles
+pub mod Feeds
+pub mod Breaks
+pub mod HandlerReferences

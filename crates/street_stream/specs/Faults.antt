@@ -1,7 +1,7 @@
 -- What causes each fault of a run.
 -- Source: this profile.
 use Rattle.std.specs.Prelude.{◌≡◌, ℕ, ◌<◌, ⊤}
-use Rattle.street_stream.specs.Ends.{HasFailed}
+use Rattle.street_stream.specs.Streams.{HasFailed}
 use Rattle.street_stream.specs.declared.answer.Cause.{Cause}
 use Rattle.street_stream.specs.declared.answer.Cause.TheVariants.{Run, Line}
 use Rattle.street_stream.specs.declared.counted.Counted.{Counted}

@@ -1,5 +1,5 @@
 pub mod Lines
-pub mod Ends
-pub mod Handling
+pub mod Streams
+pub mod HandledLines
 pub mod Faults
 pub mod Progress

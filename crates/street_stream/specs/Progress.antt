@@ -3,7 +3,7 @@
 use Rattle.std.specs.Prelude.{◌≡◌, ℕ, ◌+◌, ◌*◌, ◌^◌, ◌<◌, ◌≤◌, List, [], ◌++◌, length, take, if◌then◌else◌, Option, Some, ⊤}
 use Rattle.std.specs.Io.KnownBytes.{Appends}
 use Rattle.street_stream.specs.Faults.{IsAtLine}
-use Rattle.street_stream.specs.Handling.{Effect, has_reply, text_in, Handles, output, IsTally, Breaks}
+use Rattle.street_stream.specs.HandledLines.{Effect, has_reply, text_in, Handles, output, IsTally, Breaks}
 use Rattle.street_stream.specs.Lines.{cut, lines_of, IsPart}
 use Rattle.street_stream.specs.declared.answer.Cause.{Cause}
 use Rattle.street_stream.specs.declared.answer.Cause.TheVariants.{Run, Line}

@@ -4,7 +4,7 @@
 ghost use Rattle.std.specs.Prelude.{◌≡◌, ◌==◌, OnOk, OnErr, IfOk, if◌then◌else◌};
 ghost use Rattle.std.specs.Io.KnownBytes.{Keeps, ReadConsumes, WriteAppends};
 ghost use Rattle.std.specs.Io.{ReadsAtMost, WritesAtMost};
-ghost use Rattle.street_stream.specs.Ends.{one_more, IsFresh};
+ghost use Rattle.street_stream.specs.Streams.{one_more, IsFresh};
 
 use std::io;
 use std::io::{Read, Write};
@@ -13,20 +13,20 @@ use std::io::{Read, Write};
 #[derive(Drop)]
 pub struct Counted<T> {
     /// The reader or writer.
-    pub end: T,
+    pub stream: T,
     calls: u64,
     failures: u64,
     empty_writes: u64,
 }
 
 impl<T> Counted<T> {
-    /// An end of which nothing was called yet. It takes no memory.
-    pub fn new(end: T) -> Counted<T>
-        ensures end { result.end ≡ end }
+    /// A stream of which nothing was called yet. It takes no memory.
+    pub fn new(stream: T) -> Counted<T>
+        ensures stream { result.stream ≡ stream }
         ensures fresh { IsFresh result }
     {
         Counted {
-            end,
+            stream,
             calls: 0,
             failures: 0,
             empty_writes: 0,
@@ -56,18 +56,18 @@ impl<T> Counted<T> {
 }
 
 impl<R: Read> Read for Counted<R> {
-    ghost remaining = { λ c. R.remaining c.end };
+    ghost remaining = { λ c. R.remaining c.stream };
 
     fn read(&mut self, buffer: &mut [u8]) -> io::Result<usize>
         ensures bound { ReadsAtMost result buffer.new }
-        ensures bytes { ReadConsumes (R.remaining self.old.end) (R.remaining self.new.end) result buffer.new }
+        ensures bytes { ReadConsumes (R.remaining self.old.stream) (R.remaining self.new.stream) result buffer.new }
         ensures calls { self.new.calls ≡ one_more self.old.calls }
         ensures given { OnOk result (self.new.failures ≡ self.old.failures) }
         ensures failed { OnErr result (self.new.failures ≡ one_more self.old.failures) }
         ensures empty { self.new.empty_writes ≡ self.old.empty_writes }
     {
         self.calls = self.calls.saturating_add(1);
-        let result = self.end.read(buffer);
+        let result = self.stream.read(buffer);
         if result.is_err() {
             self.failures = self.failures.saturating_add(1);
         }
@@ -76,11 +76,11 @@ impl<R: Read> Read for Counted<R> {
 }
 
 impl<W: Write> Write for Counted<W> {
-    ghost contents = { λ c. W.contents c.end };
+    ghost contents = { λ c. W.contents c.stream };
 
     fn write(&mut self, bytes: &[u8]) -> io::Result<usize>
         ensures bound { WritesAtMost result bytes.now }
-        ensures bytes { WriteAppends (W.contents self.old.end) (W.contents self.new.end) result bytes.now }
+        ensures bytes { WriteAppends (W.contents self.old.stream) (W.contents self.new.stream) result bytes.now }
         ensures calls { self.new.calls ≡ one_more self.old.calls }
         ensures taken { OnOk result (self.new.failures ≡ self.old.failures) }
         ensures empty { IfOk result (λ n. self.new.empty_writes
@@ -89,7 +89,7 @@ impl<W: Write> Write for Counted<W> {
         ensures none { OnErr result (self.new.empty_writes ≡ self.old.empty_writes) }
     {
         self.calls = self.calls.saturating_add(1);
-        let result = self.end.write(bytes);
+        let result = self.stream.write(bytes);
         match result {
             Ok(0) => self.empty_writes = self.empty_writes.saturating_add(1),
             Ok(_) => {}
@@ -99,14 +99,14 @@ impl<W: Write> Write for Counted<W> {
     }
 
     fn flush(&mut self) -> io::Result<()>
-        ensures bytes { Keeps (W.contents self.old.end) (W.contents self.new.end) }
+        ensures bytes { Keeps (W.contents self.old.stream) (W.contents self.new.stream) }
         ensures calls { self.new.calls ≡ one_more self.old.calls }
         ensures done { OnOk result (self.new.failures ≡ self.old.failures) }
         ensures failed { OnErr result (self.new.failures ≡ one_more self.old.failures) }
         ensures empty { self.new.empty_writes ≡ self.old.empty_writes }
     {
         self.calls = self.calls.saturating_add(1);
-        let result = self.end.flush();
+        let result = self.stream.flush();
         if result.is_err() {
             self.failures = self.failures.saturating_add(1);
         }

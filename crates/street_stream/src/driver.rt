@@ -3,9 +3,9 @@
 //! Source: this profile. Each reply is written, and passed on, before the next read.
 ghost use Rattle.std.specs.Prelude.{◌≡◌, ◌+◌, ◌^◌, ◌<◌, ◌≤◌, ℕ, List, [], ◌∷◌, IfOk, OnOk, IfErr, length};
 ghost use Rattle.std.specs.Io.KnownBytes.{Consumes, IsAtEnd};
-ghost use Rattle.street_stream.specs.Ends.{IsFresh};
+ghost use Rattle.street_stream.specs.Streams.{IsFresh};
 ghost use Rattle.street_stream.specs.Faults.{IsCausedBy, IsCausedByLine};
-ghost use Rattle.street_stream.specs.Handling.{Whole, Broke, IsTally};
+ghost use Rattle.street_stream.specs.HandledLines.{Whole, Broke, IsTally};
 ghost use Rattle.street_stream.specs.Lines.{IsPart};
 ghost use Rattle.street_stream.specs.Progress.{IsWithin, Grows, Taken, LineBreaks, Feeds, FeedBreaks, Finishes, FinishBreaks};
 
@@ -14,7 +14,7 @@ use crate::counted::Counted;
 use crate::handler::LineHandler;
 use crate::part::PartialLine;
 use crate::tally::{FaultKind, Tally};
-use crate::writing::{flush_out, write_reply};
+use crate::writes::{flush_out, write_reply};
 use std::alloc::Global;
 use std::io::{Read, Write};
 
@@ -45,12 +45,12 @@ fn end_line<H: LineHandler, W: Write>(
     requires ready { H.ready }
     requires within { IsWithin tally.old }
     requires room { tally.old.lines < 2 ^ 62 }
-    ensures taken { OnOk result (Taken H.takes H.longest handler.old (W.contents writer.old.end) part.now tally.old
-        handler.new (W.contents writer.new.end) tally.new) }
+    ensures taken { OnOk result (Taken H.takes H.longest handler.old (W.contents writer.old.stream) part.now tally.old
+        handler.new (W.contents writer.new.stream) tally.new) }
     ensures grows { OnOk result (Grows tally.old tally.new 1) }
     ensures broken { IfErr result (λ cause. (line : List ℕ) → IsPart H.longest part.now line
-        → LineBreaks H.takes H.stops handler.old (W.contents writer.old.end) tally.old line
-        handler.new (W.contents writer.new.end) cause tally.new) }
+        → LineBreaks H.takes H.stops handler.old (W.contents writer.old.stream) tally.old line
+        handler.new (W.contents writer.new.stream) cause tally.new) }
     ensures caused { IfErr result (λ cause. IsCausedByLine cause writer.new) }
 {
     tally.lines += 1;
@@ -79,11 +79,11 @@ fn take_byte<H: LineHandler, W: Write>(
     requires ready { H.ready }
     requires within { IsWithin progress.old.tally }
     requires room { progress.old.tally.lines < 2 ^ 62 }
-    ensures feeds { OnOk result (Feeds H.takes H.longest handler.old (W.contents writer.old.end) progress.old (byte ∷ [])
-        handler.new (W.contents writer.new.end) progress.new) }
+    ensures feeds { OnOk result (Feeds H.takes H.longest handler.old (W.contents writer.old.stream) progress.old (byte ∷ [])
+        handler.new (W.contents writer.new.stream) progress.new) }
     ensures grows { OnOk result (Grows progress.old.tally progress.new.tally 1) }
-    ensures broken { IfErr result (λ cause. FeedBreaks H.takes H.stops H.longest handler.old (W.contents writer.old.end)
-        progress.old (byte ∷ []) handler.new (W.contents writer.new.end) cause progress.new.tally) }
+    ensures broken { IfErr result (λ cause. FeedBreaks H.takes H.stops H.longest handler.old (W.contents writer.old.stream)
+        progress.old (byte ∷ []) handler.new (W.contents writer.new.stream) cause progress.new.tally) }
     ensures caused { IfErr result (λ cause. IsCausedByLine cause writer.new) }
 {
     if byte == b'\n' {
@@ -106,11 +106,11 @@ fn feed<H: LineHandler, W: Write>(
     requires ready { H.ready }
     requires within { IsWithin progress.old.tally }
     requires room { progress.old.tally.lines + length bytes.now < 2 ^ 62 }
-    ensures feeds { OnOk result (Feeds H.takes H.longest handler.old (W.contents writer.old.end) progress.old bytes.now
-        handler.new (W.contents writer.new.end) progress.new) }
+    ensures feeds { OnOk result (Feeds H.takes H.longest handler.old (W.contents writer.old.stream) progress.old bytes.now
+        handler.new (W.contents writer.new.stream) progress.new) }
     ensures grows { OnOk result (Grows progress.old.tally progress.new.tally (length bytes.now)) }
-    ensures broken { IfErr result (λ cause. FeedBreaks H.takes H.stops H.longest handler.old (W.contents writer.old.end)
-        progress.old bytes.now handler.new (W.contents writer.new.end) cause progress.new.tally) }
+    ensures broken { IfErr result (λ cause. FeedBreaks H.takes H.stops H.longest handler.old (W.contents writer.old.stream)
+        progress.old bytes.now handler.new (W.contents writer.new.stream) cause progress.new.tally) }
     ensures caused { IfErr result (λ cause. IsCausedByLine cause writer.new) }
 {
     for byte in bytes {
@@ -130,11 +130,11 @@ fn feed_through<H: LineHandler, W: Write>(
     requires ready { H.ready }
     requires within { IsWithin progress.old.tally }
     requires room { progress.old.tally.lines + length bytes.now < 2 ^ 62 }
-    ensures feeds { OnOk result (Feeds H.takes H.longest handler.old (W.contents writer.old.end) progress.old bytes.now
-        handler.new (W.contents writer.new.end) progress.new) }
+    ensures feeds { OnOk result (Feeds H.takes H.longest handler.old (W.contents writer.old.stream) progress.old bytes.now
+        handler.new (W.contents writer.new.stream) progress.new) }
     ensures grows { OnOk result (Grows progress.old.tally progress.new.tally (length bytes.now)) }
-    ensures broken { IfErr result (λ cause. FeedBreaks H.takes H.stops H.longest handler.old (W.contents writer.old.end)
-        progress.old bytes.now handler.new (W.contents writer.new.end) cause progress.new.tally) }
+    ensures broken { IfErr result (λ cause. FeedBreaks H.takes H.stops H.longest handler.old (W.contents writer.old.stream)
+        progress.old bytes.now handler.new (W.contents writer.new.stream) cause progress.new.tally) }
     ensures caused { IfErr result (λ cause. IsCausedByLine cause writer.new) }
 {
     feed(alloc, handler, writer, progress, bytes)?;
@@ -152,11 +152,11 @@ fn finish<H: LineHandler, W: Write>(
     requires ready { H.ready }
     requires within { IsWithin progress.old.tally }
     requires room { progress.old.tally.lines < 2 ^ 62 }
-    ensures finishes { OnOk result (Finishes H.takes H.longest handler.old (W.contents writer.old.end) progress.old
-        handler.new (W.contents writer.new.end) progress.new.tally) }
+    ensures finishes { OnOk result (Finishes H.takes H.longest handler.old (W.contents writer.old.stream) progress.old
+        handler.new (W.contents writer.new.stream) progress.new.tally) }
     ensures grows { OnOk result (Grows progress.old.tally progress.new.tally 1) }
-    ensures broken { IfErr result (λ cause. FinishBreaks H.takes H.stops H.longest handler.old (W.contents writer.old.end)
-        progress.old handler.new (W.contents writer.new.end) cause progress.new.tally) }
+    ensures broken { IfErr result (λ cause. FinishBreaks H.takes H.stops H.longest handler.old (W.contents writer.old.stream)
+        progress.old handler.new (W.contents writer.new.stream) cause progress.new.tally) }
     ensures caused { IfErr result (λ cause. IsCausedByLine cause writer.new) }
 {
     if progress.part.as_slice().is_empty() {
@@ -176,11 +176,11 @@ fn finish_through<H: LineHandler, W: Write>(
     requires ready { H.ready }
     requires within { IsWithin progress.old.tally }
     requires room { progress.old.tally.lines < 2 ^ 62 }
-    ensures finishes { OnOk result (Finishes H.takes H.longest handler.old (W.contents writer.old.end) progress.old
-        handler.new (W.contents writer.new.end) progress.new.tally) }
+    ensures finishes { OnOk result (Finishes H.takes H.longest handler.old (W.contents writer.old.stream) progress.old
+        handler.new (W.contents writer.new.stream) progress.new.tally) }
     ensures grows { OnOk result (Grows progress.old.tally progress.new.tally 1) }
-    ensures broken { IfErr result (λ cause. FinishBreaks H.takes H.stops H.longest handler.old (W.contents writer.old.end)
-        progress.old handler.new (W.contents writer.new.end) cause progress.new.tally) }
+    ensures broken { IfErr result (λ cause. FinishBreaks H.takes H.stops H.longest handler.old (W.contents writer.old.stream)
+        progress.old handler.new (W.contents writer.new.stream) cause progress.new.tally) }
     ensures caused { IfErr result (λ cause. IsCausedByLine cause writer.new) }
 {
     finish(alloc, handler, writer, progress)?;
@@ -201,11 +201,11 @@ fn drive_all<H: LineHandler, R: Read, W: Write>(
     requires fresh { IsFresh reader.old }
     requires part { IsPart H.longest progress.old.part [] }
     requires tally { IsTally progress.old.tally [] [] }
-    ensures whole { OnOk result (Whole H.takes handler.old (R.remaining reader.old.end) (W.contents writer.old.end)
-        handler.new (R.remaining reader.new.end) (W.contents writer.new.end) progress.new.tally) }
+    ensures whole { OnOk result (Whole H.takes handler.old (R.remaining reader.old.stream) (W.contents writer.old.stream)
+        handler.new (R.remaining reader.new.stream) (W.contents writer.new.stream) progress.new.tally) }
     ensures few { OnOk result (progress.new.tally.lines < 2 ^ 62) }
-    ensures broken { IfErr result (λ cause. Broke H.takes H.stops handler.old (R.remaining reader.old.end) (W.contents writer.old.end)
-        handler.new (R.remaining reader.new.end) (W.contents writer.new.end) cause progress.new.tally) }
+    ensures broken { IfErr result (λ cause. Broke H.takes H.stops handler.old (R.remaining reader.old.stream) (W.contents writer.old.stream)
+        handler.new (R.remaining reader.new.stream) (W.contents writer.new.stream) cause progress.new.tally) }
     ensures caused { IfErr result (λ cause. IsCausedBy cause reader.new writer.new reads) }
     ensures bounded { reader.new.calls ≤ reads }
 {
@@ -234,7 +234,7 @@ fn drive_all<H: LineHandler, R: Read, W: Write>(
 ///
 /// `Line` where a line ended the run. `Run` with `Read` where a read failed; `Write` where a write or a flush failed, or a
 /// write took no bytes; `Starved` where memory was wanting to keep a line or for the text of a reply; `Endless` after so many
-/// reads. After either no more is read or handled; what was done till then is `Broke` of `specs/Handling`.
+/// reads. After either no more is read or handled; what was done till then is `Broke` of `specs/HandledLines`.
 pub fn drive_lines<H: LineHandler, R: Read, W: Write>(
     alloc: Global,
     handler: &mut H,
@@ -246,11 +246,11 @@ pub fn drive_lines<H: LineHandler, R: Read, W: Write>(
     requires longest { limits.line ≡ H.longest }
     requires reader { IsFresh reader.old }
     requires writer { IsFresh writer.old }
-    ensures whole { IfOk result (λ tally. Whole H.takes handler.old (R.remaining reader.old.end) (W.contents writer.old.end)
-        handler.new (R.remaining reader.new.end) (W.contents writer.new.end) tally) }
+    ensures whole { IfOk result (λ tally. Whole H.takes handler.old (R.remaining reader.old.stream) (W.contents writer.old.stream)
+        handler.new (R.remaining reader.new.stream) (W.contents writer.new.stream) tally) }
     ensures few { IfOk result (λ tally. tally.lines < 2 ^ 62) }
-    ensures broken { IfErr result (λ halt. Broke H.takes H.stops handler.old (R.remaining reader.old.end) (W.contents writer.old.end)
-        handler.new (R.remaining reader.new.end) (W.contents writer.new.end) halt.cause halt.tally) }
+    ensures broken { IfErr result (λ halt. Broke H.takes H.stops handler.old (R.remaining reader.old.stream) (W.contents writer.old.stream)
+        handler.new (R.remaining reader.new.stream) (W.contents writer.new.stream) halt.cause halt.tally) }
     ensures caused { IfErr result (λ halt. IsCausedBy halt.cause reader.new writer.new limits.reads) }
     ensures bounded { reader.new.calls ≤ limits.reads }
 {

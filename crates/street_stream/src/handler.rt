@@ -2,7 +2,7 @@
 //!
 //! Source: this profile.
 ghost use Rattle.std.specs.Prelude.{List, ℕ, IfOk, IfErr};
-ghost use Rattle.street_stream.specs.Handling.{Effect, Gives};
+ghost use Rattle.street_stream.specs.HandledLines.{Effect, Gives};
 ghost use Rattle.street_stream.specs.Lines.{IsPart};
 
 use crate::answer::Answer;
@@ -17,7 +17,7 @@ use std::alloc::Global;
 /// parameters, as that all threads may use its runtime: a function whose bounds say so has it.
 pub trait LineHandler {
     ghost use Rattle.std.specs.Prelude.{List, ℕ};
-    ghost use Rattle.street_stream.specs.Handling.{Effect};
+    ghost use Rattle.street_stream.specs.HandledLines.{Effect};
 
     /// Why a line ends the run.
     type Stop: Drop;

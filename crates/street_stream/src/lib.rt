@@ -1,8 +1,8 @@
-//! Ends of a run: readers and writers that count their calls, bytes that go out in parts, lines that come in parts, the loop
+//! Streams of a run: readers and writers that count their calls, bytes that go out in parts, lines that come in parts, the loop
 //! that cuts reads into lines and hands them on, and the tally of what was done.
 //!
-//! Where a text is cut into lines stands in `specs/Lines`, what an end counts in `specs/Ends`, what a run of lines gives and
-//! what one that broke leaves in `specs/Handling`, and what causes each fault in `specs/Faults`.
+//! Where a text is cut into lines stands in `specs/Lines`, what a stream counts in `specs/Streams`, what a run of lines gives and
+//! what one that broke leaves in `specs/HandledLines`, and what causes each fault in `specs/Faults`.
 #![tactic(auto)]
 
 mod answer;
@@ -11,7 +11,7 @@ mod driver;
 mod handler;
 mod part;
 mod tally;
-mod writing;
+mod writes;
 
 pub use answer::{Answer, Cause, Halt};
 pub use counted::Counted;
@@ -19,4 +19,4 @@ pub use driver::{Limits, drive_lines};
 pub use handler::LineHandler;
 pub use part::PartialLine;
 pub use tally::{FaultKind, RunFault, Tally};
-pub use writing::{flush_out, write_reply, write_text};
+pub use writes::{flush_out, write_reply, write_text};

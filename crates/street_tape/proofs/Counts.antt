@@ -3,8 +3,8 @@ use Rattle.std.proofs.Common.{◌≡◌, ℕ, ◌+◌, ◌<◌, List, ◌∷◌,
 use Rattle.std.proofs.lemmas.List.Sums.{sum_by-cons}
 use Rattle.serde_json.specs.Written.{compact_text}
 use Rattle.street_base.specs.declared.reply.Reply.{Reply}
-use Rattle.street_stream.specs.Handling.{Effect, has_reply, calls_in, replies_in}
-use Rattle.street_text.specs.Printing.{reply_line, reply_data}
+use Rattle.street_stream.specs.HandledLines.{Effect, has_reply, calls_in, replies_in}
+use Rattle.street_text.specs.ReplyLines.{reply_line, reply_data}
 
 pub calls_first : (first : Effect) (rest : List Effect) (n m : ℕ) → (if first.is_call then 1 else 0) ≡ n → calls_in rest ≡ m → calls_in (first ∷ rest) ≡ n + m
 calls_first first rest n m one more = sum_by-cons (λ (e : Effect). if e.is_call then 1 else 0) first rest ∙ ap (λ k. k + calls_in rest) one ∙ ap (λ k. n + k) more

@@ -12,7 +12,7 @@ use Rattle.street_base.specs.declared.command.PhaseSpec.{PhaseSpec}
 use Rattle.street_base.specs.declared.reply.Outcome.{Outcome}
 use Rattle.street_base.specs.declared.reply.Outcome.TheVariants.{Whole, Starved, Short}
 use Rattle.street_desk.specs.declared.journal.Entry.{Entry}
-use Rattle.street_text.specs.Printing.{items_from, number_data, node_data, link_data, turn_data, green_data, phase_data}
+use Rattle.street_text.specs.ReplyLines.{items_from, number_data, node_data, link_data, turn_data, green_data, phase_data}
 use Rattle.street_tape.specs.Entries.{head_in, is_part, outcome_in, call_in, entry_in, OutcomeFits, EntryFits}
 use Rattle.street_tape.specs.Tapes.{outcome_data, entry_data, head_data, old_head_data}
 use Rattle.street_tape.specs.declared.head.Head.TheVariants.{Version1, Version2}

@@ -2,9 +2,9 @@
 use Rattle.std.proofs.Common.{◌≡◌, ℕ, ◌+◌, ◌<◌, List, [], ◌∷◌, ◌++◌, length, Bool, true, false, ◌==◌, if◌then◌else◌, Option, Some, None, ◌⊎◌, inl, inr, refl, sym, ap, ◌∙◌, append_assoc, append-nil, length-append, arith}
 use Rattle.std.specs.Prelude.{⊤}
 use Rattle.street_desk.specs.declared.journal.Entry.{Entry}
-use Rattle.street_stream.specs.Handling.{EndsLine, IsNext}
+use Rattle.street_stream.specs.HandledLines.{EndsLine, IsNext}
 use Rattle.street_stream.specs.Lines.{cut, onto_first, if_any, lines_of}
-use Rattle.street_engine.specs.Refines.{View}
+use Rattle.street_engine.specs.Refines.{EngineView}
 use Rattle.street_tape.proofs.Legal.{replayable_front}
 use Rattle.street_tape.specs.BadTapes.{IsNoTape, IsBadAt, IsBadAfter}
 use Rattle.street_tape.specs.Faults.{TapeBreaks, IsOfRun}
@@ -91,7 +91,7 @@ module _ (Good : List Entry → Type 0) (front : (xs ys : List Entry) → Good (
 
 -- however much of it was read, only the run can have failed
 pub never_bad : (tape : List ℕ) (all : List Entry) → tape_in (lines_of tape) ≡ Some all → AreReplayable None all → (text more : List ℕ) → text ++ more ≡ tape
-    → (before : Option (List ℕ)) (view : View) (after : Option (List ℕ)) (fault : TapeFault) → TapeBreaks (more ≡ []) None before text view after fault → IsOfRun fault
+    → (before : Option (List ℕ)) (view : EngineView) (after : Option (List ℕ)) (fault : TapeFault) → TapeBreaks (more ≡ []) None before text view after fault → IsOfRun fault
 never_bad tape all reads good text more is before view after NotTape b = never_none (AreReplayable None) (replayable_front None) tape all reads good text more is b.0
 never_bad tape all reads good text more is before view after (BadEntry line) b =
     let bad = b.1 in

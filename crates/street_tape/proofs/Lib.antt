@@ -1,7 +1,7 @@
 pub mod Unbroken
 pub mod EntryData
 pub mod Told
-pub mod Sending
+pub mod Prefixes
 pub mod Taken
 pub mod Legal
 pub mod Counts

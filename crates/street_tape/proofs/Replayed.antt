@@ -7,26 +7,26 @@ use Rattle.street_base.specs.State.{State}
 use Rattle.street_desk.specs.declared.journal.Entry.{Entry}
 use Rattle.street_desk.specs.History.{state_from}
 use Rattle.street_stream.specs.Faults.{IsAtRead}
-use Rattle.street_stream.specs.Handling.{Effect, has_text, has_reply, text_in, Handles, output, calls_in as calls_of_effects, replies_in, IsNext, Leaves, Breaks as LinesBreak, Whole, Broke}
+use Rattle.street_stream.specs.HandledLines.{Effect, has_text, has_reply, text_in, Handles, output, calls_in as calls_of_effects, replies_in, IsNext, Leaves, Breaks as LinesBreak, Whole, Broke}
 use Rattle.street_stream.specs.Lines.{cut, lines_of}
 use Rattle.street_stream.specs.declared.answer.Cause.{Cause}
 use Rattle.street_stream.specs.declared.answer.Cause.TheVariants as cause
 use Rattle.street_stream.specs.declared.tally.FaultKind.{FaultKind}
 use Rattle.street_stream.specs.declared.tally.Tally.{Tally}
-use Rattle.street_engine.specs.Refines.{View, StandsFor}
-use Rattle.street_text.specs.Printing.{reply_line}
+use Rattle.street_engine.specs.Refines.{EngineView, StandsFor}
+use Rattle.street_text.specs.ReplyLines.{reply_line}
 use Rattle.street_tape.proofs.Counts.{calls_first, replies_first, none_more}
 use Rattle.street_tape.proofs.GoodTapes.{next_lines}
 use Rattle.street_tape.proofs.Legal.{replayable_last}
 use Rattle.street_tape.specs.BadTapes.{SaysCalls}
 use Rattle.street_tape.specs.Faults.{HasBegun, HasBegunNext, BreaksAfter, ReplaysWhole, ReplayStops, TapeBreaks}
-use Rattle.street_tape.specs.Handling.{Applies, ReplaysLine, CallStops, StopsLine, fault_of, Misses}
+use Rattle.street_tape.specs.ReplayHandler.{Applies, ReplaysLine, CallStops, StopsLine, fault_of, Misses}
 use Rattle.street_tape.specs.Replies.{AreReplayable, output_from}
 use Rattle.street_tape.specs.declared.fault.TapeFault.{TapeFault}
 use Rattle.street_tape.specs.declared.fault.TapeFault.TheVariants as fault
 use Rattle.street_tape.proofs.Taken.{says, none_read, some_read, whole_read, missing_read, takes_more, refused_entry, refused_head}
 use Rattle.street_tape.specs.Entries.{calls_in, tape_in}
-use Rattle.street_tape.specs.Reading.{Takes, Refuses, TakesAll, calls_of, may_end}
+use Rattle.street_tape.specs.TapeLines.{Takes, Refuses, TakesAll, calls_of, may_end}
 use Rattle.street_tape.specs.declared.head.Head.{Head}
 use Rattle.street_tape.specs.declared.tape.Stop.{Stop}
 use Rattle.street_tape.specs.declared.tape.Stop.TheVariants.{NotTape, BadEntry, Starved}
@@ -34,7 +34,7 @@ use Rattle.street_tape.specs.declared.tape.Stop.TheVariants.{NotTape, BadEntry, 
 -- ---- lines
 
 -- the lines said these calls, which were applied, and replied to
-record AreReplayed (m : State) (old : Option Head) (ls : List (List ℕ)) (es : List Entry) (effects : List Effect) (new : Option Head × View) : Type 0 where
+record AreReplayed (m : State) (old : Option Head) (ls : List (List ℕ)) (es : List Entry) (effects : List Effect) (new : Option Head × EngineView) : Type 0 where
   taken : TakesAll old ls es new.0
   good : AreReplayable m es
   state : StandsFor new.1 (state_from m es)
@@ -42,7 +42,7 @@ record AreReplayed (m : State) (old : Option Head) (ls : List (List ℕ)) (es : 
   calls : calls_of_effects effects ≡ length es
   replies : replies_in effects ≡ length es
 
-line_more : (m : State) (old mid new : Option Head × View) (l : List ℕ) (ls : List (List ℕ)) (call : Option Entry) (first : Effect) (rest : List Effect)
+line_more : (m : State) (old mid new : Option Head × EngineView) (l : List ℕ) (ls : List (List ℕ)) (call : Option Entry) (first : Effect) (rest : List Effect)
     → Takes old.0 l call mid.0 → Applies old.1 call first mid.1 → StandsFor old.1 m → ((k : State) → StandsFor mid.1 k → (es : List Entry) × AreReplayed k mid.0 ls es rest new)
     → (es : List Entry) × AreReplayed m old.0 (l ∷ ls) es (first ∷ rest) new
 line_more m old mid new l ls None first rest takes applies stands later =
@@ -80,14 +80,14 @@ line_more m old mid new l ls (Some e) first rest takes applies stands later =
       },
     )
 
-replayed : (m : State) (old : Option Head × View) (ls : List (List ℕ)) (effects : List Effect) (new : Option Head × View) → Handles ReplaysLine old ls effects new → StandsFor old.1 m
+replayed : (m : State) (old : Option Head × EngineView) (ls : List (List ℕ)) (effects : List Effect) (new : Option Head × EngineView) → Handles ReplaysLine old ls effects new → StandsFor old.1 m
     → (es : List Entry) × AreReplayed m old.0 ls es effects new
 replayed m old [] effects new h stands = (
   [],
   record {
-    taken = (ap (λ (s : Option Head × View). s.0) h.0, refl);
+    taken = (ap (λ (s : Option Head × EngineView). s.0) h.0, refl);
     good = tt;
-    state = subst (λ (s : Option Head × View). StandsFor s.1 m) (sym h.0) stands;
+    state = subst (λ (s : Option Head × EngineView). StandsFor s.1 m) (sym h.0) stands;
     out = ap output h.1;
     calls = ap calls_of_effects h.1;
     replies = ap replies_in h.1;
@@ -99,7 +99,7 @@ replayed m old (l ∷ ls) effects new h stands =
     (all.0, subst (λ (es : List Effect). AreReplayed m old.0 (l ∷ ls) all.0 es new) (sym h.5) all.1)
 
 -- so from the first line on
-from_first : (start : Option Head × View) → start.0 ≡ None → StandsFor start.1 None → (ls : List (List ℕ)) (effects : List Effect) (new : Option Head × View) → Handles ReplaysLine start ls effects new
+from_first : (start : Option Head × EngineView) → start.0 ≡ None → StandsFor start.1 None → (ls : List (List ℕ)) (effects : List Effect) (new : Option Head × EngineView) → Handles ReplaysLine start ls effects new
     → (es : List Entry) × AreReplayed None None ls es effects new
 from_first start fresh stands ls effects new h =
     let all = replayed None start ls effects new h stands in
@@ -111,7 +111,7 @@ whole_replies : (bytes replies all n : ℕ) → ((bytes ≡ all) × (replies ≡
 whole_replies bytes replies all n (inl is) same = is.1
 whole_replies bytes replies all n (inr less) same = absurd (omega (arith, less.0, same))
 
-module _ (start : Option Head × View) (fresh : start.0 ≡ None) (stands : StandsFor start.1 None) (unread before : Option (List ℕ)) (now : Option Head × View) (left after : Option (List ℕ)) where
+module _ (start : Option Head × EngineView) (fresh : start.0 ≡ None) (stands : StandsFor start.1 None) (unread before : Option (List ℕ)) (now : Option Head × EngineView) (left after : Option (List ℕ)) where
   pub replays_whole : (tally : Tally) → Whole ReplaysLine start unread before now left after tally → may_end now.0 ≡ true → ReplaysWhole unread before now.1 left after tally
   replays_whole tally h end =
       let all = from_first start fresh stands (lines_of h.text) h.effects now h.handled in
@@ -168,11 +168,11 @@ module _ (start : Option Head × View) (fresh : start.0 ≡ None) (stands : Stan
 
 -- ---- a replay that was broken off
 
-begun_none : (start : State) (done : List (List ℕ)) (es : List Entry) (rest : List (List ℕ)) (view : View) → StandsFor view (state_from start es) → HasBegunNext start done es rest view
+begun_none : (start : State) (done : List (List ℕ)) (es : List Entry) (rest : List (List ℕ)) (view : EngineView) → StandsFor view (state_from start es) → HasBegunNext start done es rest view
 begun_none start done es [] view h = h
 begun_none start done es (l ∷ ls) view h = inl h
 
-module _ (start : Option Head × View) (fresh : start.0 ≡ None) (stands : StandsFor start.1 None) (at_end : Type 0) (before : Option (List ℕ)) (text : List ℕ) (now : Option Head × View) (after : Option (List ℕ)) (tally : Tally) where
+module _ (start : Option Head × EngineView) (fresh : start.0 ≡ None) (stands : StandsFor start.1 None) (at_end : Type 0) (before : Option (List ℕ)) (text : List ℕ) (now : Option Head × EngineView) (after : Option (List ℕ)) (tally : Tally) where
   abbrev Broken : Cause Stop → Type 0
   Broken why = LinesBreak ReplaysLine StopsLine at_end start before text now after why tally
 
@@ -192,7 +192,7 @@ module _ (start : Option Head × View) (fresh : start.0 ≡ None) (stands : Stan
   run_broken : (kind : FaultKind) (h : Broken (cause.Run kind)) (es : List Entry) → AreReplayed None None h.done es h.effects h.mid → TapeBreaks at_end None before text now.1 after (fault_of (cause.Run kind) tally)
   run_broken kind h es r =
       let leaves = h.leaves in
-      let state = subst (λ (s : Option Head × View). StandsFor s.1 (state_from None es)) (sym leaves.0) r.state in
+      let state = subst (λ (s : Option Head × EngineView). StandsFor s.1 (state_from None es)) (sym leaves.0) r.state in
       record {
         done = h.done;
         rest = h.rest;
@@ -215,7 +215,7 @@ module _ (start : Option Head × View) (fresh : start.0 ≡ None) (stands : Stan
   head_broken h es r line next bad same all =
       let first = refused_head h.done es h.mid.0 line r.taken bad in
       let none : es ≡ [] = let says_none = says h.done es h.mid.0 r.taken in let nothing = ap calls_in first.0 in cc in
-      let state : StandsFor now.1 None = subst (λ (v : View). StandsFor v None) (sym same) (subst (λ (xs : List Entry). StandsFor h.mid.1 (state_from None xs)) none r.state) in
+      let state : StandsFor now.1 None = subst (λ (v : EngineView). StandsFor v None) (sym same) (subst (λ (xs : List Entry). StandsFor h.mid.1 (state_from None xs)) none r.state) in
       let written = all_written h.effects es r.out all h.written in (
         inl (line, subst (λ (ls : List (List ℕ)). IsNext at_end text ls line) first.0 next, first.1),
         state,
@@ -248,7 +248,7 @@ module _ (start : Option Head × View) (fresh : start.0 ≡ None) (stands : Stan
       → tally.lines ≡ length h.done + 1 → tally.bytes ≡ length (output h.effects) → TapeBreaks at_end None before text now.1 after (fault.BadEntry tally.lines)
   entry_broken h es r line next (inl refused) lines all =
       let bad = refused_entry h.done es h.mid.0 line r.taken refused.0 in
-      let state = subst (λ (v : View). StandsFor v (state_from None es)) (sym refused.1) r.state in
+      let state = subst (λ (v : EngineView). StandsFor v (state_from None es)) (sym refused.1) r.state in
       line_broken h es r line next bad.0 (λ fs said. bad.1 fs said.says) state lines all
   entry_broken h es r line next (inr stopped) lines all =
       let e : Entry = stopped.0 in
@@ -258,9 +258,9 @@ module _ (start : Option Head × View) (fresh : start.0 ≡ None) (stands : Stan
       (λ fs said. let read = said.says in let same : fs ≡ es ++ e ∷ [] = cc in halt.0 (replayable_last None es e (subst (AreReplayable None) same said.good)))
       halt.1 lines all
 
-  begun_by : (mid : Option Head × View) (done : List (List ℕ)) (es : List Entry) (line : List ℕ) (later : List (List ℕ)) → TakesAll None done es mid.0 → StandsFor mid.1 (state_from None es) → StopsLine mid line Starved now
+  begun_by : (mid : Option Head × EngineView) (done : List (List ℕ)) (es : List Entry) (line : List ℕ) (later : List (List ℕ)) → TakesAll None done es mid.0 → StandsFor mid.1 (state_from None es) → StopsLine mid line Starved now
       → HasBegunNext None done es (line ∷ later) now.1
-  begun_by mid done es line later taken state (inl refused) = inl (subst (λ (v : View). StandsFor v (state_from None es)) (sym refused.1) state)
+  begun_by mid done es line later taken state (inl refused) = inl (subst (λ (v : EngineView). StandsFor v (state_from None es)) (sym refused.1) state)
   begun_by mid done es line later taken state (inr stopped) =
       let e : Entry = stopped.0 in
       inr (e, says (done ++ line ∷ []) (es ++ e ∷ []) stopped.1 (takes_more None done es mid.0 line (Some e) stopped.1 taken stopped.2), stopped.3 (state_from None es) state)
@@ -278,7 +278,7 @@ module _ (start : Option Head × View) (fresh : start.0 ≡ None) (stands : Stan
         whole = λ read. absurd read;
       }
 
-  no_head : (mid : Option Head × View) (m : State) (line : List ℕ) → StandsFor mid.1 m → StopsLine mid line NotTape now → Refuses mid.0 line NotTape × (now.1 ≡ mid.1)
+  no_head : (mid : Option Head × EngineView) (m : State) (line : List ℕ) → StandsFor mid.1 m → StopsLine mid line NotTape now → Refuses mid.0 line NotTape × (now.1 ≡ mid.1)
   no_head mid m line state (inl refused) = refused
   no_head mid m line state (inr stopped) = absurd (stopped.3 m state)
 
@@ -296,7 +296,7 @@ module _ (start : Option Head × View) (fresh : start.0 ≡ None) (stands : Stan
       let all = from_first start fresh stands h.done h.effects h.mid h.handled in
       broken_by why h all.0 all.1
 
-pub replay_broke : (start : Option Head × View) → start.0 ≡ None → StandsFor start.1 None → (unread before : Option (List ℕ)) (now : Option Head × View) (left after : Option (List ℕ)) (why : Cause Stop) (tally : Tally)
+pub replay_broke : (start : Option Head × EngineView) → start.0 ≡ None → StandsFor start.1 None → (unread before : Option (List ℕ)) (now : Option Head × EngineView) (left after : Option (List ℕ)) (why : Cause Stop) (tally : Tally)
     → Broke ReplaysLine StopsLine start unread before now left after why tally → ReplayStops unread before now.1 left after (fault_of why tally)
 replay_broke start fresh stands unread before now left after why tally h =
     record { text = h.text; read = h.read; breaks = breaks_by start fresh stands _ before h.text now after tally why h.breaks }

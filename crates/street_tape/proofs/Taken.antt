@@ -6,7 +6,7 @@ use Rattle.street_desk.specs.declared.journal.Entry.{Entry}
 use Rattle.street_stream.specs.Lines.{kept}
 use Rattle.street_text.specs.declared.fault.LineFault.{LineFault}
 use Rattle.street_tape.specs.Entries.{longest_tape_line, tape_value, head_reading, entry_reading, after_call, is_sized, is_whole, may_have, onto, entries_of, calls_after, calls_in, all_after, tape_in}
-use Rattle.street_tape.specs.Reading.{Takes, Refuses, may_end, calls_of, TakesAll}
+use Rattle.street_tape.specs.TapeLines.{Takes, Refuses, may_end, calls_of, TakesAll}
 use Rattle.street_tape.specs.declared.head.Head.{Head}
 use Rattle.street_tape.specs.declared.head.Head.TheVariants.{Version1, Version2}
 use Rattle.street_tape.specs.declared.tape.Stop.{Stop}

@@ -6,7 +6,7 @@ use Rattle.std.specs.Io.KnownBytes.{Appends}
 use Rattle.std.specs.Prelude.{⊤}
 use Rattle.serde_json.specs.Written.{compact_text}
 use Rattle.street_desk.specs.declared.journal.Entry.{Entry}
-use Rattle.street_stream.specs.Handling.{Effect, has_reply, text_in, Handles, output, calls_in as calls_of_effects, replies_in, IsNext, Breaks as LinesBreak, Whole, Broke}
+use Rattle.street_stream.specs.HandledLines.{Effect, has_reply, text_in, Handles, output, calls_in as calls_of_effects, replies_in, IsNext, Breaks as LinesBreak, Whole, Broke}
 use Rattle.street_stream.specs.Lines.{lines_of}
 use Rattle.street_stream.specs.declared.answer.Cause.{Cause}
 use Rattle.street_stream.specs.declared.answer.Cause.TheVariants as cause
@@ -19,15 +19,15 @@ use Rattle.street_stream.specs.declared.tally.Tally.{Tally}
 use Rattle.street_tape.proofs.Counts.{calls_first, replies_first, none_more}
 use Rattle.street_tape.proofs.GoodTapes.{next_lines}
 use Rattle.street_tape.specs.Faults.{IsTapeCaused}
-use Rattle.street_tape.specs.Handling.{fault_of, Misses}
+use Rattle.street_tape.specs.ReplayHandler.{fault_of, Misses}
 use Rattle.street_tape.specs.Upgrades.{Cuts, CutShort, IsCausedByWrite, UpgradesWhole, UpgradeStops, UpgradeBreaks, UpgradesLine, RefusesLine, line_of_call, is_call, with_bytes}
 use Rattle.street_tape.specs.declared.fault.TapeFault.{TapeFault}
 use Rattle.street_tape.specs.declared.fault.TapeFault.TheVariants as fault
-use Rattle.street_tape.specs.declared.upgrading.Upgrading.{Upgrading}
-use Rattle.street_tape.proofs.Sending.{prefix_second}
+use Rattle.street_tape.specs.declared.upgrades.Upgrader.{Upgrader}
+use Rattle.street_tape.proofs.Prefixes.{prefix_second}
 use Rattle.street_tape.proofs.Taken.{says, none_read, some_read, whole_read, missing_read, refused_entry, refused_head}
 use Rattle.street_tape.specs.Entries.{calls_in}
-use Rattle.street_tape.specs.Reading.{Takes, Refuses, TakesAll, calls_of, may_end}
+use Rattle.street_tape.specs.TapeLines.{Takes, Refuses, TakesAll, calls_of, may_end}
 use Rattle.street_tape.specs.Tapes.{entry_data, entry_line, entry_lines, head_line, tape_text}
 use Rattle.street_tape.specs.Written.{IsPrefix, IsCausedByWriting}
 use Rattle.street_tape.specs.declared.head.Head.{Head}
@@ -37,7 +37,7 @@ use Rattle.street_tape.specs.declared.tape.Stop.TheVariants.{NotTape, BadEntry, 
 -- ---- lines
 
 -- the lines said these calls, whose lines were kept, and nothing was replied
-pub record AreUpgraded (old : Upgrading) (ls : List (List ℕ)) (es : List Entry) (effects : List Effect) (new : Upgrading) : Type 0 where
+pub record AreUpgraded (old : Upgrader) (ls : List (List ℕ)) (es : List Entry) (effects : List Effect) (new : Upgrader) : Type 0 where
   pub taken : TakesAll old.tape.rest ls es new.tape.rest
   pub lines : new.lines.items ≡ old.lines.items ++ entry_lines es
   pub out : output effects ≡ []
@@ -56,12 +56,12 @@ lines_append : (xs ys : List Entry) → entry_lines (xs ++ ys) ≡ entry_lines x
 lines_append [] ys = refl
 lines_append (x ∷ xs) ys = ap (λ (t : List ℕ). entry_line x ++ t) (lines_append xs ys) ∙ sym (append_assoc (entry_line x) (entry_lines xs) (entry_lines ys))
 
-upgraded : (old : Upgrading) (ls : List (List ℕ)) (effects : List Effect) (new : Upgrading) → Handles UpgradesLine old ls effects new → (es : List Entry) × AreUpgraded old ls es effects new
+upgraded : (old : Upgrader) (ls : List (List ℕ)) (effects : List Effect) (new : Upgrader) → Handles UpgradesLine old ls effects new → (es : List Entry) × AreUpgraded old ls es effects new
 upgraded old [] effects new h = (
   [],
   record {
-    taken = (ap (λ (u : Upgrading). u.tape.rest) h.0, refl);
-    lines = ap (λ (u : Upgrading). u.lines.items) h.0 ∙ sym (append-nil old.lines.items);
+    taken = (ap (λ (u : Upgrader). u.tape.rest) h.0, refl);
+    lines = ap (λ (u : Upgrader). u.lines.items) h.0 ∙ sym (append-nil old.lines.items);
     out = ap output h.1;
     calls = ap calls_of_effects h.1;
     replies = ap replies_in h.1;
@@ -106,7 +106,7 @@ few_calls (e ∷ es) = omega (arith, few_calls es, some_line e, length-append (e
 
 -- ---- a tape that was read to its end
 
-module _ (start : Upgrading) (fresh : start.tape.rest ≡ None) (none : start.lines.items ≡ []) (unread before : Option (List ℕ)) (now : Upgrading) (left mid : Option (List ℕ)) (tally : Tally)
+module _ (start : Upgrader) (fresh : start.tape.rest ≡ None) (none : start.lines.items ≡ []) (unread before : Option (List ℕ)) (now : Upgrader) (left mid : Option (List ℕ)) (tally : Tally)
     (h : Whole UpgradesLine start unread before now left mid tally) where
   pub record AreKept (es : List Entry) : Type 0 where
     pub taken : TakesAll None (lines_of h.text) es now.tape.rest
@@ -219,7 +219,7 @@ module _ (start : Upgrading) (fresh : start.tape.rest ≡ None) (none : start.li
 
 -- ---- an upgrade that was broken off before anything was written
 
-module _ (start : Upgrading) (fresh : start.tape.rest ≡ None) (at_end : Type 0) (before : Option (List ℕ)) (text : List ℕ) (now : Upgrading) (after : Option (List ℕ)) (tally : Tally) where
+module _ (start : Upgrader) (fresh : start.tape.rest ≡ None) (at_end : Type 0) (before : Option (List ℕ)) (text : List ℕ) (now : Upgrader) (after : Option (List ℕ)) (tally : Tally) where
   abbrev Broken : Cause Stop → Type 0
   Broken why = LinesBreak UpgradesLine RefusesLine at_end start before text now after why tally
 
@@ -292,7 +292,7 @@ module _ (start : Upgrading) (fresh : start.tape.rest ≡ None) (at_end : Type 0
   breaks_by : (why : Cause Stop) → Broken why → UpgradeBreaks at_end before text after (fault_of why tally)
   breaks_by why h = let all = unwritten why h in broken_by why h all.0 all.1
 
-pub upgrade_broke : (start : Upgrading) → start.tape.rest ≡ None → (unread before : Option (List ℕ)) (now : Upgrading) (left after : Option (List ℕ)) (why : Cause Stop) (tally : Tally)
+pub upgrade_broke : (start : Upgrader) → start.tape.rest ≡ None → (unread before : Option (List ℕ)) (now : Upgrader) (left after : Option (List ℕ)) (why : Cause Stop) (tally : Tally)
     → Broke UpgradesLine RefusesLine start unread before now left after why tally → UpgradeStops unread before left after (fault_of why tally)
 upgrade_broke start fresh unread before now left after why tally h = record { text = h.text; read = h.read; breaks = breaks_by start fresh _ before h.text now after tally why h.breaks }
 

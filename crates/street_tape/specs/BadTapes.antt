@@ -2,7 +2,7 @@
 -- Source: this profile.
 use Rattle.std.specs.Prelude.{◌≡◌, ℕ, ◌+◌, ◌<◌, ◌⊎◌, List, [], ◌∷◌, ◌++◌, length, Some, None, Ok}
 use Rattle.street_desk.specs.declared.journal.Entry.{Entry}
-use Rattle.street_stream.specs.Handling.{IsNext}
+use Rattle.street_stream.specs.HandledLines.{IsNext}
 use Rattle.street_stream.specs.Lines.{lines_of}
 use Rattle.street_tape.specs.Entries.{head_reading, calls_in, tape_in}
 use Rattle.street_tape.specs.declared.head.Head.{Head}

@@ -14,7 +14,7 @@ use Rattle.street_base.specs.declared.reply.Outcome.TheVariants.{Whole, Starved,
 use Rattle.street_desk.specs.declared.journal.Entry.{Entry}
 use Rattle.street_desk.specs.History.{entry}
 use Rattle.street_stream.specs.Lines.{lines_of}
-use Rattle.street_text.specs.Reading.{number_in, field, number_field, command_in, ◌with◌, value_of, or_fault}
+use Rattle.street_text.specs.LineCommands.{number_in, field, number_field, command_in, ◌with◌, value_of, or_fault}
 use Rattle.street_text.specs.declared.fault.LineFault.{LineFault}
 use Rattle.street_text.specs.declared.fault.LineFault.TheVariants.{LineTooLong, NotJson, BadCommand, Starved as NoMemory}
 use Rattle.street_tape.specs.Tapes.{entry_data}

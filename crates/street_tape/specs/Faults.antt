@@ -13,7 +13,7 @@ use Rattle.street_stream.specs.declared.counted.Counted.{Counted}
 use Rattle.street_stream.specs.declared.tally.FaultKind.{FaultKind}
 use Rattle.street_stream.specs.declared.tally.FaultKind.TheVariants.{Starved}
 use Rattle.street_stream.specs.declared.tally.Tally.{Tally}
-use Rattle.street_engine.specs.Refines.{View, StandsFor}
+use Rattle.street_engine.specs.Refines.{EngineView, StandsFor}
 use Rattle.street_tape.specs.BadTapes.{SaysCalls, IsNoTape, IsBadAt}
 use Rattle.street_tape.specs.declared.fault.TapeFault.{TapeFault}
 use Rattle.street_tape.specs.declared.fault.TapeFault.TheVariants.{NotTape, BadEntry, Run}
@@ -23,7 +23,7 @@ use Rattle.street_tape.specs.Entries.{calls_in, tape_reading}
 -- ---- whole replays
 
 -- the tape was read to its end, its calls are applied, and their replies written
-pub record ReplaysWhole (unread before : Option (List ℕ)) (view : View) (left after : Option (List ℕ)) (tally : Tally) : Type 0 where
+pub record ReplaysWhole (unread before : Option (List ℕ)) (view : EngineView) (left after : Option (List ℕ)) (tally : Tally) : Type 0 where
   pub text : List ℕ
   pub entries : List Entry
   pub read : Consumes unread left text
@@ -37,18 +37,18 @@ pub record ReplaysWhole (unread before : Option (List ℕ)) (view : View) (left 
 -- ---- faults of a run
 
 -- of an advance perhaps the first steps were made
-abbrev pub HasBegun : State → Command → View → Type 0
+abbrev pub HasBegun : State → Command → EngineView → Type 0
 HasBegun m c view = StandsFor view m ⊎ ((k : ℕ) × MayBeShort m c k × StandsFor view (short_state m k))
 
 -- so of the call of the line that follows these
-abbrev pub HasBegunNext : State → List (List ℕ) → List Entry → List (List ℕ) → View → Type 0
+abbrev pub HasBegunNext : State → List (List ℕ) → List Entry → List (List ℕ) → EngineView → Type 0
 HasBegunNext start done es [] view = StandsFor view (state_from start es)
 HasBegunNext start done es (l ∷ ls) view =
     StandsFor view (state_from start es)
     ⊎ ((e : Entry) × (calls_in (done ++ l ∷ []) ≡ Some (es ++ e ∷ [])) × HasBegun (state_from start es) e.command view)
 
 -- the calls of the first lines are applied, and the first bytes of their replies are written; the last reply alone may be cut off
-pub record BreaksAfter (start : State) (before : Option (List ℕ)) (done rest : List (List ℕ)) (view : View) (after : Option (List ℕ)) (tally : Tally) : Type 0 where
+pub record BreaksAfter (start : State) (before : Option (List ℕ)) (done rest : List (List ℕ)) (view : EngineView) (after : Option (List ℕ)) (tally : Tally) : Type 0 where
   pub entries : List Entry
   pub says : SaysCalls (AreReplayable start) done entries
   pub state : HasBegunNext start done entries rest view
@@ -59,7 +59,7 @@ pub record BreaksAfter (start : State) (before : Option (List ℕ)) (done rest :
       ⊎ ((tally.bytes < length (output_from start entries)) × (tally.replies + 1 ≡ length entries))
 
 -- so of the lines of a text; at a read the replies are whole, and those of all lines read to their end
-pub record Breaks (start : State) (before : Option (List ℕ)) (text : List ℕ) (view : View) (after : Option (List ℕ)) (kind : FaultKind) (tally : Tally) : Type 0 where
+pub record Breaks (start : State) (before : Option (List ℕ)) (text : List ℕ) (view : EngineView) (after : Option (List ℕ)) (kind : FaultKind) (tally : Tally) : Type 0 where
   pub done : List (List ℕ)
   pub rest : List (List ℕ)
   pub first_lines : lines_of text ≡ done ++ rest
@@ -71,14 +71,14 @@ pub record Breaks (start : State) (before : Option (List ℕ)) (text : List ℕ)
 -- ---- all faults
 
 -- what each leaves: nothing of what is no tape; of a bad tape the calls before its first bad line, with their replies
-abbrev pub TapeBreaks : Type 0 → State → Option (List ℕ) → List ℕ → View → Option (List ℕ) → TapeFault → Type 0
+abbrev pub TapeBreaks : Type 0 → State → Option (List ℕ) → List ℕ → EngineView → Option (List ℕ) → TapeFault → Type 0
 TapeBreaks at_end start before text view after NotTape = IsNoTape at_end text × StandsFor view start × Appends before after []
 TapeBreaks at_end start before text view after (BadEntry line) =
     (es : List Entry) × IsBadAt at_end (AreReplayable start) text es line × StandsFor view (state_from start es) × Appends before after (output_from start es)
 TapeBreaks at_end start before text view after (Run fault) = Breaks start before text view after fault.kind fault.tally
 
 -- so of what was read
-pub record ReplayStops (unread before : Option (List ℕ)) (view : View) (left after : Option (List ℕ)) (fault : TapeFault) : Type 0 where
+pub record ReplayStops (unread before : Option (List ℕ)) (view : EngineView) (left after : Option (List ℕ)) (fault : TapeFault) : Type 0 where
   pub text : List ℕ
   pub read : Consumes unread left text
   pub breaks : TapeBreaks (IsAtEnd left) None before text view after fault

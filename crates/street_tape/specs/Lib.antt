@@ -1,9 +1,9 @@
 pub mod Tapes
 pub mod Entries
-pub mod Reading
+pub mod TapeLines
 pub mod Written
 pub mod Replies
 pub mod BadTapes
 pub mod Faults
-pub mod Handling
+pub mod ReplayHandler
 pub mod Upgrades

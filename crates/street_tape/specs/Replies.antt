@@ -11,7 +11,7 @@ use Rattle.street_base.specs.State.{State}
 use Rattle.street_desk.specs.declared.journal.Entry.{Entry}
 use Rattle.street_desk.specs.History.{answers_from}
 use Rattle.street_stream.specs.declared.tally.Tally.{Tally}
-use Rattle.street_text.specs.Printing.{reply_line}
+use Rattle.street_text.specs.ReplyLines.{reply_line}
 
 -- a call can be replayed, but one that says a number of steps which the machine would not make there as a part of it
 abbrev pub IsReplayable : State → Command → Outcome → Type 0

@@ -5,7 +5,7 @@ use Rattle.serde_json.specs.Data.{Data, number, unsigned, string, object, no_mem
 use Rattle.street_base.specs.declared.reply.Outcome.{Outcome}
 use Rattle.street_base.specs.declared.reply.Outcome.TheVariants.{Whole, Starved, Short}
 use Rattle.street_desk.specs.declared.journal.Entry.{Entry}
-use Rattle.street_text.specs.Printing.{number_at, line_of}
+use Rattle.street_text.specs.ReplyLines.{number_at, line_of}
 use Rattle.street_text.specs.CommandTexts.{command_data}
 
 -- a word, or the number of the steps that were made

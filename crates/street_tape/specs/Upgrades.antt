@@ -3,7 +3,7 @@
 use Rattle.std.specs.Prelude.{◌≡◌, ℕ, ◌+◌, ◌⊎◌, List, [], ◌++◌, length, Bool, true, false, Option, Some, None, ⊤}
 use Rattle.std.specs.Io.KnownBytes.{Appends, Consumes, IsAtEnd}
 use Rattle.street_desk.specs.declared.journal.Entry.{Entry}
-use Rattle.street_stream.specs.Handling.{Effect}
+use Rattle.street_stream.specs.HandledLines.{Effect}
 use Rattle.street_stream.specs.Lines.{lines_of}
 use Rattle.street_stream.specs.declared.counted.Counted.{Counted}
 use Rattle.street_stream.specs.declared.tally.FaultKind.{FaultKind}
@@ -12,9 +12,9 @@ use Rattle.street_stream.specs.declared.tally.Tally.{Tally}
 use Rattle.street_tape.specs.BadTapes.{IsNoTape, IsBadAt}
 use Rattle.street_tape.specs.declared.fault.TapeFault.{TapeFault}
 use Rattle.street_tape.specs.declared.fault.TapeFault.TheVariants.{NotTape, BadEntry, Run}
-use Rattle.street_tape.specs.declared.upgrading.Upgrading.{Upgrading}
+use Rattle.street_tape.specs.declared.upgrades.Upgrader.{Upgrader}
 use Rattle.street_tape.specs.Entries.{calls_in, tape_reading}
-use Rattle.street_tape.specs.Reading.{Takes, Refuses}
+use Rattle.street_tape.specs.TapeLines.{Takes, Refuses}
 use Rattle.street_tape.specs.Tapes.{entry_line, tape_text}
 use Rattle.street_tape.specs.Written.{IsPrefix, IsCausedByWriting}
 use Rattle.street_tape.specs.declared.tape.Stop.{Stop}
@@ -89,10 +89,10 @@ is_call None = false
 is_call (Some e) = true
 
 -- the line of its call, if it says one, was kept
-abbrev pub UpgradesLine : Upgrading → List ℕ → Effect → Upgrading → Type 0
+abbrev pub UpgradesLine : Upgrader → List ℕ → Effect → Upgrader → Type 0
 UpgradesLine old line effect new =
     (call : Option Entry) × Takes old.tape.rest line call new.tape.rest × (new.lines.items ≡ old.lines.items ++ line_of_call call)
     × (effect ≡ record { is_call = is_call call; reply = None })
 
-abbrev pub RefusesLine : Upgrading → List ℕ → Stop → Upgrading → Type 0
+abbrev pub RefusesLine : Upgrader → List ℕ → Stop → Upgrader → Type 0
 RefusesLine old line stop new = Refuses old.tape.rest line stop

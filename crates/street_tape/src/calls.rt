@@ -9,7 +9,7 @@ ghost use Rattle.street_base.specs.Machine.{refusal};
 ghost use Rattle.street_base.specs.Outcomes.{reply_to, state_after};
 ghost use Rattle.street_base.specs.State.{State};
 ghost use Rattle.street_engine.specs.Refines.{StandsFor};
-ghost use Rattle.street_tape.specs.Handling.{CallStops};
+ghost use Rattle.street_tape.specs.ReplayHandler.{CallStops};
 ghost use Rattle.street_tape.specs.Replies.{IsReplayable, clock_in};
 
 use crate::Stop;

@@ -2,8 +2,8 @@
 //!
 //! Source: this profile.
 ghost use Rattle.std.specs.Prelude.{◌≡◌, ◌^◌, ◌<◌, true, IfErr, OnOk, IfOk};
-ghost use Rattle.street_tape.specs.Handling.{fault_of, Misses};
-ghost use Rattle.street_tape.specs.Reading.{may_end};
+ghost use Rattle.street_tape.specs.ReplayHandler.{fault_of, Misses};
+ghost use Rattle.street_tape.specs.TapeLines.{may_end};
 
 use crate::{Stop, Tape};
 use street_stream::{Cause, FaultKind, RunFault, Tally};

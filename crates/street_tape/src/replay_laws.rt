@@ -5,7 +5,7 @@ ghost use Rattle.std.specs.Prelude.{◌≡◌, ◌++◌, ℕ, All, List, [], Opt
 ghost use Rattle.street_base.specs.Run.{Runs};
 ghost use Rattle.street_desk.specs.declared.journal.Entry.{Entry};
 ghost use Rattle.street_desk.specs.History.{answers_of, state_of, IsLegal};
-ghost use Rattle.street_engine.specs.Refines.{View};
+ghost use Rattle.street_engine.specs.Refines.{EngineView};
 ghost use Rattle.street_tape.specs.Faults.{TapeBreaks, IsOfRun};
 ghost use Rattle.street_tape.specs.Upgrades.{UpgradeBreaks};
 ghost use Rattle.street_tape.specs.declared.fault.TapeFault.{TapeFault};
@@ -30,7 +30,7 @@ pub fn tape_replays()
         × (output_from None history ≡ reply_lines (answers_of history)) }
     ensures good { (history : List Entry) → IsLegal history → TapeFits history
         → (text more : List ℕ) → text ++ more ≡ tape_text history
-        → (before : Option (List ℕ)) (view : View) (after : Option (List ℕ)) (fault : TapeFault)
+        → (before : Option (List ℕ)) (view : EngineView) (after : Option (List ℕ)) (fault : TapeFault)
         → TapeBreaks (more ≡ []) None before text view after fault → IsOfRun fault }
     ensures upgrades { (history : List Entry) → TapeFits history
         → (text more : List ℕ) → text ++ more ≡ tape_text history
@@ -52,7 +52,7 @@ pub fn old_tape_replays()
     ensures good { (history : List Entry) → IsLegal history → All EntryFits history
         → All (λ e. tells_size e.command ≡ false) history
         → (text more : List ℕ) → text ++ more ≡ old_tape_text history
-        → (before : Option (List ℕ)) (view : View) (after : Option (List ℕ)) (fault : TapeFault)
+        → (before : Option (List ℕ)) (view : EngineView) (after : Option (List ℕ)) (fault : TapeFault)
         → TapeBreaks (more ≡ []) None before text view after fault → IsOfRun fault }
     ensures upgrades { (history : List Entry) → All EntryFits history → All (λ e. tells_size e.command ≡ false) history
         → (text more : List ℕ) → text ++ more ≡ old_tape_text history

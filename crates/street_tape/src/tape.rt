@@ -3,11 +3,11 @@
 //! Source: this profile.
 ghost use Rattle.std.specs.Prelude.{◌≡◌, None, Some, Ok, IfOk, IfErr, is_some};
 ghost use Rattle.street_tape.specs.Entries.{entry_reading};
-ghost use Rattle.street_tape.specs.Reading.{Takes, Refuses, IsNoCall, may_end};
+ghost use Rattle.street_tape.specs.TapeLines.{Takes, Refuses, IsNoCall, may_end};
 ghost use Rattle.street_tape.specs.declared.tape.Stop.TheVariants as stops;
 
+use crate::entries::{read_entry, read_head};
 use crate::head::Head;
-use crate::reading::{read_entry, read_head};
 use std::alloc::Global;
 use street_base::Starved;
 use street_desk::Entry;

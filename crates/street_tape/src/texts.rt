@@ -4,7 +4,7 @@
 ghost use Rattle.std.specs.Prelude.{◌≡◌, IfOk, false};
 ghost use Rattle.serde_json.specs.View.{view};
 ghost use Rattle.serde_json.specs.Written.{has_float};
-ghost use Rattle.street_text.specs.Printing.{line_of};
+ghost use Rattle.street_text.specs.ReplyLines.{line_of};
 ghost use Rattle.street_tape.specs.Tapes.{head_data, head_line, entry_data, entry_line, outcome_data};
 
 use serde_json::{Value, json};

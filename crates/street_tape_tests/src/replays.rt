@@ -1,14 +1,14 @@
-//! Tapes replayed over ends in memory. What is wanted was worked out by hand from the form of a tape and the rules of motion.
+//! Tapes replayed over streams in memory. What is wanted was worked out by hand from the form of a tape and the rules of motion.
 
 mod cuts;
 mod faults;
-mod running;
+mod runs;
 mod sizes;
 mod texts;
 mod upgrades;
 
-use crate::ends::Taking;
-use crate::replays::running::{Ran, replayed};
+use crate::memory_streams::FailingWriter;
+use crate::replays::runs::{Ran, replayed};
 use std::alloc::{AllocError, Global};
 use std::process::Abort;
 use std::test::Fail;
@@ -62,7 +62,7 @@ fn replayed_whole<R: Threads + Sync>(
             ..
         }
     );
-    (tally, writer.end, has_ended)
+    (tally, writer.stream, has_ended)
 }
 
 #[test]
@@ -139,7 +139,7 @@ fn check_outcomes(rt: &impl Abort, ran: &Ran) {
 fn each_outcome_is_replayed(rt: HostRuntime) {
     let alloc = rt.alloc();
     let tape = OUTCOMES.as_bytes();
-    let ran = replayed(&rt, alloc, tape, 4096, Taking::all(alloc), 100);
+    let ran = replayed(&rt, alloc, tape, 4096, FailingWriter::all(alloc), 100);
     check_outcomes(&rt, &ran);
 }
 
@@ -164,7 +164,7 @@ fn fault_of<R: Threads + Sync>(
     text: &[u8],
     piece: usize,
 ) -> (Option<TapeFault>, usize) {
-    let ran = replayed(rt, alloc, text, piece, Taking::all(alloc), 1000);
+    let ran = replayed(rt, alloc, text, piece, FailingWriter::all(alloc), 1000);
     (ran.fault, ran.taken.len())
 }
 
@@ -250,7 +250,14 @@ fn a_bad_entry_is_told_by_its_line(rt: HostRuntime) -> Result<(), Fail> {
     let alloc = rt.alloc();
     for line in &BAD_ENTRIES {
         let text = begun_with(alloc, line.as_bytes())?;
-        let ran = replayed(&rt, alloc, text.as_slice(), 100, Taking::all(alloc), 1000);
+        let ran = replayed(
+            &rt,
+            alloc,
+            text.as_slice(),
+            100,
+            FailingWriter::all(alloc),
+            1000,
+        );
         check_bad(&rt, &ran, 4, BEGIN_OUTPUT, line);
     }
     Ok(())
@@ -261,7 +268,14 @@ fn a_short_first_call_is_bad(rt: HostRuntime) {
     let alloc = rt.alloc();
     let text =
         "{\"tape\":1}\n{\"command\":{\"cmd\":\"advance\",\"steps\":5},\"outcome\":1,\"session\":0}\n";
-    let ran = replayed(&rt, alloc, text.as_bytes(), 4096, Taking::all(alloc), 1000);
+    let ran = replayed(
+        &rt,
+        alloc,
+        text.as_bytes(),
+        4096,
+        FailingWriter::all(alloc),
+        1000,
+    );
     check_bad(&rt, &ran, 2, "", text);
 }
 
@@ -269,7 +283,14 @@ fn a_short_first_call_is_bad(rt: HostRuntime) {
 fn a_line_that_is_too_long_is_bad(rt: HostRuntime) -> Result<(), Fail> {
     let alloc = rt.alloc();
     let text = begun_with(alloc, vec![in alloc; b' '; 2_097_153]?.as_slice())?;
-    let ran = replayed(&rt, alloc, text.as_slice(), 4096, Taking::all(alloc), 1000);
+    let ran = replayed(
+        &rt,
+        alloc,
+        text.as_slice(),
+        4096,
+        FailingWriter::all(alloc),
+        1000,
+    );
     check_bad(&rt, &ran, 4, BEGIN_OUTPUT, "a long line");
     Ok(())
 }

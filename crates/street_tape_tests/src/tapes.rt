@@ -99,7 +99,7 @@ impl Write for Short {
 fn taped(alloc: Global, journal: &Journal) -> (Option<u128>, Vec<u8>) {
     let mut writer = Counted::new(Vec::new(alloc));
     let bytes = write_tape(alloc, journal, &mut writer).ok();
-    (bytes, writer.end)
+    (bytes, writer.stream)
 }
 
 #[test]
@@ -117,7 +117,7 @@ fn taped_in(alloc: Global, journal: &Journal, room: usize) -> (Option<RunFault>,
         room,
     });
     let fault = write_tape(alloc, journal, &mut writer).err();
-    (fault, writer.end.taken)
+    (fault, writer.stream.taken)
 }
 
 /// So many first bytes of the tape were taken, and then a write failed.

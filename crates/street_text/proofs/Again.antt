@@ -12,8 +12,8 @@ use Rattle.street_base.specs.declared.net.NodeSpec.{NodeSpec}
 use Rattle.street_base.specs.declared.net.LinkSpec.{LinkSpec}
 use Rattle.street_base.specs.declared.net.TurnSpec.{TurnSpec}
 use Rattle.street_text.specs.CommandTexts.{command_data, tells_size}
-use Rattle.street_text.specs.Printing.{items_from, number_data, node_data, link_data, turn_data, green_data, phase_data}
-use Rattle.street_text.specs.Reading.{entries_of, number_in, row_in, node_in, link_in, turn_in, green_in, phase_in, command_in, named, load_in, numbers_in, signal_in, enter_in, advance_in, close_in, reopen_in, take_out_in, place_meter_in, read_meter_in, vehicle_in, lane_in}
+use Rattle.street_text.specs.ReplyLines.{items_from, number_data, node_data, link_data, turn_data, green_data, phase_data}
+use Rattle.street_text.specs.LineCommands.{entries_of, number_in, row_in, node_in, link_in, turn_in, green_in, phase_in, command_in, named, load_in, numbers_in, signal_in, enter_in, advance_in, close_in, reopen_in, take_out_in, place_meter_in, read_meter_in, vehicle_in, lane_in}
 use Rattle.street_text.specs.Fits.{IsWord, NodeFits, LinkFits, TurnFits, GreenFits, PhaseFits, Fits}
 use Rattle.street_text.proofs.Plain.{IsPlain, AreItemsPlain}
 

@@ -8,7 +8,7 @@ use Rattle.street_base.specs.declared.command.Command.{Command}
 use Rattle.street_base.specs.declared.command.Command.TheVariants.{Load, Enter, Signal, Advance, CloseLane, ReopenLane, TakeOut, PlaceMeter, ReadMeter, Vehicle, Lane, Count}
 use Rattle.street_base.specs.declared.command.PhaseSpec.{PhaseSpec}
 use Rattle.street_text.specs.CommandTexts.{command_data}
-use Rattle.street_text.specs.Printing.{items_from, number_data, node_data, link_data, turn_data, green_data, phase_data}
+use Rattle.street_text.specs.ReplyLines.{items_from, number_data, node_data, link_data, turn_data, green_data, phase_data}
 use Rattle.street_text.proofs.Floats.{whole_list}
 
 -- ---- it has no float

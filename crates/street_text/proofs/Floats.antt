@@ -11,7 +11,7 @@ use Rattle.street_base.specs.declared.reply.Reply.{Reply}
 use Rattle.street_base.specs.declared.reply.Reply.TheVariants.{Loaded, Signalled, Entered, Clock, Short, Closed, Placed, Rows, Vehicle, Lane, Census, Refused, Starved}
 use Rattle.street_base.specs.declared.reply.Whereabouts.{Whereabouts}
 use Rattle.street_base.specs.declared.reply.Whereabouts.TheVariants.{Cell, Buffer, Waiting, Ended}
-use Rattle.street_text.specs.Printing.{items_from, number_data, meter_data, buffer_data, cell_data, stretch_data, waiting_data, refused_data, vehicle_data, reply_data}
+use Rattle.street_text.specs.ReplyLines.{items_from, number_data, meter_data, buffer_data, cell_data, stretch_data, waiting_data, refused_data, vehicle_data, reply_data}
 
 pub whole_list : {T : Type 0} (one : T → Data) → ((x : T) → has_float (one x) ≡ false) → (xs : List T) → items_have_float (items_from one xs) ≡ false
 whole_list one whole [] = refl

@@ -4,7 +4,7 @@ use Rattle.std.proofs.lemmas.List.{at_drop_more}
 use Rattle.serde_json.specs.Data.{Data, Items, no_items, item}
 use Rattle.serde_json.specs.View.{view, items_view}
 use Rattle.serde_json.specs.declared.value.Value.{Value}
-use Rattle.street_text.specs.Printing.{items_from}
+use Rattle.street_text.specs.ReplyLines.{items_from}
 
 abbrev pub before : List Value → Items → Items
 before [] rest = rest

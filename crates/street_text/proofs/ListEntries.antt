@@ -8,7 +8,7 @@ use Rattle.std.proofs.Math.ListN.{set, drop_of_length-le}
 use Rattle.serde_json.specs.Data.{Data}
 use Rattle.serde_json.specs.View.{view, items_view}
 use Rattle.serde_json.specs.declared.value.Value.{Value}
-use Rattle.street_text.specs.Reading.{Fails, entries_of, number_in, or_fault, phase_from}
+use Rattle.street_text.specs.LineCommands.{Fails, entries_of, number_in, or_fault, phase_from}
 use Rattle.street_text.specs.declared.fault.LineFault.{LineFault}
 use Rattle.street_text.specs.declared.fault.LineFault.TheVariants.{BadCommand, LineTooLong, NotJson, Starved}
 

@@ -5,7 +5,7 @@ use Rattle.std.proofs.lemmas.Str.{is_utf8-from_IsUtf8, IsUtf8-from_is_utf8}
 use Rattle.serde_json.specs.Data.{Data}
 use Rattle.serde_json.specs.Read.{read}
 use Rattle.street_base.specs.declared.command.Command.{Command}
-use Rattle.street_text.specs.Reading.{value_of, command_in, reading, longest_line}
+use Rattle.street_text.specs.LineCommands.{value_of, command_in, reading, longest_line}
 
 pub value_read : (line : List ℕ) (d : Data) → IsUtf8 line → read line ≡ Some d → value_of line ≡ Some d
 unfolding value_of

@@ -6,7 +6,7 @@ use Rattle.serde_json.specs.Written.{compact_text}
 use Rattle.street_base.specs.declared.command.Command.{Command}
 use Rattle.street_base.specs.declared.command.Command.TheVariants.{Load, Enter, Signal, Advance, CloseLane, ReopenLane, TakeOut, PlaceMeter, ReadMeter, Vehicle, Lane, Count}
 use Rattle.street_base.specs.declared.net.NetSpec.{NetSpec}
-use Rattle.street_text.specs.Printing.{number_data, node_data, link_data, turn_data, phase_data, number_at, text_at, list_at}
+use Rattle.street_text.specs.ReplyLines.{number_data, node_data, link_data, turn_data, phase_data, number_at, text_at, list_at}
 
 -- ---- objects, their keys in byte order
 

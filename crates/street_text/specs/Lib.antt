@@ -2,6 +2,6 @@ pub mod CommandTexts
 pub mod FaultLines
 pub mod Fits
 pub mod Faults
-pub mod Reading
-pub mod Printing
+pub mod LineCommands
+pub mod ReplyLines
 pub mod Members

@@ -5,7 +5,7 @@ use Rattle.std.specs.Prelude.{ℕ, List, [], ◌∷◌, Bool, true, false, if◌
 use Rattle.serde_json.specs.Data.{Data, null, string, array, object, Members, no_members, put}
 use Rattle.street_text.specs.declared.members.Member.{Member}
 use Rattle.street_text.specs.declared.members.Member.TheVariants.{Number, Text, Numbers, Running, Rows, Buffer, Cells, Stretches, Waiting, Nodes, Links, Turns, Phases, Optional}
-use Rattle.street_text.specs.Printing.{items_from, number_data, numbers, meter_data, running_data, buffer_data, cell_data, stretch_data, waiting_data, node_data, link_data, turn_data, phase_data}
+use Rattle.street_text.specs.ReplyLines.{items_from, number_data, numbers, meter_data, running_data, buffer_data, cell_data, stretch_data, waiting_data, node_data, link_data, turn_data, phase_data}
 
 -- what stands under one key
 abbrev pub member_data : Member → Data

@@ -4,7 +4,7 @@
 ghost use Rattle.std.specs.Prelude.{◌≡◌, ◌≤◌, ◌==◌, IfOk, Ok, Some, None, if◌then◌else◌, length};
 ghost use Rattle.serde_json.specs.View.{view};
 ghost use Rattle.street_base.specs.declared.command.Command.TheVariants.{Load, Enter, Signal, Advance, PlaceMeter, ReadMeter, Lane, Count};
-ghost use Rattle.street_text.specs.Reading.{longest_line, reading};
+ghost use Rattle.street_text.specs.LineCommands.{longest_line, reading};
 ghost use Rattle.street_text.specs.CommandTexts.{stretch_data_of, car_data_of, command_data, text_of};
 
 use crate::{Member, object_value};

@@ -3,7 +3,7 @@
 //! Source: this profile.
 ghost use Rattle.std.specs.Prelude.{◌≡◌, IfOk};
 ghost use Rattle.serde_json.specs.View.{view};
-ghost use Rattle.street_text.specs.Printing.{line_of, error_data};
+ghost use Rattle.street_text.specs.ReplyLines.{line_of, error_data};
 
 use crate::lines::line_text;
 use crate::members::{Member, object_value};

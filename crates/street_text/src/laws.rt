@@ -3,7 +3,7 @@
 //! Source: this profile.
 ghost use Rattle.std.specs.Prelude.{◌≡◌, ◌≤◌, Ok, length};
 ghost use Rattle.street_base.specs.declared.command.Command.{Command};
-ghost use Rattle.street_text.specs.Reading.{longest_line, reading};
+ghost use Rattle.street_text.specs.LineCommands.{longest_line, reading};
 ghost use Rattle.street_text.specs.CommandTexts.{text_of};
 ghost use Rattle.street_text.specs.Fits.{Fits};
 

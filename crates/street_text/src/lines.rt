@@ -4,7 +4,7 @@
 ghost use Rattle.std.specs.Prelude.{◌≡◌, IfOk, false};
 ghost use Rattle.serde_json.specs.View.{view};
 ghost use Rattle.serde_json.specs.Written.{has_float};
-ghost use Rattle.street_text.specs.Printing.{line_of};
+ghost use Rattle.street_text.specs.ReplyLines.{line_of};
 
 use serde_json::Value;
 use std::alloc::Global;

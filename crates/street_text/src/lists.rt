@@ -4,7 +4,7 @@
 ghost use Rattle.std.specs.Prelude.{◌≡◌, IfOk};
 ghost use Rattle.serde_json.specs.Data.{Data, array};
 ghost use Rattle.serde_json.specs.View.{view};
-ghost use Rattle.street_text.specs.Printing.{items_from, number_data, meter_data, running_data, buffer_data, cell_data, stretch_data, waiting_data, node_data, link_data, turn_data, green_data, phase_data};
+ghost use Rattle.street_text.specs.ReplyLines.{items_from, number_data, meter_data, running_data, buffer_data, cell_data, stretch_data, waiting_data, node_data, link_data, turn_data, green_data, phase_data};
 
 use serde_json::{Value, json};
 use std::alloc::{AllocError, Global};

@@ -4,7 +4,7 @@
 ghost use Rattle.std.specs.Prelude.{◌≡◌, IfOk, codes, nat_lt, Some, None, if◌then◌else◌};
 ghost use Rattle.serde_json.specs.Data.{object, no_members};
 ghost use Rattle.serde_json.specs.View.{view};
-ghost use Rattle.street_text.specs.Printing.{number_at, text_at, error_at, refused_data, ended_data, vehicle_data, reply_data, reply_line};
+ghost use Rattle.street_text.specs.ReplyLines.{number_at, text_at, error_at, refused_data, ended_data, vehicle_data, reply_data, reply_line};
 ghost use Rattle.street_base.specs.declared.reply.Reply.TheVariants.{Loaded, Short, Rows, Lane, Census, Starved as StarvedReply};
 ghost use Rattle.street_base.specs.declared.reply.Whereabouts.TheVariants.{Cell, Buffer, Waiting};
 
@@ -352,7 +352,7 @@ fn reply_value(alloc: Global, reply: &Reply) -> Result<Value, AllocError>
 }
 
 /// The line of a reply: one JSON object, its keys in byte order, and LF.
-#[tactic(auto, unfolding(crate::specs::Printing::reply_line))]
+#[tactic(auto, unfolding(crate::specs::ReplyLines::reply_line))]
 pub fn reply_text(alloc: Global, reply: &Reply) -> Result<Vec<u8>, Starved>
     ensures { IfOk result (λ text. text.items ≡ reply_line reply.now) }
 {

@@ -6,6 +6,6 @@
 #[cfg(test)]
 mod commands;
 #[cfg(test)]
-mod printing;
+mod replies;
 #[cfg(test)]
 mod texts;

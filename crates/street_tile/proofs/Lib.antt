@@ -1,29 +1,29 @@
-pub mod Going
+pub mod SameLanes
 pub mod Each
 pub mod Rows
-pub mod Walking
-pub mod Crossing
-pub mod Owning
+pub mod Walks
+pub mod Crossings
+pub mod OwnLanes
 mod Pairs
-mod Changing
-mod Driving
-mod Releases
-mod Showing
+mod TileChanges
+mod TileMotion
+mod TileReleases
+mod HeldMouths
 mod Slots
-pub mod Tiling
-pub mod Publishing
-pub mod Keeping
-pub mod Composing
-pub mod Moving
+pub mod LaneOwners
+pub mod PublishedView
+pub mod SameTile
+pub mod PhasesOfAll
+pub mod MovedHandOvers
 mod Numbers
-pub mod Commanding
-pub mod Metering
-mod Parting
-pub mod Placing
-mod Ticking
-mod Cutting
-mod Making
-mod Writing
-pub mod Seeking
-pub mod Stepping
-mod Hinting
+pub mod DoesIf
+pub mod MetersStand
+mod Phases
+pub mod PlacesMeter
+mod NotedStep
+mod EmptyTile
+mod MadeTiles
+mod WrittenList
+pub mod NumberOnce
+pub mod BetweenPhases
+mod KeepsHints

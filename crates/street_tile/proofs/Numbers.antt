@@ -13,10 +13,10 @@ use Rattle.street_base.proofs.PlaceOnceLemmas.{places-once}
 use Rattle.street_lanes.specs.Lanes.{IsLane}
 use Rattle.street_tile.specs.Tiles.{Part, IsTileOf, AreNumbers, is_own, slot_of}
 use Rattle.street_tile.specs.Walks.{AtMostOnce}
-use Rattle.street_tile.proofs.Walking.{times-cons, times-at, once-rest}
-use Rattle.street_tile.proofs.Owning.{at-any}
-use Rattle.street_tile.proofs.Publishing.{any-at}
-use Rattle.street_tile.proofs.Moving.{own-listed}
+use Rattle.street_tile.proofs.Walks.{times-cons, times-at, once-rest}
+use Rattle.street_tile.proofs.OwnLanes.{at-any}
+use Rattle.street_tile.proofs.PublishedView.{any-at}
+use Rattle.street_tile.proofs.MovedHandOvers.{own-listed}
 
 -- an own lane has its place among the own lanes at its number
 pub number-at : (net : NetSpec) (x : Part) (p : Place) (numbers : List ℕ) → IsTileOf net x → AreNumbers x.links x.own.places numbers → IsLane net p → is_own net x.low x.high p ≡ true → slice_get x.own.places (get_or numbers (slot_of p) 0) ≡ Some p

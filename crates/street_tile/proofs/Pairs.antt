@@ -6,7 +6,7 @@ use Rattle.std.proofs.lemmas.Bool.{cases_Bool}
 use Rattle.street_base.specs.declared.net.NetSpec.{NetSpec}
 use Rattle.street_base.specs.Network.{Place, link_at}
 use Rattle.street_tile.specs.Tiles.{ArePairs, nth, beside, lanes_beside, is_own, own_places}
-use Rattle.street_tile.proofs.Owning.{row_of}
+use Rattle.street_tile.proofs.OwnLanes.{row_of}
 
 module _ (net : NetSpec) where
   pairs-none : ArePairs net []

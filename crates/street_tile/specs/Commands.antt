@@ -10,7 +10,7 @@ use Rattle.street_base.specs.State.{Traffic, LaneState, lane_at, each_lane}
 use Rattle.street_base.specs.Census.{in_lane}
 use Rattle.street_base.specs.Effects.{lane_without}
 use Rattle.street_base.specs.Machine.{seen_in}
-use Rattle.street_lanes.specs.Finding.{vehicle_on}
+use Rattle.street_lanes.specs.Whereabouts.{vehicle_on}
 use Rattle.street_lanes.specs.Whole.{IsOn}
 use Rattle.street_tile.specs.Tiles.{Part, StandsFor, SameTile}
 
@@ -36,7 +36,7 @@ pub record DoesIf (net : NetSpec) (P : Traffic → Type 0) (f : Traffic → Traf
   pub handed : y.handed ≡ x.handed
   pub coming : y.coming ≡ x.coming
   pub arrived : y.arrived ≡ x.arrived
-  pub gauges : y.gauges ≡ x.gauges
+  pub detectors : y.detectors ≡ x.detectors
   pub stands : (m : Traffic) → IsOn net m → P m → StandsFor x m → StandsFor y (f m)
 
 abbrev pub Does : NetSpec → (Traffic → Traffic) → Part → Part → Type 0

@@ -10,12 +10,12 @@ use Rattle.street_base.specs.State.{Traffic, LaneState, each_lane}
 use Rattle.street_base.specs.Release.{front, exit_lane, giver, gives, on_next_link, with_entry}
 
 -- a vehicle on its way into a lane
-pub record Entry : Type 0 where
+pub record Transfer : Type 0 where
   pub to : Place
   pub vehicle : Vehicle
 
--- the vehicle of an entry, where there is one
-abbrev pub vehicle_in : Option Entry → Option Vehicle
+-- the vehicle of a transfer, where there is one
+abbrev pub vehicle_in : Option Transfer → Option Vehicle
 vehicle_in entry = option_map (λ e. e.vehicle) entry
 
 -- a buffer is chosen by an entrance
@@ -23,15 +23,15 @@ abbrev pub takes : Option Place → Place → Bool
 takes chosen from = option_map_or (is_place from) chosen false
 
 -- a vehicle as it enters a lane
-abbrev pub entry_on : NetSpec → Vehicle → Place → Entry
+abbrev pub entry_on : NetSpec → Vehicle → Place → Transfer
 entry_on net v to = record { to = to; vehicle = on_next_link (link_at net to.link).limit v }
 
 -- who is let go of a buffer, and whereto
-abbrev pub crossing : Traffic → Place → Option Entry
+abbrev pub crossing : Traffic → Place → Option Transfer
 crossing m from = option_and_then (λ q. option_and_then (λ to. if takes (giver m to) from then Some (entry_on m.network q.vehicle to) else None) (exit_lane m from q.vehicle)) (front m from)
 
 -- those who enter a lane, of a list of entries
-abbrev pub entries_to : Place → List Entry → List Vehicle
+abbrev pub entries_to : Place → List Transfer → List Vehicle
 entries_to to entries = map (λ e. e.vehicle) (filter (λ e. is_place to e.to) entries)
 
 -- the first half: buffers lose the fronts that go
@@ -49,5 +49,5 @@ unfoldable pub placed : (Place → Option Vehicle) → Traffic → Traffic
 placed entry m = record m { lanes = each_lane (placed_lane entry) m.lanes }
 
 -- who enters a lane, of a list of entries: the first
-abbrev pub entry_in : List Entry → Place → Option Vehicle
+abbrev pub entry_in : List Transfer → Place → Option Vehicle
 entry_in entries p = slice_get (entries_to p entries) 0

@@ -1,8 +1,8 @@
 pub mod Halves
 pub mod Tiles
-pub mod Metering
+pub mod TileDetectors
 pub mod Phases
 pub mod Walks
-pub mod Moves
+pub mod HandOvers
 pub mod Commands
 pub mod Hinted

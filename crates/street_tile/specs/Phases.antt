@@ -10,7 +10,7 @@ use Rattle.street_base.specs.Step.{arrival, leaver_of, changed, driven}
 use Rattle.street_lanes.specs.Whole.{AllFree, IsOn}
 use Rattle.street_tile.specs.Halves.{crossing, let_go, placed}
 use Rattle.street_tile.specs.Tiles.{Part, StandsFor, SameTile, Shows, ShowsOwn, nobody}
-use Rattle.street_tile.specs.Metering.{KeepMeters, HaveWatched, MetersStand, noted_by}
+use Rattle.street_tile.specs.TileDetectors.{KeepMeters, HaveWatched, MetersStand, noted_by}
 
 -- whatever the tile stood for, it then stands for f of that
 pub record GoesBy (net : NetSpec) (f : Traffic → Traffic) (x y : Part) : Type 0 where
@@ -21,44 +21,44 @@ pub record GoesBy (net : NetSpec) (f : Traffic → Traffic) (x y : Part) : Type 
   pub stands : (m : Traffic) → IsOn net m → StandsFor x m → StandsFor y (f m)
 
 -- lane changes
-pub record Changes (net : NetSpec) (x y : Part) : Type 0 where
+pub record LanePhase (net : NetSpec) (x y : Part) : Type 0 where
   pub goes : GoesBy net changed x y
   pub arrived : y.arrived ≡ x.arrived
-  pub gauges : y.gauges ≡ x.gauges
+  pub detectors : y.detectors ≡ x.detectors
 
 -- motion: also the numbers that arrived, lane by lane; the watches have seen it; and the tile holds the mouths after it
-pub record Moves (net : NetSpec) (x y : Part) : Type 0 where
+pub record MotionPhase (net : NetSpec) (x y : Part) : Type 0 where
   pub goes : GoesBy net driven x y
   pub arrived : (m : Traffic) → IsOn net m → StandsFor x m → y.arrived ≡ filter_map (λ p. arrival (leaver_of m p)) x.own.places
-  pub gauges : KeepMeters x.gauges y.gauges
-  pub watched : (m : Traffic) → IsOn net m → StandsFor x m → HaveWatched m x.own.places y.gauges
+  pub detectors : KeepMeters x.detectors y.detectors
+  pub watched : (m : Traffic) → IsOn net m → StandsFor x m → HaveWatched m x.own.places y.detectors
   pub shown : ShowsOwn y
 
 -- releases, by the view: the fronts that go are out of the buffers and handed over, buffer by buffer
-pub record Releases (net : NetSpec) (view : List Bool) (x y : Part) : Type 0 where
+pub record ReleasePhase (net : NetSpec) (view : List Bool) (x y : Part) : Type 0 where
   pub same : SameTile x y
   pub arrived : y.arrived ≡ x.arrived
   pub coming : y.coming ≡ x.coming
-  pub gauges : y.gauges ≡ x.gauges
+  pub detectors : y.detectors ≡ x.detectors
   pub room : x.own.room ≤ y.own.room
   pub stands : (m : Traffic) → IsOn net m → Shows net view m → StandsFor x m → StandsFor y (let_go m)
   pub handed : (m : Traffic) → IsOn net m → Shows net view m → StandsFor x m → y.handed ≡ filter_map (crossing m) x.own.places
 
 -- entries and departures
-pub record Enters (net : NetSpec) (x y : Part) : Type 0 where
+pub record EnterPhase (net : NetSpec) (x y : Part) : Type 0 where
   pub same : SameTile x y
   pub handed : y.handed ≡ x.handed
   pub arrived : y.arrived ≡ x.arrived
   pub coming : y.coming ≡ nobody x
-  pub gauges : y.gauges ≡ x.gauges
+  pub detectors : y.detectors ≡ x.detectors
   pub stands : (m : Traffic) (entry : Place → Option Vehicle) → IsOn net m → StandsFor x m → x.coming ≡ map entry x.own.places → AllFree x.own.places m entry → StandsFor y (departed (placed entry m))
 
 -- the clock goes on
 unfoldable pub ticked : Traffic → Traffic
 ticked m = record m { clock = m.clock + 1 }
 
--- the detectors note the step, of whose motion their watches have seen what it was from `weaved`, and the clock goes on
-pub record Ticks (net : NetSpec) (x y : Part) : Type 0 where
+-- the detectors note the step, of whose motion their watches have seen what it was from the traffic `before`, and the clock goes on
+pub record MeterPhase (net : NetSpec) (x y : Part) : Type 0 where
   pub goes : GoesBy net ticked x y
   pub arrived : y.arrived ≡ x.arrived
-  pub noted : (weaved m : Traffic) → IsOn net m → StandsFor x m → HaveWatched weaved x.own.places x.gauges → MetersStand x m → MetersStand y (noted_by weaved m)
+  pub noted : (before m : Traffic) → IsOn net m → StandsFor x m → HaveWatched before x.own.places x.detectors → MetersStand x m → MetersStand y (noted_by before m)

@@ -13,10 +13,10 @@ use Rattle.street_base.specs.Signal.{SignalPlan}
 use Rattle.street_base.specs.State.{Traffic, lane_at}
 use Rattle.street_lanes.specs.Lanes.{Lanes, IsOf, Same, no_place}
 use Rattle.street_lanes.specs.Whole.{IsOn, LanesStand}
-use Rattle.street_lanes.specs.Driving.{PlanStands, cells_on}
+use Rattle.street_lanes.specs.Motion.{PlanStands, cells_on}
 use Rattle.street_meter.specs.Meter.{next_step}
-use Rattle.street_lanes.specs.Gauges.{Gauges}
-use Rattle.street_tile.specs.Halves.{Entry}
+use Rattle.street_lanes.specs.Detectors.{Detectors}
+use Rattle.street_tile.specs.Halves.{Transfer}
 
 -- ---- the network
 
@@ -61,10 +61,10 @@ pub record Part : Type 0 where
   pub clock : ℕ
   pub signals : List (Option SignalPlan)
   pub mouths : List Bool
-  pub handed : List Entry
+  pub handed : List Transfer
   pub coming : List (Option Vehicle)
   pub arrived : List ℕ
-  pub gauges : List Gauges
+  pub detectors : List Detectors
 
 -- the link of this lane runs to a node from low up to high
 abbrev pub is_own : NetSpec → ℕ → ℕ → Place → Bool
@@ -74,8 +74,8 @@ abbrev pub own_places : NetSpec → ℕ → ℕ → List Place
 own_places net low high = filter (is_own net low high) (places net)
 
 -- how many cells each of these lanes has, by its detectors
-abbrev pub sizes_of : List Gauges → List ℕ
-sizes_of gauges = map (λ g. g.size) gauges
+abbrev pub sizes_of : List Detectors → List ℕ
+sizes_of detectors = map (λ g. g.size) detectors
 
 -- a tile of this network
 pub record IsTileOf (net : NetSpec) (x : Part) : Type 0 where
@@ -84,7 +84,7 @@ pub record IsTileOf (net : NetSpec) (x : Part) : Type 0 where
   pub within : x.high ≤ length net.nodes
   pub places : x.own.places ≡ own_places net x.low x.high
   pub own : IsOf net x.own
-  pub gauged : sizes_of x.gauges ≡ map (cells_on net) x.own.places
+  pub sized : sizes_of x.detectors ≡ map (cells_on net) x.own.places
 
 -- the lane at a position of these
 abbrev pub nth : List Place → ℕ → Place
@@ -121,24 +121,24 @@ pub record AreNumbers (links : ℕ) (ps : List Place) (numbers : List ℕ) : Typ
   pub at : (k : ℕ) (p : Place) → slice_get ps k ≡ Some p → slice_index_or numbers (slot_of p) 0 ≡ k
 
 -- the next step that each of these detectors notes is this one
-abbrev pub AreDue : ℕ → List Gauges → Type 0
-AreDue clock gauges = All (λ g. All (λ x. next_step x ≡ clock) g.meters) gauges
+abbrev pub AreDue : ℕ → List Detectors → Type 0
+AreDue clock detectors = All (λ g. All (λ x. next_step x ≡ clock) g.meters) detectors
 
 -- none of these lanes has a detector
-abbrev pub AreBare : List Gauges → Type 0
-AreBare gauges = All (λ g. g.meters ≡ []) gauges
+abbrev pub AreBare : List Detectors → Type 0
+AreBare detectors = All (λ g. g.meters ≡ []) detectors
 
 -- what a tile keeps beside its lanes: a place for each of its nodes, links and lanes, and room for a hand-over and an arrival of each lane; where it says
 -- that it has no detectors it has none, and those that it has have noted all steps so far
-pub record IsKept (low high links : ℕ) (ps : List Place) (numbers : List ℕ) (signals mouths coming handed arrived clock : ℕ) (has_meters : Bool) (gauges : List Gauges) : Type 0 where
+pub record IsKept (low high links : ℕ) (ps : List Place) (numbers : List ℕ) (signals mouths coming handed arrived clock : ℕ) (has_meters : Bool) (detectors : List Detectors) : Type 0 where
   pub nodes : low + signals ≡ high
   pub numbered : AreNumbers links ps numbers
   pub mouths_wide : mouths ≡ 2 * links
   pub coming_long : coming ≡ length ps
   pub handed_room : length ps ≤ handed
   pub arrived_room : length ps ≤ arrived
-  pub bare : has_meters ≡ false → AreBare gauges
-  pub due : AreDue clock gauges
+  pub bare : has_meters ≡ false → AreBare detectors
+  pub due : AreDue clock detectors
 
 -- nobody is on the way to a tile
 abbrev pub nobody : Part → List (Option Vehicle)
@@ -160,7 +160,7 @@ pub record SameTile (x y : Part) : Type 0 where
   pub high : y.high ≡ x.high
   pub links : y.links ≡ x.links
   pub own : Same x.own y.own
-  pub gauged : sizes_of y.gauges ≡ sizes_of x.gauges
+  pub sized : sizes_of y.detectors ≡ sizes_of x.detectors
 
 -- ---- all tiles
 

@@ -7,16 +7,16 @@ ghost use Rattle.street_base.specs.Machine.{loaded};
 ghost use Rattle.street_net.specs.Tables.{place_of};
 ghost use Rattle.street_lanes.specs.Lanes.{AllLanes, IsOf, fresh};
 ghost use Rattle.street_tile.specs.Tiles.{IsTileOf, IsIdle, StandsFor, AreTiles, AreNumbers, own_places};
-ghost use Rattle.street_tile.specs.Metering.{bare, MetersStand, AllMetersStand};
+ghost use Rattle.street_tile.specs.TileDetectors.{bare, MetersStand, AllMetersStand};
 ghost use Rattle.street_tile.specs.Walks.{AtMostOnce};
 
-use crate::coming::Coming;
+use crate::comers::Comers;
 use crate::hand_over::HandOver;
 use crate::tile::Tile;
 use crate::view::slot;
 use std::alloc::{AllocError, Global};
 use street_base::{CarNo, CellNo, LaneNo, LinkIx, Starved, Step};
-use street_lanes::{Gauges, Lanes};
+use street_lanes::{Detectors, Lanes};
 use street_net::{LaneId, Network};
 use street_node::SignalPlan;
 
@@ -91,32 +91,36 @@ pub(crate) fn nones<T: Drop>(alloc: Global, count: usize) -> Result<Vec<Option<T
 ///
 /// # Errors
 /// Memory was refused.
-fn gauges_of(alloc: Global, net: &Network, own: &[LaneId]) -> Result<Vec<Gauges>, AllocError>
+fn detectors_of(alloc: Global, net: &Network, own: &[LaneId]) -> Result<Vec<Detectors>, AllocError>
     requires { AllLanes net.now (map place_of own.now) }
-    ensures { IfOk result (λ gauges. gauges.items ≡ map (bare net.now) own.now) }
+    ensures { IfOk result (λ detectors. detectors.items ≡ map (bare net.now) own.now) }
 {
     let links = net.spec().links.as_slice();
-    let mut gauges = Vec::with_capacity(alloc, own.len())?;
+    let mut detectors = Vec::with_capacity(alloc, own.len())?;
     for at in own {
         let length = links[at.link.position()].length as CellNo;
-        gauges.push(Gauges::new(alloc, length))?;
+        detectors.push(Detectors::new(alloc, length))?;
     }
-    Ok(gauges)
+    Ok(detectors)
 }
 
 /// These lanes with nobody on them, and for each its detectors, none so far.
 ///
 /// # Errors
 /// Memory was refused.
-fn lanes_of(alloc: Global, net: &Network, own: &[LaneId]) -> Result<(Lanes, Vec<Gauges>), Starved>
+fn lanes_of(
+    alloc: Global,
+    net: &Network,
+    own: &[LaneId],
+) -> Result<(Lanes, Vec<Detectors>), Starved>
     requires { AllLanes net.now (map place_of own.now) }
     ensures fresh { IfOk result (λ found. found.0 ≡ fresh net.now (map place_of own.now) found.0.room) }
     ensures of { IfOk result (λ found. IsOf net.now found.0) }
-    ensures gauges { IfOk result (λ found. found.1.items ≡ map (bare net.now) own.now) }
+    ensures detectors { IfOk result (λ found. found.1.items ≡ map (bare net.now) own.now) }
 {
     let lanes = Lanes::new(alloc, net, own)?;
-    let gauges = gauges_of(alloc, net, own)?;
-    Ok((lanes, gauges))
+    let detectors = detectors_of(alloc, net, own)?;
+    Ok((lanes, detectors))
 }
 
 /// For each slot the number of its lane among these, and a mouth.
@@ -140,7 +144,7 @@ fn slots_of(
 }
 
 // Who is handed over, who comes to each lane, and who arrived.
-type Moving = (Vec<HandOver>, Coming, Vec<CarNo>);
+type Moving = (Vec<HandOver>, Comers, Vec<CarNo>);
 
 /// Room for all who move in a step between so many lanes, of each of which one vehicle may leave.
 ///
@@ -152,7 +156,7 @@ fn nobody_moves(alloc: Global, lanes: usize) -> Result<Moving, AllocError>
     ensures arrived { IfOk result (λ moving. (moving.2.items ≡ []) × (lanes ≤ vec_capacity moving.2)) }
 {
     let handed = Vec::with_capacity(alloc, lanes)?;
-    let coming = Coming::new(alloc, lanes)?;
+    let coming = Comers::new(alloc, lanes)?;
     let arrived = Vec::with_capacity(alloc, lanes)?;
     Ok((handed, coming, arrived))
 }
@@ -202,7 +206,7 @@ impl Tile {
     {
         let links = net.spec().links.as_slice().len();
         let places = own_lanes(alloc, net, low, high)?;
-        let (own, gauges) = lanes_of(alloc, net, &places)?;
+        let (own, detectors) = lanes_of(alloc, net, &places)?;
         let tables = tables_of(alloc, links, high - low, &places)?;
         let ((numbers, mouths), (handed, coming, arrived), signals) = tables;
         Ok(Tile {
@@ -218,7 +222,7 @@ impl Tile {
             coming,
             arrived,
             has_meters: false,
-            gauges,
+            detectors,
         })
     }
 

@@ -20,9 +20,9 @@ impl Model for HandOver {
     ghost use Rattle.street_base.specs.Limits.{most_plan};
     ghost use Rattle.street_base.specs.Vehicle.{vehicle_of};
     ghost use Rattle.street_net.specs.Tables.{place_of};
-    ghost use Rattle.street_tile.specs.Halves.{Entry};
+    ghost use Rattle.street_tile.specs.Halves.{Transfer};
 
-    ghost Value = { Entry };
+    ghost Value = { Transfer };
 
     ghost view = { λ h. record { to = place_of h.to; vehicle = vehicle_of h.car } };
 

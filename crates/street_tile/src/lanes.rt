@@ -10,14 +10,14 @@ ghost use Rattle.street_base.specs.Step.{changed, driven, driven_lane, arrival, 
 ghost use Rattle.street_lanes.specs.Views.{LaneStands};
 ghost use Rattle.street_lanes.specs.Lanes.{Same, Others, IsOf, lane_of, place_at};
 ghost use Rattle.street_lanes.specs.Whole.{IsOn, LanesStand};
-ghost use Rattle.street_lanes.specs.Driving.{cells_on};
-ghost use Rattle.street_lanes.specs.Gauges.{watch_of};
+ghost use Rattle.street_lanes.specs.Motion.{cells_on};
+ghost use Rattle.street_lanes.specs.Detectors.{watch_of};
 ghost use Rattle.street_tile.specs.Tiles.{IsRoads, ArePairs, ShowSignals, is_own, mouth, sizes_of};
-ghost use Rattle.street_tile.specs.Metering.{KeepMeters, HaveWatched};
+ghost use Rattle.street_tile.specs.TileDetectors.{KeepMeters, HaveWatched};
 
 use crate::view::slot;
 use street_base::{CarNo, Step};
-use street_lanes::{Gauges, Lanes};
+use street_lanes::{Detectors, Lanes};
 use street_net::Network;
 use street_node::SignalPlan;
 
@@ -52,7 +52,7 @@ pub(crate) fn change_lanes(own: &mut Lanes, net: &Network, clock: Step)
 /// `low` on. The lane's detectors watch. Answers who arrived.
 fn drive_lane(
     own: &mut Lanes,
-    gauges: &mut Gauges,
+    detectors: &mut Detectors,
     net: &Network,
     n: usize,
     clock: Step,
@@ -63,7 +63,7 @@ fn drive_lane(
     requires of { IsOf net.now own.old }
     requires in_time { clock ≤ last_clock }
     requires node { is_own net.now low (low + length signals.now) (place_at own.old n) ≡ true }
-    requires size { gauges.old.size ≡ length (lane_of own.old n).track.cells }
+    requires size { detectors.old.size ≡ length (lane_of own.old n).track.cells }
     ensures same { Same own.old own.new }
     ensures stands { (m : Traffic) → IsOn net.now m → m.clock ≡ clock
         → ShowSignals low (low + length signals.now) signals.now m
@@ -75,22 +75,22 @@ fn drive_lane(
         → result ≡ arrival (leaver_of m (place_at own.old n)) }
     ensures others { Others n own.old own.new }
     ensures room { own.old.room ≤ own.new.room }
-    ensures meters { gauges.new ≡ record gauges.old { watches = gauges.new.watches } }
+    ensures meters { detectors.new ≡ record detectors.old { watches = detectors.new.watches } }
     ensures watched { (m : Traffic) → IsOn net.now m → m.clock ≡ clock
         → ShowSignals low (low + length signals.now) signals.now m
         → LaneStands (lane_of own.old n) (lane_at m (place_at own.old n))
-        → gauges.new.watches ≡ map (watch_of m (place_at own.old n)) gauges.old.meters }
+        → detectors.new.watches ≡ map (watch_of m (place_at own.old n)) detectors.old.meters }
 {
     let node = net.end_of(own.at(n).link);
     let plan = signals[node.position() - low].as_ref();
-    gauges.drive(own, net, n, clock, plan)
+    detectors.drive(own, net, n, clock, plan)
 }
 
 /// Motion on each of these lanes, which their detectors watch. The numbers of those who arrived are added to `arrived`, and
 /// of each lane, while it is at hand, the list of mouths gets whether its cell 0 is free.
 pub(crate) fn drive_lanes(
     own: &mut Lanes,
-    gauges: &mut [Gauges],
+    detectors: &mut [Detectors],
     net: &Network,
     clock: Step,
     low: usize,
@@ -101,7 +101,7 @@ pub(crate) fn drive_lanes(
     requires of { IsOf net.now own.old }
     requires in_time { clock ≤ last_clock }
     requires nodes { (n : ℕ) → n < length own.old.places → is_own net.now low (low + length signals.now) (place_at own.old n) ≡ true }
-    requires gauged { sizes_of gauges.old ≡ map (cells_on net.now) own.old.places }
+    requires sized { sizes_of detectors.old ≡ map (cells_on net.now) own.old.places }
     requires room { vec_len arrived.old + length own.old.places ≤ vec_capacity arrived.old }
     requires roads { IsRoads net.now }
     requires wide { length mouths.old ≡ 2 * length net.now.links }
@@ -115,17 +115,17 @@ pub(crate) fn drive_lanes(
         → LanesStand own.old.places own.old.lanes m
         → arrived.new.items ≡ arrived.old.items ++ filter_map (λ p. arrival (leaver_of m p)) own.old.places }
     ensures capacity { vec_capacity arrived.old ≤ vec_capacity arrived.new }
-    ensures meters { KeepMeters gauges.old gauges.new }
+    ensures meters { KeepMeters detectors.old detectors.new }
     ensures watched { (m : Traffic) → IsOn net.now m → m.clock ≡ clock
         → ShowSignals low (low + length signals.now) signals.now m
-        → LanesStand own.old.places own.old.lanes m → HaveWatched m own.old.places gauges.new }
+        → LanesStand own.old.places own.old.lanes m → HaveWatched m own.old.places detectors.new }
     ensures shown { (m : Traffic) → LanesStand own.new.places own.new.lanes m → (j : ℕ)
         → (p : Place) → slice_get own.new.places j ≡ Some p
         → mouth mouths.new p ≡ is_free (lane_at m p).track 0 }
 {
     for n in 0..own.len() {
         let at = own.at(n);
-        if let Some(number) = drive_lane(own, &mut gauges[n], net, n, clock, low, signals) {
+        if let Some(number) = drive_lane(own, &mut detectors[n], net, n, clock, low, signals) {
             arrived.push_reserved(number);
         }
         mouths[slot(at.link, at.lane)] = own.is_open(n);

@@ -9,26 +9,26 @@ ghost use Rattle.street_base.specs.State.{Traffic};
 ghost use Rattle.street_net.specs.Tables.{place_of};
 ghost use Rattle.street_lanes.specs.Lanes.{IsLane};
 ghost use Rattle.street_tile.specs.Tiles.{IsTileOf, AreBare, AreDue, is_own};
-ghost use Rattle.street_tile.specs.Metering.{HaveNoted, MetersStand, PlacesMeter, detectors_on};
+ghost use Rattle.street_tile.specs.TileDetectors.{HaveNoted, MetersStand, PlacesMeter, detectors_on};
 
 use crate::tile::Tile;
 use std::alloc::Global;
 use street_base::{CellNo, Reply, Starved};
-use street_lanes::{Gauges, Lanes};
+use street_lanes::{Detectors, Lanes};
 use street_net::{LaneId, Network};
 
 /// The detectors of each of these lanes note the step. Where `has_meters` is false there are none, and no lane is looked at.
-pub(crate) fn note_lanes(has_meters: bool, gauges: &mut [Gauges], own: &Lanes)
-    requires bare { has_meters ≡ false → AreBare gauges.old }
-    requires even { length gauges.old ≡ length own.now.lanes }
-    requires in_time { (clock : ℕ) × (clock < last_clock) × AreDue clock gauges.old }
-    ensures { HaveNoted own.now gauges.old gauges.new }
+pub(crate) fn note_lanes(has_meters: bool, detectors: &mut [Detectors], own: &Lanes)
+    requires bare { has_meters ≡ false → AreBare detectors.old }
+    requires even { length detectors.old ≡ length own.now.lanes }
+    requires in_time { (clock : ℕ) × (clock < last_clock) × AreDue clock detectors.old }
+    ensures { HaveNoted own.now detectors.old detectors.new }
 {
     if !has_meters {
         return;
     }
     for n in 0..own.len() {
-        gauges[n].note(own, n);
+        detectors[n].note(own, n);
     }
 }
 
@@ -62,7 +62,7 @@ impl Tile {
         let start = self.clock;
         // Also where memory is then refused: that costs no more than a walk over the lanes in each step.
         self.has_meters = true;
-        self.gauges[n].place(alloc, LaneId { link, lane }, cell, period, start)
+        self.detectors[n].place(alloc, LaneId { link, lane }, cell, period, start)
     }
 
     /// The rows of a detector of an own lane, by its number among those of the lane, if there is one.
@@ -83,6 +83,6 @@ impl Tile {
             → reply ≡ option_map shown_rows (slice_get (detectors_on (place_of at) m.detectors) number)) }
     {
         let n = self.number(net, at);
-        self.gauges[n].rows(alloc, number)
+        self.detectors[n].rows(alloc, number)
     }
 }

@@ -8,11 +8,11 @@ ghost use Rattle.street_base.specs.State.{Traffic};
 ghost use Rattle.street_base.specs.Step.{changed, step, arrival, leaver_of};
 ghost use Rattle.street_net.specs.Tables.{place_of};
 ghost use Rattle.street_lanes.specs.Lanes.{IsLane};
-ghost use Rattle.street_tile.specs.Halves.{Entry};
+ghost use Rattle.street_tile.specs.Halves.{Transfer};
 ghost use Rattle.street_tile.specs.Tiles.{Part, IsTileOf, IsIdle, IsPrepared, Each, AreTiles, AllStand, Shows, ShowsOwn, is_own, nobody};
-ghost use Rattle.street_tile.specs.Metering.{AllMetersStand};
-ghost use Rattle.street_tile.specs.Phases.{Changes, Moves, Releases, Enters, Ticks};
-ghost use Rattle.street_tile.specs.Moves.{Awaits, IsMoved, all_handed, received};
+ghost use Rattle.street_tile.specs.TileDetectors.{AllMetersStand};
+ghost use Rattle.street_tile.specs.Phases.{LanePhase, MotionPhase, ReleasePhase, EnterPhase, MeterPhase};
+ghost use Rattle.street_tile.specs.HandOvers.{Awaits, IsMoved, all_handed, received};
 ghost use Rattle.street_tile.specs.Hinted.{KeepsHints};
 
 use crate::{Gate, Hints, Tile, View};
@@ -31,7 +31,7 @@ fn all_lanes<R: Threads + Sync, G: Gate + Sync>(
     requires some { 0 < threads }
     requires few { length tiles.old ≤ 64 }
     requires tiles { All (IsTileOf net.now) tiles.old }
-    ensures { Each (Changes net.now) tiles.old tiles.new }
+    ensures { Each (LanePhase net.now) tiles.old tiles.new }
 {
     thread::for_each_mut(
         rt,
@@ -39,7 +39,7 @@ fn all_lanes<R: Threads + Sync, G: Gate + Sync>(
         threads,
         &|i, tile: &mut Tile|
             requires { (i < 64) × IsTileOf net.now tile.now }
-            ensures { Changes net.entry.now tile.entry.now tile.exit.now }
+            ensures { LanePhase net.entry.now tile.entry.now tile.exit.now }
         {
             gate.arrive(i as u32, 0, tile);
             tile.phase_lanes(net);
@@ -61,7 +61,7 @@ fn all_motion<R: Threads + Sync, G: Gate + Sync>(
     requires tiles { All (IsTileOf net.now) tiles.old }
     requires none { All (λ x. x.arrived ≡ []) tiles.old }
     requires in_time { All (λ x. x.clock < last_clock) tiles.old }
-    ensures { Each (Moves net.now) tiles.old tiles.new }
+    ensures { Each (MotionPhase net.now) tiles.old tiles.new }
 {
     thread::for_each_mut(
         rt,
@@ -69,7 +69,7 @@ fn all_motion<R: Threads + Sync, G: Gate + Sync>(
         threads,
         &|i, tile: &mut Tile|
             requires { (i < 64) × IsTileOf net.now tile.now × (tile.now.arrived ≡ []) × (tile.now.clock < last_clock) }
-            ensures { Moves net.entry.now tile.entry.now tile.exit.now }
+            ensures { MotionPhase net.entry.now tile.entry.now tile.exit.now }
         {
             gate.arrive(i as u32, 1, tile);
             tile.phase_motion(net);
@@ -92,7 +92,7 @@ fn all_release<R: Threads + Sync, G: Gate + Sync>(
     requires tiles { All (IsTileOf net.now) tiles.old }
     requires empty { All (λ x. x.handed ≡ []) tiles.old }
     requires view { length view.now ≡ 2 * length net.now.links }
-    ensures { Each (Releases net.now view.now) tiles.old tiles.new }
+    ensures { Each (ReleasePhase net.now view.now) tiles.old tiles.new }
 {
     thread::for_each_mut(
         rt,
@@ -100,7 +100,7 @@ fn all_release<R: Threads + Sync, G: Gate + Sync>(
         threads,
         &|i, tile: &mut Tile|
             requires { (i < 64) × IsTileOf net.now tile.now × (tile.now.handed ≡ []) × (length view.now ≡ 2 * length net.now.links) }
-            ensures { Releases net.entry.now view.entry.now tile.entry.now tile.exit.now }
+            ensures { ReleasePhase net.entry.now view.entry.now tile.entry.now tile.exit.now }
         {
             gate.arrive(i as u32, 2, tile);
             tile.phase_release(net, view);
@@ -121,7 +121,7 @@ fn all_enter<R: Threads + Sync, G: Gate + Sync>(
     requires few { length tiles.old ≤ 64 }
     requires tiles { All (IsTileOf net.now) tiles.old }
     requires prepared { All IsPrepared tiles.old }
-    ensures { Each (Enters net.now) tiles.old tiles.new }
+    ensures { Each (EnterPhase net.now) tiles.old tiles.new }
 {
     thread::for_each_mut(
         rt,
@@ -129,7 +129,7 @@ fn all_enter<R: Threads + Sync, G: Gate + Sync>(
         threads,
         &|i, tile: &mut Tile|
             requires { (i < 64) × IsTileOf net.now tile.now × IsPrepared tile.now }
-            ensures { Enters net.entry.now tile.entry.now tile.exit.now }
+            ensures { EnterPhase net.entry.now tile.entry.now tile.exit.now }
         {
             gate.arrive(i as u32, 3, tile);
             tile.phase_enter(net);
@@ -150,7 +150,7 @@ fn all_meter<R: Threads + Sync, G: Gate + Sync>(
     requires few { length tiles.old ≤ 64 }
     requires tiles { All (IsTileOf net.now) tiles.old }
     requires in_time { All (λ x. x.clock < last_clock) tiles.old }
-    ensures { Each (Ticks net.now) tiles.old tiles.new }
+    ensures { Each (MeterPhase net.now) tiles.old tiles.new }
 {
     thread::for_each_mut(
         rt,
@@ -158,7 +158,7 @@ fn all_meter<R: Threads + Sync, G: Gate + Sync>(
         threads,
         &|i, tile: &mut Tile|
             requires { (i < 64) × IsTileOf net.now tile.now × (tile.now.clock < last_clock) }
-            ensures { Ticks net.entry.now tile.entry.now tile.exit.now }
+            ensures { MeterPhase net.entry.now tile.entry.now tile.exit.now }
         {
             gate.arrive(i as u32, 4, tile);
             tile.phase_meter(net);
@@ -201,8 +201,8 @@ fn move_one(net: &Network, tiles: &mut [Tile], hints: &mut Hints, i: usize)
     requires inside { i < length tiles.old }
     requires tiles { AreTiles net.now tiles.old }
     requires lanes { All (λ x. All (λ e. IsLane net.now e.to) x.handed) tiles.old }
-    requires awaits { (es : List Entry) × All (Awaits es) tiles.old }
-    ensures moved { (left : List Entry) → (e : Entry) → (es : List Entry) → (d : Part)
+    requires awaits { (es : List Transfer) × All (Awaits es) tiles.old }
+    ensures moved { (left : List Transfer) → (e : Transfer) → (es : List Transfer) → (d : Part)
         → (slice_index_or tiles.old i d).handed ≡ left ++ e ∷ [] → All (Awaits es) tiles.old
         → IsMoved i left (e ∷ es) tiles.old tiles.new }
     ensures hints { KeepsHints hints.old hints.new }
@@ -219,8 +219,8 @@ fn move_from(net: &Network, tiles: &mut [Tile], hints: &mut Hints, i: usize)
     requires inside { i < length tiles.old }
     requires tiles { AreTiles net.now tiles.old }
     requires lanes { All (λ x. All (λ e. IsLane net.now e.to) x.handed) tiles.old }
-    requires awaits { (es : List Entry) × All (Awaits es) tiles.old }
-    ensures moved { (es : List Entry) → (d : Part) → All (Awaits es) tiles.old
+    requires awaits { (es : List Transfer) × All (Awaits es) tiles.old }
+    ensures moved { (es : List Transfer) → (d : Part) → All (Awaits es) tiles.old
         → IsMoved i [] ((slice_index_or tiles.old i d).handed ++ es) tiles.old tiles.new }
     ensures hints { KeepsHints hints.old hints.new }
 {

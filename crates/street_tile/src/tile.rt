@@ -6,22 +6,22 @@ ghost use Rattle.std.specs.List.{list_any};
 ghost use Rattle.street_base.specs.Limits.{last_clock};
 ghost use Rattle.street_base.specs.Network.{Place, is_place};
 ghost use Rattle.street_lanes.specs.Lanes.{IsLane};
-ghost use Rattle.street_tile.specs.Halves.{Entry, entry_in};
+ghost use Rattle.street_tile.specs.Halves.{Transfer, entry_in};
 ghost use Rattle.street_tile.specs.Tiles.{IsTileOf, IsPrepared, is_own, mouth};
-ghost use Rattle.street_tile.specs.Phases.{Changes, Moves, Releases, Enters, Ticks};
-ghost use Rattle.street_tile.specs.Moves.{Awaits};
+ghost use Rattle.street_tile.specs.Phases.{LanePhase, MotionPhase, ReleasePhase, EnterPhase, MeterPhase};
+ghost use Rattle.street_tile.specs.HandOvers.{Awaits};
 
-use crate::coming::Coming;
-use crate::enter::enter_lanes;
+use crate::comers::Comers;
+use crate::entries::enter_lanes;
 use crate::hand_over::HandOver;
 use crate::lanes::{change_lanes, drive_lanes};
 use crate::meters::note_lanes;
+use crate::mouths::copy_lanes;
 use crate::release::release_lanes;
-use crate::show::copy_lanes;
 use crate::view::{View, slot};
 use std::marker::Model;
 use street_base::{CarNo, Starved, Step};
-use street_lanes::{Gauges, Lanes};
+use street_lanes::{Detectors, Lanes};
 use street_net::Network;
 use street_node::SignalPlan;
 
@@ -36,11 +36,11 @@ pub struct Tile {
     pub(crate) signals: Vec<Option<SignalPlan>>,
     pub(crate) mouths: Vec<bool>,
     pub(crate) handed: Vec<HandOver>,
-    pub(crate) coming: Coming,
+    pub(crate) coming: Comers,
     pub(crate) arrived: Vec<CarNo>,
     /// Whether a detector was ever placed in the tile. While none was, nothing is noted.
     pub(crate) has_meters: bool,
-    pub(crate) gauges: Vec<Gauges>,
+    pub(crate) detectors: Vec<Detectors>,
 }
 
 impl Drop for Tile {
@@ -58,7 +58,7 @@ impl Drop for Tile {
             coming: _,
             arrived: _,
             has_meters: _,
-            gauges: _,
+            detectors: _,
         } = self;
     }
 }
@@ -81,17 +81,17 @@ impl Model for Tile {
       handed = t.handed.items;
       coming = map vehicle_in t.coming;
       arrived = t.arrived.items;
-      gauges = t.gauges.items;
+      detectors = t.detectors.items;
     } };
 
-    ghost invariant = { λ t. IsKept t.low t.high t.links t.own.places t.numbers.items (length t.signals.items) (length t.mouths.items) (length t.coming) (vec_capacity t.handed) (vec_capacity t.arrived) t.clock t.has_meters t.gauges.items };
+    ghost invariant = { λ t. IsKept t.low t.high t.links t.own.places t.numbers.items (length t.signals.items) (length t.mouths.items) (length t.coming) (vec_capacity t.handed) (vec_capacity t.arrived) t.clock t.has_meters t.detectors.items };
 }
 
 impl Tile {
     /// Lane changes on each own link of two lanes. Takes no memory.
     pub fn phase_lanes(&mut self, net: &Network)
         requires { IsTileOf net.now self.old }
-        ensures { Changes net.now self.old self.new }
+        ensures { LanePhase net.now self.old self.new }
     {
         change_lanes(&mut self.own, net, self.clock);
     }
@@ -102,11 +102,11 @@ impl Tile {
         requires tile { IsTileOf net.now self.old }
         requires none { self.old.arrived ≡ [] }
         requires in_time { self.old.clock < last_clock }
-        ensures { Moves net.now self.old self.new }
+        ensures { MotionPhase net.now self.old self.new }
     {
         drive_lanes(
             &mut self.own,
-            &mut self.gauges,
+            &mut self.detectors,
             net,
             self.clock,
             self.low,
@@ -147,7 +147,7 @@ impl Tile {
         requires tile { IsTileOf net.now self.old }
         requires empty { self.old.handed ≡ [] }
         requires view { length view.now ≡ 2 * length net.now.links }
-        ensures { Releases net.now view.now self.old self.new }
+        ensures { ReleasePhase net.now view.now self.old self.new }
     {
         self.mouths.copy_from_slice(view.mouths());
         release_lanes(
@@ -163,7 +163,7 @@ impl Tile {
     pub fn phase_enter(&mut self, net: &Network)
         requires tile { IsTileOf net.now self.old }
         requires prepared { IsPrepared self.old }
-        ensures { Enters net.now self.old self.new }
+        ensures { EnterPhase net.now self.old self.new }
     {
         enter_lanes(&mut self.own, &mut self.coming, self.clock);
     }
@@ -173,9 +173,9 @@ impl Tile {
     pub fn phase_meter(&mut self, net: &Network)
         requires tile { IsTileOf net.now self.old }
         requires in_time { self.old.clock < last_clock }
-        ensures { Ticks net.now self.old self.new }
+        ensures { MeterPhase net.now self.old self.new }
     {
-        note_lanes(self.has_meters, &mut self.gauges, &self.own);
+        note_lanes(self.has_meters, &mut self.detectors, &self.own);
         self.clock += 1;
     }
 
@@ -200,7 +200,7 @@ impl Tile {
         requires tile { IsTileOf net.now self.old }
         requires lane { IsLane net.now hand_over.to }
         requires own { is_own net.now self.old.low self.old.high hand_over.to ≡ true }
-        ensures { (es : List Entry) → Awaits es self.old → self.new ≡ record self.old {
+        ensures { (es : List Transfer) → Awaits es self.old → self.new ≡ record self.old {
           coming = map (entry_in (hand_over ∷ es)) self.old.own.places;
         } }
     {

@@ -1,9 +1,5 @@
-//! Tests of tiles, with values known beforehand: the lanes of a tile, detectors, and a whole tile.
-//!
-//! They stand in a crate of their own since a crate is proved once more for the tests that it has.
-//!
-//! Tests that hold an engine alone: commands, which worker has which lanes, and that the workers of a step run side by side,
-//! which no contract can say.
+//! Tests of tiles and engines, with values known beforehand: the lanes of a tile, detectors, a whole tile; commands, which
+//! worker has which lanes, and that the workers of a step run side by side, which no contract can say.
 //!
 //! They stand in a crate of their own since a crate is proved once more for the tests that it has.
 #![tactic(auto)]
@@ -11,7 +7,7 @@
 #[cfg(test)]
 mod commands;
 #[cfg(test)]
-mod gauges;
+mod detectors;
 #[cfg(test)]
 mod lanes;
 #[cfg(test)]

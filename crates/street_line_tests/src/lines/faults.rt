@@ -1,8 +1,8 @@
 //! Each read, each write and each flush fails in turn, and the text ends after each byte.
 
-use crate::endings::{Given, Taking};
 use crate::lines::cases::{ARRIVES, ARRIVES_OUTPUT, CASES, Case};
-use crate::lines::running::{Ran, run, run_whole};
+use crate::lines::runs::{Ran, run, run_whole};
+use crate::memory_streams::{FailingReader, FailingWriter};
 use std::alloc::{AllocError, AllocGlobal, Global};
 use std::process::Abort;
 use std::test::Fail;
@@ -29,8 +29,8 @@ fn first_lines(text: &[u8], lines: usize) -> &[u8] {
 }
 
 /// A text as a case reads it.
-fn given<'a>(case: &Case, text: &'a [u8], reads_left: usize) -> Given<'a> {
-    Given {
+fn given<'a>(case: &Case, text: &'a [u8], reads_left: usize) -> FailingReader<'a> {
+    FailingReader {
         text,
         at: 0,
         piece: case.piece,
@@ -77,7 +77,7 @@ fn check_read(
     all: &[u8],
     reads: usize,
 ) {
-    let writer = Taking::new(rt.alloc(), 4096, 4096, true);
+    let writer = FailingWriter::new(rt.alloc(), 4096, 4096, true);
     let reader = given(case, all, reads);
     let ran = run(rt, rt.alloc(), reader, writer, case.places, case.most_reads);
     let lines = lines_in(all.get(..reads.saturating_mul(case.piece)).unwrap_or(all));
@@ -91,7 +91,7 @@ fn check_read(
 
 /// No read of a case fails.
 fn check_all_reads(rt: &(impl Threads + Abort + AllocGlobal + Sync), case: &Case, all: &[u8]) {
-    let writer = Taking::new(rt.alloc(), 4096, 4096, true);
+    let writer = FailingWriter::new(rt.alloc(), 4096, 4096, true);
     let reader = given(case, all, case.reads);
     let ran = run(rt, rt.alloc(), reader, writer, case.places, case.most_reads);
     let holds = is_ended(&ran, case.kind, case.tally, case.output)
@@ -132,7 +132,7 @@ fn check_flush(
     all: &[u8],
     flushes: usize,
 ) {
-    let writer = Taking::failing_to_flush(rt.alloc(), flushes);
+    let writer = FailingWriter::failing_to_flush(rt.alloc(), flushes);
     let reader = given(case, all, case.reads);
     let ran = run(rt, rt.alloc(), reader, writer, case.places, case.most_reads);
     let reads = flushes.saturating_add(1);
@@ -172,7 +172,7 @@ fn check_write(
     case: &Case,
     all: &[u8],
     room: usize,
-    writer: Taking,
+    writer: FailingWriter,
     failures: (u64, u64),
 ) {
     let reader = given(case, all, case.reads);
@@ -199,7 +199,7 @@ fn check_writes(
     let failures = if fails { (1, 0) } else { (0, 1) };
     for at in 0..case.writers {
         let room = at.saturating_mul(case.step);
-        let writer = Taking::new(rt.alloc(), piece, room, fails);
+        let writer = FailingWriter::new(rt.alloc(), piece, room, fails);
         check_write(rt, case, text.as_slice(), room, writer, failures);
     }
     Ok(())
@@ -235,7 +235,7 @@ fn check_cut(rt: &(impl Threads + Abort + AllocGlobal + Sync), bytes: usize) -> 
     let (lines, calls, rest) = wanted_at(bytes);
     let mut want = Vec::from_slice(rt.alloc(), first_lines(ARRIVES_OUTPUT, calls))?;
     want.extend_from_slice(rest)?;
-    let (kind, tally, taken) = run_whole(rt, rt.alloc(), text, Taking::all(rt.alloc()));
+    let (kind, tally, taken) = run_whole(rt, rt.alloc(), text, FailingWriter::all(rt.alloc()));
     let wanted = Tally {
         lines: lines as u128,
         calls: calls as u128,
@@ -261,7 +261,7 @@ fn a_writer_is_full_in_the_second_reply(rt: HostRuntime) {
         &rt,
         rt.alloc(),
         b"{\"cmd\":\"count\"}\n{\"cmd\":\"count\"}\n",
-        Taking::new(rt.alloc(), 4096, 40, true),
+        FailingWriter::new(rt.alloc(), 4096, 40, true),
     );
     let wanted = Tally {
         lines: 2,
@@ -298,7 +298,7 @@ fn deep_and_wide_lines(rt: HostRuntime) -> Result<(), Fail> {
     let text = deep_and_wide(rt.alloc())?;
     let want =
         b"{\"error\":21,\"name\":\"BadCommand\"}\n{\"error\":20,\"name\":\"NotJson\"}\n{\"error\":1,\"name\":\"NotLoaded\"}\n";
-    let writer = Taking::all(rt.alloc());
+    let writer = FailingWriter::all(rt.alloc());
     let (kind, tally, taken) = run_whole(&rt, rt.alloc(), text.as_slice(), writer);
     let wanted = Tally {
         lines: 3,

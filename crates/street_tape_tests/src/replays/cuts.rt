@@ -1,7 +1,7 @@
 //! The tape of the vehicle that arrives, cut off after each byte.
 
-use crate::ends::Taking;
-use crate::replays::running::{Ran, replayed, upgraded};
+use crate::memory_streams::FailingWriter;
+use crate::replays::runs::{Ran, replayed, upgraded};
 use crate::replays::texts::{HEAD, OLD_HEAD, arrives_after, calls, first, first_lines, replies_to};
 use std::alloc::{AllocError, Global};
 use std::process::Abort;
@@ -89,11 +89,18 @@ fn check_cut(
 ) -> Result<(), AllocError> {
     let alloc = rt.alloc();
     let (fault, lines) = (fault_at(text, counts, cut), whole_lines(text, cut).0);
-    let ran = replayed(rt, alloc, first(text, cut), 40, Taking::all(alloc), 1000);
+    let ran = replayed(
+        rt,
+        alloc,
+        first(text, cut),
+        40,
+        FailingWriter::all(alloc),
+        1000,
+    );
     let want = replies_to(lines);
     let tally = tally_of(lines, lines.saturating_sub(1), want.len());
     check(rt, &ran, fault, tally, want, cut);
-    let ran = upgraded(alloc, first(text, cut), 40, Taking::all(alloc), 1000);
+    let ran = upgraded(alloc, first(text, cut), 40, FailingWriter::all(alloc), 1000);
     let mut want = tape_of(alloc, lines)?;
     if fault.is_some() {
         want.clear();

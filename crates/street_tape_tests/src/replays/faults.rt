@@ -1,8 +1,8 @@
 //! Each read, each write and each flush of a replay and of an upgrade fails in turn, and the reads run out after each.
 
-use crate::ends::{Given, Taking};
+use crate::memory_streams::{FailingReader, FailingWriter};
 use crate::replays::ARRIVES_OUTPUT;
-use crate::replays::running::{Ran, replayed_from, upgraded_from};
+use crate::replays::runs::{Ran, replayed_from, upgraded_from};
 use crate::replays::texts::{HEAD, OLD_HEAD, arrives_after, first, lines_in, replies_to};
 use std::alloc::{AllocError, Global};
 use std::process::Abort;
@@ -41,20 +41,20 @@ fn bytes_before(broken: Broken) -> (usize, usize) {
 }
 
 /// Ends so broken, by which a text is read byte by byte, and the most reads.
-fn ends(alloc: Global, text: &[u8], broken: Broken) -> (Given<'_>, Taking, u32) {
+fn streams(alloc: Global, text: &[u8], broken: Broken) -> (FailingReader<'_>, FailingWriter, u32) {
     let (reads_left, flushes_left, reads) = match broken {
         Broken::Read(at) => (at, MANY, MANY),
         Broken::Endless(at) => (MANY, MANY, at),
         Broken::Flush(at) => (MANY, at, MANY),
     };
-    let reader = Given {
+    let reader = FailingReader {
         text,
         at: 0,
         piece: 1,
         is_endless: false,
         reads_left,
     };
-    let writer = Taking::failing_to_flush(alloc, flushes_left);
+    let writer = FailingWriter::failing_to_flush(alloc, flushes_left);
     (reader, writer, u32::try_from(reads).unwrap_or(0))
 }
 
@@ -86,7 +86,7 @@ fn check(
 
 /// The tape is replayed between such ends.
 fn check_replay(rt: &(impl Threads + Abort + AllocGlobal + Sync), tape: &[u8], broken: Broken) {
-    let (reader, writer, reads) = ends(rt.alloc(), tape, broken);
+    let (reader, writer, reads) = streams(rt.alloc(), tape, broken);
     let ran = replayed_from(rt, rt.alloc(), reader, writer, reads);
     let (seen, before) = bytes_before(broken);
     let lines = lines_in(first(tape, seen));
@@ -100,7 +100,7 @@ fn check_replay(rt: &(impl Threads + Abort + AllocGlobal + Sync), tape: &[u8], b
 /// The tape is upgraded between such ends. Where the read that finds the end did not fail, and the flush behind it neither,
 /// all is written, and then flushed.
 fn check_upgrade(rt: &(impl Abort + AllocGlobal), tape: &[u8], wanted: &[u8], broken: Broken) {
-    let (reader, writer, reads) = ends(rt.alloc(), tape, broken);
+    let (reader, writer, reads) = streams(rt.alloc(), tape, broken);
     let ran = upgraded_from(reader, rt.alloc(), writer, reads);
     let (seen, before) = bytes_before(broken);
     let lines = lines_in(first(tape, seen));
@@ -147,8 +147,8 @@ fn each_read_and_each_flush_fails_in_turn(rt: HostRuntime) -> Result<(), Fail> {
 }
 
 /// The whole text, byte by byte.
-fn whole(text: &[u8]) -> Given<'_> {
-    Given {
+fn whole(text: &[u8]) -> FailingReader<'_> {
+    FailingReader {
         text,
         at: 0,
         piece: 1,
@@ -164,7 +164,7 @@ fn check_write(
     room: usize,
     fails: bool,
 ) {
-    let writer = Taking::new(rt.alloc(), 5, room, fails);
+    let writer = FailingWriter::new(rt.alloc(), 5, room, fails);
     let ran = replayed_from(rt, rt.alloc(), whole(tape), writer, 1000);
     let want = first(ARRIVES_OUTPUT.as_bytes(), room);
     let replies = lines_in(want);
@@ -193,7 +193,7 @@ fn check_kept(
     room: usize,
     fails: bool,
 ) {
-    let writer = Taking::new(rt.alloc(), 5, room, fails);
+    let writer = FailingWriter::new(rt.alloc(), 5, room, fails);
     let ran = upgraded_from(whole(tape), rt.alloc(), writer, 1000);
     let fault = run_fault(FaultKind::Write, 5, 0, room);
     check(rt, &ran, fault, first(wanted, room), 0, room);

@@ -1,7 +1,7 @@
 //! A vehicle of three cells on tapes of both versions, with as many calls as the first line tells, fewer and more.
 
-use crate::ends::Taking;
-use crate::replays::running::{Ran, replayed, upgraded};
+use crate::memory_streams::FailingWriter;
+use crate::replays::runs::{Ran, replayed, upgraded};
 use std::alloc::{AllocError, Global};
 use std::process::Abort;
 use std::test::Fail;
@@ -61,7 +61,14 @@ fn check_ran(rt: &impl Abort, ran: &Ran, fault: Option<TapeFault>, output: &str)
 fn in_version_1_a_vehicle_has_one_cell(rt: HostRuntime) -> Result<(), Fail> {
     let alloc = rt.alloc();
     let tape = joined(alloc, &["{\"tape\":1}\n", CALLS, ASKED])?;
-    let ran = replayed(&rt, alloc, tape.as_slice(), 50, Taking::all(alloc), 1000);
+    let ran = replayed(
+        &rt,
+        alloc,
+        tape.as_slice(),
+        50,
+        FailingWriter::all(alloc),
+        1000,
+    );
     check_ran(&rt, &ran, None, SHORT_WAITS);
     Ok(())
 }
@@ -70,7 +77,14 @@ fn in_version_1_a_vehicle_has_one_cell(rt: HostRuntime) -> Result<(), Fail> {
 fn in_version_2_it_has_its_size(rt: HostRuntime) -> Result<(), Fail> {
     let alloc = rt.alloc();
     let tape = joined(alloc, &["{\"calls\":3,\"tape\":2}\n", CALLS, ASKED])?;
-    let ran = replayed(&rt, alloc, tape.as_slice(), 50, Taking::all(alloc), 1000);
+    let ran = replayed(
+        &rt,
+        alloc,
+        tape.as_slice(),
+        50,
+        FailingWriter::all(alloc),
+        1000,
+    );
     check_ran(&rt, &ran, None, LONG_WAITS);
     Ok(())
 }
@@ -80,10 +94,24 @@ fn in_version_2_it_has_its_size(rt: HostRuntime) -> Result<(), Fail> {
 fn missing_calls_and_calls_too_many_are_bad(rt: HostRuntime) -> Result<(), Fail> {
     let alloc = rt.alloc();
     let tape = joined(alloc, &["{\"calls\":3,\"tape\":2}\n", CALLS])?;
-    let ran = replayed(&rt, alloc, tape.as_slice(), 50, Taking::all(alloc), 1000);
+    let ran = replayed(
+        &rt,
+        alloc,
+        tape.as_slice(),
+        50,
+        FailingWriter::all(alloc),
+        1000,
+    );
     check_ran(&rt, &ran, Some(TapeFault::BadEntry { line: 4 }), ENTERED);
     let tape = joined(alloc, &["{\"calls\":1,\"tape\":2}\n", CALLS])?;
-    let ran = replayed(&rt, alloc, tape.as_slice(), 50, Taking::all(alloc), 1000);
+    let ran = replayed(
+        &rt,
+        alloc,
+        tape.as_slice(),
+        50,
+        FailingWriter::all(alloc),
+        1000,
+    );
     check_ran(&rt, &ran, Some(TapeFault::BadEntry { line: 3 }), LOADED);
     Ok(())
 }
@@ -93,10 +121,10 @@ fn missing_calls_and_calls_too_many_are_bad(rt: HostRuntime) -> Result<(), Fail>
 fn an_upgrade_counts_calls(rt: HostRuntime) -> Result<(), Fail> {
     let alloc = rt.alloc();
     let tape = joined(alloc, &["{\"calls\":3,\"tape\":2}\n", CALLS])?;
-    let ran = upgraded(alloc, tape.as_slice(), 50, Taking::all(alloc), 1000);
+    let ran = upgraded(alloc, tape.as_slice(), 50, FailingWriter::all(alloc), 1000);
     check_ran(&rt, &ran, Some(TapeFault::BadEntry { line: 4 }), "");
     let tape = joined(alloc, &["{\"calls\":1,\"tape\":2}\n", CALLS])?;
-    let ran = upgraded(alloc, tape.as_slice(), 50, Taking::all(alloc), 1000);
+    let ran = upgraded(alloc, tape.as_slice(), 50, FailingWriter::all(alloc), 1000);
     check_ran(&rt, &ran, Some(TapeFault::BadEntry { line: 3 }), "");
     Ok(())
 }
@@ -105,7 +133,7 @@ fn an_upgrade_counts_calls(rt: HostRuntime) -> Result<(), Fail> {
 fn check_upgrade(rt: &(impl Abort + AllocGlobal), head: &str, calls: &str) -> Result<(), Fail> {
     let alloc = rt.alloc();
     let tape = joined(alloc, &[head, CALLS])?;
-    let ran = upgraded(alloc, tape.as_slice(), 50, Taking::all(alloc), 1000);
+    let ran = upgraded(alloc, tape.as_slice(), 50, FailingWriter::all(alloc), 1000);
     assert_eq!(rt; ran.fault, None);
     let wanted = joined(alloc, &["{\"calls\":2,\"tape\":2}\n", calls])?;
     assert_eq!(rt; ran.taken.as_slice(), wanted.as_slice());

@@ -1,7 +1,7 @@
-//! Tapes upgraded over ends in memory.
+//! Tapes upgraded over streams in memory.
 
-use crate::ends::Taking;
-use crate::replays::running::{Ran, replayed, upgraded};
+use crate::memory_streams::FailingWriter;
+use crate::replays::runs::{Ran, replayed, upgraded};
 use crate::replays::texts::{HEAD, arrives_after};
 use crate::replays::{ARRIVES, ARRIVES_OUTPUT, BAD_ENTRIES, NO_TAPES, begun_with};
 use std::alloc::Global;
@@ -15,7 +15,7 @@ fn upgraded_whole(alloc: Global, tape: &[u8]) -> (Option<Tally>, Vec<u8>) {
     let mut reader = Counted::new(tape);
     let mut writer = Counted::new(Vec::new(alloc));
     let tally = upgrade(alloc, &mut reader, &mut writer).ok();
-    (tally, writer.end)
+    (tally, writer.stream)
 }
 
 /// The first line is another, and the others stay; an upgrade of that is the same text.
@@ -41,7 +41,14 @@ fn the_first_line_alone_changes(rt: HostRuntime) -> Result<(), Fail> {
 fn it_replays_as_before(rt: HostRuntime) -> Result<(), Fail> {
     let alloc = rt.alloc();
     let tape = arrives_after(alloc, HEAD)?;
-    let ran = replayed(&rt, alloc, tape.as_slice(), 7, Taking::all(alloc), 1000);
+    let ran = replayed(
+        &rt,
+        alloc,
+        tape.as_slice(),
+        7,
+        FailingWriter::all(alloc),
+        1000,
+    );
     assert_eq!(rt; ran.fault, None);
     assert_eq!(rt; ran.taken.as_slice(), ARRIVES_OUTPUT.as_bytes());
     Ok(())
@@ -91,7 +98,7 @@ fn check_nothing(rt: &impl Abort, ran: &Ran, fault: TapeFault, name: &str) {
 fn what_is_no_tape_is_not_upgraded(rt: HostRuntime) {
     let alloc = rt.alloc();
     for text in &NO_TAPES {
-        let ran = upgraded(alloc, text.as_bytes(), 3, Taking::all(alloc), 1000);
+        let ran = upgraded(alloc, text.as_bytes(), 3, FailingWriter::all(alloc), 1000);
         check_nothing(&rt, &ran, TapeFault::NotTape, text);
     }
 }
@@ -102,12 +109,12 @@ fn a_bad_entry_is_not_upgraded(rt: HostRuntime) -> Result<(), Fail> {
     let alloc = rt.alloc();
     for line in BAD_ENTRIES.iter().take(13) {
         let text = begun_with(alloc, line.as_bytes())?;
-        let ran = upgraded(alloc, text.as_slice(), 100, Taking::all(alloc), 1000);
+        let ran = upgraded(alloc, text.as_slice(), 100, FailingWriter::all(alloc), 1000);
         check_nothing(&rt, &ran, TapeFault::BadEntry { line: 4 }, line);
     }
     for line in BAD_ENTRIES.iter().skip(13) {
         let text = begun_with(alloc, line.as_bytes())?;
-        let ran = upgraded(alloc, text.as_slice(), 100, Taking::all(alloc), 1000);
+        let ran = upgraded(alloc, text.as_slice(), 100, FailingWriter::all(alloc), 1000);
         assert_eq!(rt; ran.fault, None, "at {line}");
     }
     Ok(())

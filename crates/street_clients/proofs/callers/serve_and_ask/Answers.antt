@@ -1,6 +1,6 @@
 use Rattle.std.proofs.Common.{◌≡◌, ◌++◌, rules}
 use Rattle.street_stream.specs.Lines.{lines_of}
-use Rattle.street_clients.proofs.Served.{goes_both}
+use Rattle.street_clients.proofs.Told.{goes_both}
 use Rattle.street_clients.proofs.callers.serve_and_ask.Goals as goal
 
 pub returns-clause-served : goal.returns-clause-served

@@ -1,5 +1,5 @@
 use Rattle.street_stream.specs.Lines.{lines_of}
-use Rattle.street_clients.proofs.Served.{all_told}
+use Rattle.street_clients.proofs.Told.{all_told}
 use Rattle.street_clients.proofs.callers.serve_both.Goals as goal
 
 pub returns : goal.returns

@@ -1,6 +1,6 @@
 use Rattle.std.proofs.Common.{◌≡◌, ◌∙◌, [], ap, refl, rules, subst}
 use Rattle.street_desk.specs.Passes.{PassView}
-use Rattle.street_clients.proofs.Served.{replied}
+use Rattle.street_clients.proofs.Told.{replied}
 use Rattle.street_clients.specs.Told.{Replied}
 use Rattle.street_clients.proofs.scripts.answer_both.Goals as goal
 

@@ -1,5 +1,5 @@
 use Rattle.std.proofs.Common.{[]}
-use Rattle.street_clients.proofs.Served.{all_told}
+use Rattle.street_clients.proofs.Told.{all_told}
 use Rattle.street_clients.proofs.scripts.serve_both_scripts.Goals as goal
 
 pub returns : goal.returns

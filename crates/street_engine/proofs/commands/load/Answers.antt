@@ -2,7 +2,7 @@ use Rattle.std.proofs.Common.{sym, ◌∙◌, ap, subst}
 use Rattle.std.specs.Prelude.{length}
 use Rattle.street_base.specs.Faults.{network_fault}
 use Rattle.street_net.specs.Refused.{TellsFault}
-use Rattle.street_engine.proofs.Loading.{loaded-already, load-done, load-refused, load-starved}
+use Rattle.street_engine.proofs.LoadCommand.{loaded-already, load-done, load-refused, load-starved}
 use Rattle.street_engine.proofs.commands.load.Goals as goal
 
 pub returns-then-is_some : goal.returns-then-is_some

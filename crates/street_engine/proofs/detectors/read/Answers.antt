@@ -2,7 +2,7 @@ use Rattle.std.proofs.Common.{◌≡◌, true, refl, sym, subst}
 use Rattle.std.proofs.lemmas.Result.{IfOk-weaker}
 use Rattle.street_net.specs.Tables.{place_of}
 use Rattle.street_tile.specs.Tiles.{Part, is_own}
-use Rattle.street_tile.specs.Metering.{MetersStand}
+use Rattle.street_tile.specs.TileDetectors.{MetersStand}
 use Rattle.street_engine.proofs.detectors.read.Goals as goal
 
 pub read_meter-requires-clause-own : goal.read_meter-requires-clause-own

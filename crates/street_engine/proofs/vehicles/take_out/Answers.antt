@@ -1,18 +1,11 @@
-use Rattle.std.proofs.Common.{refl, arith, ap, sym, ◌∙◌}
-use Rattle.std.specs.Prelude.{is_some}
-use Rattle.street_base.specs.declared.command.Command.TheVariants.{TakeOut}
-use Rattle.street_engine.proofs.Serving.{not-loaded}
-use Rattle.street_engine.proofs.Found.{takeout-unknown, takeout-gone, takeout-done}
+use Rattle.std.proofs.Common.{length, ap, sym, subst, arith}
+use Rattle.street_base.specs.Census.{IsWhole}
+use Rattle.street_tile.specs.Commands.{without}
+use Rattle.street_engine.specs.Together.{AllDoIf}
+use Rattle.street_engine.proofs.TakenOut.{nowhere-does}
 use Rattle.street_engine.proofs.vehicles.take_out.Goals as goal
 
-pub returns-in_default : goal.returns-in_default
-returns-in_default c = not-loaded _ (TakeOut c.args.car) c.in_default.is refl
-
-pub returns-then-car-from : goal.returns-then-car-from
-returns-then-car-from c = takeout-unknown _ _ c.args.car c.in-Some.is (omega (arith, c.admitted.ensures.count, c.from.ensures))
-
-pub returns-then-is_some : goal.returns-then-is_some
-returns-then-is_some c = takeout-gone _ _ c.args.car c.in-Some.is (omega (arith, c.admitted.ensures.count, c.from.ensures)) (ap is_some (sym c.end_of.ensures) ∙ sym c.if-is_some.ensures)
-
-pub returns : goal.returns
-returns c = takeout-done _ _ c.args.car c.in-Some.is (omega (arith, c.admitted.ensures.count, c.from.ensures)) _ (ap is_some (sym c.end_of.ensures) ∙ sym c.if-is_some.ensures) c.take_out.ensures
+pub returns-2 : goal.returns-2
+returns-2 c =
+    let xs = c.args.tiles.now in
+    subst (AllDoIf c.args.net.now IsWhole (without c.args.number) xs) (sym c.loop-i.invariant.same) (nowhere-does c.args.net.now c.args.number xs c.requires.tiles c.requires.idle (λ k d h. c.loop-i.invariant.none k d (let same = ap length c.loop-i.invariant.same in omega arith)))

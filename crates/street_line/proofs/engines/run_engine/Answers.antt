@@ -1,6 +1,6 @@
 use Rattle.std.proofs.lemmas.Result.{IfOk-weaker, IfErr-weaker}
 use Rattle.street_stream.specs.Lines.{lines_of}
-use Rattle.street_line.proofs.EngineLemmas.{goes-machine, breaks-machine}
+use Rattle.street_line.proofs.EngineRuns.{goes-machine, breaks-machine}
 use Rattle.street_line.proofs.engines.run_engine.Goals as goal
 
 pub returns-clause-served : goal.returns-clause-served

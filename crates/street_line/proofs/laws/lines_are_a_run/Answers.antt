@@ -1,4 +1,4 @@
-use Rattle.street_line.proofs.EngineLemmas.{goes-runs}
+use Rattle.street_line.proofs.EngineRuns.{goes-runs}
 use Rattle.street_line.specs.Engines.{commands_of}
 use Rattle.street_line.proofs.laws.lines_are_a_run.Goals as goal
 

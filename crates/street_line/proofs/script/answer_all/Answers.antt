@@ -2,7 +2,7 @@ use Rattle.std.proofs.Common.{◌≡◌, ◌∙◌, ℕ, List, [], ◌++◌, Som
 use Rattle.std.specs.Io.KnownBytes.{Appends}
 use Rattle.street_stream.specs.Lines.{lines_of}
 use Rattle.street_line.specs.Faults.{Breaks}
-use Rattle.street_line.specs.Running.{Goes}
+use Rattle.street_line.specs.Runs.{Goes}
 use Rattle.street_line.specs.Sessions.{DeskServes}
 use Rattle.street_line.proofs.script.answer_all.Goals as goal
 
@@ -13,15 +13,15 @@ only xs ys out none grown = grown ∙ ap (λ (l : List ℕ). l ++ out) none
 pub returns-in-Ok-clause-served : goal.returns-in-Ok-clause-served
 returns-in-Ok-clause-served g c =
     let run = c.in-Ok.ensures.served in
-    let none : c.new-writer.result.end.items ≡ [] = search rules in
-    let whole = only _ c.run_session.new.writer.end.items run.out none run.written in
+    let none : c.new-writer.result.stream.items ≡ [] = search rules in
+    let whole = only _ c.run_session.new.writer.stream.items run.out none run.written in
     (run.text, subst (λ (l : List ℕ). Goes DeskServes c.args.session.now (lines_of run.text) l c.run_session.new.session) (sym whole) run.served)
 
 pub returns-clause-served : goal.returns-clause-served
 returns-clause-served g c =
     let run = c.in-Err.ensures.broken in
-    let none : c.new-writer.result.end.items ≡ [] = search rules in
+    let none : c.new-writer.result.stream.items ≡ [] = search rules in
     let kind = c.in-Err.fault.kind in
     let tally = c.in-Err.fault.tally in
-    let broken = subst (λ (l : List ℕ). Breaks DeskServes c.args.session.now (Some l) run.text c.run_session.new.session (Some c.run_session.new.writer.end.items) kind tally) none run.breaks in
+    let broken = subst (λ (l : List ℕ). Breaks DeskServes c.args.session.now (Some l) run.text c.run_session.new.session (Some c.run_session.new.writer.stream.items) kind tally) none run.breaks in
     (run.text, (kind, tally, c.in_memory.ensures, broken))

@@ -6,8 +6,8 @@ use Rattle.street_base.specs.Network.{node_of, no_link}
 use Rattle.street_base.proofs.FaultLemmas.{node_of_below, link_keeps_limits}
 use Rattle.street_net.specs.declared.briefs.Brief.{Brief}
 use Rattle.street_net.specs.Tables.{IsBrief}
-use Rattle.street_net.proofs.Good.{good-link}
-use Rattle.street_net.proofs.Told.{told-more}
+use Rattle.street_net.proofs.GoodLinks.{good-link}
+use Rattle.street_net.proofs.BriefLemmas.{told-more}
 use Rattle.street_net.proofs.briefs.briefs_of_links.Goals as goal
 
 pub unwrap-end-requires : goal.unwrap-end-requires

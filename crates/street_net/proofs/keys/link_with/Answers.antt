@@ -2,7 +2,7 @@ use Rattle.std.proofs.Common.{◌≡◌, ◌∙◌, sym, ap, eqb}
 use Rattle.std.specs.Prelude.{slice_get, option_copied}
 use Rattle.std.specs.Option.{option_and_then}
 use Rattle.street_base.specs.declared.net.LinkSpec.{LinkSpec}
-use Rattle.street_net.proofs.Searching.{find-position, copied-at}
+use Rattle.street_net.proofs.KeyLemmas.{find-position, copied-at}
 use Rattle.street_net.proofs.keys.link_with.Goals as goal
 
 pub returns-in_err-position : goal.returns-in_err-position

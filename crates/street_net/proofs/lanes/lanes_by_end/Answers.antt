@@ -7,9 +7,9 @@ use Rattle.street_base.specs.Network.{link_at, node_of}
 use Rattle.street_base.proofs.FaultLemmas.{link_below}
 use Rattle.street_net.specs.declared.lanes.LaneId.{LaneId}
 use Rattle.street_net.specs.Tables.{place_of, ends_at}
-use Rattle.street_net.proofs.Good.{node_of_within}
-use Rattle.street_net.proofs.Landing.{places_below, landed, landed-elsewhere}
-use Rattle.street_net.proofs.Told.{told-at}
+use Rattle.street_net.proofs.GoodLinks.{node_of_within}
+use Rattle.street_net.proofs.InLanes.{places_below, landed, landed-elsewhere}
+use Rattle.street_net.proofs.BriefLemmas.{told-at}
 use Rattle.street_net.proofs.lanes.lanes_by_end.Goals as goal
 
 pub overflow_cast-at : goal.overflow_cast-at

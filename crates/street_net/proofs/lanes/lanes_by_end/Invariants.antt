@@ -3,7 +3,7 @@ use Rattle.std.specs.Prelude.{filter}
 use Rattle.std.specs.declared.alloc.Global.{Global}
 use Rattle.street_net.specs.declared.lanes.LaneId.{LaneId}
 use Rattle.street_net.specs.Tables.{place_of, ends_at}
-use Rattle.street_net.proofs.Landing.{places_below}
+use Rattle.street_net.proofs.InLanes.{places_below}
 use Rattle.street_net.proofs.lanes.lanes_by_end.Given as goal
 
 abbrev pub invariant-loop-at : goal.invariant-loop-at

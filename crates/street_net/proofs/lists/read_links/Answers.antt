@@ -6,8 +6,8 @@ use Rattle.street_base.specs.declared.net.NetSpec.{NetSpec}
 use Rattle.street_base.specs.declared.refusal.Part.TheVariants.{Links}
 use Rattle.street_base.specs.Faults.{is_bad_link, in_part}
 use Rattle.street_base.specs.Network.{no_link}
-use Rattle.street_net.proofs.Searching.{keys-more, eqb-sym}
-use Rattle.street_net.proofs.Firsts.{NoneBad-more, first_bad-here, first_bad-none}
+use Rattle.street_net.proofs.KeyLemmas.{keys-more, eqb-sym}
+use Rattle.street_net.proofs.FirstBad.{NoneBad-more, first_bad-here, first_bad-none}
 use Rattle.street_net.proofs.lists.read_links.Goals as goal
 
 fresh : (net : NetSpec) (at : ℕ) (link : LinkSpec) → is_bad_link net at link ≡ false → list_any (λ l. eqb l.id link.id) (take at net.links) ≡ false

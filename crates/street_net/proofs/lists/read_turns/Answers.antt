@@ -6,8 +6,8 @@ use Rattle.street_base.specs.declared.net.NetSpec.{NetSpec}
 use Rattle.street_base.specs.declared.refusal.Part.TheVariants.{Turns}
 use Rattle.street_base.specs.Faults.{is_bad_turn, in_part, is_same_turn}
 use Rattle.street_net.specs.Keys.{turn_key}
-use Rattle.street_net.proofs.Searching.{keys-more, is_same_key}
-use Rattle.street_net.proofs.Firsts.{NoneBad-more, first_bad-here, first_bad-none}
+use Rattle.street_net.proofs.KeyLemmas.{keys-more, is_same_key}
+use Rattle.street_net.proofs.FirstBad.{NoneBad-more, first_bad-here, first_bad-none}
 use Rattle.street_net.proofs.lists.read_turns.Goals as goal
 
 -- past the end

@@ -1,7 +1,7 @@
 use Rattle.std.proofs.Common.{◌≡◌, take}
 use Rattle.street_base.specs.Faults.{is_bad_turn}
 use Rattle.street_net.specs.Keys.{keys_of_turns}
-use Rattle.street_net.proofs.Firsts.{NoneBad}
+use Rattle.street_net.proofs.FirstBad.{NoneBad}
 use Rattle.street_net.proofs.lists.read_turns.Given as goal
 
 abbrev pub invariant-loop-at : goal.invariant-loop-at

@@ -1,6 +1,6 @@
 use Rattle.std.proofs.Common.{◌∙◌, refl, sym, arith}
 use Rattle.street_base.proofs.FaultLemmas.{link_of_below}
-use Rattle.street_net.proofs.Good.{joined, good-link}
+use Rattle.street_net.proofs.GoodLinks.{joined, good-link}
 use Rattle.street_net.proofs.turns.by_position.Goals as goal
 
 pub unwrap-link-requires : goal.unwrap-link-requires

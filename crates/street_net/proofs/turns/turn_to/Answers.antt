@@ -3,7 +3,7 @@ use Rattle.std.specs.List.Sorted.{IsBinarySearchResult}
 use Rattle.std.specs.Ordering.{nat_cmp}
 use Rattle.std.proofs.lemmas.List.Sorted.{answers_always}
 use Rattle.street_base.specs.declared.net.Turn.{Turn}
-use Rattle.street_net.proofs.Turning.{searched-ok, searched-err}
+use Rattle.street_net.proofs.TurnTable.{searched-ok, searched-err}
 use Rattle.street_net.proofs.turns.turn_to.Goals as goal
 
 pub returns-in-Ok : goal.returns-in-Ok

@@ -5,8 +5,8 @@ use Rattle.street_base.specs.declared.net.TurnSpec.{TurnSpec}
 use Rattle.street_base.specs.declared.net.Turn.{Turn}
 use Rattle.street_base.specs.Faults.{joins}
 use Rattle.street_net.specs.Tables.{seen_turn}
-use Rattle.street_net.proofs.Good.{good-turn}
-use Rattle.street_net.proofs.Turning.{no_turn}
+use Rattle.street_net.proofs.GoodLinks.{good-turn}
+use Rattle.street_net.proofs.TurnTable.{no_turn}
 use Rattle.street_net.proofs.turns.turns_by_position.Goals as goal
 
 pub by_position-requires-clause-joins : goal.by_position-requires-clause-joins

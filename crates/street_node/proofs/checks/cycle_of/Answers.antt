@@ -1,7 +1,7 @@
 use Rattle.std.proofs.Common.{◌≡◌, get_or, ap, sym, arith}
 use Rattle.std.proofs.lemmas.List.Sums.{sum_by_more}
 use Rattle.street_base.specs.declared.command.PhaseSpec.{PhaseSpec}
-use Rattle.street_node.proofs.Building.{good-phase, few-phases}
+use Rattle.street_node.proofs.KeptPlan.{good-phase, few-phases}
 use Rattle.street_node.proofs.checks.cycle_of.Goals as goal
 
 pub overflow_add-cycle : goal.overflow_add-cycle

@@ -5,7 +5,7 @@ use Rattle.std.specs.Option.{option_map_or}
 use Rattle.street_base.specs.declared.net.LinkSpec.{LinkSpec}
 use Rattle.street_base.specs.Network.{link_of, link_at}
 use Rattle.street_base.specs.Faults.{link_with}
-use Rattle.street_node.proofs.Judging.{is_green_turn, served, with-link, without-link, no-next, no-lane, and-false}
+use Rattle.street_node.proofs.GreenTurns.{is_green_turn, served, with-link, without-link, no-next, no-lane, and-false}
 use Rattle.street_node.proofs.checks.is_turn_to.Goals as goal
 
 pub returns-in_default : goal.returns-in_default

@@ -1,5 +1,5 @@
 use Rattle.street_base.specs.Faults.{is_bad_phase}
-use Rattle.street_net.proofs.Firsts.{NoneBad}
+use Rattle.street_net.proofs.FirstBad.{NoneBad}
 use Rattle.street_node.proofs.checks.phases_fault.Given as goal
 
 abbrev pub invariant-loop-at : goal.invariant-loop-at

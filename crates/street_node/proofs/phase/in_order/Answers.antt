@@ -1,6 +1,6 @@
 use Rattle.std.proofs.Common.{◌∙◌}
 use Rattle.std.specs.Ordering.{nat_cmp}
-use Rattle.street_node.proofs.Ranking.{compared}
+use Rattle.street_node.proofs.TurnRank.{compared}
 use Rattle.street_node.proofs.phase.in_order.Goals as goal
 
 pub returns : goal.returns

@@ -8,7 +8,7 @@ use Rattle.street_base.specs.Effects.{green_of, phase_of_spec}
 use Rattle.street_node.specs.Greens.{green_seen, IsSamePhase}
 use Rattle.street_base.specs.declared.command.PhaseSpec.{PhaseSpec}
 use Rattle.street_base.specs.Faults.{is_turn_to}
-use Rattle.street_node.proofs.Building.{good-phase}
+use Rattle.street_node.proofs.KeptPlan.{good-phase}
 
 pub green_turns-requires-clause-good : goal.green_turns-requires-clause-good
 green_turns-requires-clause-good c =

@@ -8,11 +8,11 @@ use Rattle.street_base.specs.Vehicle.{Vehicle, vehicle_of}
 use Rattle.street_base.specs.Lane.{vehicle_at, rear}
 use Rattle.street_base.specs.Apart.{AreDisjoint}
 use Rattle.street_base.proofs.CoverLemmas.{rear-le}
-use Rattle.street_yard.specs.Yard.{Kept, Yard, list_at, entry_at, car_of, place_of, place_set, Has, IsWhole, Updates}
+use Rattle.street_yard.specs.Yard.{YardEntry, Yard, list_at, entry_at, car_of, list_on, list_set, Has, IsWhole, Updates}
 use Rattle.street_yard.specs.Listed.{cell_at, rear_at, vehicle_with, key_at, seen_at, cells_at, AllAbove, IsFalling, IsLane}
 use Rattle.street_yard.proofs.Keys.{has-later}
-use Rattle.street_yard.proofs.Callers.{AllAbove-lower, AllAbove-push, car_of-place_set, cell_is, list-written}
-use Rattle.street_yard.proofs.Placed.{falling-agree, found-agree, key_at-drop, key_at-is, cells-read, stands-key, rear-under}
+use Rattle.street_yard.proofs.YardLemmas.{AllAbove-lower, AllAbove-push, car_of-list_set, cell_is, list-written}
+use Rattle.street_yard.proofs.FallingLists.{falling-agree, found-agree, key_at-drop, key_at-is, cells-read, stands-key, rear-under}
 use Rattle.street_part_tests.proofs.motion.put.Goals as goal
 
 -- a key that lies below all of a falling list comes behind them
@@ -54,7 +54,7 @@ seen-above y n count whole lane cell above x v is = by (key_at (cell_at y) (list
 
 module _ (old room mid new : Yard) (key : ℕ) (car : Car) (some : 0 < length old.lists) (whole : IsWhole old) (reserved : room ≡ record old { room = room.room }) (vacant : entry_at room key ≡ None)
     (admits : Updates room mid key (Some (record { car = car; mark = false; list = None }))) (lists : mid.lists ≡ room.lists)
-    (pushed : new ≡ record mid { lists = slice_set mid.lists 0 (list_at mid 0 ++ key ∷ []); kept = place_set mid.kept key (Some 0) }) where
+    (pushed : new ≡ record mid { lists = slice_set mid.lists 0 (list_at mid 0 ++ key ∷ []); kept = list_set mid.kept key (Some 0) }) where
   lists-same : mid.lists ≡ old.lists
   lists-same = lists ∙ ap (λ (y : Yard). y.lists) reserved
 
@@ -71,23 +71,23 @@ module _ (old room mid new : Yard) (key : ℕ) (car : Car) (some : 0 < length ol
       ∙ ap (λ (ls : List (List ℕ)). slice_index_or ls 0 [] ++ key ∷ []) lists-same
 
   car-mid : (k : ℕ) → car_of new k ≡ car_of mid k
-  car-mid k = ap (λ (y : Yard). car_of y k) pushed ∙ car_of-place_set mid.kept key (Some 0) k
+  car-mid k = ap (λ (y : Yard). car_of y k) pushed ∙ car_of-list_set mid.kept key (Some 0) k
 
   cell-new : cell_at new key ≡ car.cell
-  cell-new = cell_is new key car (car-mid key ∙ ap (option_map (λ (e : Kept). e.car)) admits.changed)
+  cell-new = cell_is new key car (car-mid key ∙ ap (option_map (λ (e : YardEntry). e.car)) admits.changed)
 
   rear-new : rear_at new key ≡ car.cell - (car.size - 1)
-  rear-new = ap (λ (o : Option Car). unwrap_or (option_map (λ (c : Car). c.cell - (c.size - 1)) o) 0) (car-mid key ∙ ap (option_map (λ (e : Kept). e.car)) admits.changed)
+  rear-new = ap (λ (o : Option Car). unwrap_or (option_map (λ (c : Car). c.cell - (c.size - 1)) o) 0) (car-mid key ∙ ap (option_map (λ (e : YardEntry). e.car)) admits.changed)
 
   listed-other : (k : ℕ) → Has (list_at old 0) k → k ≢ key
   listed-other k on same =
       let place = whole.names k 0 on in
-      let none : place_of old k ≡ None = ap (place_of old) same ∙ ap (option_and_then (λ (e : Kept). e.list)) (sym (entries-same key) ∙ vacant) in
+      let none : list_on old k ≡ None = ap (list_on old) same ∙ ap (option_and_then (λ (e : YardEntry). e.list)) (sym (entries-same key) ∙ vacant) in
       let bad : ◌≡◌ {A = Option ℕ} (Some 0) None = sym place ∙ none in
       cc
 
   car-same : (k : ℕ) → Has (list_at old 0) k → car_of new k ≡ car_of old k
-  car-same k on = car-mid k ∙ ap (option_map (λ (e : Kept). e.car)) (admits.others k (listed-other k on) ∙ entries-same k)
+  car-same k on = car-mid k ∙ ap (option_map (λ (e : YardEntry). e.car)) (admits.others k (listed-other k on) ∙ entries-same k)
 
   cell-same : (k : ℕ) → Has (list_at old 0) k → cell_at old k ≡ cell_at new k
   cell-same k on = ap (λ (o : Option Car). unwrap_or (option_map (λ (c : Car). c.cell) o) 0) (sym (car-same k on))

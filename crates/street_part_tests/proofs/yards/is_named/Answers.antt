@@ -1,5 +1,5 @@
 use Rattle.std.proofs.Common.{rules}
-use Rattle.street_yard.proofs.Callers.{loose_has_entry}
+use Rattle.street_yard.proofs.YardLemmas.{loose_has_entry}
 use Rattle.street_part_tests.proofs.yards.is_named.Goals as goal
 
 pub returns : goal.returns

@@ -1,7 +1,7 @@
 use Rattle.std.proofs.Common.{◌≡◌, ◌+◌, ◌*◌, refl, ap, subst, arith}
 use Rattle.rand_chacha.specs.ChaCha.{ChaCha}
-use Rattle.street_rule.specs.Kept.{Asked}
-use Rattle.street_rule.proofs.Drawing.{at_block, placed, joined-four, lane-asked, slow-asked}
+use Rattle.street_rule.specs.KeptDraws.{Asked}
+use Rattle.street_rule.proofs.DrawLemmas.{at_block, placed, joined-four, lane-asked, slow-asked}
 use Rattle.street_rule.proofs.dice.drawn.Goals as goal
 
 -- all 64 words, from the block's first on

@@ -1,4 +1,4 @@
-use Rattle.street_rule.proofs.Drawing.{asked-four}
+use Rattle.street_rule.proofs.DrawLemmas.{asked-four}
 use Rattle.street_rule.proofs.dice.four.Goals as goal
 
 pub returns-clause-asked : goal.returns-clause-asked

@@ -1,6 +1,6 @@
 use Rattle.std.proofs.Common.{subst, arith}
-use Rattle.street_rule.specs.Kept.{Asked}
-use Rattle.street_rule.proofs.Drawing.{joined-four, four-below, four-fit}
+use Rattle.street_rule.specs.KeptDraws.{Asked}
+use Rattle.street_rule.proofs.DrawLemmas.{joined-four, four-below, four-fit}
 use Rattle.street_rule.proofs.dice.sixteen.Goals as goal
 
 pub returns-clause-asked : goal.returns-clause-asked

@@ -1,5 +1,5 @@
 use Rattle.std.proofs.Common.{◌∙◌, arith}
-use Rattle.street_rule.proofs.Drawing.{draw-read, placed}
+use Rattle.street_rule.proofs.DrawLemmas.{draw-read, placed}
 use Rattle.street_rule.proofs.draws.draw.Goals as goal
 
 pub returns : goal.returns

@@ -2,16 +2,16 @@ use Rattle.std.proofs.Common.{◌≡◌, Some, ◌<◌, ◌-◌, refl, arith, ap
 use Rattle.std.specs.Prelude.{◌||◌}
 use Rattle.std.specs.Option.{option_map, unwrap_or}
 use Rattle.street_base.specs.LaneChange.{changes}
-use Rattle.street_yard.specs.Yard.{place_of}
-use Rattle.street_yard.proofs.Callers.{left, on_has_entry, place_of-mark_set, cell_reads}
+use Rattle.street_yard.specs.Yard.{list_on}
+use Rattle.street_yard.proofs.YardLemmas.{left, on_has_entry, list_on-mark_set, cell_reads}
 use Rattle.street_gap.specs.Closed.{closed_marks}
 use Rattle.street_gap.proofs.Marks.{closed_marks-length}
 use Rattle.street_rule.specs.Road.{no_lane, lane_of, length_of, track_of}
-use Rattle.street_rule.specs.Sight.{weave_of}
-use Rattle.street_rule.proofs.Seeking.{named}
+use Rattle.street_rule.specs.Sight.{changing_of}
+use Rattle.street_rule.proofs.PositionSearch.{named}
 use Rattle.street_rule.proofs.Roads.{IsRoad-by}
 use Rattle.street_rule.proofs.Whole.{IsMarking-road}
-use Rattle.street_rule.proofs.Marking.{IsMarking, IsMarking-lane, IsMarking-on, IsMarking-up_to, IsMarking-vehicle, IsMarking-step, decided}
+use Rattle.street_rule.proofs.MarkWalk.{IsMarking, IsMarking-lane, IsMarking-on, IsMarking-up_to, IsMarking-vehicle, IsMarking-step, decided}
 use Rattle.street_rule.proofs.pass.mark_from.Goals as goal
 
 pub loop-cursor-init : goal.loop-cursor-init
@@ -36,14 +36,14 @@ decide-decision-requires-clause-above c = IsMarking-up_to c.args.yard.now c.loop
 pub rear-requires : goal.rear-requires
 rear-requires c = on_has_entry c.loop-cursor.yard c.in-Some.key.0 (lane_of c.args.road.now c.args.lane).list (IsMarking-on c.args.yard.now c.loop-cursor.yard (lane_of c.args.road.now c.args.lane).list (lane_of c.args.road.now (1 - c.args.lane)).list c.in-Some.key.0 _ (option_map named c.loop-cursor.above) c.loop-cursor.ahead (option_map named c.loop-cursor.cursor) (ap (option_map named) c.in-Some.is) c.loop-cursor.invariant.0)
 
-on : (c : goal.After-set_mark) → place_of c.set_mark.new.yard c.in-Some.key.0 ≡ Some (lane_of c.args.road.now c.args.lane).list
-on c = ap (λ v. place_of v c.in-Some.key.0) c.set_mark.ensures ∙ place_of-mark_set c.loop-cursor.yard c.in-Some.key.0 c.decide-decision.result.goes c.in-Some.key.0 ∙ IsMarking-on c.args.yard.now c.loop-cursor.yard (lane_of c.args.road.now c.args.lane).list (lane_of c.args.road.now (1 - c.args.lane)).list c.in-Some.key.0 _ (option_map named c.loop-cursor.above) c.loop-cursor.ahead (option_map named c.loop-cursor.cursor) (ap (option_map named) c.in-Some.is) c.loop-cursor.invariant.0
+on : (c : goal.After-set_mark) → list_on c.set_mark.new.yard c.in-Some.key.0 ≡ Some (lane_of c.args.road.now c.args.lane).list
+on c = ap (λ v. list_on v c.in-Some.key.0) c.set_mark.ensures ∙ list_on-mark_set c.loop-cursor.yard c.in-Some.key.0 c.decide-decision.result.goes c.in-Some.key.0 ∙ IsMarking-on c.args.yard.now c.loop-cursor.yard (lane_of c.args.road.now c.args.lane).list (lane_of c.args.road.now (1 - c.args.lane)).list c.in-Some.key.0 _ (option_map named c.loop-cursor.above) c.loop-cursor.ahead (option_map named c.loop-cursor.cursor) (ap (option_map named) c.in-Some.is) c.loop-cursor.invariant.0
 
 pub behind-cursor-requires : goal.behind-cursor-requires
 behind-cursor-requires c = rw (on c) refl
 
 step : (c : goal.After-behind-cursor) → IsMarking c.args.yard.now c.set_mark.new.yard (lane_of c.args.road.now c.args.lane).list (lane_of c.args.road.now (1 - c.args.lane)).list
-    (changes (weave_of c.args.road.now c.args.step) c.args.lane (track_of c.args.yard.now (length_of c.args.road.now) (lane_of c.args.road.now c.args.lane)) (track_of c.args.yard.now (length_of c.args.road.now) (lane_of c.args.road.now (1 - c.args.lane))))
+    (changes (changing_of c.args.road.now c.args.step) c.args.lane (track_of c.args.yard.now (length_of c.args.road.now) (lane_of c.args.road.now c.args.lane)) (track_of c.args.yard.now (length_of c.args.road.now) (lane_of c.args.road.now (1 - c.args.lane))))
     (option_map named c.decide-decision.result.above) (Some c.rear.result) (option_map named c.behind-cursor.result) (c.loop-cursor.goes || c.decide-decision.result.goes)
     × (left c.set_mark.new.yard (lane_of c.args.road.now c.args.lane).list (option_map named c.behind-cursor.result) < left c.loop-cursor.yard (lane_of c.args.road.now c.args.lane).list (option_map named c.loop-cursor.cursor))
 step c =
@@ -54,7 +54,7 @@ step c =
     (sym (ap (λ o. unwrap_or o 0) c.rear.ensures)) c.decide-decision.ensures.above
     (c.decide-decision.ensures.goes v.0 v.1
     ∙ decided c.args.yard.now c.loop-cursor.yard (lane_of c.args.road.now c.args.lane).list (lane_of c.args.road.now (1 - c.args.lane)).list c.in-Some.key.0 _ (option_map named c.loop-cursor.above) c.loop-cursor.ahead (option_map named c.loop-cursor.cursor) (ap (option_map named) c.in-Some.is) c.loop-cursor.invariant.0
-    (weave_of c.args.road.now c.args.step) c.args.lane (length_of c.args.road.now) (closed_marks (lane_of c.args.road.now c.args.lane).closed (length_of c.args.road.now)) (closed_marks (lane_of c.args.road.now (1 - c.args.lane)).closed (length_of c.args.road.now))
+    (changing_of c.args.road.now c.args.step) c.args.lane (length_of c.args.road.now) (closed_marks (lane_of c.args.road.now c.args.lane).closed (length_of c.args.road.now)) (closed_marks (lane_of c.args.road.now (1 - c.args.lane)).closed (length_of c.args.road.now))
     (c.requires.road.lanes c.args.lane no_lane here).stands (closed_marks-length (lane_of c.args.road.now c.args.lane).closed (length_of c.args.road.now)) v.0 v.1)
     c.set_mark.ensures c.behind-cursor.ensures
 

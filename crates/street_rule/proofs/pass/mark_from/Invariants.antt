@@ -2,15 +2,15 @@ use Rattle.std.specs.Prelude.{◌≡◌, ◌-◌}
 use Rattle.std.specs.Option.{option_map}
 use Rattle.street_base.specs.LaneChange.{changes}
 use Rattle.street_rule.specs.Road.{lane_of, length_of, track_of}
-use Rattle.street_rule.specs.Sight.{weave_of, odds_of}
-use Rattle.street_yard.proofs.Callers.{left}
-use Rattle.street_rule.proofs.Marking.{IsMarking}
+use Rattle.street_rule.specs.Sight.{changing_of, odds_of}
+use Rattle.street_yard.proofs.YardLemmas.{left}
+use Rattle.street_rule.proofs.MarkWalk.{IsMarking}
 use Rattle.street_rule.proofs.pass.mark_from.Given as goal
 
 abbrev pub invariant-loop-cursor : goal.invariant-loop-cursor
 invariant-loop-cursor l =
     IsMarking l.initial.yard l.yard (lane_of l.road l.lane).list (lane_of l.road (1 - l.lane)).list
-    (changes (weave_of l.road l.step) l.lane (track_of l.initial.yard (length_of l.road) (lane_of l.road l.lane)) (track_of l.initial.yard (length_of l.road) (lane_of l.road (1 - l.lane))))
+    (changes (changing_of l.road l.step) l.lane (track_of l.initial.yard (length_of l.road) (lane_of l.road l.lane)) (track_of l.initial.yard (length_of l.road) (lane_of l.road (1 - l.lane))))
     (option_map (λ k. k.0) l.above) l.ahead (option_map (λ k. k.0) l.cursor) l.goes
     × (l.dice ≡ odds_of l.road.network)
 

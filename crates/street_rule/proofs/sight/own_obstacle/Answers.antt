@@ -1,4 +1,4 @@
-use Rattle.street_rule.proofs.Deciding.{obstacle-open}
+use Rattle.street_rule.proofs.Decision.{obstacle-open}
 use Rattle.street_rule.proofs.sight.own_obstacle.Goals as goal
 
 pub returns-else-outlook : goal.returns-else-outlook

@@ -3,9 +3,9 @@ use Rattle.std.specs.Bool.{⊤}
 use Rattle.std.proofs.lemmas.List.{length-take}
 use Rattle.std.proofs.lemmas.Result.{err_from_is_err_and}
 use Rattle.std.proofs.KnownBytes.{Consumes-nil, Consumes-trans, Consumes-kept}
-use Rattle.street_stream.proofs.Breaking.{breaks_at, read_breaks}
-use Rattle.street_stream.proofs.Feeding.{feeds_none, feeds_more, consumes_end, begun, whole_run}
-use Rattle.street_stream.proofs.Handled.{none_within}
+use Rattle.street_stream.proofs.Breaks.{breaks_at, read_breaks}
+use Rattle.street_stream.proofs.Feeds.{feeds_none, feeds_more, consumes_end, begun, whole_run}
+use Rattle.street_stream.proofs.Handles.{none_within}
 use Rattle.street_stream.proofs.driver.drive_all.Goals as goal
 
 pub loop-init : goal.loop-init

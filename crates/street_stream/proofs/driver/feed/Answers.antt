@@ -1,8 +1,8 @@
 use Rattle.std.proofs.Common.{arith}
 use Rattle.std.proofs.lemmas.List.{take_more, take_all}
 use Rattle.std.proofs.lemmas.Result.{err_from_is_err_and}
-use Rattle.street_stream.proofs.Breaking.{feed_breaks_at}
-use Rattle.street_stream.proofs.Feeding.{feeds_none, feeds_more}
+use Rattle.street_stream.proofs.Breaks.{feed_breaks_at}
+use Rattle.street_stream.proofs.Feeds.{feeds_none, feeds_more}
 use Rattle.street_stream.proofs.driver.feed.Goals as goal
 
 pub loop-byte-init : goal.loop-byte-init

@@ -4,6 +4,6 @@ use Rattle.street_stream.proofs.driver.feed.Given as goal
 
 abbrev pub invariant-loop-byte : goal.invariant-loop-byte
 invariant-loop-byte g l =
-    Feeds g.H.LineHandler.takes g.H.LineHandler.longest l.fn.handler (g.W.Write.contents l.fn.writer.end) l.fn.progress (take l.byte-index l.bytes)
-    l.handler (g.W.Write.contents l.writer.end) l.progress
+    Feeds g.H.LineHandler.takes g.H.LineHandler.longest l.fn.handler (g.W.Write.contents l.fn.writer.stream) l.fn.progress (take l.byte-index l.bytes)
+    l.handler (g.W.Write.contents l.writer.stream) l.progress
     × Grows l.fn.progress.tally l.progress.tally l.byte-index

@@ -1,6 +1,6 @@
 use Rattle.std.proofs.lemmas.Result.{err_from_is_err_and}
-use Rattle.street_stream.proofs.Breaking.{fed_breaks}
-use Rattle.street_stream.proofs.Feeding.{feeds_kept}
+use Rattle.street_stream.proofs.Breaks.{fed_breaks}
+use Rattle.street_stream.proofs.Feeds.{feeds_kept}
 use Rattle.street_stream.proofs.driver.feed_through.Goals as goal
 
 pub returns-in_err-flush_out-clause-broken : goal.returns-in_err-flush_out-clause-broken

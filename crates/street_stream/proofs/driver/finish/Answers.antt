@@ -1,8 +1,8 @@
 use Rattle.std.proofs.Common.{sym, ap, ◌∙◌, length}
 use Rattle.std.proofs.lemmas.Bool.{eqb-true, eqb-false}
 use Rattle.std.proofs.lemmas.Result.{err_from_is_err_and}
-use Rattle.street_stream.proofs.Breaking.{last_breaks}
-use Rattle.street_stream.proofs.Feeding.{finishes_none, finishes_line}
+use Rattle.street_stream.proofs.Breaks.{last_breaks}
+use Rattle.street_stream.proofs.Feeds.{finishes_none, finishes_line}
 use Rattle.street_stream.proofs.driver.finish.Goals as goal
 
 pub returns-then-is_empty-clause-finishes : goal.returns-then-is_empty-clause-finishes

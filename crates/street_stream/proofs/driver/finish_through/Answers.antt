@@ -1,6 +1,6 @@
 use Rattle.std.proofs.lemmas.Result.{err_from_is_err_and}
-use Rattle.street_stream.proofs.Breaking.{finished_breaks}
-use Rattle.street_stream.proofs.Feeding.{finishes_kept}
+use Rattle.street_stream.proofs.Breaks.{finished_breaks}
+use Rattle.street_stream.proofs.Feeds.{finishes_kept}
 use Rattle.street_stream.proofs.driver.finish_through.Goals as goal
 
 pub returns-in_err-flush_out-clause-broken : goal.returns-in_err-flush_out-clause-broken

@@ -1,7 +1,7 @@
 use Rattle.std.proofs.Common.{refl}
 use Rattle.std.proofs.lemmas.Result.{err_from_is_err_and}
-use Rattle.street_stream.proofs.Breaking.{newline_breaks, byte_breaks}
-use Rattle.street_stream.proofs.Feeding.{feeds_newline, feeds_other}
+use Rattle.street_stream.proofs.Breaks.{newline_breaks, byte_breaks}
+use Rattle.street_stream.proofs.Feeds.{feeds_newline, feeds_other}
 use Rattle.street_stream.proofs.driver.take_byte.Goals as goal
 
 pub returns-then-byte-eq10-clause-feeds : goal.returns-then-byte-eq10-clause-feeds

@@ -1,5 +1,5 @@
 use Rattle.std.proofs.Common.{◌∙◌, ◌++◌, ◌∷◌, [], List, ℕ, ap, arith, length}
-use Rattle.street_stream.proofs.Parts.{kept_more, kept_full}
+use Rattle.street_stream.proofs.PartialLines.{kept_more, kept_full}
 use Rattle.street_stream.proofs.part.keep.Goals as goal
 
 pub returns-then-len-most : goal.returns-then-len-most

@@ -2,7 +2,7 @@ use Rattle.std.proofs.Common.{◌≡◌, ◌∙◌, [], sym, rules, arith, drop}
 use Rattle.std.proofs.Math.ListN.{drop_of_length-le}
 use Rattle.serde_json.specs.View.{items_view}
 use Rattle.serde_json.specs.declared.value.Value.{the_lemmas}
-use Rattle.street_text.specs.Printing.{items_from}
+use Rattle.street_text.specs.ReplyLines.{items_from}
 use Rattle.street_text.proofs.Items.{before_end}
 use Rattle.street_text.proofs.lists.list_value.Goals as goal
 

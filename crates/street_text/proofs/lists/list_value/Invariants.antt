@@ -1,5 +1,5 @@
 use Rattle.std.proofs.Common.{◌≡◌, drop}
-use Rattle.street_text.specs.Printing.{items_from}
+use Rattle.street_text.specs.ReplyLines.{items_from}
 use Rattle.street_text.proofs.Items.{before}
 use Rattle.street_text.proofs.lists.list_value.Given as goal
 

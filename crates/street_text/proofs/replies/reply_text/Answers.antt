@@ -1,7 +1,7 @@
 use Rattle.std.proofs.Common.{◌≡◌, false}
 use Rattle.serde_json.specs.Written.{has_float}
 use Rattle.serde_json.specs.View.{view}
-use Rattle.street_text.specs.Printing.{reply_line}
+use Rattle.street_text.specs.ReplyLines.{reply_line}
 use Rattle.street_text.proofs.Floats.{whole_reply}
 use Rattle.street_text.proofs.replies.reply_text.Goals as goal
 

@@ -7,9 +7,9 @@ use Rattle.street_base.specs.Limits.{most_lanes}
 use Rattle.street_base.specs.Network.{Place, link_at, node_of, no_link}
 use Rattle.street_base.proofs.FaultLemmas.{link_below, link_keeps_limits}
 use Rattle.street_net.specs.Tables.{place_of}
-use Rattle.street_net.proofs.Landing.{places_below, named}
+use Rattle.street_net.proofs.InLanes.{places_below, named}
 use Rattle.street_tile.specs.Tiles.{is_own}
-use Rattle.street_tile.proofs.Cutting.{own-more, own-elsewhere}
+use Rattle.street_tile.proofs.EmptyTile.{own-more, own-elsewhere}
 use Rattle.street_tile.proofs.cut.own_lanes.Goals as goal
 use Rattle.street_tile.proofs.cut.own_lanes.Goals.{then-low-node+then-node-high+in_ok-add_lanes, else-low-node, else-low-node-via-then-low-node+else-node-high, else-low-node-via-else-low-node}
 

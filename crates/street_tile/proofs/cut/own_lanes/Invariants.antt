@@ -1,7 +1,7 @@
 use Rattle.std.proofs.Common.{◌≡◌, map}
 use Rattle.std.specs.Prelude.{filter}
 use Rattle.street_net.specs.Tables.{place_of}
-use Rattle.street_net.proofs.Landing.{places_below}
+use Rattle.street_net.proofs.InLanes.{places_below}
 use Rattle.street_tile.specs.Tiles.{is_own}
 use Rattle.street_tile.proofs.cut.own_lanes.Given as goal
 

@@ -1,7 +1,7 @@
 use Rattle.std.proofs.Common.{◌≡◌, ap, arith}
 use Rattle.street_base.specs.Network.{Place}
 use Rattle.street_lanes.specs.Lanes.{place_at}
-use Rattle.street_tile.proofs.Going.{there-at, even-of}
+use Rattle.street_tile.proofs.SameLanes.{there-at, even-of}
 use Rattle.street_tile.proofs.lanes.begins_pair.Goals as goal
 
 pub lanes_of-requires : goal.lanes_of-requires

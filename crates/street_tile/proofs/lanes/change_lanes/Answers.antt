@@ -1,8 +1,8 @@
 use Rattle.std.proofs.Common.{◌≡◌, ℕ, suc, ◌+◌, ◌<◌, length, true, refl, ap, arith}
 use Rattle.street_base.specs.Network.{Place, link_at}
 use Rattle.street_lanes.specs.Lanes.{place_at}
-use Rattle.street_tile.proofs.Going.{same-then, same-long, of-same}
-use Rattle.street_tile.proofs.Changing.{changed-start, changed-kept, changed-next, changed-all}
+use Rattle.street_tile.proofs.SameLanes.{same-then, same-long, of-same}
+use Rattle.street_tile.proofs.TileChanges.{changed-start, changed-kept, changed-next, changed-all}
 use Rattle.street_tile.proofs.lanes.change_lanes.Goals as goal
 use Rattle.street_tile.proofs.lanes.change_lanes.Goals.{then-begins_pair, else-begins_pair}
 

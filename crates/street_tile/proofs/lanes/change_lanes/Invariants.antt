@@ -3,7 +3,7 @@ use Rattle.street_base.specs.State.{Traffic}
 use Rattle.street_lanes.specs.Lanes.{Same, IsOf}
 use Rattle.street_lanes.specs.Whole.{IsOn, LanesStand}
 use Rattle.street_tile.specs.Tiles.{IsRoads, ArePairs}
-use Rattle.street_tile.proofs.Changing.{ChangedTo}
+use Rattle.street_tile.proofs.TileChanges.{ChangedTo}
 use Rattle.street_tile.proofs.lanes.change_lanes.Given as goal
 
 abbrev pub invariant-loop-n : goal.invariant-loop-n

@@ -5,10 +5,10 @@ use Rattle.street_base.specs.Network.{Place, link_at, node_of}
 use Rattle.street_lanes.specs.Lanes.{place_at}
 use Rattle.street_base.specs.State.{lane_at}
 use Rattle.street_base.specs.Step.{drive_on}
-use Rattle.street_rule.specs.Watching.{watched}
-use Rattle.street_lanes.specs.Gauges.{cleared}
-use Rattle.street_tile.proofs.Driving.{plan-shown}
-use Rattle.street_tile.proofs.Metering.{map-twice}
+use Rattle.street_rule.specs.Watch.{watched}
+use Rattle.street_lanes.specs.Detectors.{cleared}
+use Rattle.street_tile.proofs.TileMotion.{plan-shown}
+use Rattle.street_tile.proofs.MetersStand.{map-twice}
 use Rattle.street_tile.proofs.lanes.drive_lane.Goals as goal
 
 pub returns-clause-stands : goal.returns-clause-stands
@@ -49,4 +49,4 @@ returns-clause-watched c = λ m on clock shows stands.
       in_time = c.requires.in_time;
       plan = plan-shown c.args.net.now m on.network c.args.low c.args.signals.now (place_at c.args.own.now c.args.n) c.end_of-node.result node c.requires.node shows (option_copied c.as_ref-plan.result) c.index-signals-position.result plan;
     }) stands
-    ∙ map-twice (watched (drive_on m (place_at c.args.own.now c.args.n)) (lane_at m (place_at c.args.own.now c.args.n)).track) cleared c.args.gauges.now.meters
+    ∙ map-twice (watched (drive_on m (place_at c.args.own.now c.args.n)) (lane_at m (place_at c.args.own.now c.args.n)).track) cleared c.args.detectors.now.meters

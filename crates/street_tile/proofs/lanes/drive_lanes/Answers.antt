@@ -9,13 +9,13 @@ use Rattle.street_net.specs.Tables.{place_of}
 use Rattle.street_lanes.specs.Views.{LaneStands}
 use Rattle.street_lanes.specs.Lanes.{lane_of, place_at}
 use Rattle.street_lanes.specs.Whole.{IsOn, LanesStand}
-use Rattle.street_lanes.specs.Driving.{cells_on}
-use Rattle.street_lanes.specs.Gauges.{watch_of}
+use Rattle.street_lanes.specs.Motion.{cells_on}
+use Rattle.street_lanes.specs.Detectors.{watch_of}
 use Rattle.street_tile.specs.Tiles.{ShowSignals, slot_of}
-use Rattle.street_tile.proofs.Going.{same-then, same-long, of-same, even-of, lanes-here, lanes-next, lanes-all, place-is}
-use Rattle.street_tile.proofs.Driving.{lane_at-driven, arrivals-more, arrivals-all}
-use Rattle.street_tile.proofs.Showing.{slot-inside, shown-after, shown-all}
-use Rattle.street_tile.proofs.Metering.{keep-sizes, gauges-even, size-at, keep-next, watched-next}
+use Rattle.street_tile.proofs.SameLanes.{same-then, same-long, of-same, even-of, lanes-here, lanes-next, lanes-all, place-is}
+use Rattle.street_tile.proofs.TileMotion.{lane_at-driven, arrivals-more, arrivals-all}
+use Rattle.street_tile.proofs.HeldMouths.{slot-inside, shown-after, shown-all}
+use Rattle.street_tile.proofs.MetersStand.{keep-sizes, detectors-even, size-at, keep-next, watched-next}
 use Rattle.street_tile.proofs.lanes.drive_lanes.Goals as goal
 use Rattle.street_tile.proofs.lanes.drive_lanes.Goals.{in-Some, in_default}
 
@@ -33,8 +33,8 @@ drive_lane-requires-clause-size c =
     let of = of-same c.args.net.now c.args.own.now c.loop-n.own c.loop-n.invariant.same c.requires.of in
     let places = c.loop-n.invariant.same.places in
     let long : length c.loop-n.own.places ≡ length c.args.own.now.places = ap length places in
-    let gauged = keep-sizes c.args.gauges.now c.loop-n.gauges c.loop-n.invariant.gauges ∙ c.requires.gauged ∙ ap (map (cells_on c.args.net.now)) (sym places) in
-    size-at c.args.net.now c.loop-n.own of c.loop-n.gauges gauged c.loop-n.n (omega arith) _
+    let sized = keep-sizes c.args.detectors.now c.loop-n.detectors c.loop-n.invariant.detectors ∙ c.requires.sized ∙ ap (map (cells_on c.args.net.now)) (sym places) in
+    size-at c.args.net.now c.loop-n.own of c.loop-n.detectors sized c.loop-n.n (omega arith) _
 
 module _ (c : goal.After-slot) (m : Traffic) (on : IsOn c.args.net.now m) (in_time : m.clock ≡ c.args.clock) (shows : ShowSignals c.args.low (c.args.low + length c.args.signals.now) c.args.signals.now m) (stand : LanesStand c.args.own.now.places c.args.own.now.lanes m) where
   within : c.loop-n.n < length c.args.own.now.places
@@ -52,12 +52,12 @@ module _ (c : goal.After-slot) (m : Traffic) (on : IsOn c.args.net.now m) (in_ti
   gone : c.drive_lane.result ≡ arrival (leaver_of m (place_at c.args.own.now c.loop-n.n))
   gone = c.drive_lane.ensures.arrived m on in_time shows here ∙ ap (λ (p : Place). arrival (leaver_of m p)) same_place
 
-  saw : c.drive_lane.new.gauges.watches ≡ map (watch_of m (place_at c.args.own.now c.loop-n.n)) (get_or c.loop-n.gauges c.loop-n.n c.index-gauges-n.result).meters
-  saw = c.drive_lane.ensures.watched m on in_time shows here ∙ ap (λ (p : Place). map (watch_of m p) (get_or c.loop-n.gauges c.loop-n.n c.index-gauges-n.result).meters) same_place
+  saw : c.drive_lane.new.detectors.watches ≡ map (watch_of m (place_at c.args.own.now c.loop-n.n)) (get_or c.loop-n.detectors c.loop-n.n c.index-detectors-n.result).meters
+  saw = c.drive_lane.ensures.watched m on in_time shows here ∙ ap (λ (p : Place). map (watch_of m p) (get_or c.loop-n.detectors c.loop-n.n c.index-detectors-n.result).meters) same_place
 
-there : (c : goal.After-slot) → c.loop-n.n < length c.args.gauges.now
+there : (c : goal.After-slot) → c.loop-n.n < length c.args.detectors.now
 there c =
-    let long = gauges-even c.args.net.now c.args.own.now c.requires.of c.args.gauges.now c.requires.gauged in
+    let long = detectors-even c.args.net.now c.args.own.now c.requires.of c.args.detectors.now c.requires.sized in
     omega arith
 
 at-is : (c : goal.After-slot) → place_of c.at-at.result ≡ place_at c.args.own.now c.loop-n.n
@@ -91,9 +91,9 @@ loop-n-preserved c = record {
       rw slot
       (shown-after c.args.net.now roads c.args.own.now.places there c.args.mouths.now c.loop-n.own c.drive_lane.new.own c.loop-n.n c.loop-n.mouths p c.is_open.result before (place-is c.args.own.now c.loop-n.n (omega arith)) c.drive_lane.ensures.others c.is_open.ensures
       (length-set c.loop-n.mouths (slot_of p) c.is_open.result ∙ before.wide));
-  gauges = keep-next c.args.gauges.now c.loop-n.gauges c.loop-n.invariant.gauges c.loop-n.n (there c) c.drive_lane.new.gauges c.index-gauges-n.result c.drive_lane.ensures.meters;
+  detectors = keep-next c.args.detectors.now c.loop-n.detectors c.loop-n.invariant.detectors c.loop-n.n (there c) c.drive_lane.new.detectors c.index-detectors-n.result c.drive_lane.ensures.meters;
   watched = λ m on in_time shows stand.
-      watched-next c.args.gauges.now c.loop-n.gauges c.loop-n.invariant.gauges c.loop-n.n (there c) c.drive_lane.new.gauges c.index-gauges-n.result c.drive_lane.ensures.meters m c.args.own.now.places
+      watched-next c.args.detectors.now c.loop-n.detectors c.loop-n.invariant.detectors c.loop-n.n (there c) c.drive_lane.new.detectors c.index-detectors-n.result c.drive_lane.ensures.meters m c.args.own.now.places
       (c.loop-n.invariant.watched m on in_time shows stand) (place_at c.args.own.now c.loop-n.n) (place-is c.args.own.now c.loop-n.n (within c m on in_time shows stand)) (saw c m on in_time shows stand);
 }
 

@@ -5,11 +5,11 @@ use Rattle.street_base.specs.State.{Traffic}
 use Rattle.street_base.specs.Step.{driven_lane, arrival, leaver_of}
 use Rattle.street_lanes.specs.Lanes.{AllLanes, Same}
 use Rattle.street_lanes.specs.Whole.{IsOn, LanesStand}
-use Rattle.street_lanes.specs.Gauges.{watch_of}
+use Rattle.street_lanes.specs.Detectors.{watch_of}
 use Rattle.street_tile.specs.Tiles.{IsRoads, ShowSignals}
-use Rattle.street_tile.specs.Metering.{KeepMeters, gauges_at}
-use Rattle.street_tile.proofs.Going.{LanesDone}
-use Rattle.street_tile.proofs.Showing.{IsShown, IsFreeIn}
+use Rattle.street_tile.specs.TileDetectors.{KeepMeters, detectors_at}
+use Rattle.street_tile.proofs.SameLanes.{LanesDone}
+use Rattle.street_tile.proofs.HeldMouths.{IsShown, IsFreeIn}
 use Rattle.street_tile.proofs.lanes.drive_lanes.Given as goal
 
 abbrev pub invariant-loop-n : goal.invariant-loop-n
@@ -21,6 +21,6 @@ invariant-loop-n l = record {
   done : (m : Traffic) → IsOn l.net m → m.clock ≡ l.clock → ShowSignals l.low (l.low + length l.signals) l.signals m → LanesStand l.fn.own.places l.fn.own.lanes m → LanesDone (driven_lane m) m l.fn.own l.n l.own;
   arrived : (m : Traffic) → IsOn l.net m → m.clock ≡ l.clock → ShowSignals l.low (l.low + length l.signals) l.signals m → LanesStand l.fn.own.places l.fn.own.lanes m → l.arrived.items ≡ l.fn.arrived.items ++ filter_map (λ p. arrival (leaver_of m p)) (take l.n l.fn.own.places);
   shown : (roads : IsRoads l.net) (there : AllLanes l.net l.fn.own.places) → IsShown l.net roads l.fn.own.places there (IsFreeIn l.fn.own.places l.own l.n) l.fn.mouths l.n l.mouths;
-  gauges : KeepMeters l.fn.gauges l.gauges;
-  watched : (m : Traffic) → IsOn l.net m → m.clock ≡ l.clock → ShowSignals l.low (l.low + length l.signals) l.signals m → LanesStand l.fn.own.places l.fn.own.lanes m → (k : ℕ) (p : Place) → k < l.n → slice_get l.fn.own.places k ≡ Some p → (gauges_at l.gauges k).watches ≡ map (watch_of m p) (gauges_at l.gauges k).meters;
+  detectors : KeepMeters l.fn.detectors l.detectors;
+  watched : (m : Traffic) → IsOn l.net m → m.clock ≡ l.clock → ShowSignals l.low (l.low + length l.signals) l.signals m → LanesStand l.fn.own.places l.fn.own.lanes m → (k : ℕ) (p : Place) → k < l.n → slice_get l.fn.own.places k ≡ Some p → (detectors_at l.detectors k).watches ≡ map (watch_of m p) (detectors_at l.detectors k).meters;
 }

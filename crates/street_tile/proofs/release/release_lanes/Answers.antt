@@ -7,11 +7,11 @@ use Rattle.street_base.specs.Release.{target}
 use Rattle.street_net.specs.Tables.{place_of}
 use Rattle.street_lanes.specs.Views.{LaneStands}
 use Rattle.street_lanes.specs.Lanes.{Lanes, lane_of, place_at}
-use Rattle.street_tile.specs.Halves.{Entry}
+use Rattle.street_tile.specs.Halves.{Transfer}
 use Rattle.street_tile.specs.Tiles.{IsRoads, mouth}
 use Rattle.street_tile.specs.Walks.{IsReleasing}
-use Rattle.street_tile.proofs.Going.{same-none, same-then, same-long}
-use Rattle.street_tile.proofs.Releases.{IsReleased, leads-of, released-start, released-here, released-none, released-shut, released-goes, released-lanes, released-handed}
+use Rattle.street_tile.proofs.SameLanes.{same-none, same-then, same-long}
+use Rattle.street_tile.proofs.TileReleases.{IsReleased, leads-of, released-start, released-here, released-none, released-shut, released-goes, released-lanes, released-handed}
 use Rattle.street_tile.proofs.release.release_lanes.Goals as goal
 use Rattle.street_tile.proofs.release.release_lanes.Goals.{in-Some, in_default}
 
@@ -43,7 +43,7 @@ module _ (c : goal.Joined-candidate) (roads : IsRoads c.args.net.now) (even : le
   same_place : place_at c.loop-n.own c.loop-n.n ≡ from
   same_place = rw c.loop-n.invariant.same.places refl
 
-  abbrev Done : ℕ → Lanes → List Bool → List Entry → Type 0
+  abbrev Done : ℕ → Lanes → List Bool → List Transfer → Type 0
   Done k own mouths handed = IsReleased c.args.net.now roads c.args.clock c.args.own.now even c.args.mouths.now c.args.handed.now.items m r k own mouths handed
 
   so_far : Done c.loop-n.n c.loop-n.own c.loop-n.mouths c.loop-n.handed.items

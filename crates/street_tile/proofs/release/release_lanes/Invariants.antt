@@ -3,7 +3,7 @@ use Rattle.street_base.specs.State.{Traffic}
 use Rattle.street_lanes.specs.Lanes.{Same}
 use Rattle.street_tile.specs.Tiles.{IsRoads}
 use Rattle.street_tile.specs.Walks.{IsReleasing}
-use Rattle.street_tile.proofs.Releases.{IsReleased}
+use Rattle.street_tile.proofs.TileReleases.{IsReleased}
 use Rattle.street_tile.proofs.release.release_lanes.Given as goal
 
 abbrev pub invariant-loop-n : goal.invariant-loop-n

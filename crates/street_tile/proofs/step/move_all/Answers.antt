@@ -1,8 +1,8 @@
 use Rattle.std.proofs.Common.{take, arith}
-use Rattle.street_tile.specs.Moves.{all_handed}
-use Rattle.street_tile.proofs.Stepping.{tiles-same}
-use Rattle.street_tile.proofs.Moving.{up-to-start, up-to-same, up-to-lanes, up-to-awaits, up-to-next, up-to-all}
-use Rattle.street_tile.proofs.Hinting.{hints-none, hints-then}
+use Rattle.street_tile.specs.HandOvers.{all_handed}
+use Rattle.street_tile.proofs.BetweenPhases.{tiles-same}
+use Rattle.street_tile.proofs.MovedHandOvers.{up-to-start, up-to-same, up-to-lanes, up-to-awaits, up-to-next, up-to-all}
+use Rattle.street_tile.proofs.KeepsHints.{hints-none, hints-then}
 use Rattle.street_tile.proofs.step.move_all.Goals as goal
 
 pub loop-i-init : goal.loop-i-init

@@ -1,4 +1,4 @@
-use Rattle.street_tile.proofs.Moving.{IsMovedUpTo}
+use Rattle.street_tile.proofs.MovedHandOvers.{IsMovedUpTo}
 use Rattle.street_tile.specs.Hinted.{KeepsHints}
 use Rattle.street_tile.proofs.step.move_all.Given as goal
 

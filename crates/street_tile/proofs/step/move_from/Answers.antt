@@ -1,14 +1,14 @@
 use Rattle.std.proofs.Common.{◌≡◌, ℕ, ◌+◌, ◌-◌, ◌≤◌, List, ◌++◌, length, take, drop, get_or, ap, arith}
 use Rattle.std.proofs.lemmas.List.{take_all, drop_all, get_or_default}
-use Rattle.street_tile.specs.Halves.{Entry}
+use Rattle.street_tile.specs.Halves.{Transfer}
 use Rattle.street_tile.specs.Tiles.{Part}
-use Rattle.street_tile.specs.Moves.{IsMoved}
-use Rattle.street_tile.proofs.Stepping.{tiles-same}
-use Rattle.street_tile.proofs.Moving.{moved-start, moved-same, moved-lanes, moved-left, moved-awaits, moves-step}
-use Rattle.street_tile.proofs.Hinting.{hints-none, hints-then}
+use Rattle.street_tile.specs.HandOvers.{IsMoved}
+use Rattle.street_tile.proofs.BetweenPhases.{tiles-same}
+use Rattle.street_tile.proofs.MovedHandOvers.{moved-start, moved-same, moved-lanes, moved-left, moved-awaits, moves-step}
+use Rattle.street_tile.proofs.KeepsHints.{hints-none, hints-then}
 use Rattle.street_tile.proofs.step.move_from.Goals as goal
 
-moved-all : (xs ys : List Part) (i n : ℕ) (d : Part) (es : List Entry) → length (get_or xs i d).handed ≤ n → IsMoved i (get_or xs i d).handed es xs ys → IsMoved i (take n (get_or xs i d).handed) (drop n (get_or xs i d).handed ++ es) xs ys
+moved-all : (xs ys : List Part) (i n : ℕ) (d : Part) (es : List Transfer) → length (get_or xs i d).handed ≤ n → IsMoved i (get_or xs i d).handed es xs ys → IsMoved i (take n (get_or xs i d).handed) (drop n (get_or xs i d).handed ++ es) xs ys
 moved-all xs ys i n d es all m = rw (take_all n (get_or xs i d).handed all, drop_all n (get_or xs i d).handed all) m
 
 pub loop-k-init : goal.loop-k-init

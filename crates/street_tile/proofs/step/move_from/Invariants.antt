@@ -1,13 +1,13 @@
 use Rattle.std.proofs.Common.{◌-◌, ◌++◌, List, get_or, take, drop}
 use Rattle.std.specs.Prelude.{All}
-use Rattle.street_tile.specs.Halves.{Entry}
+use Rattle.street_tile.specs.Halves.{Transfer}
 use Rattle.street_tile.specs.Tiles.{Part}
-use Rattle.street_tile.specs.Moves.{Awaits, IsMoved}
+use Rattle.street_tile.specs.HandOvers.{Awaits, IsMoved}
 use Rattle.street_tile.specs.Hinted.{KeepsHints}
 use Rattle.street_tile.proofs.step.move_from.Given as goal
 
 abbrev pub invariant-loop-k : goal.invariant-loop-k
 invariant-loop-k l = record {
-  moved : (es : List Entry) (d : Part) → All (Awaits es) l.fn.tiles → IsMoved l.i (take (l.count - l.k) (get_or l.fn.tiles l.i d).handed) (drop (l.count - l.k) (get_or l.fn.tiles l.i d).handed ++ es) l.fn.tiles l.tiles;
+  moved : (es : List Transfer) (d : Part) → All (Awaits es) l.fn.tiles → IsMoved l.i (take (l.count - l.k) (get_or l.fn.tiles l.i d).handed) (drop (l.count - l.k) (get_or l.fn.tiles l.i d).handed ++ es) l.fn.tiles l.tiles;
   hints : KeepsHints l.fn.hints l.hints;
 }

@@ -6,12 +6,12 @@ use Rattle.street_base.specs.declared.net.NetSpec.{NetSpec}
 use Rattle.street_base.specs.Network.{Place}
 use Rattle.street_net.specs.Tables.{place_of}
 use Rattle.street_lanes.specs.Lanes.{IsLane}
-use Rattle.street_tile.specs.Halves.{Entry, entry_in}
+use Rattle.street_tile.specs.Halves.{Transfer, entry_in}
 use Rattle.street_tile.specs.Tiles.{Part, AreTiles, is_own}
-use Rattle.street_tile.specs.Moves.{Awaits}
+use Rattle.street_tile.specs.HandOvers.{Awaits}
 use Rattle.street_tile.proofs.Rows.{in-row}
-use Rattle.street_tile.proofs.Stepping.{tiles-same}
-use Rattle.street_tile.proofs.Moving.{popped-at, popped-same, last-holds, moves-one}
+use Rattle.street_tile.proofs.BetweenPhases.{tiles-same}
+use Rattle.street_tile.proofs.MovedHandOvers.{popped-at, popped-same, last-holds, moves-one}
 use Rattle.street_tile.proofs.step.move_one.Goals as goal
 
 tiles-popped : (net : NetSpec) (xs : List Part) (i : ℕ) (y d : Part) → i < length xs → y ≡ record (get_or xs i d) { handed = y.handed } → AreTiles net xs → AreTiles net (set xs i y)
@@ -22,7 +22,7 @@ owner-j-requires-clause-tiles c = tiles-popped c.args.net.now c.args.tiles.now c
 
 pub owner-j-requires-clause-lane : goal.owner-j-requires-clause-lane
 owner-j-requires-clause-lane c =
-    let there = last-holds (λ e. IsLane c.args.net.now e.to) c.next_hand_over.new.self.handed c.in-Some.hand_over (subst (All (λ (e : Entry). IsLane c.args.net.now e.to)) c.in-Some.ensures.rest (c.requires.lanes c.args.i c.index-tiles-i.result c.requires.inside)) in
+    let there = last-holds (λ e. IsLane c.args.net.now e.to) c.next_hand_over.new.self.handed c.in-Some.hand_over (subst (All (λ (e : Transfer). IsLane c.args.net.now e.to)) c.in-Some.ensures.rest (c.requires.lanes c.args.i c.index-tiles-i.result c.requires.inside)) in
     subst (IsLane c.args.net.now) (sym c.to.ensures) there
 
 pub bring-requires-clause-tile : goal.bring-requires-clause-tile
@@ -31,7 +31,7 @@ bring-requires-clause-tile c =
     c.owner-j.result c.index-tiles-j.result c.owner-j.ensures.inside).tile
 
 pub bring-requires-clause-lane : goal.bring-requires-clause-lane
-bring-requires-clause-lane c = last-holds (λ e. IsLane c.args.net.now e.to) c.next_hand_over.new.self.handed c.in-Some.hand_over (subst (All (λ (e : Entry). IsLane c.args.net.now e.to)) c.in-Some.ensures.rest (c.requires.lanes c.args.i c.index-tiles-i.result c.requires.inside))
+bring-requires-clause-lane c = last-holds (λ e. IsLane c.args.net.now e.to) c.next_hand_over.new.self.handed c.in-Some.hand_over (subst (All (λ (e : Transfer). IsLane c.args.net.now e.to)) c.in-Some.ensures.rest (c.requires.lanes c.args.i c.index-tiles-i.result c.requires.inside))
 
 pub bring-requires-clause-own : goal.bring-requires-clause-own
 bring-requires-clause-own c =
@@ -56,10 +56,10 @@ returns-in-Some-clause-moved c = λ left e es d is awaits.
     let awaits_j : Awaits es (get_or ys j c.index-tiles-j.result) =
     ap (λ (t : Part). t.coming) at_j ∙ awaits j c.index-tiles-j.result hj ∙ ap (λ (t : Part). map (entry_in es) t.own.places) (sym at_j) in
     let brought : c.bring.new.self ≡ record (get_or ys j c.index-tiles-j.result) { coming = map (entry_in (e ∷ es)) (get_or ys j c.index-tiles-j.result).own.places } =
-    c.bring.ensures es awaits_j ∙ ap (λ (f : Entry). record (get_or ys j c.index-tiles-j.result) { coming = map (entry_in (f ∷ es)) (get_or ys j c.index-tiles-j.result).own.places }) parts.1 in
-    let to : place_of c.to.result ≡ e.to = c.to.ensures ∙ ap (λ (f : Entry). f.to) parts.1 in
+    c.bring.ensures es awaits_j ∙ ap (λ (f : Transfer). record (get_or ys j c.index-tiles-j.result) { coming = map (entry_in (f ∷ es)) (get_or ys j c.index-tiles-j.result).own.places }) parts.1 in
+    let to : place_of c.to.result ≡ e.to = c.to.ensures ∙ ap (λ (f : Transfer). f.to) parts.1 in
     moves-one c.args.net.now xs ys (set ys j c.bring.new.self) i j left e es (in-row c.args.net.now xs c.requires.tiles) long (length-set ys j c.bring.new.self ∙ long) c.requires.inside hj
-    (λ k d' h. popped k d' h ∙ ap (λ (hs : List Entry). record (get_or xs k d') { handed = if k == i then hs else (get_or xs k d').handed }) parts.0)
+    (λ k d' h. popped k d' h ∙ ap (λ (hs : List Transfer). record (get_or xs k d') { handed = if k == i then hs else (get_or xs k d').handed }) parts.0)
     (λ d'. subst (λ (p : Place). is_own c.args.net.now (get_or xs j d').low (get_or xs j d').high p ≡ true) to (subst (λ (t : Part). is_own c.args.net.now t.low t.high (place_of c.to.result) ≡ true) (popped j d' hj) (c.owner-j.ensures.own d')))
     (λ d'. get_or-set_same ys j c.bring.new.self d' inside ∙ brought ∙ ap (λ (t : Part). record t { coming = map (entry_in (e ∷ es)) t.own.places }) (get_or_default ys j c.index-tiles-j.result d' inside))
     (λ k d' ne. get_or-set_other ys j k c.bring.new.self d' ne)

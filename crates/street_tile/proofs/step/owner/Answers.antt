@@ -4,7 +4,7 @@ use Rattle.std.proofs.lemmas.Bool.{le-leb, lt-ltb}
 use Rattle.street_net.specs.Tables.{place_of}
 use Rattle.street_tile.specs.Tiles.{Part}
 use Rattle.street_tile.proofs.Rows.{share-of, roads-of, one-tile}
-use Rattle.street_tile.proofs.Tiling.{all-own}
+use Rattle.street_tile.proofs.LaneOwners.{all-own}
 use Rattle.street_tile.proofs.step.owner.Goals as goal
 
 module _ (c : goal.After-position-node) where

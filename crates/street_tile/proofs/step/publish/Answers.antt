@@ -4,7 +4,7 @@ use Rattle.std.specs.List.{list_any}
 use Rattle.street_base.specs.Network.{is_place}
 use Rattle.street_tile.specs.Tiles.{Part, IsTileOf, mouth}
 use Rattle.street_tile.proofs.Rows.{in-row, roads-of}
-use Rattle.street_tile.proofs.Publishing.{published-start, published-next, published-all}
+use Rattle.street_tile.proofs.PublishedView.{published-start, published-next, published-all}
 use Rattle.street_tile.proofs.step.publish.Goals as goal
 
 pub loop-i-init : goal.loop-i-init

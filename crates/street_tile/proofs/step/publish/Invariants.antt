@@ -1,4 +1,4 @@
-use Rattle.street_tile.proofs.Publishing.{IsPublished}
+use Rattle.street_tile.proofs.PublishedView.{IsPublished}
 use Rattle.street_tile.proofs.step.publish.Given as goal
 
 abbrev pub invariant-loop-i : goal.invariant-loop-i

@@ -2,7 +2,7 @@ use Rattle.std.proofs.Common.{◌≡◌, sym, ap, ap₂, ◌∙◌, arith, subst
 use Rattle.street_desk.specs.History.{calls_of}
 use Rattle.street_desk.specs.Passes.{pass_view, without_last, of_last, PassView, DeskView}
 use Rattle.street_desk.specs.Steps.{Sat}
-use Rattle.street_desk.specs.declared.view.View.{View}
+use Rattle.street_desk.specs.declared.view.SeatView.{SeatView}
 use Rattle.street_desk.proofs.Steps.{splits}
 use Rattle.street_desk.proofs.desk.Desk.split.Goals as goal
 
@@ -34,5 +34,5 @@ returns-clause-ok g c =
       omega arith,
       ap₂ pass_view e.0 (ap (λ (m : Sat). m.0) e.2) ∙ ap without_last is,
       ap₂ pass_view e.3 (ap (λ (m : Sat). m.0) e.4) ∙ ap of_last is,
-      subst (λ (v : View). calls_of v.least v.seen ≡ []) (sym (ap (λ (m : Sat). m.0) e.4)) (i.1.unused _ (omega arith) (omega arith)),
+      subst (λ (v : SeatView). calls_of v.least v.seen ≡ []) (sym (ap (λ (m : Sat). m.0) e.4)) (i.1.unused _ (omega arith) (omega arith)),
     )

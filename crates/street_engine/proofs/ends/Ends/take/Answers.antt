@@ -1,7 +1,7 @@
 use Rattle.std.proofs.Common.{◌≡◌, ◌∙◌, ap}
 use Rattle.std.specs.Prelude.{Some, None, slice_get}
-use Rattle.street_engine.specs.Ending.{EndsView}
-use Rattle.street_engine.proofs.Ended.{one-taken}
+use Rattle.street_engine.specs.Ends.{EndsView}
+use Rattle.street_engine.proofs.AreCounted.{one-taken}
 use Rattle.street_engine.proofs.ends.Ends.take.Goals as goal
 
 pub invariant_of-self : goal.invariant_of-self

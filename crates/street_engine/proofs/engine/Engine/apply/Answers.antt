@@ -1,6 +1,6 @@
 use Rattle.std.proofs.Common.{subst}
-use Rattle.street_engine.specs.Refines.{View, Serves}
+use Rattle.street_engine.specs.Refines.{EngineView, Serves}
 use Rattle.street_engine.proofs.engine.Engine.apply.Goals as goal
 
 pub returns : goal.returns
-returns g c = subst (λ (x : View). Serves x c.args.command.now c.apply.result.0 c.apply.result.1 c.apply.new.state) c.self.view_is c.apply.ensures
+returns g c = subst (λ (x : EngineView). Serves x c.args.command.now c.apply.result.0 c.apply.result.1 c.apply.new.state) c.self.view_is c.apply.ensures

@@ -1,6 +1,6 @@
 use Rattle.std.proofs.Common.{arith}
 use Rattle.std.proofs.lemmas.List.{take_more, take_all}
-use Rattle.street_engine.proofs.Running.{serves_all-more}
+use Rattle.street_engine.proofs.ServesAll.{serves_all-more}
 use Rattle.street_engine.proofs.engine.Engine.apply_all.Goals as goal
 
 pub loop-command-preserved : goal.loop-command-preserved

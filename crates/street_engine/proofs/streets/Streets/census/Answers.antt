@@ -2,7 +2,7 @@ use Rattle.std.proofs.Common.{List, length, sym, ◌∙◌, ap, subst, arith}
 use Rattle.std.specs.List.{count_by}
 use Rattle.street_base.specs.Shown.{has_arrived, was_taken}
 use Rattle.street_tile.specs.Tiles.{Part, AllStand}
-use Rattle.street_engine.proofs.Standing.{view, traffic-of, census-is}
+use Rattle.street_engine.proofs.StreetsStandFor.{view, traffic-of, census-is}
 use Rattle.street_engine.proofs.streets.Streets.census.Goals as goal
 
 pub sizes-sizes-requires-clause-stand : goal.sizes-sizes-requires-clause-stand

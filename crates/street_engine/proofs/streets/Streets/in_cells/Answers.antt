@@ -1,6 +1,6 @@
 use Rattle.std.proofs.Common.{List, length, sym, ap, subst, arith}
 use Rattle.street_tile.specs.Tiles.{Part, AllStand}
-use Rattle.street_engine.proofs.Standing.{view, traffic-of}
+use Rattle.street_engine.proofs.StreetsStandFor.{view, traffic-of}
 use Rattle.street_engine.proofs.streets.Streets.in_cells.Goals as goal
 
 pub sizes-requires-clause-stand : goal.sizes-requires-clause-stand

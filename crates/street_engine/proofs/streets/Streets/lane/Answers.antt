@@ -1,7 +1,7 @@
 use Rattle.std.proofs.Common.{List, sym, subst}
 use Rattle.std.proofs.lemmas.Result.{IfOk-weaker}
 use Rattle.street_tile.specs.Tiles.{Part, AllStand}
-use Rattle.street_engine.proofs.Standing.{view, traffic-of}
+use Rattle.street_engine.proofs.StreetsStandFor.{view, traffic-of}
 use Rattle.street_engine.proofs.streets.Streets.lane.Goals as goal
 
 pub returns : goal.returns

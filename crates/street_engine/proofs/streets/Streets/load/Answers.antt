@@ -3,7 +3,7 @@ use Rattle.std.specs.Prelude.{min}
 use Rattle.std.proofs.Math.Nat.{min-le_left}
 use Rattle.street_base.specs.Machine.{loaded}
 use Rattle.street_base.proofs.FaultLemmas.{good_start}
-use Rattle.street_engine.proofs.Standing.{view, loaded-traffic, loaded-kept, stands-as}
+use Rattle.street_engine.proofs.StreetsStandFor.{view, loaded-traffic, loaded-kept, stands-as}
 use Rattle.street_engine.proofs.streets.Streets.load.Goals as goal
 
 pub overflow_cast-result : goal.overflow_cast-result

@@ -8,9 +8,9 @@ use Rattle.street_base.specs.Machine.{closed_after}
 use Rattle.street_net.specs.Tables.{place_of}
 use Rattle.street_tile.specs.Tiles.{Part, AllStand}
 use Rattle.street_tile.specs.Commands.{at_place}
-use Rattle.street_engine.specs.Streets.{IsKept, StandsFor, Goes}
+use Rattle.street_engine.specs.Streets.{IsKept, StreetsStandFor, StreetsGo}
 use Rattle.street_engine.specs.Together.{AllDoIf, AllKeep}
-use Rattle.street_engine.proofs.Standing.{view, keeps-stands, closure-stands, kept-does, kept-either, goes-with, traffic-of}
+use Rattle.street_engine.proofs.StreetsStandFor.{view, keeps-stands, closure-stands, kept-does, kept-either, goes-with, traffic-of}
 use Rattle.street_engine.proofs.streets.Streets.reopen.Goals as goal
 
 pub invariant_of-self : goal.invariant_of-self
@@ -34,12 +34,12 @@ returns-clause-opens c =
     let f : Traffic → Traffic = at_place (place_of c.args.at) (with_marks false c.args.first c.args.last) in
     let g : Traffic → Traffic = with_closure false (place_of c.args.at) c.args.first c.args.last in
     let items : (with_items s.tiles ys).items ≡ ys = with_items_is s.tiles ys (omega (arith, c.reopen.auto.tiles, c.deref_mut.ensures.len)) in
-    on_ok_weaker c.reopen.result (λ does. let d : AllDoIf s.network (λ m. Unit {0}) f xs ys = subst (λ (ts : List Part). AllDoIf s.network (λ m. Unit {0}) f ts ys) c.deref_mut.ensures.value does in subst (λ (ts : List Part). Goes g c.args.self.now (view s.network s.sites.items s.clock ts s.ends.ends)) (sym items) (goes-with g (view s.network s.sites.items s.clock xs s.ends.ends) (view s.network s.sites.items s.clock ys s.ends.ends) c.args.self.now c.self.view_is (closure-stands s.network s.sites.items s.clock xs ys s.ends.ends false (place_of c.args.at) c.args.first c.args.last d))) c.reopen.ensures.opens
+    on_ok_weaker c.reopen.result (λ does. let d : AllDoIf s.network (λ m. Unit {0}) f xs ys = subst (λ (ts : List Part). AllDoIf s.network (λ m. Unit {0}) f ts ys) c.deref_mut.ensures.value does in subst (λ (ts : List Part). StreetsGo g c.args.self.now (view s.network s.sites.items s.clock ts s.ends.ends)) (sym items) (goes-with g (view s.network s.sites.items s.clock xs s.ends.ends) (view s.network s.sites.items s.clock ys s.ends.ends) c.args.self.now c.self.view_is (closure-stands s.network s.sites.items s.clock xs ys s.ends.ends false (place_of c.args.at) c.args.first c.args.last d))) c.reopen.ensures.opens
 
 pub returns-clause-count : goal.returns-clause-count
 returns-clause-count c =
     let s = c.self.inside in
-    IfOk-weaker c.reopen.result (λ count. (m : Traffic) → AllStand s.network c.deref_mut.result.now m → count ≡ closed_after false c.args.first c.args.last (lane_at m (place_of c.args.at))) (λ count. (m : Traffic) → StandsFor c.args.self.now m → count ≡ closed_after false c.args.first c.args.last (lane_at m (place_of c.args.at))) (λ count is m stands. is m (subst (λ (ts : List Part). AllStand s.network ts m) (sym c.deref_mut.ensures.value) (traffic-of (view s.network s.sites.items s.clock s.tiles.items s.ends.ends) c.args.self.now m c.self.view_is stands).tiles)) c.reopen.ensures.count
+    IfOk-weaker c.reopen.result (λ count. (m : Traffic) → AllStand s.network c.deref_mut.result.now m → count ≡ closed_after false c.args.first c.args.last (lane_at m (place_of c.args.at))) (λ count. (m : Traffic) → StreetsStandFor c.args.self.now m → count ≡ closed_after false c.args.first c.args.last (lane_at m (place_of c.args.at))) (λ count is m stands. is m (subst (λ (ts : List Part). AllStand s.network ts m) (sym c.deref_mut.ensures.value) (traffic-of (view s.network s.sites.items s.clock s.tiles.items s.ends.ends) c.args.self.now m c.self.view_is stands).tiles)) c.reopen.ensures.count
 
 pub returns-clause-starved : goal.returns-clause-starved
 returns-clause-starved c =
@@ -47,4 +47,4 @@ returns-clause-starved c =
     let xs : List Part = s.tiles.items in
     let ys : List Part = c.reopen.new.tiles in
     let items : (with_items s.tiles ys).items ≡ ys = with_items_is s.tiles ys (omega (arith, c.reopen.auto.tiles, c.deref_mut.ensures.len)) in
-    on_err_weaker c.reopen.result (λ keeps. subst (λ (ts : List Part). Goes (λ m. m) c.args.self.now (view s.network s.sites.items s.clock ts s.ends.ends)) (sym items) (goes-with (λ m. m) (view s.network s.sites.items s.clock xs s.ends.ends) (view s.network s.sites.items s.clock ys s.ends.ends) c.args.self.now c.self.view_is (keeps-stands s.network s.sites.items s.clock xs ys s.ends.ends (subst (λ (ts : List Part). AllKeep s.network ts ys) c.deref_mut.ensures.value keeps)))) c.reopen.ensures.starved
+    on_err_weaker c.reopen.result (λ keeps. subst (λ (ts : List Part). StreetsGo (λ m. m) c.args.self.now (view s.network s.sites.items s.clock ts s.ends.ends)) (sym items) (goes-with (λ m. m) (view s.network s.sites.items s.clock xs s.ends.ends) (view s.network s.sites.items s.clock ys s.ends.ends) c.args.self.now c.self.view_is (keeps-stands s.network s.sites.items s.clock xs ys s.ends.ends (subst (λ (ts : List Part). AllKeep s.network ts ys) c.deref_mut.ensures.value keeps)))) c.reopen.ensures.starved

@@ -8,9 +8,9 @@ use Rattle.street_base.specs.State.{Traffic}
 use Rattle.street_base.specs.Effects.{signalled}
 use Rattle.street_tile.specs.Tiles.{Part}
 use Rattle.street_tile.specs.Commands.{planned}
-use Rattle.street_engine.specs.Streets.{StreetsView, IsTrafficOf, IsKept, Goes}
+use Rattle.street_engine.specs.Streets.{StreetsView, IsTrafficOf, IsKept, StreetsGo}
 use Rattle.street_engine.specs.Together.{AllDoIf}
-use Rattle.street_engine.proofs.Standing.{view, planned-stands, signalled-planned, kept-does, goes-with}
+use Rattle.street_engine.proofs.StreetsStandFor.{view, planned-stands, signalled-planned, kept-does, goes-with}
 use Rattle.street_engine.proofs.streets.Streets.set_signal.Goals as goal
 
 pub invariant_of-self : goal.invariant_of-self
@@ -35,5 +35,5 @@ returns c = λ id other is shows.
     let within : node < length s.network.nodes = subst (λ (v : StreetsView). node < length v.network.nodes) (sym c.self.view_is) c.requires in
     let named : node_of s.network id ≡ Some node = subst (λ (v : StreetsView). node_of v.network id ≡ Some node) (sym c.self.view_is) is in
     let d : AllDoIf s.network (λ m. node < length m.signals) (planned node other) xs ys = subst (λ (ts : List Part). AllDoIf s.network (λ m. node < length m.signals) (planned node other) ts ys) c.deref_mut.ensures.value (c.set_signal.ensures other shows) in
-    subst (λ (ts : List Part). Goes (λ m. signalled m id other) c.args.self.now (view s.network s.sites.items s.clock ts s.ends.ends)) (sym items) (goes-with (λ m. signalled m id other) (view s.network s.sites.items s.clock xs s.ends.ends) (view s.network s.sites.items s.clock ys s.ends.ends) c.args.self.now c.self.view_is (λ m t.
+    subst (λ (ts : List Part). StreetsGo (λ m. signalled m id other) c.args.self.now (view s.network s.sites.items s.clock ts s.ends.ends)) (sym items) (goes-with (λ m. signalled m id other) (view s.network s.sites.items s.clock xs s.ends.ends) (view s.network s.sites.items s.clock ys s.ends.ends) c.args.self.now c.self.view_is (λ m t.
     subst (λ (k : Traffic). IsTrafficOf (view s.network s.sites.items s.clock ys s.ends.ends) k) (sym (signalled-planned m node id other (subst (λ (n : NetSpec). node_of n id ≡ Some node) (sym t.tiles.on.network) named))) (planned-stands s.network s.sites.items s.clock xs ys s.ends.ends node other d m t within)))

@@ -7,10 +7,10 @@ use Rattle.street_base.specs.Limits.{last_clock}
 use Rattle.street_base.specs.State.{Traffic}
 use Rattle.street_base.specs.Step.{step, changed, arrival, leaver_of, with_arrivals}
 use Rattle.street_tile.specs.Tiles.{Part, AllStand, Each}
-use Rattle.street_tile.specs.Metering.{AllMetersStand}
-use Rattle.street_engine.specs.Streets.{StreetsView, IsTrafficOf, IsKept, Goes}
-use Rattle.street_engine.specs.Ending.{AreComing, all_arrived}
-use Rattle.street_engine.proofs.Standing.{view, step-coming, step-stands, noted-tiles, noted-idle, goes-with}
+use Rattle.street_tile.specs.TileDetectors.{AllMetersStand}
+use Rattle.street_engine.specs.Streets.{StreetsView, IsTrafficOf, IsKept, StreetsGo}
+use Rattle.street_engine.specs.Ends.{AreComing, all_arrived}
+use Rattle.street_engine.proofs.StreetsStandFor.{view, step-coming, step-stands, noted-tiles, noted-idle, goes-with}
 use Rattle.street_engine.proofs.streets.Streets.step.Goals as goal
 
 pub note_arrivals-requires : goal.note_arrivals-requires
@@ -72,4 +72,4 @@ returns-clause-step g c =
     let ended : after ≡ with_arrivals s.clock (all_arrived ys) s.ends.ends = c.note_arrivals.ensures.ends ∙ ap (λ (ts : List Part). with_arrivals s.clock (all_arrived ts) s.ends.ends) now in
     let last : (with_items (with_items s.tiles ys) zs).items ≡ zs = with_items_is (with_items s.tiles ys) zs (omega (arith, c.note_arrivals.ensures.long, c.deref_mut-2.ensures.len)) in
     let stands : (m : Traffic) → IsTrafficOf (view s.network s.sites.items s.clock xs s.ends.ends) m → IsTrafficOf (view s.network s.sites.items (s.clock + 1) zs after) (step m) = step-stands s.network s.sites.items s.clock xs ys zs s.ends.ends after c.self.invariant.tiles long longer machine all meters noted ended in
-    subst (λ (ts : List Part). Goes step c.args.self.now (view s.network s.sites.items (s.clock + 1) ts after)) (sym last) (goes-with step (view s.network s.sites.items s.clock xs s.ends.ends) (view s.network s.sites.items (s.clock + 1) zs after) c.args.self.now c.self.view_is stands)
+    subst (λ (ts : List Part). StreetsGo step c.args.self.now (view s.network s.sites.items (s.clock + 1) ts after)) (sym last) (goes-with step (view s.network s.sites.items s.clock xs s.ends.ends) (view s.network s.sites.items (s.clock + 1) zs after) c.args.self.now c.self.view_is stands)

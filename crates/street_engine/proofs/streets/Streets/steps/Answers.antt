@@ -1,7 +1,7 @@
 use Rattle.std.proofs.Common.{sym, subst, arith}
 use Rattle.street_base.specs.Step.{steps}
-use Rattle.street_engine.specs.Streets.{StandsFor}
-use Rattle.street_engine.proofs.Standing.{steps-last}
+use Rattle.street_engine.specs.Streets.{StreetsStandFor}
+use Rattle.street_engine.proofs.StreetsStandFor.{steps-last}
 use Rattle.street_engine.proofs.streets.Streets.steps.Goals as goal
 
 pub returns-then-is_err-clause-steps : goal.returns-then-is_err-clause-steps
@@ -13,7 +13,7 @@ loop-done-preserved g c =
     let same = c.prepare.ensures.clock in
     let before = c.loop-done.invariant.in_time in
     record {
-      stands = λ m s. subst (StandsFor c.step.new.self) (sym (steps-last c.loop-done.done m)) (c.step.ensures.step (steps c.loop-done.done m) (c.prepare.ensures.kept (steps c.loop-done.done m) (c.loop-done.invariant.stands m s)));
+      stands = λ m s. subst (StreetsStandFor c.step.new.self) (sym (steps-last c.loop-done.done m)) (c.step.ensures.step (steps c.loop-done.done m) (c.prepare.ensures.kept (steps c.loop-done.done m) (c.loop-done.invariant.stands m s)));
       in_time = omega (arith, clock, same, before);
       some = c.threads-threads.ensures;
     }

@@ -9,9 +9,9 @@ use Rattle.street_base.specs.Census.{IsWhole}
 use Rattle.street_base.specs.Effects.{taken_out}
 use Rattle.street_tile.specs.Tiles.{Part}
 use Rattle.street_tile.specs.Commands.{without}
-use Rattle.street_engine.specs.Streets.{StreetsView, IsKept, Goes}
+use Rattle.street_engine.specs.Streets.{StreetsView, IsKept, StreetsGo}
 use Rattle.street_engine.specs.Together.{AllDoIf}
-use Rattle.street_engine.proofs.Standing.{view, taken-stands, kept-does, goes-with}
+use Rattle.street_engine.proofs.StreetsStandFor.{view, taken-stands, kept-does, goes-with}
 use Rattle.street_engine.proofs.streets.Streets.take_out.Goals as goal
 
 pub invariant_of-self : goal.invariant_of-self
@@ -38,4 +38,4 @@ returns c =
     let items : (with_items s.tiles ys).items ≡ ys = with_items_is s.tiles ys (omega (arith, c.take_out.auto.tiles, c.deref_mut.ensures.len)) in
     let given : number < length s.ends.ends = subst (λ (v : StreetsView). number < length v.ends) (sym c.self.view_is) c.requires.given in
     let d : AllDoIf s.network IsWhole (without number) xs ys = subst (λ (ts : List Part). AllDoIf s.network IsWhole (without number) ts ys) c.deref_mut.ensures.value c.take_out.ensures in
-    subst (λ (ts : List Part). Goes f c.args.self.now (view s.network s.sites.items s.clock ts c.take.new.self.ends)) (sym items) (subst (λ (es : List (Option End)). Goes f c.args.self.now (view s.network s.sites.items s.clock ys es)) (sym c.take.ensures) (goes-with f (view s.network s.sites.items s.clock xs s.ends.ends) (view s.network s.sites.items s.clock ys after) c.args.self.now c.self.view_is (taken-stands s.network s.sites.items s.clock xs ys s.ends.ends number d given)))
+    subst (λ (ts : List Part). StreetsGo f c.args.self.now (view s.network s.sites.items s.clock ts c.take.new.self.ends)) (sym items) (subst (λ (es : List (Option End)). StreetsGo f c.args.self.now (view s.network s.sites.items s.clock ys es)) (sym c.take.ensures) (goes-with f (view s.network s.sites.items s.clock xs s.ends.ends) (view s.network s.sites.items s.clock ys after) c.args.self.now c.self.view_is (taken-stands s.network s.sites.items s.clock xs ys s.ends.ends number d given)))

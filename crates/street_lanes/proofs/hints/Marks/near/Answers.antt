@@ -1,4 +1,4 @@
-use Rattle.street_lanes.proofs.Walking.{on-back}
+use Rattle.street_lanes.proofs.PlaceFor.{on-back}
 use Rattle.street_lanes.proofs.hints.Marks.near.Goals as goal
 
 pub returns-then-ahead-len : goal.returns-then-ahead-len

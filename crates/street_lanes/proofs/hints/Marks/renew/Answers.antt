@@ -1,6 +1,6 @@
 use Rattle.std.proofs.Common.{ap}
 use Rattle.std.specs.Option.{option_map}
-use Rattle.street_lanes.proofs.Walking.{on-front, behind-on, behind-fewer}
+use Rattle.street_lanes.proofs.PlaceFor.{on-front, behind-on, behind-fewer}
 use Rattle.street_lanes.proofs.hints.Marks.renew.Goals as goal
 
 pub loop-cursor-init : goal.loop-cursor-init

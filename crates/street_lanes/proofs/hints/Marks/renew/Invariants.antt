@@ -1,6 +1,6 @@
 use Rattle.std.specs.Option.{option_map}
 use Rattle.street_yard.specs.Yard.{IsOnList}
-use Rattle.street_yard.proofs.Callers.{left}
+use Rattle.street_yard.proofs.YardLemmas.{left}
 use Rattle.street_lanes.proofs.hints.Marks.renew.Given as goal
 
 abbrev pub invariant-loop-cursor : goal.invariant-loop-cursor

@@ -1,6 +1,6 @@
 use Rattle.std.proofs.Common.{◌+◌, get_or, arith}
 use Rattle.street_net.specs.Tables.{IsStart}
-use Rattle.street_net.proofs.Cutting.{starts-rise}
+use Rattle.street_net.proofs.Starts.{starts-rise}
 use Rattle.street_net.proofs.turns.TurnTable.list.Goals as goal
 
 pub slice_bounds-result-count : goal.slice_bounds-result-count

@@ -3,7 +3,7 @@ use Rattle.std.specs.Ordering.{is_lt}
 use Rattle.std.proofs.lemmas.List.Sorted.{ranks_by, answers_always, IsPermutation-map}
 use Rattle.street_node.specs.declared.phase.GreenTurn.{GreenTurn}
 use Rattle.street_node.specs.Greens.{turn_cmp, green_seen, HasMarks}
-use Rattle.street_node.proofs.Finding.{turns_total}
+use Rattle.street_node.proofs.GreenSearch.{turns_total}
 use Rattle.street_node.proofs.phase.KeptPhase.new.Goals as goal
 
 pub invariant_of-result : goal.invariant_of-result

@@ -3,7 +3,7 @@ use Rattle.std.proofs.lemmas.Result.{err_from_is_err_and}
 use Rattle.street_base.specs.declared.net.NodeSpec.{NodeSpec}
 use Rattle.street_base.specs.Faults.{signal_fault}
 use Rattle.street_node.specs.Greens.{node_id}
-use Rattle.street_node.proofs.Building.{no-fault, told-sum, kept-cycle, kept-shows}
+use Rattle.street_node.proofs.KeptPlan.{no-fault, told-sum, kept-cycle, kept-shows}
 use Rattle.street_node.proofs.plan.SignalPlan.build.Goals as goal
 
 abbrev no_node : NodeSpec

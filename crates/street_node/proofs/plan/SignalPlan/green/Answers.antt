@@ -2,7 +2,7 @@ use Rattle.std.proofs.Common.{◌≡◌, ◌+◌, ◌%◌, ◌∙◌, refl, sym}
 use Rattle.street_base.specs.Network.{Place}
 use Rattle.street_base.specs.Signal.{cycle}
 use Rattle.street_node.specs.Greens.{shown, plan_seen}
-use Rattle.street_node.proofs.Showing.{shown-at}
+use Rattle.street_node.proofs.Shown.{shown-at}
 use Rattle.street_node.proofs.plan.SignalPlan.green.Goals as goal
 
 pub returns : goal.returns

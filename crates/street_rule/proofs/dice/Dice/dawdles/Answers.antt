@@ -1,6 +1,6 @@
 use Rattle.std.proofs.Common.{◌<◌, subst, ◌∙◌}
 use Rattle.street_rule.specs.Odds.{Odds}
-use Rattle.street_rule.proofs.Drawing.{settled, slow-bit}
+use Rattle.street_rule.proofs.DrawLemmas.{settled, slow-bit}
 use Rattle.street_rule.proofs.dice.Dice.dawdles.Goals as goal
 
 pub returns-then-not-self-clause-value : goal.returns-then-not-self-clause-value

@@ -1,6 +1,6 @@
 use Rattle.std.proofs.Common.{◌<◌, subst, ◌∙◌}
 use Rattle.street_rule.specs.Odds.{Odds}
-use Rattle.street_rule.proofs.Drawing.{settled, lane-bit}
+use Rattle.street_rule.proofs.DrawLemmas.{settled, lane-bit}
 use Rattle.street_rule.proofs.dice.Dice.may_change.Goals as goal
 
 pub returns-then-not-self-clause-value : goal.returns-then-not-self-clause-value

@@ -1,5 +1,5 @@
 use Rattle.std.proofs.Common.{refl, ◌∙◌}
-use Rattle.street_stream.proofs.Parts.{kept_none}
+use Rattle.street_stream.proofs.PartialLines.{kept_none}
 use Rattle.street_stream.proofs.part.PartialLine.clear.Goals as goal
 
 pub returns : goal.returns

@@ -1,5 +1,5 @@
 use Rattle.std.proofs.Common.{sym}
-use Rattle.street_stream.proofs.Parts.{is_blank_more}
+use Rattle.street_stream.proofs.PartialLines.{is_blank_more}
 use Rattle.street_stream.proofs.part.PartialLine.push.Goals as goal
 
 pub returns : goal.returns

@@ -3,7 +3,7 @@ use Rattle.street_base.specs.Census.{in_lane}
 use Rattle.street_base.specs.Machine.{with_waiting}
 use Rattle.street_net.specs.Tables.{place_of}
 use Rattle.street_lanes.specs.Views.{waiting_of}
-use Rattle.street_tile.proofs.Commanding.{seen-if}
+use Rattle.street_tile.proofs.DoesIf.{seen-if}
 use Rattle.street_tile.proofs.tile.Tile.admit.Goals as goal
 
 pub returns-clause-waits : goal.returns-clause-waits

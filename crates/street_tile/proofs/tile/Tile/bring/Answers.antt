@@ -3,19 +3,19 @@ use Rattle.std.specs.Prelude.{Option, Some}
 use Rattle.std.proofs.lemmas.List.{map-set}
 use Rattle.std.proofs.lemmas.Option.{slice_get_within}
 use Rattle.street_base.specs.Vehicle.{Vehicle}
-use Rattle.street_tile.specs.Halves.{Entry, entry_in, vehicle_in}
+use Rattle.street_tile.specs.Halves.{Transfer, entry_in, vehicle_in}
 use Rattle.street_tile.specs.Tiles.{Part, IsTileOf, is_own, slot_of}
-use Rattle.street_tile.specs.Moves.{Awaits}
+use Rattle.street_tile.specs.HandOvers.{Awaits}
 use Rattle.street_tile.specs.Walks.{AtMostOnce}
-use Rattle.street_tile.proofs.Moving.{coming-here}
+use Rattle.street_tile.proofs.MovedHandOvers.{coming-here}
 use Rattle.street_tile.proofs.Numbers.{number-found}
-use Rattle.street_tile.proofs.Owning.{own-once}
+use Rattle.street_tile.proofs.OwnLanes.{own-once}
 use Rattle.street_tile.proofs.tile.Tile.bring.Goals as goal
 
 pub put-requires : goal.put-requires
 put-requires c =
     let s = c.self.inside in
-    let x : Part = record { low = s.low; high = s.high; links = s.links; own = s.own; clock = s.clock; signals = s.signals.items; mouths = s.mouths.items; handed = s.handed.items; coming = map vehicle_in s.coming; arrived = s.arrived.items; gauges = s.gauges.items } in
+    let x : Part = record { low = s.low; high = s.high; links = s.links; own = s.own; clock = s.clock; signals = s.signals.items; mouths = s.mouths.items; handed = s.handed.items; coming = map vehicle_in s.coming; arrived = s.arrived.items; detectors = s.detectors.items } in
     let is : x ≡ c.args.self.now = c.self.view_is in
     let own : is_own c.args.net.now s.low s.high c.args.hand_over.to ≡ true = subst (λ (t : Part). is_own c.args.net.now t.low t.high c.args.hand_over.to ≡ true) (sym is) c.requires.own in
     let here = number-found c.args.net.now x c.args.hand_over.to s.numbers.items c.slot.result c.index-n.result.now c.index-n.result.now (subst (IsTileOf c.args.net.now) (sym is) c.requires.tile) c.self.invariant.numbered c.requires.lane own (c.slot.ensures ∙ ap slot_of c.to-to.ensures) (c.index-n.ensures) in
@@ -26,8 +26,8 @@ put-requires c =
 pub returns : goal.returns
 returns c = λ es awaits.
     let s = c.self.inside in
-    let x : Part = record { low = s.low; high = s.high; links = s.links; own = s.own; clock = s.clock; signals = s.signals.items; mouths = s.mouths.items; handed = s.handed.items; coming = map vehicle_in s.coming; arrived = s.arrived.items; gauges = s.gauges.items } in
-    let h : Entry = c.args.hand_over in
+    let x : Part = record { low = s.low; high = s.high; links = s.links; own = s.own; clock = s.clock; signals = s.signals.items; mouths = s.mouths.items; handed = s.handed.items; coming = map vehicle_in s.coming; arrived = s.arrived.items; detectors = s.detectors.items } in
+    let h : Transfer = c.args.hand_over in
     let is : x ≡ c.args.self.now = c.self.view_is in
     let waits : map vehicle_in s.coming ≡ map (entry_in es) s.own.places = subst (Awaits es) (sym is) awaits in
     let tile : IsTileOf c.args.net.now x = subst (IsTileOf c.args.net.now) (sym is) c.requires.tile in

@@ -3,7 +3,7 @@ use Rattle.street_base.specs.Closing.{with_marks}
 use Rattle.street_base.specs.Network.{link_at}
 use Rattle.street_net.specs.Tables.{place_of}
 use Rattle.street_lanes.specs.Lanes.{lane_of}
-use Rattle.street_tile.proofs.Commanding.{seen-length, seen-within, seen-at, seen-count}
+use Rattle.street_tile.proofs.DoesIf.{seen-length, seen-within, seen-at, seen-count}
 use Rattle.street_tile.proofs.tile.Tile.close.Goals as goal
 
 pub close-requires-clause-within : goal.close-requires-clause-within

@@ -1,7 +1,7 @@
 use Rattle.std.proofs.Common.{◌≡◌, ℕ, ◌+◌, ◌*◌, ◌/◌, length, refl, ◌∙◌, ap, arith}
 use Rattle.std.proofs.lemmas.Nat.{mul-le}
-use Rattle.street_tile.proofs.Cutting.{faultless-roads}
-use Rattle.street_tile.proofs.Making.{made-more, made-tiles, made-meters}
+use Rattle.street_tile.proofs.EmptyTile.{faultless-roads}
+use Rattle.street_tile.proofs.MadeTiles.{made-more, made-tiles, made-meters}
 use Rattle.street_tile.proofs.tile.Tile.cut.Goals as goal
 
 pub overflow_mul-i : goal.overflow_mul-i

@@ -1,4 +1,4 @@
-use Rattle.street_tile.proofs.Making.{AreMade}
+use Rattle.street_tile.proofs.MadeTiles.{AreMade}
 use Rattle.street_tile.proofs.tile.Tile.cut.Given as goal
 
 abbrev pub invariant-loop-i : goal.invariant-loop-i

@@ -6,7 +6,7 @@ use Rattle.street_base.specs.State.{lane_at}
 use Rattle.street_base.specs.Census.{in_lane}
 use Rattle.street_lanes.specs.Lanes.{place_at, no_place}
 use Rattle.street_tile.specs.Tiles.{Part}
-use Rattle.street_tile.proofs.Going.{place-is}
+use Rattle.street_tile.proofs.SameLanes.{place-is}
 use Rattle.street_tile.proofs.tile.Tile.find.Goals as goal
 
 pub find_at-requires-clause-lane : goal.find_at-requires-clause-lane

@@ -1,7 +1,7 @@
 use Rattle.std.proofs.lemmas.Result.{IfOk-weaker}
 use Rattle.street_net.specs.Tables.{place_of}
-use Rattle.street_tile.proofs.Commanding.{seen-within, seen-shown}
-use Rattle.street_tile.proofs.Going.{same-none}
+use Rattle.street_tile.proofs.DoesIf.{seen-within, seen-shown}
+use Rattle.street_tile.proofs.SameLanes.{same-none}
 use Rattle.street_tile.proofs.tile.Tile.lane.Goals as goal
 
 pub lane-requires : goal.lane-requires

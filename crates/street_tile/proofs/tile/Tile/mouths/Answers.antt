@@ -7,9 +7,9 @@ use Rattle.street_base.proofs.PlaceLemmas.{places-listed}
 use Rattle.street_base.proofs.PlaceOnceLemmas.{places-once}
 use Rattle.street_tile.specs.Halves.{vehicle_in}
 use Rattle.street_tile.specs.Tiles.{Part, IsTileOf, is_own, mouth}
-use Rattle.street_tile.proofs.Parting.{tile-lanes}
-use Rattle.street_tile.proofs.Tiling.{all-own}
-use Rattle.street_tile.proofs.Moving.{own-listed}
+use Rattle.street_tile.proofs.Phases.{tile-lanes}
+use Rattle.street_tile.proofs.LaneOwners.{all-own}
+use Rattle.street_tile.proofs.MovedHandOvers.{own-listed}
 use Rattle.street_tile.proofs.tile.Tile.mouths.Goals as goal
 
 pub copy-requires : goal.copy-requires
@@ -21,7 +21,7 @@ copy-requires c =
 pub copy_lanes-requires-clause-there : goal.copy_lanes-requires-clause-there
 copy_lanes-requires-clause-there c =
     let s = c.self.inside in
-    let x : Part = record { low = s.low; high = s.high; links = s.links; own = s.own; clock = s.clock; signals = s.signals.items; mouths = s.mouths.items; handed = s.handed.items; coming = map vehicle_in s.coming; arrived = s.arrived.items; gauges = s.gauges.items } in
+    let x : Part = record { low = s.low; high = s.high; links = s.links; own = s.own; clock = s.clock; signals = s.signals.items; mouths = s.mouths.items; handed = s.handed.items; coming = map vehicle_in s.coming; arrived = s.arrived.items; detectors = s.detectors.items } in
     let tile : IsTileOf c.args.net.now x = subst (IsTileOf c.args.net.now) (sym c.self.view_is) c.requires.tile in
     tile-lanes c.args.net.now x tile
 

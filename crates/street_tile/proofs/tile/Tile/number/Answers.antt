@@ -1,5 +1,5 @@
 use Rattle.street_net.specs.Tables.{place_of}
-use Rattle.street_tile.proofs.Commanding.{number-seen}
+use Rattle.street_tile.proofs.DoesIf.{number-seen}
 use Rattle.street_tile.proofs.tile.Tile.number.Goals as goal
 
 pub returns : goal.returns

@@ -10,13 +10,13 @@ use Rattle.street_base.proofs.FaultLemmas.{few_links, good_start}
 use Rattle.street_net.specs.Tables.{place_of}
 use Rattle.street_lanes.specs.Lanes.{Lanes, IsLane, AllLanes}
 use Rattle.street_lanes.specs.Whole.{LanesStand}
-use Rattle.street_lanes.specs.Driving.{cells_on}
+use Rattle.street_lanes.specs.Motion.{cells_on}
 use Rattle.street_tile.specs.Halves.{vehicle_in}
 use Rattle.street_tile.specs.Tiles.{ShowSignals, AreNumbers, AreBare, AreDue, own_places, sizes_of}
 use Rattle.street_tile.specs.Walks.{AtMostOnce}
-use Rattle.street_tile.proofs.Owning.{own-lanes, own-once}
-use Rattle.street_tile.proofs.Cutting.{faultless-roads, loaded-lanes, loaded-clock, loaded-signals, nobody-comes}
-use Rattle.street_tile.proofs.Metering.{bare-sizes, bare-all, bare-due, bare-stand}
+use Rattle.street_tile.proofs.OwnLanes.{own-lanes, own-once}
+use Rattle.street_tile.proofs.EmptyTile.{faultless-roads, loaded-lanes, loaded-clock, loaded-signals, nobody-comes}
+use Rattle.street_tile.proofs.MetersStand.{bare-sizes, bare-all, bare-due, bare-stand}
 use Rattle.street_tile.proofs.tile.Tile.of_nodes.Goals as goal
 
 pub lanes_of-requires : goal.lanes_of-requires
@@ -64,7 +64,7 @@ returns-clause-tile c =
       within = c.requires.within;
       places = ap (λ (x : Lanes). x.places) c.in_ok-own.ensures.fresh ∙ is;
       own = c.in_ok-own.ensures.of;
-      gauged = ap sizes_of c.in_ok-own.ensures.gauges ∙ bare-sizes c.args.net.now c.deref.result.now ∙ ap (map (cells_on c.args.net.now)) (sym (ap (λ (x : Lanes). x.places) c.in_ok-own.ensures.fresh));
+      sized = ap sizes_of c.in_ok-own.ensures.detectors ∙ bare-sizes c.args.net.now c.deref.result.now ∙ ap (map (cells_on c.args.net.now)) (sym (ap (λ (x : Lanes). x.places) c.in_ok-own.ensures.fresh));
     }
 
 pub returns-clause-idle : goal.returns-clause-idle
@@ -95,7 +95,7 @@ returns-clause-stands c =
     }
 
 pub returns-clause-meters : goal.returns-clause-meters
-returns-clause-meters c = bare-stand c.args.net.now c.in_ok-own.own.places c.deref.result.now c.in_ok-own.gauges.items c.in_ok-own.ensures.gauges
+returns-clause-meters c = bare-stand c.args.net.now c.in_ok-own.own.places c.deref.result.now c.in_ok-own.detectors.items c.in_ok-own.ensures.detectors
 
 pub invariant_of-result : goal.invariant_of-result
 invariant_of-result c =
@@ -119,6 +119,6 @@ invariant_of-result c =
       coming_long = slots ∙ long;
       handed_room = omega arith;
       arrived_room = omega arith;
-      bare = λ none. subst AreBare (sym c.in_ok-own.ensures.gauges) (bare-all net c.deref.result.now);
-      due = subst (AreDue c.spec-2.result.now.start) (sym c.in_ok-own.ensures.gauges) (bare-due net c.deref.result.now c.spec-2.result.now.start);
+      bare = λ none. subst AreBare (sym c.in_ok-own.ensures.detectors) (bare-all net c.deref.result.now);
+      due = subst (AreDue c.spec-2.result.now.start) (sym c.in_ok-own.ensures.detectors) (bare-due net c.deref.result.now c.spec-2.result.now.start);
     }

@@ -3,20 +3,20 @@ use Rattle.std.specs.Vec.{with_items}
 use Rattle.std.proofs.lemmas.List.{with_items_is}
 use Rattle.street_tile.specs.Halves.{vehicle_in}
 use Rattle.street_tile.specs.Tiles.{Part, IsTileOf, AreBare, AreDue}
-use Rattle.street_tile.specs.Metering.{HaveNoted}
-use Rattle.street_tile.specs.Phases.{Ticks}
-use Rattle.street_tile.proofs.Going.{even-of}
-use Rattle.street_tile.proofs.Keeping.{at-view}
-use Rattle.street_tile.proofs.Metering.{gauges-even, noted-bare, noted-due}
-use Rattle.street_tile.proofs.Ticking.{ticks-of}
+use Rattle.street_tile.specs.TileDetectors.{HaveNoted}
+use Rattle.street_tile.specs.Phases.{MeterPhase}
+use Rattle.street_tile.proofs.SameLanes.{even-of}
+use Rattle.street_tile.proofs.SameTile.{at-view}
+use Rattle.street_tile.proofs.MetersStand.{detectors-even, noted-bare, noted-due}
+use Rattle.street_tile.proofs.NotedStep.{ticks-of}
 use Rattle.street_tile.proofs.tile.Tile.phase_meter.Goals as goal
 
 pub note_lanes-requires-clause-even : goal.note_lanes-requires-clause-even
 note_lanes-requires-clause-even c =
     let s = c.self.inside in
-    let x : Part = record { low = s.low; high = s.high; links = s.links; own = s.own; clock = s.clock; signals = s.signals.items; mouths = s.mouths.items; handed = s.handed.items; coming = map vehicle_in s.coming; arrived = s.arrived.items; gauges = s.gauges.items } in
+    let x : Part = record { low = s.low; high = s.high; links = s.links; own = s.own; clock = s.clock; signals = s.signals.items; mouths = s.mouths.items; handed = s.handed.items; coming = map vehicle_in s.coming; arrived = s.arrived.items; detectors = s.detectors.items } in
     let tile : IsTileOf c.args.net.now x = subst (IsTileOf c.args.net.now) (sym c.self.view_is) c.requires.tile in
-    ap length c.deref_mut.ensures.value ∙ gauges-even c.args.net.now s.own tile.own s.gauges.items tile.gauged ∙ sym (even-of c.args.net.now s.own tile.own)
+    ap length c.deref_mut.ensures.value ∙ detectors-even c.args.net.now s.own tile.own s.detectors.items tile.sized ∙ sym (even-of c.args.net.now s.own tile.own)
 
 pub note_lanes-requires-clause-bare : goal.note_lanes-requires-clause-bare
 note_lanes-requires-clause-bare c = λ none. subst AreBare (sym c.deref_mut.ensures.value) (c.self.invariant.bare none)
@@ -30,18 +30,18 @@ note_lanes-requires-clause-in_time c =
 pub returns : goal.returns
 returns c =
     let s = c.self.inside in
-    let x : Part = record { low = s.low; high = s.high; links = s.links; own = s.own; clock = s.clock; signals = s.signals.items; mouths = s.mouths.items; handed = s.handed.items; coming = map vehicle_in s.coming; arrived = s.arrived.items; gauges = s.gauges.items } in
+    let x : Part = record { low = s.low; high = s.high; links = s.links; own = s.own; clock = s.clock; signals = s.signals.items; mouths = s.mouths.items; handed = s.handed.items; coming = map vehicle_in s.coming; arrived = s.arrived.items; detectors = s.detectors.items } in
     let tile : IsTileOf c.args.net.now x = subst (IsTileOf c.args.net.now) (sym c.self.view_is) c.requires.tile in
-    let items : (with_items s.gauges c.note_lanes.new.gauges).items ≡ c.note_lanes.new.gauges = with_items_is s.gauges c.note_lanes.new.gauges (let e = c.note_lanes.auto.gauges in let f = c.deref_mut.ensures.len in let ok = s.gauges.ok in omega arith) in
-    let noted = subst (λ gs. HaveNoted s.own gs c.note_lanes.new.gauges) c.deref_mut.ensures.value c.note_lanes.ensures in
-    at-view (Ticks c.args.net.now) c.self.view_is (ticks-of c.args.net.now x _ tile (subst (HaveNoted s.own s.gauges.items) (sym items) noted))
+    let items : (with_items s.detectors c.note_lanes.new.detectors).items ≡ c.note_lanes.new.detectors = with_items_is s.detectors c.note_lanes.new.detectors (let e = c.note_lanes.auto.detectors in let f = c.deref_mut.ensures.len in let ok = s.detectors.ok in omega arith) in
+    let noted = subst (λ gs. HaveNoted s.own gs c.note_lanes.new.detectors) c.deref_mut.ensures.value c.note_lanes.ensures in
+    at-view (MeterPhase c.args.net.now) c.self.view_is (ticks-of c.args.net.now x _ tile (subst (HaveNoted s.own s.detectors.items) (sym items) noted))
 
 pub invariant_of-self : goal.invariant_of-self
 invariant_of-self c =
     let s = c.self.inside in
     let inv = c.self.invariant in
-    let items : (with_items s.gauges c.note_lanes.new.gauges).items ≡ c.note_lanes.new.gauges = with_items_is s.gauges c.note_lanes.new.gauges (let e = c.note_lanes.auto.gauges in let f = c.deref_mut.ensures.len in let ok = s.gauges.ok in omega arith) in
-    let noted = subst (λ gs. HaveNoted s.own gs c.note_lanes.new.gauges) c.deref_mut.ensures.value c.note_lanes.ensures in
+    let items : (with_items s.detectors c.note_lanes.new.detectors).items ≡ c.note_lanes.new.detectors = with_items_is s.detectors c.note_lanes.new.detectors (let e = c.note_lanes.auto.detectors in let f = c.deref_mut.ensures.len in let ok = s.detectors.ok in omega arith) in
+    let noted = subst (λ gs. HaveNoted s.own gs c.note_lanes.new.detectors) c.deref_mut.ensures.value c.note_lanes.ensures in
     record {
       nodes = inv.nodes;
       numbered = inv.numbered;
@@ -49,6 +49,6 @@ invariant_of-self c =
       coming_long = inv.coming_long;
       handed_room = inv.handed_room;
       arrived_room = inv.arrived_room;
-      bare = λ none. subst AreBare (sym items) (noted-bare s.own s.gauges.items c.note_lanes.new.gauges noted (inv.bare none));
-      due = subst (AreDue (s.clock + 1)) (sym items) (noted-due s.own s.gauges.items s.clock c.note_lanes.new.gauges noted inv.due);
+      bare = λ none. subst AreBare (sym items) (noted-bare s.own s.detectors.items c.note_lanes.new.detectors noted (inv.bare none));
+      due = subst (AreDue (s.clock + 1)) (sym items) (noted-due s.own s.detectors.items s.clock c.note_lanes.new.detectors noted inv.due);
     }

@@ -6,32 +6,32 @@ use Rattle.street_base.specs.State.{Traffic}
 use Rattle.street_lanes.specs.Lanes.{place_at}
 use Rattle.street_tile.specs.Halves.{vehicle_in}
 use Rattle.street_tile.specs.Tiles.{Part, IsTileOf, AreBare, AreDue, ShowSignals, mouth, is_own, sizes_of}
-use Rattle.street_tile.specs.Metering.{KeepMeters, HaveWatched}
-use Rattle.street_tile.specs.Phases.{Moves}
-use Rattle.street_tile.proofs.Keeping.{at-view}
-use Rattle.street_tile.proofs.Metering.{keep-bare, keep-due}
-use Rattle.street_tile.proofs.Parting.{tile-owns, moves-of}
+use Rattle.street_tile.specs.TileDetectors.{KeepMeters, HaveWatched}
+use Rattle.street_tile.specs.Phases.{MotionPhase}
+use Rattle.street_tile.proofs.SameTile.{at-view}
+use Rattle.street_tile.proofs.MetersStand.{keep-bare, keep-due}
+use Rattle.street_tile.proofs.Phases.{tile-owns, moves-of}
 use Rattle.street_tile.proofs.tile.Tile.phase_motion.Goals as goal
 
 pub drive_lanes-requires-clause-nodes : goal.drive_lanes-requires-clause-nodes
 drive_lanes-requires-clause-nodes c = λ n h.
     let s = c.self.inside in
-    let x : Part = record { low = s.low; high = s.high; links = s.links; own = s.own; clock = s.clock; signals = s.signals.items; mouths = s.mouths.items; handed = s.handed.items; coming = map vehicle_in s.coming; arrived = s.arrived.items; gauges = s.gauges.items } in
+    let x : Part = record { low = s.low; high = s.high; links = s.links; own = s.own; clock = s.clock; signals = s.signals.items; mouths = s.mouths.items; handed = s.handed.items; coming = map vehicle_in s.coming; arrived = s.arrived.items; detectors = s.detectors.items } in
     let tile : IsTileOf c.args.net.now x = subst (IsTileOf c.args.net.now) (sym c.self.view_is) c.requires.tile in
     let nodes : s.low + length c.deref.result.now ≡ s.high = rw c.deref.ensures.value c.self.invariant.nodes in
     subst (λ high. is_own c.args.net.now s.low high (place_at s.own n) ≡ true) (sym nodes) (tile-owns c.args.net.now x tile n h)
 
-pub drive_lanes-requires-clause-gauged : goal.drive_lanes-requires-clause-gauged
-drive_lanes-requires-clause-gauged c =
+pub drive_lanes-requires-clause-sized : goal.drive_lanes-requires-clause-sized
+drive_lanes-requires-clause-sized c =
     let s = c.self.inside in
-    let x : Part = record { low = s.low; high = s.high; links = s.links; own = s.own; clock = s.clock; signals = s.signals.items; mouths = s.mouths.items; handed = s.handed.items; coming = map vehicle_in s.coming; arrived = s.arrived.items; gauges = s.gauges.items } in
+    let x : Part = record { low = s.low; high = s.high; links = s.links; own = s.own; clock = s.clock; signals = s.signals.items; mouths = s.mouths.items; handed = s.handed.items; coming = map vehicle_in s.coming; arrived = s.arrived.items; detectors = s.detectors.items } in
     let tile : IsTileOf c.args.net.now x = subst (IsTileOf c.args.net.now) (sym c.self.view_is) c.requires.tile in
-    ap sizes_of c.deref_mut.ensures.value ∙ tile.gauged
+    ap sizes_of c.deref_mut.ensures.value ∙ tile.sized
 
 pub drive_lanes-requires-clause-wide : goal.drive_lanes-requires-clause-wide
 drive_lanes-requires-clause-wide c =
     let s = c.self.inside in
-    let x : Part = record { low = s.low; high = s.high; links = s.links; own = s.own; clock = s.clock; signals = s.signals.items; mouths = s.mouths.items; handed = s.handed.items; coming = map vehicle_in s.coming; arrived = s.arrived.items; gauges = s.gauges.items } in
+    let x : Part = record { low = s.low; high = s.high; links = s.links; own = s.own; clock = s.clock; signals = s.signals.items; mouths = s.mouths.items; handed = s.handed.items; coming = map vehicle_in s.coming; arrived = s.arrived.items; detectors = s.detectors.items } in
     let tile : IsTileOf c.args.net.now x = subst (IsTileOf c.args.net.now) (sym c.self.view_is) c.requires.tile in
     ap length c.deref_mut-2.ensures.value ∙ c.self.invariant.mouths_wide ∙ ap (λ (n : ℕ). 2 * n) tile.links
 
@@ -40,8 +40,8 @@ invariant_of-self c =
     let s = c.self.inside in
     let inv = c.self.invariant in
     let places = c.drive_lanes.ensures.same.places in
-    let items : (with_items s.gauges c.drive_lanes.new.gauges).items ≡ c.drive_lanes.new.gauges = with_items_is s.gauges c.drive_lanes.new.gauges (let e = c.drive_lanes.auto.gauges in let f = c.deref_mut.ensures.len in let ok = s.gauges.ok in omega arith) in
-    let keep : KeepMeters s.gauges.items c.drive_lanes.new.gauges = subst (λ gs. KeepMeters gs c.drive_lanes.new.gauges) c.deref_mut.ensures.value c.drive_lanes.ensures.meters in
+    let items : (with_items s.detectors c.drive_lanes.new.detectors).items ≡ c.drive_lanes.new.detectors = with_items_is s.detectors c.drive_lanes.new.detectors (let e = c.drive_lanes.auto.detectors in let f = c.deref_mut.ensures.len in let ok = s.detectors.ok in omega arith) in
+    let keep : KeepMeters s.detectors.items c.drive_lanes.new.detectors = subst (λ gs. KeepMeters gs c.drive_lanes.new.detectors) c.deref_mut.ensures.value c.drive_lanes.ensures.meters in
     let mouths : (with_items s.mouths c.drive_lanes.new.mouths).items ≡ c.drive_lanes.new.mouths = with_items_is s.mouths c.drive_lanes.new.mouths (let e = c.drive_lanes.auto.mouths in let f = c.deref_mut-2.ensures.len in let ok = s.mouths.ok in omega arith) in
     record {
       nodes = inv.nodes;
@@ -50,25 +50,25 @@ invariant_of-self c =
       coming_long = rw places inv.coming_long;
       handed_room = rw places inv.handed_room;
       arrived_room = (let le = inv.arrived_room in let cap = c.drive_lanes.ensures.capacity in rw places (omega arith));
-      bare = λ none. subst AreBare (sym items) (keep-bare s.gauges.items c.drive_lanes.new.gauges keep (inv.bare none));
-      due = subst (AreDue s.clock) (sym items) (keep-due s.clock s.gauges.items c.drive_lanes.new.gauges keep inv.due);
+      bare = λ none. subst AreBare (sym items) (keep-bare s.detectors.items c.drive_lanes.new.detectors keep (inv.bare none));
+      due = subst (AreDue s.clock) (sym items) (keep-due s.clock s.detectors.items c.drive_lanes.new.detectors keep inv.due);
     }
 
 pub returns : goal.returns
 returns c =
     let s = c.self.inside in
-    let x : Part = record { low = s.low; high = s.high; links = s.links; own = s.own; clock = s.clock; signals = s.signals.items; mouths = s.mouths.items; handed = s.handed.items; coming = map vehicle_in s.coming; arrived = s.arrived.items; gauges = s.gauges.items } in
+    let x : Part = record { low = s.low; high = s.high; links = s.links; own = s.own; clock = s.clock; signals = s.signals.items; mouths = s.mouths.items; handed = s.handed.items; coming = map vehicle_in s.coming; arrived = s.arrived.items; detectors = s.detectors.items } in
     let tile : IsTileOf c.args.net.now x = subst (IsTileOf c.args.net.now) (sym c.self.view_is) c.requires.tile in
     let nodes : s.low + length c.deref.result.now ≡ s.high = rw c.deref.ensures.value c.self.invariant.nodes in
     let shows : (m : Traffic) → ShowSignals s.low s.high s.signals.items m → ShowSignals s.low (s.low + length c.deref.result.now) c.deref.result.now m = λ m h. rw (nodes, c.deref.ensures.value) h in
     let none : s.arrived.items ≡ [] = ap (λ (t : Part). t.arrived) c.self.view_is ∙ c.requires.none in
-    let items : (with_items s.gauges c.drive_lanes.new.gauges).items ≡ c.drive_lanes.new.gauges = with_items_is s.gauges c.drive_lanes.new.gauges (let e = c.drive_lanes.auto.gauges in let f = c.deref_mut.ensures.len in let ok = s.gauges.ok in omega arith) in
-    let keep : KeepMeters s.gauges.items c.drive_lanes.new.gauges = subst (λ gs. KeepMeters gs c.drive_lanes.new.gauges) c.deref_mut.ensures.value c.drive_lanes.ensures.meters in
+    let items : (with_items s.detectors c.drive_lanes.new.detectors).items ≡ c.drive_lanes.new.detectors = with_items_is s.detectors c.drive_lanes.new.detectors (let e = c.drive_lanes.auto.detectors in let f = c.deref_mut.ensures.len in let ok = s.detectors.ok in omega arith) in
+    let keep : KeepMeters s.detectors.items c.drive_lanes.new.detectors = subst (λ gs. KeepMeters gs c.drive_lanes.new.detectors) c.deref_mut.ensures.value c.drive_lanes.ensures.meters in
     let mouths : (with_items s.mouths c.drive_lanes.new.mouths).items ≡ c.drive_lanes.new.mouths = with_items_is s.mouths c.drive_lanes.new.mouths (let e = c.drive_lanes.auto.mouths in let f = c.deref_mut-2.ensures.len in let ok = s.mouths.ok in omega arith) in
-    let moves = moves-of c.args.net.now x tile c.drive_lanes.new.own (with_items s.mouths c.drive_lanes.new.mouths).items c.drive_lanes.new.arrived.items (with_items s.gauges c.drive_lanes.new.gauges).items c.drive_lanes.ensures.same c.drive_lanes.ensures.room
+    let moves = moves-of c.args.net.now x tile c.drive_lanes.new.own (with_items s.mouths c.drive_lanes.new.mouths).items c.drive_lanes.new.arrived.items (with_items s.detectors c.drive_lanes.new.detectors).items c.drive_lanes.ensures.same c.drive_lanes.ensures.room
     (λ m on clock signals stand. c.drive_lanes.ensures.stand m on clock (shows m signals) stand)
     (λ m on clock signals stand. rw none at (c.drive_lanes.ensures.arrived m on clock (shows m signals) stand))
-    (subst (KeepMeters s.gauges.items) (sym items) keep)
+    (subst (KeepMeters s.detectors.items) (sym items) keep)
     (λ m on clock signals stand. subst (HaveWatched m s.own.places) (sym items) (c.drive_lanes.ensures.watched m on clock (shows m signals) stand))
     (λ m stand j p at. ap (λ (ms : List Bool). mouth ms p) mouths ∙ c.drive_lanes.ensures.shown m stand j p at) in
-    at-view (Moves c.args.net.now) c.self.view_is moves
+    at-view (MotionPhase c.args.net.now) c.self.view_is moves

@@ -3,15 +3,15 @@ use Rattle.std.specs.Prelude.{OnOk, OnErr}
 use Rattle.std.proofs.lemmas.Result.{IfOk-weaker, on_ok_weaker, on_err_weaker}
 use Rattle.street_base.specs.Network.{link_at}
 use Rattle.street_net.specs.Tables.{place_of}
-use Rattle.street_lanes.specs.Gauges.{Gauges, Placed}
-use Rattle.street_tile.proofs.Placing.{seen-there, seen-sized, seen-meters, seen-placed, seen-same, placed-or-not}
+use Rattle.street_lanes.specs.Detectors.{Detectors, Placed}
+use Rattle.street_tile.proofs.PlacesMeter.{seen-there, seen-sized, seen-meters, seen-placed, seen-same, placed-or-not}
 use Rattle.street_tile.proofs.tile.Tile.place_meter.Goals as goal
 
 pub place-requires-clause-cell : goal.place-requires-clause-cell
 place-requires-clause-cell c =
     let g = c.index_mut.result.now in
-    let size : (get_or c.self.inside.gauges.items c.number-n.result g).size ≡ (link_at c.args.net.now c.args.at.link).length = seen-sized c.args.net.now c.self.view_is c.requires.tile c.number-n.result (place_of c.args.at) c.number-n.ensures g in
-    let is : g.size ≡ (get_or c.self.inside.gauges.items c.number-n.result g).size = ap (λ (h : Gauges). h.size) c.index_mut.ensures.value in
+    let size : (get_or c.self.inside.detectors.items c.number-n.result g).size ≡ (link_at c.args.net.now c.args.at.link).length = seen-sized c.args.net.now c.self.view_is c.requires.tile c.number-n.result (place_of c.args.at) c.number-n.ensures g in
+    let is : g.size ≡ (get_or c.self.inside.detectors.items c.number-n.result g).size = ap (λ (h : Detectors). h.size) c.index_mut.ensures.value in
     let h : c.args.cell < (link_at c.args.net.now c.args.at.link).length = c.requires.cell in
     omega (arith, size, is, h)
 
@@ -19,7 +19,7 @@ pub returns-clause-placed : goal.returns-clause-placed
 returns-clause-placed c =
     let g = c.index_mut.result.now in
     on_ok_weaker c.place.result (λ placed. seen-placed c.args.net.now c.self.view_is c.requires.tile c.number-n.result (place_of c.args.at) c.number-n.ensures c.args.cell c.args.period g c.place.new.self
-    (subst (λ (h : Gauges). Placed (place_of c.args.at) c.args.cell c.args.period c.self.inside.clock h c.place.new.self) c.index_mut.ensures.value placed)) c.place.ensures.ok
+    (subst (λ (h : Detectors). Placed (place_of c.args.at) c.args.cell c.args.period c.self.inside.clock h c.place.new.self) c.index_mut.ensures.value placed)) c.place.ensures.ok
 
 pub returns-clause-starved : goal.returns-clause-starved
 returns-clause-starved c =
@@ -30,7 +30,7 @@ pub returns-clause-number : goal.returns-clause-number
 returns-clause-number c =
     let p = place_of c.args.at in
     let g = c.index_mut.result.now in
-    IfOk-weaker c.place.result _ _ (λ number is m stand. is ∙ ap (λ (h : Gauges). length h.meters) c.index_mut.ensures.value ∙ sym (seen-meters c.args.net.now c.self.view_is c.requires.tile c.number-n.result p c.number-n.ensures g m stand).even) c.place.ensures.number
+    IfOk-weaker c.place.result _ _ (λ number is m stand. is ∙ ap (λ (h : Detectors). length h.meters) c.index_mut.ensures.value ∙ sym (seen-meters c.args.net.now c.self.view_is c.requires.tile c.number-n.result p c.number-n.ensures g m stand).even) c.place.ensures.number
 
 pub invariant_of-self : goal.invariant_of-self
 invariant_of-self c =
@@ -39,9 +39,9 @@ invariant_of-self c =
     let g = c.index_mut.result.now in
     let n = c.number-n.result in
     let p = place_of c.args.at in
-    let is : g ≡ get_or s.gauges.items n g = c.index_mut.ensures.value in
-    let ok = subst (λ (h : Gauges). OnOk c.place.result (Placed p c.args.cell c.args.period s.clock h c.place.new.self)) is c.place.ensures.ok in
-    let err = subst (λ (h : Gauges). OnErr c.place.result (c.place.new.self ≡ h)) is c.place.ensures.err in
+    let is : g ≡ get_or s.detectors.items n g = c.index_mut.ensures.value in
+    let ok = subst (λ (h : Detectors). OnOk c.place.result (Placed p c.args.cell c.args.period s.clock h c.place.new.self)) is c.place.ensures.ok in
+    let err = subst (λ (h : Detectors). OnErr c.place.result (c.place.new.self ≡ h)) is c.place.ensures.err in
     record {
       nodes = inv.nodes;
       numbered = inv.numbered;
@@ -50,5 +50,5 @@ invariant_of-self c =
       handed_room = inv.handed_room;
       arrived_room = inv.arrived_room;
       bare = λ none. cc;
-      due = placed-or-not s.clock s.gauges.items n p c.args.cell c.args.period g c.place.new.self (seen-there c.args.net.now c.self.view_is c.requires.tile n p c.number-n.ensures) c.place.result ok err inv.due;
+      due = placed-or-not s.clock s.detectors.items n p c.args.cell c.args.period g c.place.new.self (seen-there c.args.net.now c.self.view_is c.requires.tile n p c.number-n.ensures) c.place.result ok err inv.due;
     }

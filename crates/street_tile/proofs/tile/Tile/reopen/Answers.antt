@@ -1,7 +1,7 @@
 use Rattle.std.proofs.Common.{false}
 use Rattle.street_base.specs.Closing.{with_marks}
 use Rattle.street_net.specs.Tables.{place_of}
-use Rattle.street_tile.proofs.Commanding.{seen-at, seen-count}
+use Rattle.street_tile.proofs.DoesIf.{seen-at, seen-count}
 use Rattle.street_tile.proofs.tile.Tile.reopen.Goals as goal
 
 pub returns-clause-opens : goal.returns-clause-opens

@@ -1,4 +1,4 @@
-use Rattle.street_tile.proofs.Commanding.{seen-plan}
+use Rattle.street_tile.proofs.DoesIf.{seen-plan}
 use Rattle.street_tile.proofs.tile.Tile.set_signal.Goals as goal
 
 pub returns : goal.returns

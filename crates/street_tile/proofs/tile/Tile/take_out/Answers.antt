@@ -5,10 +5,10 @@ use Rattle.street_base.specs.Network.{Place}
 use Rattle.street_base.specs.State.{lane_at}
 use Rattle.street_base.specs.Census.{in_lane}
 use Rattle.street_lanes.specs.Lanes.{place_at, no_place}
-use Rattle.street_lanes.specs.Finding.{vehicle_on}
+use Rattle.street_lanes.specs.Whereabouts.{vehicle_on}
 use Rattle.street_tile.specs.Tiles.{Part, IsTileOf, StandsFor}
 use Rattle.street_tile.specs.Commands.{without, DoesIf, HaveAtMostOne}
-use Rattle.street_tile.proofs.Going.{place-is}
+use Rattle.street_tile.proofs.SameLanes.{place-is}
 use Rattle.street_tile.proofs.tile.Tile.take_out.Goals as goal
 
 pub take_at-requires-clause-tile : goal.take_at-requires-clause-tile

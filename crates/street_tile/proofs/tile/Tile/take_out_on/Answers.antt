@@ -7,7 +7,7 @@ use Rattle.street_base.specs.State.{Traffic, lane_at}
 use Rattle.street_base.specs.Census.{in_lane}
 use Rattle.street_net.specs.Tables.{place_of}
 use Rattle.street_lanes.specs.Lanes.{place_at, no_place}
-use Rattle.street_lanes.specs.Finding.{vehicle_on}
+use Rattle.street_lanes.specs.Whereabouts.{vehicle_on}
 use Rattle.street_lanes.specs.Whole.{IsOn}
 use Rattle.street_tile.specs.Tiles.{StandsFor}
 use Rattle.street_tile.specs.Commands.{HaveAtMostOne}

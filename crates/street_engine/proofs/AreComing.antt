@@ -1,0 +1,87 @@
+-- Who is about to arrive was given a number, and has not ended.
+use Rattle.std.proofs.Common.{◌≡◌, ◌≢◌, ℕ, zero, suc, ◌+◌, ◌<◌, ◌≤◌, Bool, true, false, List, [], ◌∷◌, ◌++◌, length, set, get_or, refl, sym, ◌∙◌, ap, arith, inl, inr}
+use Rattle.std.specs.Prelude.{Option, Some, None, nat_lt, slice_get, ◌==◌, if◌then◌else◌}
+use Rattle.std.specs.List.{count_by}
+use Rattle.std.proofs.lemmas.Bool.{cases_eq, cases_lt, eq-eqb, cond-true, lt-leb}
+use Rattle.std.proofs.lemmas.List.{length-set}
+use Rattle.std.proofs.lemmas.List.Sums.{sum_by_push, sum_by-append}
+use Rattle.std.proofs.lemmas.Option.{slice_get-get_or}
+use Rattle.street_base.specs.declared.reply.End.{End}
+use Rattle.street_base.specs.Census.{has_ended, one_if}
+use Rattle.street_engine.specs.Ends.{AreComing}
+
+-- how often a number stands in a list
+abbrev pub often : ℕ → List ℕ → ℕ
+often n numbers = count_by (λ k. k == n) numbers
+
+pub often-push : (n number : ℕ) (rest : List ℕ) → often n (rest ++ number ∷ []) ≡ often n rest + one_if (number == n)
+often-push n number rest = sum_by_push (λ (k : ℕ). if k == n then 1 else 0) rest number
+
+pub ended-same : (end : End) (ends : List (Option End)) (n : ℕ) → n < length ends → has_ended n (set ends n (Some end)) ≡ 1
+ended-same end [] n within = absurd (omega arith)
+ended-same end (e ∷ ends) zero within = refl
+ended-same end (e ∷ ends) (suc n) within = ended-same end ends n (omega arith)
+
+pub ended-other : (end : Option End) (ends : List (Option End)) (n k : ℕ) → n ≢ k → has_ended n (set ends k end) ≡ has_ended n ends
+ended-other end [] n k other = refl
+ended-other end (e ∷ ends) zero zero other = absurd (other refl)
+ended-other end (e ∷ ends) zero (suc k) other = refl
+ended-other end (e ∷ ends) (suc n) zero other = refl
+ended-other end (e ∷ ends) (suc n) (suc k) other = ended-other end ends n k (λ same. other (ap suc same))
+
+-- a number that was given and has not ended
+pub going : (n : ℕ) (ends : List (Option End)) → 1 + has_ended n ends ≤ one_if (nat_lt n (length ends)) → slice_get ends n ≡ Some None
+going n ends h = elim (cases_lt n (length ends)) as (λ _. slice_get ends n ≡ Some None) [
+  | inl there ↦ by_end (get_or ends n None) (slice_get-get_or ends n None there)
+  | inr past ↦ absurd (let none : one_if (nat_lt n (length ends)) ≡ 0 = ap one_if (lt-leb (suc n) (length ends) (omega arith)) in omega arith)
+]
+  where
+    one_if-le : (b : Bool) → one_if b ≤ 1
+    one_if-le true = omega arith
+    one_if-le false = omega arith
+
+    by_end : (o : Option End) → slice_get ends n ≡ Some o → slice_get ends n ≡ Some None
+    by_end None e = e
+    by_end (Some end) e = absurd (let one : has_ended n ends ≡ 1 = rw e refl in let le = one_if-le (nat_lt n (length ends)) in omega arith)
+
+module _ (number : ℕ) (rest : List ℕ) (ends : List (Option End)) (coming : AreComing (rest ++ number ∷ []) ends) where
+  pub last-going : slice_get ends number ≡ Some None
+  last-going =
+      let push = often-push number number rest in
+      let one : one_if (number == number) ≡ 1 = cond-true _ _ _ (eq-eqb number number refl) in
+      let h = coming number in
+      going number ends (omega (arith, push, one, h))
+
+  last-within : number < length ends
+  last-within = elim (cases_lt number (length ends)) as (λ _. number < length ends) [
+    | inl there ↦ there
+    | inr past ↦ absurd (
+        let none : one_if (nat_lt number (length ends)) ≡ 0 = ap one_if (lt-leb (suc number) (length ends) (omega arith)) in
+        let push = often-push number number rest in
+        let one : one_if (number == number) ≡ 1 = cond-true _ _ _ (eq-eqb number number refl) in
+        let h = coming number in
+        omega (arith, none, push, one, h))
+  ]
+
+  -- it has ended, and the others are to come
+  pub rest-coming : (end : End) → AreComing rest (set ends number (Some end))
+  rest-coming end n =
+      let long : one_if (nat_lt n (length (set ends number (Some end)))) ≡ one_if (nat_lt n (length ends)) = ap (λ (k : ℕ). one_if (nat_lt n k)) (length-set ends number (Some end)) in
+      let push = often-push n number rest in
+      let h = coming n in
+      elim (cases_eq n number) as (λ _. often n rest + has_ended n (set ends number (Some end)) ≤ one_if (nat_lt n (length (set ends number (Some end))))) [
+        | inl same ↦ (
+            let one : one_if (number == n) ≡ 1 = cond-true _ _ _ (eq-eqb number n (sym same)) in
+            let ended : has_ended n (set ends number (Some end)) ≡ 1 = ap (λ (k : ℕ). has_ended k (set ends number (Some end))) same ∙ ended-same end ends number last-within in
+            omega (arith, long, push, h, one, ended))
+        | inr other ↦ (
+            let stays = ended-other (Some end) ends n number other in
+            omega (arith, long, push, h, stays))
+      ]
+
+-- those of the second of two lists
+pub later-coming : (xs ys : List ℕ) (ends : List (Option End)) → AreComing (xs ++ ys) ends → AreComing ys ends
+later-coming xs ys ends coming n =
+    let both : often n (xs ++ ys) ≡ often n xs + often n ys = sum_by-append (λ (k : ℕ). if k == n then 1 else 0) xs ys in
+    let h = coming n in
+    omega (arith, both, h)

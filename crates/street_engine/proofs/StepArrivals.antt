@@ -1,0 +1,140 @@
+-- Those who arrived in a step of all tiles are the machine's.
+use Rattle.std.proofs.Common.{◌≡◌, ℕ, zero, suc, ◌+◌, ◌<◌, List, [], ◌∷◌, ◌++◌, length, map, get_or, replicate, refl, sym, ◌∙◌, ap, subst, arith, inl, inr}
+use Rattle.std.specs.Prelude.{Option, Some, None, filter_map, nat_lt, ◌==◌}
+use Rattle.std.specs.List.{sum_by, list_any, cons_option, enumerate_from}
+use Rattle.std.proofs.lemmas.Bool.{cases_Bool, cond-true, cond-false, lt-ltb}
+use Rattle.std.proofs.lemmas.List.{get_or_default}
+use Rattle.std.proofs.lemmas.List.Sums.{sum_by-cons}
+use Rattle.std.proofs.lemmas.List.Elements.{filter_map-append}
+use Rattle.street_base.specs.declared.net.NetSpec.{NetSpec}
+use Rattle.street_base.specs.declared.reply.End.{End}
+use Rattle.street_base.specs.Network.{Place, places, link_at}
+use Rattle.street_base.specs.Vehicle.{Vehicle, is_on_last}
+use Rattle.street_base.specs.State.{Traffic, LaneState}
+use Rattle.street_base.specs.LaneChange.{Changing, changed_cells}
+use Rattle.street_base.specs.Census.{in_lane, in_lanes, has_ended, one_if, IsFormed, IsWhole, IsSound}
+use Rattle.street_base.specs.Step.{changing_on, changed_lanes, with_cells, changed, driven, arrival, arrivals, leaver_of, with_arrivals, step}
+use Rattle.street_base.specs.Release.{released}
+use Rattle.street_base.specs.Departure.{departed}
+use Rattle.street_base.proofs.LaneChangeLemmas.{changing-keeps}
+use Rattle.street_base.proofs.FormLemmas.{row-sizes, shape-of, changed-formed}
+use Rattle.street_base.proofs.ArrivalLemmas.{arrived, driven-lanes}
+use Rattle.street_tile.specs.Tiles.{Part, AreTiles, Each}
+use Rattle.street_tile.specs.HandOvers.{all_places}
+use Rattle.street_tile.proofs.Rows.{in-row, roads-of}
+use Rattle.street_engine.specs.Ends.{AreComing, all_arrived}
+use Rattle.street_engine.proofs.Sums.{tiles-sums}
+use Rattle.street_engine.proofs.AreComing.{often}
+use Rattle.street_engine.proofs.Arrivals.{with_arrivals-same}
+
+-- ---- lane changes keep each number
+
+sums-enumerated-each : {A : Type 0} (P : A → Type 0) (g : A → ℕ) (f : ℕ → A → A) (n : ℕ) (xs : List A) → ((k : ℕ) (d : A) → k < length xs → P (get_or xs k d)) → ((i : ℕ) (x : A) → P x → g (f i x) ≡ g x) → sum_by g (map (λ e. f e.0 e.1) (enumerate_from n xs)) ≡ sum_by g xs
+sums-enumerated-each P g f n [] all h = refl
+sums-enumerated-each P g f n (x ∷ xs) all h =
+    let first = h n x (all 0 x (omega arith)) in
+    let rest = sums-enumerated-each P g f (n + 1) xs (λ k d l. all (suc k) d (omega arith)) h in
+    omega (arith, sum_by-cons g (f n x) (map (λ e. f e.0 e.1) (enumerate_from (n + 1) xs)), sum_by-cons g x xs, first, rest)
+
+-- the lanes of a link have as many cells each
+abbrev IsEven : List LaneState → Type 0
+IsEven lanes = (n : ℕ) × (c : ℕ) × (map (λ (lane : LaneState). length lane.track.cells) lanes ≡ replicate n c)
+
+two-even : (a b : LaneState) (n c : ℕ) → map (λ (lane : LaneState). length lane.track.cells) (a ∷ b ∷ []) ≡ replicate n c → length a.track.cells ≡ length b.track.cells
+two-even a b zero c e = cc
+two-even a b (suc zero) c e = cc
+two-even a b (suc (suc n)) c e = cc
+
+changed_lanes-keeps : (number : ℕ) (changing : Changing) (lanes : List LaneState) → IsEven lanes → sum_by (in_lane number) (changed_lanes changing lanes) ≡ sum_by (in_lane number) lanes
+changed_lanes-keeps number changing [] even = refl
+changed_lanes-keeps number changing (a ∷ []) even = refl
+changed_lanes-keeps number changing (a ∷ b ∷ []) even =
+    let both = changing-keeps changing a.track b.track (two-even a b even.0 even.1 even.2) number in
+    let new_a = with_cells a (changed_cells changing 0 a.track b.track) in
+    let new_b = with_cells b (changed_cells changing 1 b.track a.track) in
+    omega (arith, both, sum_by-cons (in_lane number) new_a (new_b ∷ []), sum_by-cons (in_lane number) new_b [], sum_by-cons (in_lane number) a (b ∷ []), sum_by-cons (in_lane number) b [])
+changed_lanes-keeps number changing (a ∷ b ∷ c ∷ lanes) even = refl
+
+changed-whole : (m : Traffic) → IsFormed m → IsWhole m → IsWhole (changed m)
+unfolding changed
+changed-whole m formed whole number =
+    ap (λ n. n + has_ended number m.ends) (sums-enumerated-each IsEven (λ lanes. sum_by (in_lane number) lanes) (λ i lanes. changed_lanes (changing_on m i) lanes) 0 m.lanes
+    (λ k d l. subst IsEven (get_or_default m.lanes k [] d l) ((link_at m.network k).lanes, (link_at m.network k).length, row-sizes m formed k))
+    (λ i lanes even. changed_lanes-keeps number (changing_on m i) lanes even))
+    ∙ whole number
+
+changed-ends : (m : Traffic) → (changed m).ends ≡ m.ends
+unfolding changed
+changed-ends m = refl
+
+changed-network : (m : Traffic) → (changed m).network ≡ m.network
+unfolding changed
+changed-network m = refl
+
+-- ---- how often a number arrives
+
+cons-often : (n : ℕ) (o : Option Vehicle) (numbers : List ℕ) → often n (cons_option (arrival o) numbers) ≡ arrived n o + often n numbers
+cons-often n None numbers = omega arith
+cons-often n (Some v) numbers = elim (cases_Bool (is_on_last v)) as (λ _. often n (cons_option (arrival (Some v)) numbers) ≡ arrived n (Some v) + often n numbers) [
+  | inl last ↦ rw last (omega (arith, sum_by-cons (λ (k : ℕ). one_if (k == n)) v.number numbers))
+  | inr on ↦ rw on (omega arith)
+]
+
+often-arrivals : (n : ℕ) (leaver : Place → Option Vehicle) (ps : List Place) → often n (filter_map (λ p. arrival (leaver p)) ps) ≡ sum_by (λ p. arrived n (leaver p)) ps
+often-arrivals n leaver [] = refl
+often-arrivals n leaver (p ∷ ps) = omega (arith, cons-often n (leaver p) (filter_map (λ q. arrival (leaver q)) ps), sum_by-cons (λ q. arrived n (leaver q)) p ps, often-arrivals n leaver ps)
+
+any-often : (n : ℕ) (xs : List ℕ) → list_any (λ m. m == n) xs ≡ nat_lt 0 (often n xs)
+any-often n [] = refl
+any-often n (x ∷ xs) =
+    let cons = sum_by-cons (λ (k : ℕ). one_if (k == n)) x xs in
+    elim (cases_Bool (x == n)) as (λ _. list_any (λ m. m == n) (x ∷ xs) ≡ nat_lt 0 (often n (x ∷ xs))) [
+      | inl here ↦ (
+          let one : often n (x ∷ xs) ≡ suc (often n xs) = (let t : one_if (x == n) ≡ 1 = cond-true _ _ _ here in omega (arith, cons, t)) in
+          rw (one, here) (sym (lt-ltb 0 (suc (often n xs)) (omega arith))))
+      | inr other ↦ (
+          let none : often n (x ∷ xs) ≡ often n xs = (let t : one_if (x == n) ≡ 0 = cond-false _ _ _ other in omega (arith, cons, t)) in
+          rw (none, other) (any-often n xs))
+    ]
+
+-- ---- all tiles
+
+tiles-arrived : (g : Place → Option ℕ) (xs ys : List Part) → length ys ≡ length xs → ((i : ℕ) (d : Part) → i < length xs → (get_or ys i d).arrived ≡ filter_map g (get_or xs i d).own.places) → all_arrived ys ≡ filter_map g (all_places xs)
+tiles-arrived g [] [] e h = refl
+tiles-arrived g [] (y ∷ ys) e h = absurd (omega arith)
+tiles-arrived g (x ∷ xs) [] e h = absurd (omega arith)
+tiles-arrived g (x ∷ xs) (y ∷ ys) e h =
+    ap (λ (ns : List ℕ). ns ++ y.arrived) (tiles-arrived g xs ys (omega arith) (λ i d l. h (suc i) d (omega arith)))
+    ∙ ap (λ (ns : List ℕ). filter_map g (all_places xs) ++ ns) (h 0 x (omega arith))
+    ∙ sym (filter_map-append g (all_places xs) x.own.places)
+
+module _ (net : NetSpec) (xs ys : List Part) (tiles : AreTiles net xs) (long : length ys ≡ length xs) (m : Traffic) (on : m.network ≡ net) (sound : IsSound m)
+    (all : Each (λ x y. y.arrived ≡ filter_map (λ p. arrival (leaver_of (changed m) p)) x.own.places) xs ys) where
+  often-all : (n : ℕ) → often n (all_arrived ys) ≡ sum_by (λ p. arrived n (leaver_of (changed m) p)) (places (changed m).network)
+  often-all n =
+      ap (often n) (tiles-arrived (λ p. arrival (leaver_of (changed m) p)) xs ys long all)
+      ∙ often-arrivals n (leaver_of (changed m)) (all_places xs)
+      ∙ tiles-sums net (roads-of net xs tiles) (λ p. arrived n (leaver_of (changed m) p)) xs (in-row net xs tiles)
+      ∙ ap (λ (k : NetSpec). sum_by (λ p. arrived n (leaver_of (changed m) p)) (places k)) (sym (changed-network m ∙ on))
+
+  pub arrivals-coming : AreComing (all_arrived ys) m.ends
+  arrivals-coming n =
+      let formed = changed-formed m sound.formed in
+      let whole : in_lanes n (changed m).lanes + has_ended n (changed m).ends ≡ one_if (nat_lt n (length (changed m).ends)) = changed-whole m sound.formed sound.whole n in
+      let lanes = driven-lanes n (changed m) (shape-of (changed m) formed) in
+      let count = often-all n in
+      let ended : has_ended n (changed m).ends ≡ has_ended n m.ends = ap (has_ended n) (changed-ends m) in
+      let given : one_if (nat_lt n (length (changed m).ends)) ≡ one_if (nat_lt n (length m.ends)) = ap (λ (es : List (Option End)). one_if (nat_lt n (length es))) (changed-ends m) in
+      omega arith
+
+  step-ends : (step m).ends ≡ with_arrivals m.clock (arrivals (changed m)) m.ends
+  unfolding step departed released driven changed
+  step-ends = refl
+
+  pub arrivals-end : with_arrivals m.clock (all_arrived ys) m.ends ≡ (step m).ends
+  arrivals-end =
+      with_arrivals-same m.clock (all_arrived ys) (arrivals (changed m)) m.ends (λ n.
+      any-often n (all_arrived ys)
+      ∙ ap (nat_lt 0) (often-all n ∙ sym (often-arrivals n (leaver_of (changed m)) (places (changed m).network)))
+      ∙ sym (any-often n (arrivals (changed m))))
+      ∙ sym step-ends

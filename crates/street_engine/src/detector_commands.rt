@@ -1,0 +1,65 @@
+//! Commands of detectors.
+//!
+//! Source: this profile.
+ghost use Rattle.std.specs.Prelude.{◌≡◌};
+ghost use Rattle.street_base.specs.declared.command.Command.TheVariants.{PlaceMeter, ReadMeter};
+ghost use Rattle.street_engine.specs.Refines.{Serves};
+
+use crate::Streets;
+use crate::names::named_cells;
+use std::alloc::Global;
+use street_base::{Outcome, Refusal, Reply};
+
+const MOST_PERIOD: u64 = 100_000;
+
+const MOST_DETECTORS: usize = 1_024;
+
+/// Takes memory for the detector.
+pub(crate) fn place_meter(
+    alloc: Global,
+    state: &mut Option<Streets>,
+    link: u64,
+    lane: u64,
+    cell: u64,
+    period: u64,
+) -> (Reply, Outcome)
+    ensures { Serves state.old (PlaceMeter link lane cell period) result.0 result.1 state.new }
+{
+    let Some(streets) = state else {
+        return (Reply::Refused(Refusal::NotLoaded), Outcome::Whole);
+    };
+    let cells = match named_cells(streets.network(), link, lane, cell, cell) {
+        Ok(cells) => cells,
+        Err(refusal) => return (Reply::Refused(refusal), Outcome::Whole),
+    };
+    if period == 0 || period > MOST_PERIOD {
+        return (Reply::Refused(Refusal::BadCount), Outcome::Whole);
+    }
+    if streets.detectors() >= MOST_DETECTORS {
+        return (Reply::Refused(Refusal::TooMany), Outcome::Whole);
+    }
+    match streets.place_meter(alloc, cells.at, cells.first, period as u32) {
+        Ok(number) => {
+            let meter = number as u64;
+            (Reply::Placed { meter }, Outcome::Whole)
+        }
+        Err(_) => (Reply::Starved, Outcome::Starved),
+    }
+}
+
+/// Takes memory for the list of rows.
+pub(crate) fn read_meter(alloc: Global, state: &Option<Streets>, meter: u64) -> (Reply, Outcome)
+    ensures { Serves state.now (ReadMeter meter) result.0 result.1 state.now }
+{
+    let Some(streets) = state else {
+        return (Reply::Refused(Refusal::NotLoaded), Outcome::Whole);
+    };
+    if meter >= streets.detectors() as u64 {
+        return (Reply::Refused(Refusal::NoMeter), Outcome::Whole);
+    }
+    match streets.read_meter(alloc, meter as usize) {
+        Ok(Some(rows)) => (rows, Outcome::Whole),
+        Ok(None) => (Reply::Refused(Refusal::NoMeter), Outcome::Whole),
+        Err(_) => (Reply::Starved, Outcome::Starved),
+    }
+}

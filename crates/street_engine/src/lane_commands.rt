@@ -1,0 +1,104 @@
+//! Commands that name a node or a lane.
+//!
+//! Source: this profile.
+ghost use Rattle.std.specs.Prelude.{◌≡◌};
+ghost use Rattle.street_base.specs.declared.command.Command.TheVariants.{Signal, CloseLane, ReopenLane, Lane};
+ghost use Rattle.street_engine.specs.Refines.{Serves};
+
+use crate::Streets;
+use crate::names::{named_cells, named_lane};
+use std::alloc::Global;
+use street_base::{Outcome, PhaseSpec, Refusal, Reply};
+use street_node::{SignalFault, SignalPlan};
+
+/// Takes memory for the plan.
+pub(crate) fn signal(
+    alloc: Global,
+    state: &mut Option<Streets>,
+    node: u64,
+    offset: u64,
+    phases: &[PhaseSpec],
+) -> (Reply, Outcome)
+    ensures { Serves state.old (Signal node offset phases.now) result.0 result.1 state.new }
+{
+    let Some(streets) = state else {
+        return (Reply::Refused(Refusal::NotLoaded), Outcome::Whole);
+    };
+    let Some(position) = streets.network().node_of(node) else {
+        return (Reply::Refused(Refusal::NoNode), Outcome::Whole);
+    };
+    match SignalPlan::build(alloc, streets.network(), position, offset, phases) {
+        Ok(plan) => {
+            let cycle = u64::from(plan.cycle());
+            streets.set_signal(position, plan);
+            (Reply::Signalled { cycle }, Outcome::Whole)
+        }
+        Err(SignalFault::Bad { at }) => {
+            (Reply::Refused(Refusal::BadSignal { at }), Outcome::Whole)
+        }
+        Err(SignalFault::Starved) => (Reply::Starved, Outcome::Starved),
+    }
+}
+
+/// Takes memory for a stretch of closed cells.
+pub(crate) fn close_lane(
+    state: &mut Option<Streets>,
+    link: u64,
+    lane: u64,
+    first: u64,
+    last: u64,
+) -> (Reply, Outcome)
+    ensures { Serves state.old (CloseLane link lane first last) result.0 result.1 state.new }
+{
+    let Some(streets) = state else {
+        return (Reply::Refused(Refusal::NotLoaded), Outcome::Whole);
+    };
+    let cells = match named_cells(streets.network(), link, lane, first, last) {
+        Ok(cells) => cells,
+        Err(refusal) => return (Reply::Refused(refusal), Outcome::Whole),
+    };
+    match streets.close(cells.at, cells.first, cells.last) {
+        Ok(closed) => (Reply::Closed { closed }, Outcome::Whole),
+        Err(_) => (Reply::Starved, Outcome::Starved),
+    }
+}
+
+/// Takes memory for a stretch of closed cells.
+pub(crate) fn reopen_lane(
+    state: &mut Option<Streets>,
+    link: u64,
+    lane: u64,
+    first: u64,
+    last: u64,
+) -> (Reply, Outcome)
+    ensures { Serves state.old (ReopenLane link lane first last) result.0 result.1 state.new }
+{
+    let Some(streets) = state else {
+        return (Reply::Refused(Refusal::NotLoaded), Outcome::Whole);
+    };
+    let cells = match named_cells(streets.network(), link, lane, first, last) {
+        Ok(cells) => cells,
+        Err(refusal) => return (Reply::Refused(refusal), Outcome::Whole),
+    };
+    match streets.reopen(cells.at, cells.first, cells.last) {
+        Ok(closed) => (Reply::Closed { closed }, Outcome::Whole),
+        Err(_) => (Reply::Starved, Outcome::Starved),
+    }
+}
+
+/// Takes memory for the lists that it answers.
+pub(crate) fn lane(alloc: Global, state: &Option<Streets>, link: u64, lane: u64) -> (Reply, Outcome)
+    ensures { Serves state.now (Lane link lane) result.0 result.1 state.now }
+{
+    let Some(streets) = state else {
+        return (Reply::Refused(Refusal::NotLoaded), Outcome::Whole);
+    };
+    let at = match named_lane(streets.network(), link, lane) {
+        Ok(at) => at,
+        Err(refusal) => return (Reply::Refused(refusal), Outcome::Whole),
+    };
+    match streets.lane(alloc, at) {
+        Ok(reply) => (reply, Outcome::Whole),
+        Err(_) => (Reply::Starved, Outcome::Starved),
+    }
+}

@@ -1,0 +1,113 @@
+//! Commands that name a vehicle.
+//!
+//! Source: this profile.
+ghost use Rattle.std.specs.Prelude.{◌≡◌, ◌<◌, ◌≤◌, None, length, true};
+ghost use Rattle.street_base.specs.declared.command.Command.TheVariants.{Enter, TakeOut, Vehicle};
+ghost use Rattle.street_base.specs.Limits.{last_clock, most_vehicles, most_size};
+ghost use Rattle.street_base.specs.Faults.{is_within};
+ghost use Rattle.street_base.specs.State.{Traffic};
+ghost use Rattle.street_base.specs.Machine.{enter_refusal};
+ghost use Rattle.street_engine.specs.Refines.{Serves};
+
+use crate::Streets;
+use crate::names::lane_number;
+use std::alloc::Global;
+use street_base::{CarNo, LAST_CLOCK, Outcome, Refusal, Reply, Size, Step, Whereabouts};
+use street_net::{Network, PlanFault};
+
+const MOST_VEHICLES: CarNo = 1_000_000;
+
+/// Why a vehicle is refused where fewer than 1,000,000 were admitted: for its plan, or else its lane, or else its depart
+/// or its size. Takes no memory.
+fn entry_refusal(net: &Network, plan: &[u64], lane: u64, depart: u64, size: u64) -> Option<Refusal>
+    ensures refusal { (m : Traffic) → m.network ≡ net.now → length m.ends < most_vehicles
+        → result ≡ enter_refusal plan.now lane depart size m }
+    ensures in_time { result ≡ None → depart ≤ last_clock }
+    ensures sized { result ≡ None → is_within 1 most_size size ≡ true }
+{
+    match net.plan_refusal(plan, lane) {
+        Some(PlanFault::Bad { at }) => Some(Refusal::BadPlan { at }),
+        Some(PlanFault::Lane) => Some(Refusal::NoLane),
+        _ if depart > u64::from(LAST_CLOCK) || Size::new(size).is_none() => {
+            Some(Refusal::BadRange)
+        }
+        _ => None,
+    }
+}
+
+/// Takes memory for the vehicle and its plan.
+pub(crate) fn enter(
+    alloc: Global,
+    state: &mut Option<Streets>,
+    plan: &[u64],
+    lane: u64,
+    depart: u64,
+    size: u64,
+) -> (Reply, Outcome)
+    ensures { Serves state.old (Enter plan.now lane depart size) result.0 result.1 state.new }
+{
+    let Some(streets) = state else {
+        return (Reply::Refused(Refusal::NotLoaded), Outcome::Whole);
+    };
+    let car = streets.admitted();
+    if car >= MOST_VEHICLES {
+        return (Reply::Refused(Refusal::TooMany), Outcome::Whole);
+    }
+    if let Some(refusal) = entry_refusal(streets.network(), plan, lane, depart, size) {
+        return (Reply::Refused(refusal), Outcome::Whole);
+    }
+    let Some(size) = Size::new(size) else {
+        unreachable!();
+    };
+    let Ok(links) = streets.network().check_plan(alloc, plan, lane) else {
+        return (Reply::Starved, Outcome::Starved);
+    };
+    let lane = lane_number(streets.network(), lane);
+    match streets.admit(alloc, links, lane, depart as Step, size) {
+        Ok(()) => {
+            let car = u64::from(car);
+            (Reply::Entered { car }, Outcome::Whole)
+        }
+        Err(_) => (Reply::Starved, Outcome::Starved),
+    }
+}
+
+/// Takes no memory.
+pub(crate) fn take_out(state: &mut Option<Streets>, car: u64) -> (Reply, Outcome)
+    ensures { Serves state.old (TakeOut car) result.0 result.1 state.new }
+{
+    let Some(streets) = state else {
+        return (Reply::Refused(Refusal::NotLoaded), Outcome::Whole);
+    };
+    if car >= u64::from(streets.admitted()) {
+        return (Reply::Refused(Refusal::NoVehicle), Outcome::Whole);
+    }
+    let number = car as CarNo;
+    if streets.end_of(number).is_some() {
+        return (Reply::Refused(Refusal::Gone), Outcome::Whole);
+    }
+    streets.take_out(number);
+    (Reply::Taken { taken: car }, Outcome::Whole)
+}
+
+/// Takes memory for the plan that it answers, where the vehicle has not ended.
+pub(crate) fn vehicle(alloc: Global, state: &Option<Streets>, car: u64) -> (Reply, Outcome)
+    ensures { Serves state.now (Vehicle car) result.0 result.1 state.now }
+{
+    let Some(streets) = state else {
+        return (Reply::Refused(Refusal::NotLoaded), Outcome::Whole);
+    };
+    if car >= u64::from(streets.admitted()) {
+        return (Reply::Refused(Refusal::NoVehicle), Outcome::Whole);
+    }
+    let number = car as CarNo;
+    if let Some(end) = streets.end_of(number) {
+        let whereabouts = Whereabouts::Ended(end);
+        return (Reply::Vehicle { car, whereabouts }, Outcome::Whole);
+    }
+    match streets.find(alloc, number) {
+        Ok(Some(whereabouts)) => (Reply::Vehicle { car, whereabouts }, Outcome::Whole),
+        Ok(None) => (Reply::Refused(Refusal::NoVehicle), Outcome::Whole),
+        Err(_) => (Reply::Starved, Outcome::Starved),
+    }
+}

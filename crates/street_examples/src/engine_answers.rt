@@ -1,0 +1,36 @@
+//! What is answered to the lines of a session.
+ghost use Rattle.std.specs.Prelude.{◌≤◌, None, IfOk};
+ghost use Rattle.street_base.specs.State.{State};
+ghost use Rattle.street_stream.specs.Lines.{lines_of};
+ghost use Rattle.street_line.specs.Engines.{MachineServes};
+ghost use Rattle.street_line.specs.Runs.{Goes};
+
+use std::alloc::Global;
+use std::io;
+use std::thread::Threads;
+use street_engine::{Engine, Unwatched};
+use street_line::{Counted, EngineSession, run_engine};
+
+/// What is answered to the lines of a text where nothing is loaded at first: what the machine says to them, whatever the
+/// number of workers. That is 1 to 64.
+///
+/// # Errors
+///
+/// An error where the lines were not served to their end, for want of memory.
+pub fn answers<R: Threads + Sync>(
+    rt: &R,
+    alloc: Global,
+    workers: u32,
+    lines: &[u8],
+) -> io::Result<Vec<u8>>
+    requires { (1 ≤ workers) × (workers ≤ 64) }
+    ensures { IfOk result (λ out. (state : State) × Goes MachineServes None (lines_of lines.now) out.items state) }
+{
+    let mut reader = Counted::new(lines);
+    let mut writer = Counted::new(Vec::new(alloc));
+    let mut session = EngineSession::new(rt, Engine::new(alloc, workers, Unwatched));
+    match run_engine(alloc, &mut session, &mut reader, &mut writer) {
+        Ok(_tally) => Ok(writer.stream),
+        Err(_fault) => Err(io::Error::from(io::ErrorKind::OutOfMemory)),
+    }
+}

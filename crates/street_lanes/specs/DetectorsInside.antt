@@ -1,0 +1,13 @@
+-- What the field of `Detectors` stands for.
+use Rattle.std.specs.Prelude.{[]}
+use Rattle.street_lanes.specs.declared.detectors.Detectors.TheInside.{Inside}
+use Rattle.street_lanes.specs.declared.detectors.Kind.{Kind}
+use Rattle.street_lanes.specs.declared.detectors.Kind.TheVariants.{Bare, Watched}
+use Rattle.street_lanes.specs.Detectors.{Detectors}
+
+abbrev pub detectors_of : Kind → Detectors
+detectors_of (Bare length) = record { size = length; meters = []; watches = [] }
+detectors_of (Watched meters) = meters.value
+
+abbrev pub seen : Inside → Detectors
+seen x = detectors_of x.kind

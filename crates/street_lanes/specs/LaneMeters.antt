@@ -1,0 +1,13 @@
+-- What the fields of `LaneMeters` stand for.
+use Rattle.std.specs.Prelude.{◌≡◌, ◌<◌, length}
+use Rattle.std.specs.List.{All}
+use Rattle.street_lanes.specs.declared.lane_meters.LaneMeters.TheInside.{Inside}
+use Rattle.street_lanes.specs.Detectors.{Detectors}
+
+abbrev pub seen : Inside → Detectors
+seen x = record { size = x.length; meters = x.meters.items; watches = x.watches.items }
+
+-- a watch for each meter, each in a cell of the lane
+pub record IsSound (x : Inside) : Type 0 where
+  pub even : length x.watches.items ≡ length x.meters.items
+  pub within : All (λ m. m.cell < x.length) x.meters.items

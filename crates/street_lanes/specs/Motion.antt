@@ -1,0 +1,89 @@
+-- Motion on one lane of a tile.
+-- Source: this profile.
+use Rattle.std.specs.Prelude.{◌≡◌, ◌⊎◌, ℕ, ◌+◌, ◌<◌, ◌≤◌, nat_lt, List, [], ◌∷◌, ◌++◌, length, map, Bool, true, false, ◌&&◌, Option, Some, if◌then◌else◌}
+use Rattle.std.specs.Option.{option_map_or, option_to_list}
+use Rattle.street_base.specs.declared.car.Car.{Car}
+use Rattle.street_base.specs.declared.net.NetSpec.{NetSpec}
+use Rattle.street_base.specs.Limits.{last_clock}
+use Rattle.street_base.specs.Network.{Place, link_at, end_node, serves}
+use Rattle.street_base.specs.Vehicle.{Vehicle, vehicle_of, next_link, is_on_last}
+use Rattle.street_base.specs.Signal.{SignalPlan, is_green}
+use Rattle.street_base.specs.State.{Traffic, lane_at}
+use Rattle.street_base.specs.Step.{plan_at, drive_on, leaver_of, driven_lane, arrival}
+use Rattle.street_gap.specs.declared.closures.Stretch.{Stretch}
+use Rattle.street_yard.specs.Yard.{Yard}
+use Rattle.street_yard.specs.Listed.{IsLane}
+use Rattle.street_rule.specs.declared.watch.Watch.{Watch}
+use Rattle.street_rule.specs.Watch.{watched}
+use Rattle.street_lanes.specs.Views.{LaneStands, IsLaneOf}
+use Rattle.street_lanes.specs.Lanes.{Lanes, lane_of, place_at, Same, Others}
+use Rattle.street_lanes.specs.Lists.{cells_list, buffer_list, cars_on, lane_seen, NoneLoose, Touches}
+
+-- ---- the traffic of a step
+
+-- a plan shows the same turns green as another, in every step; where there is none all turns are green
+abbrev pub PlanStands : Option SignalPlan → Option SignalPlan → Type 0
+PlanStands plan other = (place : Place) (next step : ℕ) → is_green plan place next step ≡ is_green other place next step
+
+-- traffic of this network at a clock that is not past the last one, with a plan that stands for that of the node to which a lane runs
+pub record IsStepOf (net : NetSpec) (signal : Option SignalPlan) (step : ℕ) (p : Place) (m : Traffic) : Type 0 where
+  pub network : m.network ≡ net
+  pub clock : m.clock ≡ step
+  pub in_time : step ≤ last_clock
+  pub plan : PlanStands signal (plan_at m p.link)
+
+-- ---- the exit
+
+-- a lane's exit is open to a vehicle that goes on to this link, with so many in the buffer: on its last link, or with a turn of the lane that is green by the plan, and a buffer below its capacity
+abbrev pub opens_to : NetSpec → Option SignalPlan → ℕ → Place → ℕ → Option ℕ → Bool
+opens_to net plan step place buffered next =
+    option_map_or (λ next. serves net place next && is_green plan place next step && option_map_or (λ node. nat_lt buffered node.capacity) (end_node net place.link) false) next true
+
+abbrev pub is_open_to : NetSpec → Option SignalPlan → ℕ → Place → ℕ → Vehicle → Bool
+is_open_to net plan step place buffered v = opens_to net plan step place buffered (next_link v)
+
+-- how many cells a lane of a link has
+abbrev pub cells_on : NetSpec → Place → ℕ
+cells_on net p = (link_at net p.link).length
+
+-- a vehicle that cannot come past the lane's end in a step, as it drives within the limit, which is less than the gap to an open exit
+abbrev pub IsFarFrom : NetSpec → Place → ℕ → Type 0
+IsFarFrom net p cell = ((link_at net p.link).limit ≤ 16) × (cell + (link_at net p.link).limit < cells_on net p)
+
+-- the exit is told as it is to a front vehicle, but for one to which it does not matter
+abbrev pub IsToldExit : NetSpec → Option SignalPlan → ℕ → Place → ℕ → Car → Bool → Type 0
+IsToldExit net plan step p buffered car exit = IsFarFrom net p car.cell ⊎ (exit ≡ is_open_to net plan step p buffered (vehicle_of car))
+
+-- ---- a leaver
+
+-- the car of a leaver to the end of a list, with the step from which it may go on, or nowhere where it is on its last link
+abbrev pub behind_all : ℕ → Car → List Car
+behind_all ready car = if is_on_last (vehicle_of car) then [] else record car { step = ready } ∷ []
+
+-- a car that has left its lane and is on its last link is taken out, and its number told; else it comes last on a list
+pub record Settles (list ready : ℕ) (car : Car) (old new : Yard) (told : Option ℕ) : Type 0 where
+  pub arrived : told ≡ arrival (Some (vehicle_of car))
+  pub touches : Touches (list ∷ []) old new
+  pub room : new.room ≡ old.room + length (option_to_list told)
+  pub queue : cars_on new list ≡ cars_on old list ++ behind_all ready car
+
+-- ---- the lane
+
+-- the lists of lane n, which is the lane at p, stand for whatever lane they stood for after motion; who arrives is told, and each watch has noted what its detector notes
+pub record MovesLane (net : NetSpec) (signal : Option SignalPlan) (step : ℕ) (p : Place) (closed : List Stretch) (n : ℕ) (old new : Yard) (told : Option ℕ) (before after : List Watch) : Type 0 where
+  pub touches : Touches (cells_list n ∷ buffer_list n ∷ []) old new
+  pub room : new.room ≡ old.room + length (option_to_list told)
+  pub none_loose : NoneLoose old → NoneLoose new
+  pub lane : IsLane new (cells_list n) (cells_on net p)
+  pub goes : (m : Traffic) → IsStepOf net signal step p m → IsLaneOf (lane_seen old closed (cells_on net p) n) (lane_at m p) → IsLaneOf (lane_seen new closed (cells_on net p) n) (driven_lane m p (lane_at m p))
+  pub arrived : (m : Traffic) → IsStepOf net signal step p m → IsLaneOf (lane_seen old closed (cells_on net p) n) (lane_at m p) → told ≡ arrival (leaver_of m p)
+  pub watched : (m : Traffic) → IsStepOf net signal step p m → IsLaneOf (lane_seen old closed (cells_on net p) n) (lane_at m p) → after ≡ map (watched (drive_on m p) (lane_at m p).track) before
+
+-- of whatever traffic lane n stood for its lane, it then stands for that lane after motion, who arrives is told, and each watch has noted what its detector notes; the other lanes are as they were
+pub record DrivesAt (net : NetSpec) (signal : Option SignalPlan) (step n : ℕ) (x y : Lanes) (told : Option ℕ) (before after : List Watch) : Type 0 where
+  pub same : Same x y
+  pub others : Others n x y
+  pub room : y.room ≡ x.room + length (option_to_list told)
+  pub goes : (m : Traffic) → IsStepOf net signal step (place_at x n) m → LaneStands (lane_of x n) (lane_at m (place_at x n)) → LaneStands (lane_of y n) (driven_lane m (place_at x n) (lane_at m (place_at x n)))
+  pub arrived : (m : Traffic) → IsStepOf net signal step (place_at x n) m → LaneStands (lane_of x n) (lane_at m (place_at x n)) → told ≡ arrival (leaver_of m (place_at x n))
+  pub watched : (m : Traffic) → IsStepOf net signal step (place_at x n) m → LaneStands (lane_of x n) (lane_at m (place_at x n)) → after ≡ map (watched (drive_on m (place_at x n)) (lane_at m (place_at x n)).track) before

@@ -1,0 +1,31 @@
+-- The vehicle of a number on a list, and taking it out.
+-- Source: this profile.
+use Rattle.std.specs.Prelude.{ℕ, ◌≡◌, ◌≢◌, ◌⊎◌, ◌+◌, Option, Some, None, IsSomeAnd, ◌∷◌, []}
+use Rattle.street_base.specs.declared.car.Car.{Car}
+use Rattle.street_yard.specs.Yard.{Yard, list_at, car_of, list_on, without, Has}
+use Rattle.street_lanes.specs.Lists.{cells_list, buffer_list, waiting_list, NoneLoose, Touches}
+
+-- the car of this key on the list has the number; with no key, none on the list has it
+abbrev pub IsSought : Yard → ℕ → ℕ → Option ℕ → Type 0
+IsSought y list number None = (k : ℕ) (c : Car) → Has (list_at y list) k → car_of y k ≡ Some c → c.number ≢ number
+IsSought y list number (Some k) = Has (list_at y list) k × IsSomeAnd (car_of y k) (λ c. c.number ≡ number)
+
+-- this is a list of lane n
+abbrev pub IsOf : ℕ → ℕ → Type 0
+IsOf n list = (list ≡ cells_list n) ⊎ ((list ≡ buffer_list n) ⊎ (list ≡ waiting_list n))
+
+-- the car of this key has the number, and is on a list of lane n; with no key, none on the lane has it
+abbrev pub IsFound : Yard → ℕ → ℕ → Option ℕ → Type 0
+IsFound y n number None = IsSought y (cells_list n) number None × IsSought y (buffer_list n) number None × IsSought y (waiting_list n) number None
+IsFound y n number (Some k) = (list : ℕ) × IsOf n list × IsSought y list number (Some k)
+
+-- the car of a key on a list is taken out
+pub record TakesOut (old new : Yard) (key : ℕ) (gone : Car) : Type 0 where
+  pub list : ℕ
+  pub on : list_on old key ≡ Some list
+  pub touches : Touches (list ∷ []) old new
+  pub room : new.room ≡ old.room + 1
+  pub none_loose : NoneLoose old → NoneLoose new
+  pub car : car_of old key ≡ Some gone
+  pub left : list_at new list ≡ without key (list_at old list)
+  pub others : (k : ℕ) → k ≢ key → car_of new k ≡ car_of old k

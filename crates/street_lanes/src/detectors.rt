@@ -1,0 +1,144 @@
+//! The detectors of a lane, which has some or none.
+ghost use Rattle.std.specs.Prelude.{◌≡◌, ◌<◌, ◌≤◌, length, List, [], map, option_map, slice_get, IfOk, OnOk, OnErr};
+ghost use Rattle.std.specs.List.{All};
+ghost use Rattle.std.specs.Option.{option_copied};
+ghost use Rattle.street_base.specs.Limits.{last_clock};
+ghost use Rattle.street_base.specs.Shown.{shown_rows};
+ghost use Rattle.street_base.specs.State.{LaneState, Detector};
+ghost use Rattle.street_net.specs.Tables.{place_of};
+ghost use Rattle.street_lanes.specs.Views.{LaneStands};
+ghost use Rattle.street_lanes.specs.Lanes.{lane_of, IsOf};
+ghost use Rattle.street_lanes.specs.Motion.{DrivesAt};
+ghost use Rattle.street_meter.specs.Meter.{next_step};
+ghost use Rattle.street_lanes.specs.Detectors.{cleared, AllGoOn, AllNote, MetersStandFor, Placed};
+
+use crate::Lanes;
+use crate::lane_meters::LaneMeters;
+use std::alloc::Global;
+use std::marker::Model;
+use street_base::{CarNo, CellNo, Reply, Starved, Step};
+use street_net::{LaneId, Network};
+use street_node::SignalPlan;
+
+/// The detectors of a lane.
+pub struct Detectors {
+    kind: Kind,
+}
+
+impl Drop for Detectors {
+    fn drop(self) {
+        let Detectors { kind: _ } = self;
+    }
+}
+
+// Each step reads one for each lane, and nearly no lane has detectors: four of these fit a line of memory.
+const _: () = prove!(size_of::<Detectors>() == 16);
+
+/// Whether the lane has detectors. Those are elsewhere, so that a step reads no more than this of a lane that has none.
+#[derive(Drop)]
+enum Kind {
+    /// None, and so many cells.
+    Bare(CellNo),
+    Watched(Box<LaneMeters>),
+}
+
+impl Model for Detectors {
+    ghost use Rattle.street_lanes.specs.Detectors.{Detectors as Seen};
+
+    ghost Value = { Seen };
+
+    ghost use Rattle.street_lanes.specs.DetectorsInside.{seen};
+
+    ghost view = { seen };
+}
+
+impl Detectors {
+    /// No detectors, on a lane of so many cells. Takes no memory.
+    pub fn new(_alloc: Global, length: CellNo) -> Detectors
+        ensures { result ≡ record { size = length; meters = []; watches = [] } }
+    {
+        Detectors {
+            kind: Kind::Bare(length),
+        }
+    }
+
+    /// The motion of the lane, which is lane `lane` of these, seen by the watches. Answers who arrived. Takes no memory.
+    pub fn drive(
+        &mut self,
+        own: &mut Lanes,
+        net: &Network,
+        lane: usize,
+        clock: Step,
+        plan: Option<&SignalPlan>,
+    ) -> Option<CarNo>
+        requires lane { lane < length own.old.lanes }
+        requires of { IsOf net.now own.old }
+        requires size { self.old.size ≡ length (lane_of own.old lane).track.cells }
+        ensures drives { DrivesAt net.now (option_copied plan.entry) clock lane own.old own.new result (map cleared self.old.meters) self.new.watches }
+        ensures meters { self.new ≡ record self.old { watches = self.new.watches } }
+    {
+        match &mut self.kind {
+            Kind::Bare(_) => own.drive(net, lane, clock, plan, &mut []),
+            Kind::Watched(meters) => meters.drive(own, net, lane, clock, plan),
+        }
+    }
+
+    /// At the end of the step each meter notes what its watch saw of the motion, and whether its cell is covered. Takes no
+    /// memory.
+    pub fn note(&mut self, own: &Lanes, lane: usize)
+        requires lane { lane < length own.now.lanes }
+        requires in_time { All (λ x. next_step x < last_clock) self.old.meters }
+        ensures rest { self.new ≡ record self.old { meters = self.new.meters } }
+        ensures goes { AllGoOn self.old.meters self.new.meters }
+        ensures notes { (s : LaneState) → LaneStands (lane_of own.now lane) s → AllNote s.track.cells self.old.watches self.old.meters self.new.meters }
+    {
+        if let Kind::Watched(meters) = &mut self.kind {
+            meters.note(own, lane);
+        }
+    }
+
+    /// Places one more detector in a cell of the lane, which is at `at`, with a period of 1 to 100,000 steps; it notes from
+    /// the step `start` on. Answers its number among those of the lane.
+    ///
+    /// # Errors
+    /// Memory was refused; the detectors are as they were.
+    pub fn place(
+        &mut self,
+        alloc: Global,
+        at: LaneId,
+        cell: CellNo,
+        period: u32,
+        start: Step,
+    ) -> Result<usize, Starved>
+        requires cell { cell < self.old.size }
+        requires some { 1 ≤ period }
+        requires short { period ≤ 100000 }
+        requires start { start ≤ last_clock }
+        ensures number { IfOk result (λ number. number ≡ length self.old.meters) }
+        ensures ok { OnOk result (Placed (place_of at) cell period start self.old self.new) }
+        ensures err { OnErr result (self.new ≡ self.old) }
+    {
+        match &mut self.kind {
+            Kind::Bare(length) => {
+                let mut meters = LaneMeters::new(alloc, *length);
+                let number = meters.place(alloc, at, cell, period, start)?;
+                self.kind = Kind::Watched(Box::new(alloc, meters)?);
+                Ok(number)
+            }
+            Kind::Watched(meters) => meters.place(alloc, at, cell, period, start),
+        }
+    }
+
+    /// The rows of a detector, by its number among those of the lane, if there is one.
+    ///
+    /// # Errors
+    /// Memory was refused.
+    pub fn rows(&self, alloc: Global, number: usize) -> Result<Option<Reply>, Starved>
+        ensures { IfOk result (λ reply. (ds : List Detector) → MetersStandFor self.now.meters ds → reply ≡ option_map shown_rows (slice_get ds number)) }
+    {
+        match &self.kind {
+            Kind::Bare(_) => Ok(None),
+            Kind::Watched(meters) => meters.rows(alloc, number),
+        }
+    }
+}

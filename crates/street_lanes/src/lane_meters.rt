@@ -1,0 +1,187 @@
+//! The detectors of a lane that has some.
+//!
+//! Source: detectors are this profile.
+ghost use Rattle.std.specs.Prelude.{◌≡◌, ◌<◌, ◌≤◌, length, List, [], map, option_map, slice_get, IfOk, OnOk, OnErr};
+ghost use Rattle.std.specs.List.{All};
+ghost use Rattle.std.specs.Option.{option_copied};
+ghost use Rattle.street_base.specs.Limits.{last_clock};
+ghost use Rattle.street_base.specs.Shown.{shown_rows};
+ghost use Rattle.street_base.specs.State.{LaneState, Detector};
+ghost use Rattle.street_net.specs.Tables.{place_of};
+ghost use Rattle.street_lanes.specs.Views.{LaneStands};
+ghost use Rattle.street_lanes.specs.Lanes.{lane_of, IsOf};
+ghost use Rattle.street_lanes.specs.Motion.{DrivesAt};
+ghost use Rattle.street_meter.specs.Meter.{next_step};
+ghost use Rattle.street_lanes.specs.Detectors.{cleared, GoesOn, Notes, AllGoOn, AllNote, MetersStandFor, Placed};
+
+use crate::Lanes;
+use std::alloc::Global;
+use std::marker::Model;
+use street_base::{CarNo, CellNo, Reply, Starved, Step};
+use street_meter::{Meter, MeterSite};
+use street_net::{LaneId, Network};
+use street_node::SignalPlan;
+use street_rule::Watch;
+
+/// The meters of a lane, and their watches.
+#[derive(Drop)]
+pub(crate) struct LaneMeters {
+    /// How many cells the lane has.
+    length: CellNo,
+    meters: Vec<Meter>,
+    /// For each meter what its detector saw of the lane's last motion.
+    watches: Vec<Watch>,
+}
+
+impl Model for LaneMeters {
+    ghost use Rattle.street_lanes.specs.Detectors.{Detectors as Seen};
+
+    ghost Value = { Seen };
+
+    ghost use Rattle.street_lanes.specs.LaneMeters.{seen, IsSound};
+
+    ghost view = { seen };
+
+    ghost invariant = { IsSound };
+}
+
+/// A watch of a cell that has seen nothing.
+fn watch_at(cell: CellNo) -> Watch
+    ensures { result ≡ record { cell = cell; passes = 0; speeds = 0 } }
+{
+    Watch {
+        cell,
+        passes: 0,
+        speeds: 0,
+    }
+}
+
+/// Each watch has seen nothing, and watches its meter's cell.
+fn clear(watches: &mut [Watch], meters: &[Meter])
+    requires { length watches.old ≡ length meters.now }
+    ensures { watches.new ≡ map cleared meters.now }
+{
+    for k in 0..meters.len() {
+        watches[k] = watch_at(meters[k].place().cell);
+    }
+}
+
+/// A meter notes what its watch saw, and whether its cell is covered now.
+fn note_one(meter: &mut Meter, watch: Watch, own: &Lanes, lane: usize)
+    requires lane { lane < length own.now.lanes }
+    requires in_time { next_step meter.old < last_clock }
+    ensures goes { GoesOn meter.old meter.new }
+    ensures notes { (s : LaneState) → LaneStands (lane_of own.now lane) s → Notes s.track.cells watch meter.old meter.new }
+{
+    let covered = own.is_covered(lane, meter.place().cell);
+    meter.note(watch.passes, watch.speeds, u32::from(covered));
+}
+
+/// Each meter notes what its watch saw, and whether its cell is covered now.
+fn note_all(meters: &mut [Meter], watches: &[Watch], own: &Lanes, lane: usize)
+    requires lane { lane < length own.now.lanes }
+    requires even { length watches.now ≡ length meters.old }
+    requires in_time { All (λ x. next_step x < last_clock) meters.old }
+    ensures goes { AllGoOn meters.old meters.new }
+    ensures notes { (s : LaneState) → LaneStands (lane_of own.now lane) s → AllNote s.track.cells watches.now meters.old meters.new }
+{
+    for k in 0..meters.len() {
+        note_one(&mut meters[k], watches[k], own, lane);
+    }
+}
+
+impl LaneMeters {
+    /// No detectors, on a lane of so many cells. Takes no memory.
+    pub(crate) fn new(alloc: Global, length: CellNo) -> LaneMeters
+        ensures { result ≡ record { size = length; meters = []; watches = [] } }
+    {
+        LaneMeters {
+            length,
+            meters: Vec::new(alloc),
+            watches: Vec::new(alloc),
+        }
+    }
+
+    /// The motion of the lane, which is lane `lane` of these, seen by the watches. Answers who arrived. Takes no memory.
+    pub(crate) fn drive(
+        &mut self,
+        own: &mut Lanes,
+        net: &Network,
+        lane: usize,
+        clock: Step,
+        plan: Option<&SignalPlan>,
+    ) -> Option<CarNo>
+        requires lane { lane < length own.old.lanes }
+        requires of { IsOf net.now own.old }
+        requires size { self.old.size ≡ length (lane_of own.old lane).track.cells }
+        ensures drives { DrivesAt net.now (option_copied plan.entry) clock lane own.old own.new result (map cleared self.old.meters) self.new.watches }
+        ensures meters { self.new ≡ record self.old { watches = self.new.watches } }
+    {
+        clear(&mut self.watches, &self.meters);
+        own.drive(net, lane, clock, plan, &mut self.watches)
+    }
+
+    /// At the end of the step each meter notes what its watch saw of the motion, and whether its cell is covered. Takes no
+    /// memory.
+    pub(crate) fn note(&mut self, own: &Lanes, lane: usize)
+        requires lane { lane < length own.now.lanes }
+        requires in_time { All (λ x. next_step x < last_clock) self.old.meters }
+        ensures rest { self.new ≡ record self.old { meters = self.new.meters } }
+        ensures goes { AllGoOn self.old.meters self.new.meters }
+        ensures notes { (s : LaneState) → LaneStands (lane_of own.now lane) s → AllNote s.track.cells self.old.watches self.old.meters self.new.meters }
+    {
+        note_all(&mut self.meters, &self.watches, own, lane);
+    }
+
+    /// Places one more detector in a cell of the lane, which is at `at`, with a period of 1 to 100,000 steps; it notes from
+    /// the step `start` on. Answers its number among those of the lane.
+    ///
+    /// # Errors
+    /// Memory was refused; the detectors are as they were.
+    pub(crate) fn place(
+        &mut self,
+        alloc: Global,
+        at: LaneId,
+        cell: CellNo,
+        period: u32,
+        start: Step,
+    ) -> Result<usize, Starved>
+        requires cell { cell < self.old.size }
+        requires some { 1 ≤ period }
+        requires short { period ≤ 100000 }
+        requires start { start ≤ last_clock }
+        ensures number { IfOk result (λ number. number ≡ length self.old.meters) }
+        ensures ok { OnOk result (Placed (place_of at) cell period start self.old self.new) }
+        ensures err { OnErr result (self.new ≡ self.old) }
+    {
+        let place = MeterSite {
+            link: at.link,
+            lane: at.lane,
+            cell,
+        };
+        let meter = Meter::new(alloc, place, period, start)?;
+        self.meters.reserve(1)?;
+        self.watches.reserve(1)?;
+        let number = self.meters.len();
+        self.meters.push_reserved(meter);
+        self.watches.push_reserved(watch_at(cell));
+        Ok(number)
+    }
+
+    /// The rows of a detector, by its number among those of the lane, if there is one.
+    ///
+    /// # Errors
+    /// Memory was refused.
+    pub(crate) fn rows(&self, alloc: Global, number: usize) -> Result<Option<Reply>, Starved>
+        ensures { IfOk result (λ reply. (ds : List Detector) → MetersStandFor self.now.meters ds → reply ≡ option_map shown_rows (slice_get ds number)) }
+    {
+        if number >= self.meters.len() {
+            return Ok(None);
+        }
+        let rows = self.meters[number].rows(alloc)?;
+        Ok(Some(Reply::Rows {
+            now: rows.running,
+            rows: rows.full,
+        }))
+    }
+}

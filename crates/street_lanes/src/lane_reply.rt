@@ -1,0 +1,119 @@
+//! All of one lane, as it is shown.
+//!
+//! Source: this profile.
+ghost use Rattle.std.specs.Prelude.{◌≡◌, ℕ, ◌<◌, length, map, IfOk};
+ghost use Rattle.street_base.specs.declared.car.Car.{Car as Driven};
+ghost use Rattle.street_base.specs.State.{LaneState};
+ghost use Rattle.street_base.specs.Shown.{shown_lane};
+ghost use Rattle.street_lanes.specs.Views.{LaneStands};
+ghost use Rattle.street_lanes.specs.Lanes.{lane_of};
+ghost use Rattle.street_lanes.specs.Lists.{cars_on};
+ghost use Rattle.street_lanes.specs.ShownCars.{shown_in_buffer, shown_in_cell, shown_waiting, shown_stretch};
+ghost use Rattle.street_yard.specs.View.{viewed};
+
+use crate::lanes::Lanes;
+use crate::lists::{buffer_list, cells_list, waiting_list};
+use std::alloc::{AllocError, Global};
+use street_base::{BufferEntry, CellEntry, Listing, Reply, Starved, Stretch, WaitingEntry};
+use street_yard::{CarView, ListId, Yard};
+
+/// What a lane shows of a car.
+trait CarEntry: Sized {
+    /// What it shows of a car.
+    ghost shown: { Driven → Self };
+
+    /// What it shows of a car.
+    fn of(car: &CarView<'_>) -> Self
+        ensures { result ≡ shown (viewed car.now) };
+}
+
+impl CarEntry for BufferEntry {
+    ghost shown = { shown_in_buffer };
+
+    fn of(car: &CarView<'_>) -> BufferEntry {
+        BufferEntry {
+            car: u64::from(car.number),
+            speed: u64::from(car.speed),
+            ready: u64::from(car.step),
+        }
+    }
+}
+
+impl CarEntry for CellEntry {
+    ghost shown = { shown_in_cell };
+
+    fn of(car: &CarView<'_>) -> CellEntry {
+        CellEntry {
+            car: u64::from(car.number),
+            cell: u64::from(car.cell),
+            speed: u64::from(car.speed),
+            size: u64::from(car.size.cells()),
+        }
+    }
+}
+
+impl CarEntry for WaitingEntry {
+    ghost shown = { shown_waiting };
+
+    fn of(car: &CarView<'_>) -> WaitingEntry {
+        WaitingEntry {
+            car: u64::from(car.number),
+            depart: u64::from(car.step),
+        }
+    }
+}
+
+/// What is shown of the cars on a list, the front first.
+fn entries<E: CarEntry + Drop>(
+    alloc: Global,
+    yard: &Yard,
+    list: ListId,
+) -> Result<Listing<E>, AllocError>
+    requires { list.0 < length yard.now.lists }
+    ensures { IfOk result (λ entries. entries ≡ map E.shown (cars_on yard.now list.0)) }
+{
+    yard.whole();
+    let mut entries = Vec::with_capacity(alloc, yard.list_len(list))?;
+    let mut cursor = yard.list_front(list);
+    while let Some(key) = cursor {
+        entries.push(E::of(&yard.car(key)))?;
+        cursor = yard.behind(key);
+    }
+    Ok(Listing::from_vec(entries))
+}
+
+/// What is shown of closed stretches.
+fn closed_entries(
+    alloc: Global,
+    stretches: &[street_gap::Stretch],
+) -> Result<Listing<Stretch>, AllocError>
+    ensures { IfOk result (λ entries. entries ≡ map shown_stretch stretches.now) }
+{
+    let mut entries = Vec::with_capacity(alloc, stretches.len())?;
+    for stretch in stretches {
+        entries.push(Stretch {
+            first: u64::from(stretch.first),
+            last: u64::from(stretch.last),
+        })?;
+    }
+    Ok(Listing::from_vec(entries))
+}
+
+impl Lanes {
+    /// All of a lane: its buffer from the front, the vehicles from the greatest cell on, its closed stretches, and who
+    /// waits. Takes memory for what it answers.
+    ///
+    /// # Errors
+    /// Memory for the answer was refused.
+    pub fn lane(&self, alloc: Global, lane: usize) -> Result<Reply, Starved>
+        requires lane { lane < length self.now.lanes }
+        ensures { IfOk result (λ reply. (s : LaneState) → LaneStands (lane_of self.now lane) s → reply ≡ shown_lane s) }
+    {
+        Ok(Reply::Lane {
+            buffer: entries(alloc, &self.yard, buffer_list(lane))?,
+            cells: entries(alloc, &self.yard, cells_list(lane))?,
+            closed: closed_entries(alloc, self.closures[lane].stretches())?,
+            waiting: entries(alloc, &self.yard, waiting_list(lane))?,
+        })
+    }
+}

@@ -1,0 +1,184 @@
+//! Motion on one lane of a tile.
+//!
+//! Source: Nagel and Schreckenberg 1992; exits, buffers and detectors are this profile.
+ghost use Rattle.std.specs.Prelude.{◌≡◌, ◌^◌, ◌<◌, ◌≤◌, length, Some, IsSome};
+ghost use Rattle.std.specs.List.{All};
+ghost use Rattle.std.specs.Option.{option_copied};
+ghost use Rattle.street_base.specs.declared.car.Car.{Car as CarOf};
+ghost use Rattle.street_base.specs.Limits.{most_residence};
+ghost use Rattle.street_base.specs.Network.{end_node};
+ghost use Rattle.street_base.specs.Signal.{is_green};
+ghost use Rattle.street_rule.specs.Sight.{odds_of};
+ghost use Rattle.street_gap.specs.Closed.{IsWithin};
+ghost use Rattle.street_net.specs.Tables.{place_of};
+ghost use Rattle.street_rule.specs.Watch.{IsReady};
+ghost use Rattle.street_yard.specs.Yard.{list_at, entry_at, car_of, IsLoose};
+ghost use Rattle.street_yard.specs.Listed.{IsLane};
+ghost use Rattle.street_lanes.specs.Lanes.{lane_of, IsOf};
+ghost use Rattle.street_lanes.specs.Lists.{cells_list, buffer_list, NoneLoose, NoneLooseBut};
+ghost use Rattle.street_lanes.specs.Motion.{opens_to, cells_on, IsToldExit, Settles, MovesLane, DrivesAt};
+
+use crate::lanes::Lanes;
+use crate::lists::{buffer_list, cells_list};
+use street_base::{CarNo, CellNo, LinkIx, NodeSpec, Step, Turn};
+use street_gap::Closures;
+use street_net::{LaneId, Network};
+use street_node::SignalPlan;
+use street_rule::{Dice, Road, RoadLane, Watch, motion_pass};
+use street_yard::{Key, ListId, Yard};
+
+/// A lane of a tile in a step.
+#[derive(Clone, Copy)]
+pub(crate) struct Leg<'a> {
+    pub(crate) net: &'a Network,
+    /// Where it is in the network.
+    pub(crate) at: LaneId,
+    /// Its number among the lanes of the tile.
+    pub(crate) lane: usize,
+    pub(crate) closures: &'a Closures,
+    /// The plan of the node that it runs to, if that has one.
+    pub(crate) plan: Option<&'a SignalPlan>,
+    pub(crate) clock: Step,
+}
+
+/// The node that a link runs to.
+fn end_node(net: &Network, link: LinkIx) -> NodeSpec
+    requires { link < length net.now.links }
+    ensures node { end_node net.now link ≡ Some result }
+    ensures residence { result.residence ≤ most_residence }
+{
+    let _faultless = net.spec();
+    net.spec().nodes.as_slice()[net.end_of(link).position()]
+}
+
+/// Whether a lane's exit is open to its front vehicle, which goes on to this link: on its last link, or with a turn that is
+/// green and room in the buffer of the lane, in which there are so many. The signals are asked before the lane's turns, as
+/// where there are signals most who wait at an end have red.
+fn exit_is_open(leg: &Leg<'_>, buffered: usize, next: Option<LinkIx>) -> bool
+    requires { leg.now.at.link < length leg.now.net.now.links }
+    ensures { result ≡ opens_to leg.now.net.now (option_copied leg.now.plan) leg.now.clock (place_of leg.now.at) buffered next }
+{
+    let Some(next) = next else {
+        return true;
+    };
+    let end = end_node(leg.net, leg.at.link);
+    if buffered as u64 >= end.capacity {
+        return false;
+    }
+    is_shown_green(leg, next) && leg.net.serves(leg.at.link, leg.at.lane, next)
+}
+
+/// Whether the signals show green to those who go on to a link; without a plan they always do.
+fn is_shown_green(leg: &Leg<'_>, next: LinkIx) -> bool
+    ensures { result ≡ is_green (option_copied leg.now.plan) (place_of leg.now.at) next leg.now.clock }
+{
+    let Some(plan) = leg.plan else {
+        return true;
+    };
+    // Signals do not ask to which lane of the next link a turn leads.
+    let turn = Turn {
+        link: leg.at.link,
+        lane: leg.at.lane,
+        next,
+        next_lane: 0,
+    };
+    plan.green(&turn, leg.clock)
+}
+
+/// What a motion is told of the lane's exit: whether it is open to the front vehicle. To one that is too far from the lane's
+/// end it does not matter, and then nothing is looked up: neither its plan nor a turn nor the signals.
+fn exit_for(yard: &Yard, road: &Road<'_>, leg: &Leg<'_>, buffer: ListId, front: Key) -> bool
+    requires network { road.now.network ≡ leg.now.net.now }
+    requires link { road.now.link ≡ leg.now.at.link }
+    requires there { leg.now.at.link < length leg.now.net.now.links }
+    requires list { buffer.0 < length yard.now.lists }
+    requires front { IsSome (entry_at yard.now front.0) }
+    ensures { (car : CarOf) → car_of yard.now front.0 ≡ Some car
+        → IsToldExit leg.now.net.now (option_copied leg.now.plan) leg.now.clock (place_of leg.now.at) (length (list_at yard.now buffer.0)) car result }
+{
+    let _faultless = leg.net.spec();
+    let _within = road.link();
+    let reach = yard.cell(front).saturating_add(CellNo::from(road.limit()));
+    if reach < road.length() {
+        return true;
+    }
+    exit_is_open(leg, yard.list_len(buffer), yard.next_link(front))
+}
+
+/// A car that has left its lane arrives, if it is on its last link: it is taken out and its number answered. Else it comes
+/// last into the buffer.
+fn settle(yard: &mut Yard, buffer: ListId, key: Key, ready: Step) -> Option<CarNo>
+    requires list { buffer.0 < length yard.old.lists }
+    requires loose { IsLoose yard.old key.0 }
+    ensures settles { (car : CarOf) → car_of yard.old key.0 ≡ Some car → Settles buffer.0 ready car yard.old yard.new result }
+    ensures none_loose { NoneLooseBut key.0 yard.old → NoneLoose yard.new }
+{
+    yard.whole();
+    if yard.next_link(key).is_none() {
+        let car = yard.take(key);
+        return Some(car.number);
+    }
+    yard.set_step(key, ready);
+    yard.push_back(buffer, key);
+    None
+}
+
+/// The motion of a lane in a step. Nothing is done where nobody is in its cells. The exit is asked for the front vehicle
+/// alone, since it matters to nobody else.
+fn drive(yard: &mut Yard, dice: &mut Dice, leg: &Leg<'_>, watches: &mut [Watch]) -> Option<CarNo>
+    requires link { leg.now.at.link < length leg.now.net.now.links }
+    requires few { leg.now.lane < 2 ^ 32 }
+    requires listed { buffer_list leg.now.lane < length yard.old.lists }
+    requires lane { IsLane yard.old (cells_list leg.now.lane) (cells_on leg.now.net.now (place_of leg.now.at)) }
+    requires closed { IsWithin leg.now.closures.now (cells_on leg.now.net.now (place_of leg.now.at)) }
+    requires dice { dice.old ≡ odds_of leg.now.net.now }
+    requires watches { All (IsReady (cells_on leg.now.net.now (place_of leg.now.at))) watches.old }
+    ensures moves { MovesLane leg.now.net.now (option_copied leg.now.plan) leg.now.clock (place_of leg.now.at) leg.now.closures.now leg.now.lane yard.old yard.new result watches.old watches.new }
+    ensures dice { dice.new ≡ dice.old }
+{
+    let cells = cells_list(leg.lane);
+    let front = yard.list_front(cells)?;
+    let buffer = buffer_list(leg.lane);
+    let own = RoadLane {
+        list: cells,
+        closures: leg.closures,
+    };
+    let road = Road::new(leg.net, leg.at.link, own, None);
+    let exit = exit_for(yard, &road, leg, buffer, front);
+    let leaver = motion_pass(yard, &road, 0, leg.clock, exit, dice, watches)?;
+    let end = end_node(leg.net, leg.at.link);
+    let ready = leg.clock.saturating_add(end.residence as Step);
+    settle(yard, buffer, leaver.key, ready)
+}
+
+impl Lanes {
+    /// The motion of a lane in a step: all vehicles in its cells drive on, and at most one leaves. A leaver on its last link
+    /// has arrived: its number is answered, and there is room for one more. Any other comes last into the lane's buffer, from
+    /// where it may go on after the residence of the node. Takes no memory.
+    ///
+    /// `plan` is the signal plan of the node that the lane runs to, if it has one. `watches` are those of the lane's
+    /// detectors.
+    pub fn drive(
+        &mut self,
+        net: &Network,
+        lane: usize,
+        clock: Step,
+        plan: Option<&SignalPlan>,
+        watches: &mut [Watch],
+    ) -> Option<CarNo>
+        requires lane { lane < length self.old.lanes }
+        requires of { IsOf net.now self.old }
+        requires watches { All (IsReady (length (lane_of self.old lane).track.cells)) watches.old }
+        ensures { DrivesAt net.now (option_copied plan.entry) clock lane self.old self.new result watches.old watches.new }
+    {
+        let leg = Leg {
+            net,
+            at: self.extents[lane].at,
+            lane,
+            closures: &self.closures[lane],
+            plan,
+            clock,
+        };
+        drive(&mut self.yard, &mut self.dice, &leg, watches)
+    }
+}

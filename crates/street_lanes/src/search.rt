@@ -1,0 +1,72 @@
+//! The vehicle of a number on a lane.
+ghost use Rattle.std.specs.Prelude.{◌≡◌, ◌^◌, ◌<◌, length, true, IsSome, Some, option_map};
+ghost use Rattle.street_lanes.specs.Lists.{waiting_list};
+ghost use Rattle.street_yard.specs.Yard.{list_on};
+ghost use Rattle.street_lanes.specs.Search.{IsSought, IsFound, TakesOut};
+
+use crate::lists::{buffer_list, cells_list, waiting_list};
+use street_base::{Car, CarNo};
+use street_yard::{Key, ListId, Yard};
+
+/// Whether the car of a key has the number, and is on the list.
+pub(crate) fn stands_on(yard: &Yard, list: ListId, key: Key, number: CarNo) -> bool
+    ensures { result ≡ true → IsSought yard.now list.0 number (Some key.0) }
+{
+    yard.whole();
+    match yard.list_of(key) {
+        Some(on) => on == list && yard.number(key) == number,
+        None => false,
+    }
+}
+
+/// The key on a list whose car has the number. First it is asked whether that is the key of the hint.
+pub(crate) fn seek(yard: &Yard, list: ListId, number: CarNo, hint: Option<Key>) -> Option<Key>
+    requires { list.0 < length yard.now.lists }
+    ensures { IsSought yard.now list.0 number (option_map (λ k. k.0) result) }
+{
+    yard.whole();
+    if let Some(key) = hint
+        && stands_on(yard, list, key, number)
+    {
+        return hint;
+    }
+    let mut cursor = yard.list_front(list);
+    while let Some(key) = cursor {
+        if yard.number(key) == number {
+            return Some(key);
+        }
+        cursor = yard.behind(key);
+    }
+    None
+}
+
+/// The key on one of a lane's lists whose car has the number.
+pub(crate) fn seek_on_lane(
+    yard: &Yard,
+    lane: usize,
+    number: CarNo,
+    hint: Option<Key>,
+) -> Option<Key>
+    requires few { lane < 2 ^ 32 }
+    requires lists { waiting_list lane < length yard.now.lists }
+    ensures { IsFound yard.now lane number (option_map (λ k. k.0) result) }
+{
+    if let Some(key) = seek(yard, cells_list(lane), number, hint) {
+        return Some(key);
+    }
+    if let Some(key) = seek(yard, buffer_list(lane), number, hint) {
+        return Some(key);
+    }
+    seek(yard, waiting_list(lane), number, hint)
+}
+
+/// Takes the car of a key out, which is on a list.
+pub(crate) fn take_out(yard: &mut Yard, key: Key) -> Car
+    requires { IsSome (list_on yard.old key.0) }
+    ensures { TakesOut yard.old yard.new key.0 result }
+{
+    yard.whole();
+    yard.unlink(key);
+    yard.whole();
+    yard.take(key)
+}

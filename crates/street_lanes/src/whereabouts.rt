@@ -1,0 +1,147 @@
+//! Where the vehicle of a number is on one lane.
+//!
+//! Source: this profile.
+ghost use Rattle.std.specs.Prelude.{◌≡◌, ℕ, ◌<◌, ◌≤◌, length, None, IsSome, IfOk};
+ghost use Rattle.street_base.specs.Network.{link_at};
+ghost use Rattle.street_base.specs.Vehicle.{vehicle_of, remaining_plan};
+ghost use Rattle.street_base.specs.State.{LaneState};
+ghost use Rattle.street_base.specs.Census.{in_lane};
+ghost use Rattle.street_base.specs.Machine.{remaining_ids, seen_in};
+ghost use Rattle.street_net.specs.Tables.{place_of};
+ghost use Rattle.street_lanes.specs.Views.{LaneStands};
+ghost use Rattle.street_lanes.specs.Lanes.{lane_of, place_at, IsOf};
+ghost use Rattle.street_lanes.specs.Whereabouts.{told_in_cell, told_in_buffer, told_waiting};
+ghost use Rattle.street_yard.specs.View.{viewed};
+
+use crate::lanes::Lanes;
+use crate::lists::{buffer_list, cells_list, waiting_list};
+use crate::search::seek;
+use std::alloc::{AllocError, Global};
+use street_base::{CarNo, LinkIx, Listing, NetSpec, Starved, Whereabouts};
+use street_net::{LaneId, Network};
+use street_yard::CarView;
+
+/// The identifier of the link at a position, or 0 where the network has none.
+fn link_id(net: &NetSpec, link: LinkIx) -> u64
+    ensures { result ≡ (link_at net.now link).id }
+{
+    match net.links.as_slice().get(link.position()) {
+        Some(spec) => spec.id,
+        None => 0,
+    }
+}
+
+/// The plan of a car from its present link on.
+fn remaining_plan<'a>(car: &CarView<'a>) -> &'a [LinkIx]
+    ensures { result.now ≡ remaining_plan (vehicle_of (viewed car.now)) }
+{
+    let plan = car.plan.as_slice();
+    &plan[usize::from(car.at).min(plan.len())..]
+}
+
+/// The identifiers of the remaining plan of a car.
+fn remaining_ids(
+    alloc: Global,
+    net: &NetSpec,
+    car: &CarView<'_>,
+) -> Result<Listing<u64>, AllocError>
+    ensures { IfOk result (λ ids. ids ≡ remaining_ids net.now (vehicle_of (viewed car.now))) }
+{
+    let plan = remaining_plan(car);
+    let mut ids = Vec::with_capacity(alloc, plan.len())?;
+    for link in plan {
+        ids.push(link_id(net, *link))?;
+    }
+    Ok(Listing::from_vec(ids))
+}
+
+/// What is told of a car in a cell of a lane.
+fn told_in_cell(
+    alloc: Global,
+    net: &NetSpec,
+    at: LaneId,
+    car: &CarView<'_>,
+) -> Result<Whereabouts, AllocError>
+    ensures { IfOk result (λ told. told ≡ told_in_cell net.now (place_of at) (viewed car.now)) }
+{
+    Ok(Whereabouts::Cell {
+        link: link_id(net, at.link),
+        lane: u64::from(at.lane),
+        cell: u64::from(car.cell),
+        speed: u64::from(car.speed),
+        size: u64::from(car.size.cells()),
+        plan: remaining_ids(alloc, net, car)?,
+    })
+}
+
+/// What is told of a car in the buffer of a lane.
+fn told_in_buffer(
+    alloc: Global,
+    net: &NetSpec,
+    at: LaneId,
+    car: &CarView<'_>,
+) -> Result<Whereabouts, AllocError>
+    ensures { IfOk result (λ told. told ≡ told_in_buffer net.now (place_of at) (viewed car.now)) }
+{
+    Ok(Whereabouts::Buffer {
+        link: link_id(net, at.link),
+        lane: u64::from(at.lane),
+        ready: u64::from(car.step),
+        speed: u64::from(car.speed),
+        size: u64::from(car.size.cells()),
+        plan: remaining_ids(alloc, net, car)?,
+    })
+}
+
+/// What is told of a car that waits on a lane.
+fn told_waiting(
+    alloc: Global,
+    net: &NetSpec,
+    at: LaneId,
+    car: &CarView<'_>,
+) -> Result<Whereabouts, AllocError>
+    ensures { IfOk result (λ told. told ≡ told_waiting net.now (place_of at) (viewed car.now)) }
+{
+    Ok(Whereabouts::Waiting {
+        link: link_id(net, at.link),
+        lane: u64::from(at.lane),
+        depart: u64::from(car.step),
+        size: u64::from(car.size.cells()),
+        plan: remaining_ids(alloc, net, car)?,
+    })
+}
+
+impl Lanes {
+    /// Where the vehicle of a number is on a lane, if it is there. It stands there at most once. Takes memory for the plan
+    /// that it answers.
+    ///
+    /// # Errors
+    /// Memory for the plan was refused.
+    pub fn find_on(
+        &self,
+        alloc: Global,
+        net: &Network,
+        lane: usize,
+        number: CarNo,
+    ) -> Result<Option<Whereabouts>, Starved>
+        requires lane { lane < length self.now.lanes }
+        requires of { IsOf net.now self.now }
+        ensures found { IfOk result (λ found. (s : LaneState) → LaneStands (lane_of self.now lane) s → in_lane number s ≤ 1 → found ≡ seen_in net.now (place_at self.now lane) number s) }
+        ensures there { IfOk result (λ found. (s : LaneState) → LaneStands (lane_of self.now lane) s → (found ≡ None → in_lane number s ≡ 0) × (IsSome found → 0 < in_lane number s)) }
+    {
+        self.yard.whole();
+        let spec = net.spec();
+        let at = self.extents[lane].at;
+        let hint = self.hints.key_of(number);
+        if let Some(key) = seek(&self.yard, cells_list(lane), number, hint) {
+            return Ok(Some(told_in_cell(alloc, spec, at, &self.yard.car(key))?));
+        }
+        if let Some(key) = seek(&self.yard, buffer_list(lane), number, hint) {
+            return Ok(Some(told_in_buffer(alloc, spec, at, &self.yard.car(key))?));
+        }
+        if let Some(key) = seek(&self.yard, waiting_list(lane), number, hint) {
+            return Ok(Some(told_waiting(alloc, spec, at, &self.yard.car(key))?));
+        }
+        Ok(None)
+    }
+}

@@ -1,0 +1,77 @@
+-- The output of a text of lines.
+-- Source: this profile.
+use Rattle.std.specs.Prelude.{◌≡◌, ℕ, List, [], ◌∷◌, ◌++◌, length, Bool, true, false, if◌then◌else◌, Option, Some, Result, Ok, Err, codes}
+use Rattle.std.specs.Io.KnownBytes.{Appends, Consumes, IsAtEnd}
+use Rattle.std.specs.List.{count_by}
+use Rattle.street_base.specs.declared.command.Command.{Command}
+use Rattle.street_stream.specs.Lines.{is_blank, lines_of}
+use Rattle.street_stream.specs.declared.tally.Tally.{Tally}
+use Rattle.street_line.specs.declared.service.Served.{Served}
+use Rattle.street_line.specs.declared.service.Served.TheVariants.{Answered, Full}
+use Rattle.street_text.specs.ReplyLines.{line_of, error_data, reply_line}
+use Rattle.street_text.specs.LineCommands.{reading}
+use Rattle.street_text.specs.declared.fault.LineFault.{LineFault}
+use Rattle.street_text.specs.FaultLines.{fault_line}
+
+-- ---- one line
+
+-- a command is answered by its reply, or told that no place is left
+unfoldable pub served_line : Served → List ℕ
+served_line (Answered reply) = reply_line reply
+served_line Full = line_of (error_data 23 (codes "Full"))
+
+-- what a line is to a run: blank, faulty, or the call of a command
+pub data Said : Type 0 where
+  silent : Said
+  faulty : LineFault → Said
+  calls : Command → Said
+
+abbrev pub said_by : Result Command LineFault → Said
+said_by (Ok c) = calls c
+said_by (Err f) = faulty f
+
+-- blank comes before too long
+unfoldable pub said : List ℕ → Said
+said line = if is_blank line then silent else said_by (reading line)
+
+abbrev pub is_call : Said → Bool
+is_call silent = false
+is_call (faulty f) = false
+is_call (calls c) = true
+
+abbrev pub has_reply : Said → Bool
+has_reply silent = false
+has_reply (faulty f) = true
+has_reply (calls c) = true
+
+-- ---- runs
+
+module _ {S : Type 0} (serves : S → Command → Served → S → Type 0) where
+  -- a blank line gets nothing, a faulty one is told its fault without a call, and a command is served and answered
+  abbrev pub Done : S → Said → List ℕ → S → Type 0
+  Done old silent out new = (new ≡ old) × (out ≡ [])
+  Done old (faulty f) out new = (new ≡ old) × (fault_line f ≡ Some out)
+  Done old (calls c) out new = (r : Served) × serves old c r new × (out ≡ served_line r)
+
+  -- the lines, one after another
+  abbrev pub Goes : S → List (List ℕ) → List ℕ → S → Type 0
+  Goes old [] out new = (new ≡ old) × (out ≡ [])
+  Goes old (l ∷ ls) out new = (mid : S) × (first : List ℕ) × (rest : List ℕ) × Done old (said l) first mid × Goes mid ls rest new × (out ≡ first ++ rest)
+
+-- the tally of lines, and of what was written to them
+pub record IsTally (tally : Tally) (ls : List (List ℕ)) (out : List ℕ) : Type 0 where
+  pub lines : tally.lines ≡ length ls
+  pub calls : tally.calls ≡ count_by (λ l. is_call (said l)) ls
+  pub replies : tally.replies ≡ count_by (λ l. has_reply (said l)) ls
+  pub bytes : tally.bytes ≡ length out
+
+-- all lines of a text that was read to its end were served, and all of their output is written
+pub record ServedWhole {S : Type 0} (serves : S → Command → Served → S → Type 0) (start : S) (unread before : Option (List ℕ))
+    (now : S) (left after : Option (List ℕ)) (tally : Tally) : Type 0 where
+  pub text : List ℕ
+  pub out : List ℕ
+  pub read : Consumes unread left text
+  pub at_end : IsAtEnd left
+  pub served : Goes serves start (lines_of text) out now
+  pub written : Appends before after out
+  pub counted : IsTally tally (lines_of text) out

@@ -1,0 +1,21 @@
+-- A line that is served, as a handler of lines sees it.
+-- Source: this profile.
+use Rattle.std.specs.Prelude.{◌≡◌, List, ℕ, Bool, true, false, Option, Some, None}
+use Rattle.street_base.specs.declared.command.Command.{Command}
+use Rattle.street_stream.specs.HandledLines.{Effect}
+use Rattle.street_line.specs.Runs.{Said, is_call, has_reply, said, Done}
+use Rattle.street_line.specs.declared.service.Served.{Served}
+
+abbrev pub reply_of : Bool → List ℕ → Option (List ℕ)
+reply_of false out = None
+reply_of true out = Some out
+
+-- what a line gives, of which this is the output
+abbrev pub effect_of : Said → List ℕ → Effect
+effect_of what out = record { is_call = is_call what; reply = reply_of (has_reply what) out }
+
+abbrev pub IsAnswered : {S : Type 0} → (S → Command → Served → S → Type 0) → S → Said → Effect → S → Type 0
+IsAnswered serves old what effect new = (out : List ℕ) × Done serves old what out new × (effect ≡ effect_of what out)
+
+abbrev pub IsServed : {S : Type 0} → (S → Command → Served → S → Type 0) → S → List ℕ → Effect → S → Type 0
+IsServed serves old line effect new = IsAnswered serves old (said line) effect new

@@ -1,0 +1,119 @@
+//! A text of lines, served one after another.
+//!
+//! Source: this profile. Each reply is written, and passed on, before the next read.
+ghost use Rattle.std.specs.Prelude.{◌≡◌, ◌≤◌, IfOk, IfErr};
+ghost use Rattle.street_stream.specs.Streams.{IsFresh};
+ghost use Rattle.street_stream.specs.Faults.{IsCaused};
+ghost use Rattle.street_line.specs.Faults.{ServedInPart, kind_of};
+ghost use Rattle.street_line.specs.Runs.{ServedWhole};
+
+use crate::server::LineServer;
+use crate::service::Service;
+use std::alloc::Global;
+use std::io::{Read, Write};
+use street_base::Starved;
+use street_stream::{Cause, Counted, FaultKind, Limits, RunFault, Tally, drive_lines};
+use street_text::LONGEST_LINE;
+
+/// The most calls of `read` in one run.
+const MOST_READS: u32 = 1_000_000_000;
+
+/// Why the lines were not served to their end: one ends the run only where memory was wanting.
+fn kind_of(cause: Cause<Starved>) -> FaultKind
+    ensures { result ≡ kind_of cause }
+{
+    match cause {
+        Cause::Run(kind) => kind,
+        Cause::Line(_) => FaultKind::Starved,
+    }
+}
+
+/// Serves the lines of a text by the service that is held.
+fn serve_all<S: Service, R: Read, W: Write>(
+    alloc: Global,
+    server: &mut LineServer<'_, S>,
+    reader: &mut Counted<R>,
+    writer: &mut Counted<W>,
+    reads: u32,
+) -> Result<Tally, RunFault>
+    requires ready { S.ready }
+    requires reader { IsFresh reader.old }
+    requires writer { IsFresh writer.old }
+    ensures same_reference { server.new.service.ghost_name ≡ server.old.service.ghost_name }
+    ensures served { IfOk result (λ tally. ServedWhole S.serves server.old.service.now
+        (R.remaining reader.old.stream) (W.contents writer.old.stream) server.new.service.now
+        (R.remaining reader.new.stream) (W.contents writer.new.stream) tally) }
+    ensures broken { IfErr result (λ fault. ServedInPart S.serves server.old.service.now
+        (R.remaining reader.old.stream) (W.contents writer.old.stream) server.new.service.now
+        (R.remaining reader.new.stream) (W.contents writer.new.stream) fault) }
+    ensures caused { IfErr result (λ fault. IsCaused fault.kind reader.new writer.new reads) }
+    ensures bounded { reader.new.calls ≤ reads }
+{
+    let limits = Limits {
+        line: LONGEST_LINE,
+        reads,
+    };
+    match drive_lines(alloc, server, reader, writer, limits) {
+        Ok(tally) => Ok(tally),
+        Err(halt) => Err(RunFault {
+            kind: kind_of(halt.cause),
+            tally: halt.tally,
+        }),
+    }
+}
+
+/// Serves the lines of a text, in order and each once, and writes each reply, and passes it on, before the next read.
+///
+/// A line ends with LF or where the text ends. A line of spaces, tabs and CR alone is blank: it gets no reply. A line
+/// that is too long or does not read is answered by its fault, and makes no call. Of a line no more is kept than one
+/// byte above 1,048,576. The ends are fresh: nothing was called of them yet.
+///
+/// # Errors
+///
+/// `Read` where a read failed; `Write` where a write or a flush failed, or a write took no bytes; `Starved` where memory
+/// was wanting in reading a line or in printing its reply; `Endless` after so many reads. After a fault no more is read or
+/// served; what was served and written till then is `Breaks` of `specs/Faults`.
+pub fn run_lines_within<S: Service, R: Read, W: Write>(
+    alloc: Global,
+    service: &mut S,
+    reader: &mut Counted<R>,
+    writer: &mut Counted<W>,
+    reads: u32,
+) -> Result<Tally, RunFault>
+    requires ready { S.ready }
+    requires reader { IsFresh reader.old }
+    requires writer { IsFresh writer.old }
+    ensures served { IfOk result (λ tally. ServedWhole S.serves service.old (R.remaining reader.old.stream) (W.contents writer.old.stream)
+        service.new (R.remaining reader.new.stream) (W.contents writer.new.stream) tally) }
+    ensures broken { IfErr result (λ fault. ServedInPart S.serves service.old (R.remaining reader.old.stream) (W.contents writer.old.stream)
+        service.new (R.remaining reader.new.stream) (W.contents writer.new.stream) fault) }
+    ensures caused { IfErr result (λ fault. IsCaused fault.kind reader.new writer.new reads) }
+    ensures bounded { reader.new.calls ≤ reads }
+{
+    let mut server = LineServer { service };
+    serve_all(alloc, &mut server, reader, writer, reads)
+}
+
+/// Serves the lines of a text as [`run_lines_within`] does, with 1,000,000,000 reads at most.
+///
+/// # Errors
+///
+/// Those of [`run_lines_within`].
+pub fn run_lines<S: Service, R: Read, W: Write>(
+    alloc: Global,
+    service: &mut S,
+    reader: &mut Counted<R>,
+    writer: &mut Counted<W>,
+) -> Result<Tally, RunFault>
+    requires ready { S.ready }
+    requires reader { IsFresh reader.old }
+    requires writer { IsFresh writer.old }
+    ensures served { IfOk result (λ tally. ServedWhole S.serves service.old (R.remaining reader.old.stream) (W.contents writer.old.stream)
+        service.new (R.remaining reader.new.stream) (W.contents writer.new.stream) tally) }
+    ensures broken { IfErr result (λ fault. ServedInPart S.serves service.old (R.remaining reader.old.stream) (W.contents writer.old.stream)
+        service.new (R.remaining reader.new.stream) (W.contents writer.new.stream) fault) }
+    ensures caused { IfErr result (λ fault. IsCaused fault.kind reader.new writer.new 1000000000) }
+    ensures bounded { reader.new.calls ≤ 1000000000 }
+{
+    run_lines_within(alloc, service, reader, writer, MOST_READS)
+}

@@ -1,0 +1,96 @@
+-- What a driver decides, from what the code has looked up.
+use Rattle.std.proofs.Common.{◌≡◌, ℕ, zero, suc, ◌+◌, ◌-◌, ◌<◌, ◌≤◌, Bool, List, [], ◌∷◌, ◌++◌, length, IsSome, Option, Some, None, refl, sym, ap, subst, ◌∙◌, arith}
+use Rattle.std.specs.Prelude.{MatchOption, ◌&&◌, not}
+use Rattle.std.specs.Option.{option_map}
+use Rattle.std.specs.List.{list_all, range_with_len}
+use Rattle.street_base.specs.declared.car.Car.{Car}
+use Rattle.street_base.specs.Vehicle.{Vehicle, vehicle_of, next_link}
+use Rattle.street_base.specs.Lane.{Track, is_closed}
+use Rattle.street_base.specs.LaneChange.{Changing}
+use Rattle.street_yard.specs.Yard.{YardEntry, Yard, entry_at, car_of, first_or, last_or, IsWhole}
+use Rattle.street_yard.specs.Listed.{cell_at, rear_at, vehicle_with, IsFalling}
+use Rattle.street_yard.proofs.YardLemmas.{cell_is}
+use Rattle.street_yard.proofs.FallingLists.{falling-split}
+use Rattle.street_gap.specs.Closed.{is_in, closed_marks, entrance_after, are_open, IsWithin}
+use Rattle.street_gap.specs.declared.closures.Stretch.{Stretch}
+use Rattle.street_gap.specs.Sight.{lesser}
+use Rattle.street_gap.proofs.Entrances.{entrance-empty}
+use Rattle.street_gap.proofs.Marks.{closed_marks-length, closed_marks-at}
+use Rattle.street_rule.specs.Road.{RoadLane, IsRoadLane, track_of}
+use Rattle.street_rule.specs.Positions.{IsUpTo, IsPosition, IsNext}
+use Rattle.street_rule.specs.Sight.{gap_between, gap_up, has_room, has_room_between, wishes_with, decision}
+use Rattle.street_rule.proofs.ChangeSights.{room-is}
+
+-- a position is one from which on to search
+pub position-up_to : (y : Yard) (n cell : ℕ) (position : Option ℕ) → IsPosition y n cell position → IsUpTo y n cell position
+position-up_to y n cell position p = record { up = p.up; down = p.down; split = p.split; at_position = p.at_position; above = p.above }
+
+-- the vehicles below the position fall from the cell on
+under : (y : Yard) (count cell : ℕ) (up down : List ℕ) → IsFalling (cell_at y) count (up ++ down) → MatchOption (first_or down None) (Unit {0}) (λ k. cell_at y k ≤ cell) → IsFalling (cell_at y) (cell + 1) down
+under y count cell up [] f b = tt
+under y count cell up (d ∷ down) f b = (let h : cell_at y d ≤ cell = b in let r = falling-split (cell_at y) count up d down f in ((let g : cell_at y d < cell + 1 = omega arith in g), r.2))
+
+-- closed cells by stretches and by marks
+open-marks : (closed : List Stretch) (count low n : ℕ) → IsWithin closed count → list_all (λ z. not (is_in closed z)) (range_with_len low n) ≡ list_all (λ z. not (is_closed (closed_marks closed count) z)) (range_with_len low n)
+open-marks closed count low zero within = refl
+open-marks closed count low (suc n) within = rw (closed_marks-at closed count low within, open-marks closed count (low + 1) n within) refl
+
+-- whether there is room beside cells, by the rear of the position there and the cell of the key behind it
+pub room-beside : (y : Yard) (count : ℕ) (lane : RoadLane) (cell rear speed : ℕ) (position below : Option ℕ) → IsWhole y → IsRoadLane y count lane → IsPosition y lane.list cell position → IsNext y lane.list position below → rear ≤ cell
+    → (above_rear below_cell : Option ℕ) → above_rear ≡ option_map (rear_at y) position → below_cell ≡ option_map (cell_at y) below
+    → has_room_between (closed_marks lane.closed count) (are_open lane.closed rear cell) above_rear below_cell cell rear speed ≡ has_room (track_of y count lane) cell rear speed
+room-beside y count lane cell rear speed position below whole ok p next low above_rear below_cell above_is below_is =
+    let a : above_rear ≡ option_map (rear_at y) (last_or p.up None) = above_is ∙ ap (option_map (rear_at y)) p.at_position in
+    let b : below_cell ≡ option_map (cell_at y) (first_or p.down None) = below_is ∙ ap (option_map (cell_at y)) (next p.up p.down p.split p.at_position) in
+    ap (λ o. has_room_between (closed_marks lane.closed count) (are_open lane.closed rear cell) o below_cell cell rear speed) a
+    ∙ ap (λ o. has_room_between (closed_marks lane.closed count) (are_open lane.closed rear cell) (option_map (rear_at y) (last_or p.up None)) o cell rear speed) b
+    ∙ room-is y lane.list count whole ok.stands p.up p.down p.split cell p.above (under y count cell p.up p.down (subst (IsFalling (cell_at y) count) p.split ok.stands.falls) p.below)
+    (closed_marks lane.closed count) (closed_marks-length lane.closed count) rear speed low (are_open lane.closed rear cell) (open-marks lane.closed count rear (cell + 1 - rear) ok.within)
+
+-- where no cell is closed, only the vehicle ahead counts
+pub obstacle-open : (count : ℕ) (closed : List Stretch) (ahead : Option ℕ) (cell : ℕ) → closed ≡ [] → IsWithin closed count → ahead ≡ lesser ahead (entrance_after (closed_marks closed count) cell)
+obstacle-open count closed ahead cell none within = sym (ap (lesser ahead) (entrance-empty closed cell count (ap length none) within) ∙ lesser-none ahead)
+  where
+    lesser-none : (o : Option ℕ) → lesser o None ≡ o
+    lesser-none None = refl
+    lesser-none (Some a) = refl
+
+-- the gap up to the obstacle ahead, and the room beside, on a lane of the road
+pub gap-by : (count : ℕ) (lane seen : RoadLane) (ahead obstacle : Option ℕ) (cell : ℕ) → seen ≡ lane → IsWithin lane.closed count
+    → ((n : ℕ) → IsWithin seen.closed n → obstacle ≡ lesser ahead (entrance_after (closed_marks seen.closed n) cell)) → gap_between obstacle cell ≡ gap_up (closed_marks lane.closed count) ahead cell
+gap-by count lane seen ahead obstacle cell same within is =
+    ap (λ o. gap_between o cell) (is count (subst (λ (l : RoadLane). IsWithin l.closed count) (sym same) within)) ∙ ap (λ (l : RoadLane). gap_up (closed_marks l.closed count) ahead cell) same
+
+pub room-by : (y : Yard) (count : ℕ) (lane seen : RoadLane) (cell rear speed : ℕ) (r : Bool) → seen ≡ lane → IsRoadLane y count lane
+    → ((n : ℕ) → IsRoadLane y n seen → r ≡ has_room (track_of y n seen) cell rear speed) → r ≡ has_room (track_of y count lane) cell rear speed
+room-by y count lane seen cell rear speed r same ok is =
+    is count (subst (IsRoadLane y count) (sym same) ok) ∙ ap (λ l. has_room (track_of y count l) cell rear speed) same
+
+-- the car of an entry
+pub its_car : (y : Yard) (key : ℕ) → IsSome (entry_at y key) → (car : Car) × (car_of y key ≡ Some car)
+its_car y key h = of_entry (entry_at y key) h
+  where
+    of_entry : (o : Option YardEntry) → IsSome o → (car : Car) × (option_map (λ (e : YardEntry). e.car) o ≡ Some car)
+    of_entry None h = absurd (cc)
+    of_entry (Some e) h = (e.car, refl)
+
+-- the same car
+some-vehicle : (car : Car) (v : Vehicle) (o : Option Car) → o ≡ Some car → option_map vehicle_of o ≡ Some v → vehicle_of car ≡ v
+some-vehicle car v o e f = (let s : ◌≡◌ {A = Option Vehicle} (Some (vehicle_of car)) (Some v) = sym (ap (option_map vehicle_of) e) ∙ f in cc)
+
+-- what is read of a car apart from the rest
+pub field-is : {A : Type 0} (get : Car → A) (car : Car) (o : Option Car) (n : A) → o ≡ Some car → option_map get o ≡ Some n → n ≡ get car
+field-is {A = A} get car o n e f = (let s : ◌≡◌ {A = Option A} (Some n) (Some (get car)) = sym f ∙ ap (option_map get) e in cc)
+
+-- the decision by its parts: the wish, and room with the draw
+pub decided-by : (changing : Changing) (lane count : ℕ) (closed : List Bool) (ahead : Option ℕ) (other : Track) (y : Yard) (key : ℕ) (car : Car) (v : Vehicle) (cell tail speed gap : ℕ) (wish goes : Bool)
+    → car_of y key ≡ Some car → vehicle_with y key ≡ Some v → cell ≡ car.cell → tail ≡ car.cell - (car.size - 1) → speed ≡ car.speed → gap ≡ gap_up closed ahead cell → wish ≡ wishes_with changing lane count gap cell speed (next_link (vehicle_of car))
+    → goes ≡ (wish && (has_room other cell tail speed && changing.may_change car.number)) → goes ≡ decision changing lane count closed ahead other (cell_at y key) v
+decided-by changing lane count closed ahead other y key car v cell tail speed gap wish goes is seen cell_here tail_here speed_here gap_is wish_is goes_is =
+    goes_is
+    ∙ ap (λ w. w && (has_room other cell tail speed && changing.may_change car.number)) (wish_is ∙ ap (λ g. wishes_with changing lane count g cell speed (next_link (vehicle_of car))) gap_is)
+    ∙ ap (λ r. wishes_with changing lane count (gap_up closed ahead cell) cell speed (next_link (vehicle_of car)) && (has_room other cell r speed && changing.may_change car.number)) tail_here
+    ∙ ap (λ x. wishes_with changing lane count (gap_up closed ahead x) x speed (next_link (vehicle_of car)) && (has_room other x (car.cell - (car.size - 1)) speed && changing.may_change car.number)) cell_here
+    ∙ ap (λ s. wishes_with changing lane count (gap_up closed ahead car.cell) car.cell s (next_link (vehicle_of car)) && (has_room other car.cell (car.cell - (car.size - 1)) s && changing.may_change car.number)) speed_here
+    ∙ ap (λ x. decision changing lane count closed ahead other x (vehicle_of car)) (sym (cell_is y key car is))
+    ∙ ap (decision changing lane count closed ahead other (cell_at y key)) (some-vehicle car v (car_of y key) is seen)

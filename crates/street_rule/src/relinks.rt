@@ -1,0 +1,44 @@
+//! Moves of marked vehicles from one list to another.
+ghost use Rattle.std.specs.Prelude.{◌≡◌, ◌≢◌, ◌<◌, length, Some, option_map};
+ghost use Rattle.street_yard.specs.Yard.{list_on, IsOnList};
+ghost use Rattle.street_rule.specs.Positions.{IsFallen};
+ghost use Rattle.street_rule.specs.Relinked.{Carries, Relinks};
+
+use crate::positions::last_above;
+use street_yard::{Key, ListId, Yard};
+
+/// The key goes to its position on the other list, without a mark.
+fn carry(yard: &mut Yard, from: ListId, to: ListId, position: Option<Key>, key: Key)
+    requires from { from.0 < length yard.old.lists }
+    requires to { to.0 < length yard.old.lists }
+    requires apart { from.0 ≢ to.0 }
+    requires key { list_on yard.old key.0 ≡ Some from.0 }
+    requires position { IsOnList yard.old to.0 (option_map (λ k. k.0) position) }
+    ensures { Carries yard.old yard.new from.0 to.0 key.0 (option_map (λ k. k.0) position) }
+{
+    yard.mark(key, false);
+    yard.unlink(key);
+    yard.insert_behind(to, position, key);
+    yard.whole();
+}
+
+/// Each marked key of one list goes to its position on the other, and its mark is cleared.
+pub(crate) fn relink(yard: &mut Yard, from: ListId, to: ListId)
+    requires from { from.0 < length yard.old.lists }
+    requires to { to.0 < length yard.old.lists }
+    requires apart { from.0 ≢ to.0 }
+    requires falls { IsFallen yard.old from.0 }
+    ensures { Relinks yard.old yard.new from.0 to.0 }
+{
+    let mut position = None;
+    let mut cursor = yard.list_front(from);
+    while let Some(key) = cursor {
+        cursor = yard.behind(key);
+        if yard.is_marked(key) {
+            let cell = yard.cell(key);
+            let above = last_above(yard, to, position, cell);
+            carry(yard, from, to, above, key);
+            position = Some(key);
+        }
+    }
+}

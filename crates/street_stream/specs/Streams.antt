@@ -1,0 +1,38 @@
+-- What a stream counts, and what a tally counts of a reply.
+-- Source: this profile.
+use Rattle.std.specs.Prelude.{◌≡◌, ℕ, ◌+◌, ◌-◌, ◌^◌, ◌<◌, min, List, length, take, Option}
+use Rattle.std.specs.Io.KnownBytes.{Appends}
+use Rattle.street_stream.specs.declared.counted.Counted.{Counted}
+use Rattle.street_stream.specs.declared.tally.Tally.{Tally}
+
+-- one more, up to the greatest count
+abbrev pub one_more : ℕ → ℕ
+one_more n = min (n + 1) (2 ^ 64 - 1)
+
+-- nothing was called yet
+pub record IsFresh {T : Type 0} (c : Counted T) : Type 0 where
+  pub calls : c.calls ≡ 0
+  pub failures : c.failures ≡ 0
+  pub empty_writes : c.empty_writes ≡ 0
+
+-- a call failed, or a write took no byte
+abbrev pub HasFailed : {T : Type 0} → Counted T → Type 0
+HasFailed c = 0 < c.failures + c.empty_writes
+
+-- the text was written whole, and counted as a reply
+pub record IsWritten (before after : Option (List ℕ)) (text : List ℕ) (old new : Tally) : Type 0 where
+  pub written : Appends before after text
+  pub lines : new.lines ≡ old.lines
+  pub calls : new.calls ≡ old.calls
+  pub replies : new.replies ≡ old.replies + 1
+  pub bytes : new.bytes ≡ old.bytes + length text
+
+-- the first bytes of the text were written, not all, and no reply is counted
+pub record IsCut (before after : Option (List ℕ)) (text : List ℕ) (old new : Tally) : Type 0 where
+  pub sent : ℕ
+  pub less : sent < length text
+  pub written : Appends before after (take sent text)
+  pub lines : new.lines ≡ old.lines
+  pub calls : new.calls ≡ old.calls
+  pub replies : new.replies ≡ old.replies
+  pub bytes : new.bytes ≡ old.bytes + sent

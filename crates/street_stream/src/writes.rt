@@ -1,0 +1,73 @@
+//! Bytes that go out in parts.
+//!
+//! Source: this profile. A write that takes no bytes is a fault.
+ghost use Rattle.std.specs.Prelude.{◌≡◌, ◌<◌, ◌+◌, ◌^◌, OnOk, OnErr, IfErr, length, take};
+ghost use Rattle.std.specs.Io.KnownBytes.{Appends, Keeps};
+ghost use Rattle.street_stream.specs.Streams.{one_more, HasFailed, IsWritten, IsCut};
+ghost use Rattle.street_stream.specs.declared.tally.FaultKind.TheVariants as kinds;
+
+use crate::counted::Counted;
+use crate::tally::{FaultKind, Tally};
+use std::io::Write;
+
+/// Writes the bytes, or only the first of them, whose number it then answers: a write failed, or took no bytes.
+pub fn write_text<W: Write>(writer: &mut Counted<W>, text: &[u8]) -> Result<(), usize>
+    ensures written { OnOk result (Appends (W.contents writer.old.stream) (W.contents writer.new.stream) text.now) }
+    ensures part { IfErr result (λ sent. (sent < length text.now)
+        × Appends (W.contents writer.old.stream) (W.contents writer.new.stream) (take sent text.now)) }
+    ensures failed { OnErr result (HasFailed writer.new) }
+{
+    let mut at = 0;
+    while at < text.len() {
+        match writer.write(&text[at..]) {
+            Ok(0) | Err(_) => return Err(at),
+            Ok(n) => at += n,
+        }
+    }
+    Ok(())
+}
+
+/// Writes a reply, and counts it and what went out of it.
+///
+/// # Errors
+///
+/// `Write` where a write failed, or took no bytes.
+pub fn write_reply<W: Write>(
+    writer: &mut Counted<W>,
+    text: &[u8],
+    tally: &mut Tally,
+) -> Result<(), FaultKind>
+    requires count { tally.old.replies < 2 ^ 64 }
+    requires room { tally.old.bytes < 2 ^ 127 }
+    ensures written { OnOk result (IsWritten (W.contents writer.old.stream) (W.contents writer.new.stream) text.now tally.old tally.new) }
+    ensures part { OnErr result (IsCut (W.contents writer.old.stream) (W.contents writer.new.stream) text.now tally.old tally.new) }
+    ensures failed { IfErr result (λ kind. (kind ≡ kinds.Write) × HasFailed writer.new) }
+{
+    match write_text(writer, text) {
+        Ok(()) => {
+            tally.bytes += text.len() as u128;
+            tally.replies += 1;
+            Ok(())
+        }
+        Err(sent) => {
+            tally.bytes += sent as u128;
+            Err(FaultKind::Write)
+        }
+    }
+}
+
+/// Passes on what a buffered writer still holds.
+///
+/// # Errors
+///
+/// `Write` where that failed.
+pub fn flush_out<W: Write>(writer: &mut Counted<W>) -> Result<(), FaultKind>
+    ensures called { writer.new.calls ≡ one_more writer.old.calls }
+    ensures kept { Keeps (W.contents writer.old.stream) (W.contents writer.new.stream) }
+    ensures failed { IfErr result (λ kind. (kind ≡ kinds.Write) × HasFailed writer.new) }
+{
+    if writer.flush().is_err() {
+        return Err(FaultKind::Write);
+    }
+    Ok(())
+}

@@ -1,0 +1,35 @@
+use Rattle.std.proofs.Common.{◌<◌, ◌^◌, length, arith}
+use Rattle.std.proofs.lemmas.Result.{IfOk-weaker, IfErr-weaker}
+use Rattle.street_tape.proofs.Upgraded.{calls_fit, upgrades_whole, upgrade_cut, upgrade_misses, upgrade_broke}
+use Rattle.street_tape.specs.declared.upgrades.Upgrader.{Upgrader}
+use Rattle.street_tape.proofs.upgrades.upgrade_within.Goals as goal
+
+pub write_kept-requires : goal.write_kept-requires
+write_kept-requires g c =
+    let start : Upgrader = record { tape = c.new-tape.result; lines = c.new-lines.result } in
+    let few : length c.drive_lines.new.handler.lines.items < 2 ^ 64 = rw (← c.as_slice.ensures.value) (omega (arith, c.as_slice.ensures.len)) in
+    calls_fit start c.new-tape.ensures c.new-lines.ensures.items _ _ _ _ _ _ c.in-Ok.ensures.whole few
+
+pub returns-in-Ok-check_end-clause-upgraded : goal.returns-in-Ok-check_end-clause-upgraded
+returns-in-Ok-check_end-clause-upgraded g c =
+    let start : Upgrader = record { tape = c.new-tape.result; lines = c.new-lines.result } in
+    IfOk-weaker c.write_kept.result _ _
+    (λ all did. upgrades_whole start c.new-tape.ensures c.new-lines.ensures.items _ _ _ _ _ _ c.in-Ok.ensures.whole _ all c.in-Ok-check_end.ensures.whole did.0 did.1)
+    (rw c.as_slice.ensures.value at c.write_kept.ensures.written)
+
+pub returns-in-Ok-check_end-clause-stops : goal.returns-in-Ok-check_end-clause-stops
+returns-in-Ok-check_end-clause-stops g c =
+    let start : Upgrader = record { tape = c.new-tape.result; lines = c.new-lines.result } in
+    IfErr-weaker c.write_kept.result _ _
+    (λ told cut. upgrade_cut start c.new-tape.ensures c.new-lines.ensures.items _ _ _ _ _ _ c.in-Ok.ensures.whole _ told c.in-Ok-check_end.ensures.whole cut)
+    (rw c.as_slice.ensures.value at c.write_kept.ensures.part)
+
+pub returns-in-Err-clause-stops : goal.returns-in-Err-clause-stops
+returns-in-Err-clause-stops g c =
+    let start : Upgrader = record { tape = c.new-tape.result; lines = c.new-lines.result } in
+    rw c.fault_of.ensures (upgrade_broke start c.new-tape.ensures _ _ _ _ _ _ _ c.in-Err.ensures.broken)
+
+pub returns-clause-stops : goal.returns-clause-stops
+returns-clause-stops g c =
+    let start : Upgrader = record { tape = c.new-tape.result; lines = c.new-lines.result } in
+    upgrade_misses start c.new-tape.ensures c.new-lines.ensures.items _ _ _ _ _ _ c.in-Ok.ensures.whole _ c.in-Err-check_end.ensures.missing

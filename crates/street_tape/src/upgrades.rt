@@ -1,0 +1,178 @@
+//! A tape, written anew in version 2.
+//!
+//! Source: this profile. Nothing is written before the tape was read to its end.
+ghost use Rattle.std.specs.Prelude.{◌≡◌, ◌≤◌, ◌<◌, ◌^◌, ◌++◌, OnOk, IfOk, IfErr, length};
+ghost use Rattle.std.specs.Io.KnownBytes.{Appends};
+ghost use Rattle.street_stream.specs.Streams.{IsFresh};
+ghost use Rattle.street_tape.specs.Faults.{IsTapeCaused};
+ghost use Rattle.street_tape.specs.Upgrades.{UpgradesWhole, UpgradeStops, CutShort, IsCausedByWrite, with_bytes};
+ghost use Rattle.street_tape.specs.Tapes.{entry_line, head_line};
+
+use crate::fault::{TapeFault, check_end, fault_of};
+use crate::{LONGEST_TAPE_LINE, Stop, Tape, entry_text, write_lines};
+use std::alloc::Global;
+use std::io::{Read, Write};
+use street_base::Starved;
+use street_desk::Entry;
+use street_stream::{
+    Answer, Counted, Limits, LineHandler, PartialLine, RunFault, Tally, drive_lines,
+};
+
+/// The most calls of `read` in one upgrade.
+const MOST_READS: u32 = 1_000_000_000;
+
+/// A tape as far as it was read, and the lines of its calls in version 2.
+#[derive(Drop)]
+struct Upgrader {
+    tape: Tape,
+    lines: Vec<u8>,
+}
+
+/// Keeps the line of a call.
+fn keep_line(alloc: Global, lines: &mut Vec<u8>, call: &Entry) -> Result<(), Starved>
+    ensures { OnOk result (lines.new.items ≡ lines.old.items ++ entry_line call.now) }
+{
+    let text = entry_text(alloc, call)?;
+    lines.extend_from_slice(text.as_slice())?;
+    Ok(())
+}
+
+impl LineHandler for Upgrader {
+    ghost use Rattle.std.specs.Prelude.{⊤};
+    ghost use Rattle.street_tape.specs.Upgrades.{UpgradesLine, RefusesLine};
+    ghost use Rattle.street_tape.specs.Entries.{longest_tape_line};
+
+    type Stop = Stop;
+
+    ghost longest = { longest_tape_line };
+
+    ghost takes = { UpgradesLine };
+
+    ghost stops = { RefusesLine };
+
+    ghost ready = { ⊤ };
+
+    /// The first line tells the version; the line of each call is kept.
+    fn take(&mut self, alloc: Global, line: &PartialLine) -> Result<Answer, Stop> {
+        let taken = self.tape.take(alloc, line.as_slice())?;
+        match taken {
+            None => Ok(Answer {
+                is_call: false,
+                reply: Ok(None),
+            }),
+            Some(call) => {
+                keep_line(alloc, &mut self.lines, &call)?;
+                Ok(Answer {
+                    is_call: true,
+                    reply: Ok(None),
+                })
+            }
+        }
+    }
+}
+
+/// Writes the tape of so many calls as the tally has, from their lines, and counts its bytes.
+///
+/// # Errors
+///
+/// The fault of the write, with the bytes that went out.
+fn write_kept<W: Write>(
+    alloc: Global,
+    lines: &[u8],
+    writer: &mut Counted<W>,
+    tally: Tally,
+) -> Result<Tally, TapeFault>
+    requires { tally.calls < 2 ^ 64 }
+    ensures written { IfOk result (λ all. (all ≡ with_bytes tally (length (head_line tally.calls ++ lines.now)))
+        × Appends (W.contents writer.old.stream) (W.contents writer.new.stream) (head_line tally.calls ++ lines.now)) }
+    ensures part { IfErr result (λ fault. CutShort tally (W.contents writer.old.stream) (head_line tally.calls ++ lines.now)
+        (W.contents writer.new.stream) fault) }
+    ensures caused { IfErr result (λ fault. IsCausedByWrite fault writer.new) }
+{
+    let mut bytes = 0;
+    match write_lines(alloc, tally.calls as u64, lines, writer, &mut bytes) {
+        Ok(()) => Ok(with_bytes(tally, bytes)),
+        Err(kind) => Err(TapeFault::Run(RunFault {
+            kind,
+            tally: with_bytes(tally, bytes),
+        })),
+    }
+}
+
+/// The tally with so many bytes.
+fn with_bytes(tally: Tally, bytes: u128) -> Tally
+    ensures { result ≡ with_bytes tally bytes }
+{
+    Tally {
+        lines: tally.lines,
+        calls: tally.calls,
+        replies: tally.replies,
+        bytes,
+    }
+}
+
+/// Upgrades a tape as [`upgrade`] does, with so many reads at most.
+///
+/// # Errors
+///
+/// Those of [`upgrade`]; `Endless` after so many reads.
+pub fn upgrade_within<D: Read, W: Write>(
+    alloc: Global,
+    reader: &mut Counted<D>,
+    writer: &mut Counted<W>,
+    reads: u32,
+) -> Result<Tally, TapeFault>
+    requires reader { IsFresh reader.old }
+    requires writer { IsFresh writer.old }
+    ensures upgraded { IfOk result (λ tally. UpgradesWhole (D.remaining reader.old.stream) (W.contents writer.old.stream)
+        (D.remaining reader.new.stream) (W.contents writer.new.stream) tally) }
+    ensures stops { IfErr result (λ fault. UpgradeStops (D.remaining reader.old.stream) (W.contents writer.old.stream)
+        (D.remaining reader.new.stream) (W.contents writer.new.stream) fault) }
+    ensures caused { IfErr result (λ fault. IsTapeCaused fault reader.new writer.new reads) }
+    ensures bounded { reader.new.calls ≤ reads }
+{
+    let tape = Tape::new();
+    let lines = Vec::new(alloc);
+    let mut upgrader = Upgrader { tape, lines };
+    let limits = Limits {
+        line: LONGEST_TAPE_LINE,
+        reads,
+    };
+    let tally = match drive_lines(alloc, &mut upgrader, reader, writer, limits) {
+        Ok(tally) => tally,
+        Err(halt) => return Err(fault_of(halt.cause, halt.tally)),
+    };
+    match check_end(&upgrader.tape, &tally) {
+        Ok(()) => write_kept(alloc, upgrader.lines.as_slice(), writer, tally),
+        Err(fault) => Err(fault),
+    }
+}
+
+/// Reads a whole tape of version 1 or 2, and then writes the tape of version 2 of the same calls. Of a tape of version 1 no
+/// size is kept: each vehicle that enters has size 1 there. No engine is asked, so an advance that the machine would refuse is
+/// no fault. In the tally `lines` and `calls` are those that were read, and no reply is counted.
+///
+/// A line ends with LF or where the tape ends, and may have 2,097,152 bytes. The ends are fresh: nothing was called of them
+/// yet. It takes memory for the lines of the tape, all at once.
+///
+/// # Errors
+///
+/// `NotTape` and `BadEntry` as [`replay`](crate::replay) has them: nothing was written. `Run` where a read failed, a write or
+/// a flush failed or a write took no bytes, memory was wanting, or after 1,000,000,000 reads: of the tape the first
+/// `tally.bytes` bytes are written, and none before the other was read to its end.
+pub fn upgrade<D: Read, W: Write>(
+    alloc: Global,
+    reader: &mut Counted<D>,
+    writer: &mut Counted<W>,
+) -> Result<Tally, TapeFault>
+    requires reader { IsFresh reader.old }
+    requires writer { IsFresh writer.old }
+    ensures upgraded { IfOk result (λ tally. UpgradesWhole (D.remaining reader.old.stream) (W.contents writer.old.stream)
+        (D.remaining reader.new.stream) (W.contents writer.new.stream) tally) }
+    ensures stops { IfErr result (λ fault. UpgradeStops (D.remaining reader.old.stream) (W.contents writer.old.stream)
+        (D.remaining reader.new.stream) (W.contents writer.new.stream) fault) }
+    ensures caused { IfErr result (λ fault. IsTapeCaused fault reader.new writer.new 1000000000) }
+    ensures bounded { reader.new.calls ≤ 1000000000 }
+{
+    upgrade_within(alloc, reader, writer, MOST_READS)
+}

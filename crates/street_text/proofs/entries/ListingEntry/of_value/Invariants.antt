@@ -1,9 +1,0 @@
-use Rattle.std.proofs.Common.{◌≡◌, drop}
-use Rattle.serde_json.specs.View.{view, items_view}
-use Rattle.street_text.specs.Reading.{entries_of, list_in}
-use Rattle.street_text.proofs.ListEntries.{with_front}
-use Rattle.street_text.proofs.entries.ListingEntry.of_value.Given as goal
-
-abbrev pub invariant-loop-item : goal.invariant-loop-item
-invariant-loop-item g l =
-    with_front l.found.items (entries_of g.T.Entry.entry (items_view (drop l.item-index l.item-items))) ≡ list_in g.T.Entry.entry (view l.fn.value)

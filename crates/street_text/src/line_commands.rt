@@ -1,0 +1,279 @@
+//! From the bytes of a line to a command: one small function for each command.
+//!
+//! Source: this profile.
+ghost use Rattle.std.specs.Prelude.{◌≡◌, ◌⊎◌};
+ghost use Rattle.serde_json.specs.Errors.{IsMemory};
+ghost use Rattle.serde_json.specs.View.{view};
+ghost use Rattle.street_text.specs.LineCommands.{numbers_in, load_in, signal_in, size_in, enter_in, advance_in, close_in, reopen_in, take_out_in, place_meter_in, read_meter_in, vehicle_in, lane_in, observing_names, named_in, named, command_in, or_fault, reading, value_of, Gives, GivesValue};
+
+use crate::fault::LineFault;
+use crate::values::{field_of, number_or};
+use serde_json::{Category, Error, Value};
+use std::alloc::Global;
+use street_base::{Command, NetSpec};
+
+/// The most bytes that a line may have, its LF not counted.
+pub const LONGEST_LINE: usize = 1_048_576;
+
+/// The numbers of a network that is loaded.
+#[derive(Clone, Copy)]
+struct NetNumbers {
+    zone: u64,
+    dawdle: u64,
+    change: u64,
+    seed: u64,
+    start: u64,
+}
+
+#[tactic(auto, unfolding(crate::specs::LineCommands::numbers_in))]
+fn numbers(alloc: Global, value: &Value) -> Result<NetNumbers, LineFault>
+    ensures { Gives result (or_fault LineFault.BadCommand (numbers_in (view value.now))) }
+{
+    let zone = field_of(alloc, value, "zone")?;
+    let dawdle = field_of(alloc, value, "dawdle")?;
+    let change = field_of(alloc, value, "change")?;
+    let seed = field_of(alloc, value, "seed")?;
+    let start = number_or(value, "start", 0)?;
+    Ok(NetNumbers {
+        zone,
+        dawdle,
+        change,
+        seed,
+        start,
+    })
+}
+
+#[tactic(auto, unfolding(crate::specs::LineCommands::load_in))]
+fn load(alloc: Global, value: &Value) -> Result<Command, LineFault>
+    ensures { Gives result (or_fault LineFault.BadCommand (load_in (view value.now))) }
+{
+    let nodes = field_of(alloc, value, "nodes")?;
+    let links = field_of(alloc, value, "links")?;
+    let turns = field_of(alloc, value, "turns")?;
+    let numbers = numbers(alloc, value)?;
+    Ok(Command::Load(NetSpec {
+        nodes,
+        links,
+        turns,
+        zone: numbers.zone,
+        dawdle: numbers.dawdle,
+        change: numbers.change,
+        seed: numbers.seed,
+        start: numbers.start,
+    }))
+}
+
+#[tactic(auto, unfolding(crate::specs::LineCommands::signal_in))]
+fn signal(alloc: Global, value: &Value) -> Result<Command, LineFault>
+    ensures { Gives result (or_fault LineFault.BadCommand (signal_in (view value.now))) }
+{
+    let node = field_of(alloc, value, "node")?;
+    let offset = field_of(alloc, value, "offset")?;
+    let phases = field_of(alloc, value, "phases")?;
+    Ok(Command::Signal {
+        node,
+        offset,
+        phases,
+    })
+}
+
+/// How many cells a vehicle covers: 1 where the field is absent, and where sizes are not read.
+fn size_of_vehicle(value: &Value, sized: bool) -> Result<u64, LineFault>
+    ensures { Gives result (or_fault LineFault.BadCommand (size_in sized (view value.now))) }
+{
+    if sized {
+        number_or(value, "size", 1)
+    } else {
+        Ok(1)
+    }
+}
+
+#[tactic(auto, unfolding(crate::specs::LineCommands::enter_in))]
+fn enter(alloc: Global, value: &Value, sized: bool) -> Result<Command, LineFault>
+    ensures { Gives result (or_fault LineFault.BadCommand (enter_in sized (view value.now))) }
+{
+    let plan = field_of(alloc, value, "plan")?;
+    let lane = field_of(alloc, value, "lane")?;
+    let depart = field_of(alloc, value, "depart")?;
+    let size = size_of_vehicle(value, sized)?;
+    Ok(Command::Enter {
+        plan,
+        lane,
+        depart,
+        size,
+    })
+}
+
+#[tactic(auto, unfolding(crate::specs::LineCommands::advance_in))]
+fn advance(alloc: Global, value: &Value) -> Result<Command, LineFault>
+    ensures { Gives result (or_fault LineFault.BadCommand (advance_in (view value.now))) }
+{
+    let steps = field_of(alloc, value, "steps")?;
+    Ok(Command::Advance { steps })
+}
+
+#[tactic(auto, unfolding(crate::specs::LineCommands::close_in))]
+fn close(alloc: Global, value: &Value) -> Result<Command, LineFault>
+    ensures { Gives result (or_fault LineFault.BadCommand (close_in (view value.now))) }
+{
+    let link = field_of(alloc, value, "link")?;
+    let lane = field_of(alloc, value, "lane")?;
+    let first = field_of(alloc, value, "first")?;
+    let last = field_of(alloc, value, "last")?;
+    Ok(Command::CloseLane {
+        link,
+        lane,
+        first,
+        last,
+    })
+}
+
+#[tactic(auto, unfolding(crate::specs::LineCommands::reopen_in))]
+fn reopen(alloc: Global, value: &Value) -> Result<Command, LineFault>
+    ensures { Gives result (or_fault LineFault.BadCommand (reopen_in (view value.now))) }
+{
+    let link = field_of(alloc, value, "link")?;
+    let lane = field_of(alloc, value, "lane")?;
+    let first = field_of(alloc, value, "first")?;
+    let last = field_of(alloc, value, "last")?;
+    Ok(Command::ReopenLane {
+        link,
+        lane,
+        first,
+        last,
+    })
+}
+
+#[tactic(auto, unfolding(crate::specs::LineCommands::take_out_in))]
+fn take_out(alloc: Global, value: &Value) -> Result<Command, LineFault>
+    ensures { Gives result (or_fault LineFault.BadCommand (take_out_in (view value.now))) }
+{
+    let car = field_of(alloc, value, "car")?;
+    Ok(Command::TakeOut { car })
+}
+
+#[tactic(auto, unfolding(crate::specs::LineCommands::place_meter_in))]
+fn place_meter(alloc: Global, value: &Value) -> Result<Command, LineFault>
+    ensures { Gives result (or_fault LineFault.BadCommand (place_meter_in (view value.now))) }
+{
+    let link = field_of(alloc, value, "link")?;
+    let lane = field_of(alloc, value, "lane")?;
+    let cell = field_of(alloc, value, "cell")?;
+    let period = field_of(alloc, value, "period")?;
+    Ok(Command::PlaceMeter {
+        link,
+        lane,
+        cell,
+        period,
+    })
+}
+
+#[tactic(auto, unfolding(crate::specs::LineCommands::read_meter_in))]
+fn read_meter(alloc: Global, value: &Value) -> Result<Command, LineFault>
+    ensures { Gives result (or_fault LineFault.BadCommand (read_meter_in (view value.now))) }
+{
+    let meter = field_of(alloc, value, "meter")?;
+    Ok(Command::ReadMeter { meter })
+}
+
+#[tactic(auto, unfolding(crate::specs::LineCommands::vehicle_in))]
+fn vehicle(alloc: Global, value: &Value) -> Result<Command, LineFault>
+    ensures { Gives result (or_fault LineFault.BadCommand (vehicle_in (view value.now))) }
+{
+    let car = field_of(alloc, value, "car")?;
+    Ok(Command::Vehicle { car })
+}
+
+#[tactic(auto, unfolding(crate::specs::LineCommands::lane_in))]
+fn lane(alloc: Global, value: &Value) -> Result<Command, LineFault>
+    ensures { Gives result (or_fault LineFault.BadCommand (lane_in (view value.now))) }
+{
+    let link = field_of(alloc, value, "link")?;
+    let lane = field_of(alloc, value, "lane")?;
+    Ok(Command::Lane { link, lane })
+}
+
+/// The command of a name that observes: by a meter, a vehicle, a lane, or a count of all.
+fn observing(alloc: Global, name: &str, value: &Value) -> Result<Command, LineFault>
+    ensures { Gives result (or_fault LineFault.BadCommand (named_in observing_names name.now (view value.now))) }
+{
+    match name {
+        "meter" => place_meter(alloc, value),
+        "read" => read_meter(alloc, value),
+        "vehicle" => vehicle(alloc, value),
+        "lane" => lane(alloc, value),
+        "count" => Ok(Command::Count),
+        _ => Err(LineFault::BadCommand),
+    }
+}
+
+/// The command of a name.
+#[tactic(auto, unfolding(crate::specs::LineCommands::named))]
+fn named(alloc: Global, name: &str, value: &Value, sized: bool) -> Result<Command, LineFault>
+    ensures { Gives result (or_fault LineFault.BadCommand (named sized name.now (view value.now))) }
+{
+    match name {
+        "load" => load(alloc, value),
+        "signal" => signal(alloc, value),
+        "enter" => enter(alloc, value, sized),
+        "advance" => advance(alloc, value),
+        "close" => close(alloc, value),
+        "reopen" => reopen(alloc, value),
+        "takeout" => take_out(alloc, value),
+        _ => observing(alloc, name, value),
+    }
+}
+
+/// The command that a JSON value says. Where sizes are not read, each vehicle that enters has size 1, whatever is told.
+///
+/// # Errors
+///
+/// `BadCommand` where it says none; `Starved` where there was no memory for its lists.
+#[tactic(auto, unfolding(crate::specs::LineCommands::command_in))]
+pub fn command_of(alloc: Global, value: &Value, sized: bool) -> Result<Command, LineFault>
+    ensures { Gives result (or_fault LineFault.BadCommand (command_in sized (view value.now))) }
+{
+    let name = value
+        .get("cmd")
+        .and_then(Value::as_str)
+        .ok_or(LineFault::BadCommand)?;
+    named(alloc, name, value, sized)
+}
+
+/// The fault of a text that was not read: only want of memory says nothing of the text.
+fn fault_of(error: &Error) -> LineFault
+    ensures { ((result ≡ LineFault.Starved) × IsMemory error.now)
+        ⊎ ((result ≡ LineFault.NotJson) × ¬ IsMemory error.now) }
+{
+    match error.classify() {
+        Category::Memory => LineFault::Starved,
+        _ => LineFault::NotJson,
+    }
+}
+
+#[tactic(auto, unfolding(crate::specs::LineCommands::value_of))]
+fn parse(alloc: Global, line: &[u8]) -> Result<Value, LineFault>
+    ensures { GivesValue result (value_of line.now) }
+{
+    match Value::from_slice(alloc, line) {
+        Ok(value) => Ok(value),
+        Err(error) => Err(fault_of(&error)),
+    }
+}
+
+/// The command of a line, which stands without its LF, or the line's first fault. The numbers of a command are not
+/// tested for their ranges.
+///
+/// # Errors
+///
+/// `LineTooLong` above 1,048,576 bytes, then `NotJson`, then `BadCommand`; `Starved` where the reading found no memory.
+#[tactic(auto, unfolding(crate::specs::LineCommands::reading))]
+pub fn read_command(alloc: Global, line: &[u8]) -> Result<Command, LineFault>
+    ensures { Gives result (reading line.now) }
+{
+    if line.len() > LONGEST_LINE {
+        return Err(LineFault::LineTooLong);
+    }
+    let value = parse(alloc, line)?;
+    command_of(alloc, &value, true)
+}

@@ -1,0 +1,156 @@
+//! From a JSON value to the numbers, rows and lists that stand in it.
+//!
+//! Source: this profile.
+ghost use Rattle.std.specs.Prelude.{◌≡◌, Option};
+ghost use Rattle.serde_json.specs.Data.{Data};
+ghost use Rattle.serde_json.specs.View.{view};
+ghost use Rattle.street_text.specs.LineCommands.{number_in, list_in, row_in, node_in, link_in, turn_in, green_in, phase_in, field, number_or, or_fault, Gives};
+
+use crate::fault::LineFault;
+use serde_json::Value;
+use std::alloc::Global;
+use street_base::{GreenSpec, LinkSpec, Listing, NodeSpec, PhaseSpec, TurnSpec};
+
+/// What stands at a place of a value.
+pub(crate) trait FromValue {
+    ghost entry: { Data → Option Self };
+
+    fn of_value(alloc: Global, value: &Value) -> Result<Self, LineFault>
+        ensures { Gives result (or_fault LineFault.BadCommand (entry (view value.now))) };
+}
+
+impl FromValue for u64 {
+    ghost entry = { number_in };
+
+    fn of_value(_alloc: Global, value: &Value) -> Result<u64, LineFault> {
+        value.as_u64().ok_or(LineFault::BadCommand)
+    }
+}
+
+impl<T: FromValue + Drop> FromValue for Listing<T> {
+    ghost entry = { list_in T.entry };
+
+    fn of_value(alloc: Global, value: &Value) -> Result<Listing<T>, LineFault> {
+        let list = value.as_array().ok_or(LineFault::BadCommand)?;
+        // As long as it will be: a journal keeps it.
+        let Ok(mut found) = Vec::with_capacity(alloc, list.len()) else {
+            return Err(LineFault::Starved);
+        };
+        for item in list {
+            let entry = T::of_value(alloc, item)?;
+            if found.push(entry).is_err() {
+                return Err(LineFault::Starved);
+            }
+        }
+        Ok(Listing::from_vec(found))
+    }
+}
+
+/// A list of exactly `N` numbers.
+#[tactic(auto, unfolding(crate::specs::LineCommands::row_in))]
+fn row<const N: usize>(value: &Value) -> Option<[u64; N]>
+    ensures { result ≡ row_in N (view value.now) }
+{
+    let list = value.as_array()?;
+    if list.len() != N {
+        return None;
+    }
+    let mut row = [0u64; N];
+    for (i, item) in list.iter().enumerate() {
+        row[i] = item.as_u64()?;
+    }
+    Some(row)
+}
+
+#[tactic(auto, unfolding(crate::specs::LineCommands::node_in))]
+impl FromValue for NodeSpec {
+    ghost entry = { node_in };
+
+    fn of_value(_alloc: Global, value: &Value) -> Result<NodeSpec, LineFault> {
+        let [id, residence, capacity] = row::<3>(value).ok_or(LineFault::BadCommand)?;
+        Ok(NodeSpec {
+            id,
+            residence,
+            capacity,
+        })
+    }
+}
+
+#[tactic(auto, unfolding(crate::specs::LineCommands::link_in))]
+impl FromValue for LinkSpec {
+    ghost entry = { link_in };
+
+    fn of_value(_alloc: Global, value: &Value) -> Result<LinkSpec, LineFault> {
+        let [id, from, to, lanes, length, limit] = row::<6>(value).ok_or(LineFault::BadCommand)?;
+        Ok(LinkSpec {
+            id,
+            from,
+            to,
+            lanes,
+            length,
+            limit,
+        })
+    }
+}
+
+#[tactic(auto, unfolding(crate::specs::LineCommands::turn_in))]
+impl FromValue for TurnSpec {
+    ghost entry = { turn_in };
+
+    fn of_value(_alloc: Global, value: &Value) -> Result<TurnSpec, LineFault> {
+        let [link, lane, next, next_lane] = row::<4>(value).ok_or(LineFault::BadCommand)?;
+        Ok(TurnSpec {
+            link,
+            lane,
+            next,
+            next_lane,
+        })
+    }
+}
+
+#[tactic(auto, unfolding(crate::specs::LineCommands::green_in))]
+impl FromValue for GreenSpec {
+    ghost entry = { green_in };
+
+    fn of_value(_alloc: Global, value: &Value) -> Result<GreenSpec, LineFault> {
+        let [link, lane, next] = row::<3>(value).ok_or(LineFault::BadCommand)?;
+        Ok(GreenSpec { link, lane, next })
+    }
+}
+
+#[tactic(auto, unfolding(crate::specs::LineCommands::phase_in))]
+impl FromValue for PhaseSpec {
+    ghost entry = { phase_in };
+
+    fn of_value(alloc: Global, value: &Value) -> Result<PhaseSpec, LineFault> {
+        let list = value.as_array().ok_or(LineFault::BadCommand)?;
+        if list.len() != 2 {
+            return Err(LineFault::BadCommand);
+        }
+        let duration = list[0].as_u64().ok_or(LineFault::BadCommand)?;
+        let greens = Listing::of_value(alloc, &list[1])?;
+        Ok(PhaseSpec { duration, greens })
+    }
+}
+
+/// The field of a name.
+pub(crate) fn field_of<T: FromValue>(
+    alloc: Global,
+    value: &Value,
+    name: &str,
+) -> Result<T, LineFault>
+    ensures { Gives result (or_fault LineFault.BadCommand (field T.entry name.now (view value.now))) }
+{
+    let found = value.get(name).ok_or(LineFault::BadCommand)?;
+    T::of_value(alloc, found)
+}
+
+/// The number of a name, and `absent` where the field is absent.
+pub(crate) fn number_or(value: &Value, name: &str, absent: u64) -> Result<u64, LineFault>
+    ensures { Gives result (or_fault LineFault.BadCommand (number_or absent name.now (view value.now))) }
+{
+    match value.get(name) {
+        Some(found) => found.as_u64().ok_or(LineFault::BadCommand),
+        None => Ok(absent),
+    }
+}

@@ -1,0 +1,157 @@
+-- The hand-overs of all tiles together are the entries of the machine.
+use Rattle.std.proofs.Common.{◌≡◌, Bool, true, false, List, [], ◌∷◌, ◌++◌, map, refl, sym, ◌∙◌, ap, arith, inl, inr}
+use Rattle.std.specs.Prelude.{Option, Some, None, find, filter, filter_map, option_to_list, option_map, option_and_then, if◌then◌else◌, nat_le}
+use Rattle.std.specs.Option.{option_map_or}
+use Rattle.std.specs.List.{list_any, cons_option}
+use Rattle.std.proofs.lemmas.Bool.{cases_Bool, cond-true, cond-false, both_ways, or_right}
+use Rattle.street_base.specs.Lane.{is_free}
+use Rattle.street_base.specs.Network.{Place, is_place, link_at, places}
+use Rattle.street_base.specs.Vehicle.{Vehicle}
+use Rattle.street_base.specs.State.{Traffic, Queued, lane_at}
+use Rattle.street_base.specs.Census.{one_if}
+use Rattle.street_base.specs.Release.{front, exit_lane, may_give, giver, entering, on_next_link}
+use Rattle.street_base.proofs.ReleaseLemmas.{is_place-same, is_place-refl, is_place-swap}
+use Rattle.street_tile.specs.Halves.{Transfer, takes, entry_on, crossing, entries_to}
+use Rattle.street_tile.specs.Walks.{times}
+use Rattle.street_tile.proofs.Walks.{times-cons, chosen-leads}
+
+-- of a list in which q stands once, what stands at q alone
+module _ (h : Place → List Vehicle) (q : Place) (others : (p : Place) → is_place q p ≡ false → h p ≡ []) where
+  abbrev pub gathered : List Place → List Vehicle
+  gathered [] = []
+  gathered (p ∷ ps) = h p ++ gathered ps
+
+  nobody : (ps : List Place) → times q ps ≡ 0 → gathered ps ≡ []
+  nobody [] e = refl
+  nobody (p ∷ ps) e =
+      let cons = times-cons q p ps in
+      let none : times q ps ≡ 0 = omega (arith, cons) in
+      elim (cases_Bool (is_place q p)) as (λ _. gathered (p ∷ ps) ≡ []) [
+        | inl here ↦ absurd (let one : one_if (is_place q p) ≡ 1 = ap one_if here in omega (arith, cons, one))
+        | inr other ↦ rw (others p other, nobody ps none) refl
+      ]
+
+  pub alone : (ps : List Place) → times q ps ≡ 1 → gathered ps ≡ h q
+  alone [] e = absurd (omega arith)
+  alone (p ∷ ps) e =
+      let cons = times-cons q p ps in
+      elim (cases_Bool (is_place q p)) as (λ _. gathered (p ∷ ps) ≡ h q) [
+        | inl here ↦ (
+            let one : one_if (is_place q p) ≡ 1 = ap one_if here in
+            let none : times q ps ≡ 0 = omega (arith, cons, one) in
+            let same = is_place-same q p here in
+            rw (nobody ps none, same) (rw append_nil refl))
+        | inr other ↦ (
+            let no : one_if (is_place q p) ≡ 0 = ap one_if other in
+            let rest : times q ps ≡ 1 = omega (arith, cons, no) in
+            rw (others p other) (alone ps rest))
+      ]
+    where
+      append_nil : (xs : List Vehicle) → xs ++ [] ≡ xs
+      append_nil [] = refl
+      append_nil (x ∷ xs) = ap (λ (ys : List Vehicle). x ∷ ys) (append_nil xs)
+
+  pub none-gathered : ((p : Place) → h p ≡ []) → (ps : List Place) → gathered ps ≡ []
+  none-gathered none [] = refl
+  none-gathered none (p ∷ ps) = rw (none p, none-gathered none ps) refl
+
+find-among : (test : Place → Bool) (xs : List Place) (x : Place) → find test xs ≡ Some x → list_any (is_place x) xs ≡ true
+find-among test [] x e = cc
+find-among test (y ∷ xs) x e = elim (cases_Bool (test y)) as (λ _. list_any (is_place x) (y ∷ xs) ≡ true) [
+  | inl t ↦ (let h : Some y ≡ Some x = sym (cond-true _ _ _ t) ∙ e in let same : y ≡ x = cc in rw (same, is_place-refl x) refl)
+  | inr f ↦ or_right (is_place x y) _ (find-among test xs x (sym (cond-false _ _ _ f) ∙ e))
+]
+
+-- of an entry, who enters this lane
+abbrev pub enters : Place → Option Transfer → List Vehicle
+enters to None = []
+enters to (Some e) = if is_place to e.to then e.vehicle ∷ [] else []
+
+pub entries-cons : (to : Place) (o : Option Transfer) (es : List Transfer) → entries_to to (cons_option o es) ≡ enters to o ++ entries_to to es
+entries-cons to None es = refl
+entries-cons to (Some e) es = by_test (is_place to e.to)
+  where
+    by_test : (b : Bool) → map (λ (x : Transfer). x.vehicle) (if b then e ∷ filter (λ x. is_place to x.to) es else filter (λ x. is_place to x.to) es) ≡ (if b then e.vehicle ∷ [] else []) ++ entries_to to es
+    by_test true = refl
+    by_test false = refl
+
+entries-gathered : (c : Place → Option Transfer) (to q : Place) (others : (p : Place) → is_place q p ≡ false → enters to (c p) ≡ []) (ps : List Place) → entries_to to (filter_map c ps) ≡ gathered (λ p. enters to (c p)) q others ps
+entries-gathered c to q others [] = refl
+entries-gathered c to q others (p ∷ ps) = entries-cons to (c p) (filter_map c ps) ∙ ap (λ (vs : List Vehicle). enters to (c p) ++ vs) (entries-gathered c to q others ps)
+
+module _ (m : Traffic) (to : Place) where
+  -- who enters this lane if it takes the front of that buffer
+  abbrev front_enters : Option Queued → List Vehicle
+  front_enters o = option_map_or (λ q. on_next_link (link_at m.network to.link).limit q.vehicle ∷ []) o []
+
+  not_chosen : (from : Place) (xs : List Vehicle) → (takes (giver m to) from ≡ true → ⊥) → (if takes (giver m to) from then xs else []) ≡ []
+  not_chosen from xs never = elim (cases_Bool (takes (giver m to) from)) as (λ _. (if takes (giver m to) from then xs else []) ≡ []) [
+    | inl chosen ↦ absurd (never chosen)
+    | inr e ↦ cond-false _ _ _ e
+  ]
+
+  -- what crosses from a buffer into this lane
+  pub crosses : (from : Place) → enters to (crossing m from) ≡ (if takes (giver m to) from then front_enters (front m from) else [])
+  crosses from = by_front (front m from) refl
+    where
+      either : {A : Type 0} (b : Bool) (x : A) → (if b then x else x) ≡ x
+      either true x = refl
+      either false x = refl
+
+      by_ready : (b : Bool) (o : Option Place) → option_map_or (is_place to) (if b then o else None) false ≡ true → option_map_or (is_place to) o false ≡ true
+      by_ready true o l = l
+      by_ready false o l = cc
+
+      leads-out : (q : Queued) → front m from ≡ Some q → takes (giver m to) from ≡ true → option_map_or (is_place to) (exit_lane m from q.vehicle) false ≡ true
+      leads-out q e t =
+          let leads = chosen-leads m to from t in
+          let led : option_map_or (is_place to) (if nat_le q.ready m.clock then exit_lane m from q.vehicle else None) false ≡ true = rw e at leads in
+          by_ready (nat_le q.ready m.clock) (exit_lane m from q.vehicle) led
+
+      shut_out : (b : Bool) (t : Place) (v : Vehicle) → is_place to t ≡ false → enters to (if b then Some (entry_on m.network v t) else None) ≡ []
+      shut_out true t v other = cond-false (is_place to t) (on_next_link (link_at m.network t.link).limit v ∷ []) [] other
+      shut_out false t v other = refl
+
+      let_in : (b : Bool) (v : Vehicle) → enters to (if b then Some (entry_on m.network v to) else None) ≡ (if b then on_next_link (link_at m.network to.link).limit v ∷ [] else [])
+      let_in true v = cond-true (is_place to to) (on_next_link (link_at m.network to.link).limit v ∷ []) [] (is_place-refl to)
+      let_in false v = refl
+
+      by_exit : (q : Queued) → front m from ≡ Some q → (o : Option Place) → exit_lane m from q.vehicle ≡ o →
+          enters to (option_and_then (λ t. if takes (giver m t) from then Some (entry_on m.network q.vehicle t) else None) o) ≡ (if takes (giver m to) from then on_next_link (link_at m.network to.link).limit q.vehicle ∷ [] else [])
+      by_exit q e None x = sym (not_chosen from _ (λ t. let no : false ≡ true = rw x at (leads-out q e t) in both_ways false refl no))
+      by_exit q e (Some t) x = elim (cases_Bool (is_place to t)) as (λ _. enters to (if takes (giver m t) from then Some (entry_on m.network q.vehicle t) else None) ≡ (if takes (giver m to) from then on_next_link (link_at m.network to.link).limit q.vehicle ∷ [] else [])) [
+        | inl here ↦ (let same = is_place-same to t here in rw (← same) (let_in (takes (giver m to) from) q.vehicle))
+        | inr other ↦ shut_out (takes (giver m t) from) t q.vehicle other ∙ sym (not_chosen from _ (λ c. let h : is_place to t ≡ true = rw x at (leads-out q e c) in both_ways _ other h))
+      ]
+
+      by_front : (o : Option Queued) → front m from ≡ o → enters to (option_and_then (λ q. option_and_then (λ t. if takes (giver m t) from then Some (entry_on m.network q.vehicle t) else None) (exit_lane m from q.vehicle)) o) ≡ (if takes (giver m to) from then front_enters o else [])
+      by_front None e = sym (either (takes (giver m to) from) [])
+      by_front (Some q) e = by_exit q e (exit_lane m from q.vehicle) refl
+
+  chosen-among : (from : Place) → giver m to ≡ Some from → list_any (is_place from) (places m.network) ≡ true
+  unfolding giver
+  chosen-among from e = elim (cases_Bool (is_free (lane_at m to).track 0)) as (λ _. list_any (is_place from) (places m.network) ≡ true) [
+    | inl free ↦ find-among (may_give m to) (places m.network) from (sym (cond-true _ _ _ free) ∙ e)
+    | inr shut ↦ (let none : ◌≡◌ {A = Option Place} None (Some from) = sym (cond-false _ _ _ shut) ∙ e in cc)
+  ]
+
+  -- of the crossings from all buffers, each once, those into this lane are who enters it
+  pub crossings-enter : (ps : List Place) → ((q : Place) → list_any (is_place q) (places m.network) ≡ true → times q ps ≡ 1) → entries_to to (filter_map (crossing m) ps) ≡ option_to_list (entering m to)
+  crossings-enter ps all = by_giver (giver m to) refl
+    where
+      entered : (o : Option Queued) → front_enters o ≡ option_to_list (option_map (λ q. on_next_link (link_at m.network to.link).limit q.vehicle) o)
+      entered None = refl
+      entered (Some q) = refl
+
+      by_giver : (o : Option Place) → giver m to ≡ o → entries_to to (filter_map (crossing m) ps) ≡ option_to_list (option_and_then (λ from. option_map (λ q. on_next_link (link_at m.network to.link).limit q.vehicle) (front m from)) o)
+      by_giver None e =
+          let none : (p : Place) → enters to (crossing m p) ≡ [] = λ p. crosses p ∙ not_chosen p _ (λ t. let no : false ≡ true = rw e at t in both_ways false refl no) in
+          entries-gathered (crossing m) to to (λ p _. none p) ps ∙ none-gathered (λ p. enters to (crossing m p)) to (λ p _. none p) none ps
+      by_giver (Some from) e =
+          let others : (p : Place) → is_place from p ≡ false → enters to (crossing m p) ≡ [] =
+          λ p other. crosses p ∙ not_chosen p _ (λ t. let h : is_place p from ≡ true = rw e at t in both_ways _ other (is_place-swap from p ∙ h)) in
+          entries-gathered (crossing m) to from others ps
+          ∙ alone (λ p. enters to (crossing m p)) from others ps (all from (chosen-among from e))
+          ∙ crosses from
+          ∙ cond-true _ _ _ (ap (λ (o : Option Place). takes o from) e ∙ is_place-refl from)
+          ∙ entered (front m from)

@@ -1,0 +1,60 @@
+-- Motion of a tile, lane after lane.
+use Rattle.std.proofs.Common.{◌≡◌, ℕ, ◌+◌, ◌-◌, ◌<◌, ◌≤◌, true, List, [], ◌∷◌, ◌++◌, length, take, get_or, refl, sym, ◌∙◌, ap, arith}
+use Rattle.std.specs.Prelude.{Option, Some, None, nat_le, nat_lt, filter_map, option_to_list, slice_get}
+use Rattle.std.specs.List.{cons_option}
+use Rattle.std.proofs.lemmas.Bool.{and_parts, leb-true, ltb-true}
+use Rattle.std.proofs.lemmas.List.{take_more, take_all, append_assoc, get_or_default}
+use Rattle.std.proofs.lemmas.List.Elements.{filter_map-append}
+use Rattle.std.proofs.lemmas.Option.{slice_get_within, get_or_from_slice_get}
+use Rattle.street_base.specs.declared.net.NetSpec.{NetSpec}
+use Rattle.street_base.specs.Network.{Place, node_of, link_at}
+use Rattle.street_base.specs.Signal.{SignalPlan}
+use Rattle.street_base.specs.State.{Traffic, lane_at}
+use Rattle.street_base.specs.Step.{driven, driven_lane, arrival, leaver_of, plan_at}
+use Rattle.street_lanes.specs.Lanes.{IsLane}
+use Rattle.street_lanes.specs.Whole.{IsOn}
+use Rattle.street_lanes.specs.Motion.{PlanStands}
+use Rattle.street_tile.specs.Tiles.{ShowSignals, is_own}
+use Rattle.street_tile.proofs.Each.{lane_at-each}
+
+pub lane_at-driven : (net : NetSpec) (m : Traffic) → IsOn net m → (p : Place) → IsLane net p → lane_at (driven m) p ≡ driven_lane m p (lane_at m p)
+unfolding driven
+lane_at-driven net m on p there = lane_at-each net m on p there (driven_lane m)
+
+module _ (m : Traffic) (ps : List Place) where
+  -- one more lane, of which this number arrives, or nobody
+  pub arrivals-more : (n : ℕ) (p : Place) → slice_get ps n ≡ Some p → (before now after : List ℕ) (number : Option ℕ) → now ≡ before ++ filter_map (λ q. arrival (leaver_of m q)) (take n ps) → number ≡ arrival (leaver_of m p) → after ≡ now ++ option_to_list number → after ≡ before ++ filter_map (λ q. arrival (leaver_of m q)) (take (n + 1) ps)
+  arrivals-more n p at before now after number so_far is grown =
+      let h = slice_get_within ps n p at in
+      let more : take (n + 1) ps ≡ take n ps ++ p ∷ [] = take_more ps n p h ∙ ap (λ (x : Place). take n ps ++ x ∷ []) (get_or_from_slice_get ps n p p at) in
+      grown
+      ∙ ap (λ (xs : List ℕ). xs ++ option_to_list number) so_far
+      ∙ append_assoc before (filter_map (λ q. arrival (leaver_of m q)) (take n ps)) (option_to_list number)
+      ∙ ap (λ (xs : List ℕ). before ++ xs) (ap (λ (o : Option ℕ). filter_map (λ q. arrival (leaver_of m q)) (take n ps) ++ option_to_list o) is ∙ ap (λ (xs : List ℕ). filter_map (λ q. arrival (leaver_of m q)) (take n ps) ++ xs) (one (arrival (leaver_of m p))) ∙ sym (filter_map-append (λ q. arrival (leaver_of m q)) (take n ps) (p ∷ [])) ∙ ap (filter_map (λ q. arrival (leaver_of m q))) (sym more))
+    where
+      one : (o : Option ℕ) → option_to_list o ≡ cons_option o []
+      one None = refl
+      one (Some k) = refl
+
+  pub arrivals-all : (n : ℕ) (before now : List ℕ) → now ≡ before ++ filter_map (λ q. arrival (leaver_of m q)) (take n ps) → length ps ≤ n → now ≡ before ++ filter_map (λ q. arrival (leaver_of m q)) ps
+  arrivals-all n before now so_far all = so_far ∙ ap (λ (xs : List Place). before ++ filter_map (λ q. arrival (leaver_of m q)) xs) (take_all n ps all)
+
+-- an own lane's link runs to an own node
+pub own-node : (net : NetSpec) (low high : ℕ) (p : Place) (node : ℕ) → node_of net (link_at net p.link).to ≡ Some node → is_own net low high p ≡ true → (low ≤ node) × (node < high)
+own-node net low high p node is own =
+    let both = and_parts (nat_le low node) (nat_lt node high) (rw is at own) in
+    (leb-true low node both.0, ltb-true node high both.1)
+
+-- the plan of the node to which a link runs
+pub plan-of_node : (net : NetSpec) (m : Traffic) → m.network ≡ net → (link node : ℕ) → node_of net (link_at net link).to ≡ Some node → plan_at m link ≡ get_or m.signals node None
+plan-of_node net m on link node is = rw (on, is) refl
+
+-- a plan that is kept at that node's place shows as the machine's does
+pub plan-shown : (net : NetSpec) (m : Traffic) → m.network ≡ net → (low : ℕ) (signals : List (Option SignalPlan)) (p : Place) (node : ℕ) → node_of net (link_at net p.link).to ≡ Some node → is_own net low (low + length signals) p ≡ true → ShowSignals low (low + length signals) signals m
+    → (plan d : Option SignalPlan) → plan ≡ get_or signals (node - low) d → PlanStands plan (plan_at m p.link)
+plan-shown net m on low signals p node is own shows plan d e =
+    let inside = own-node net low (low + length signals) p node is own in
+    let above = inside.0 in
+    let below = inside.1 in
+    let kept : plan ≡ get_or signals (node - low) None = e ∙ get_or_default signals (node - low) d None (omega arith) in
+    rw (kept, plan-of_node net m on p.link node is) (shows node above below)

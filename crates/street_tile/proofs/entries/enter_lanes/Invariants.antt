@@ -1,0 +1,21 @@
+use Rattle.std.proofs.Common.{◌≡◌, ◌+◌, ◌≤◌, map, length}
+use Rattle.std.specs.Prelude.{Option, None}
+use Rattle.street_base.specs.Network.{Place}
+use Rattle.street_base.specs.Vehicle.{Vehicle}
+use Rattle.street_base.specs.State.{Traffic}
+use Rattle.street_base.specs.Departure.{departed_lane}
+use Rattle.street_lanes.specs.Lanes.{Same}
+use Rattle.street_lanes.specs.Whole.{LanesStand, AllFree}
+use Rattle.street_tile.specs.Halves.{placed_lane, vehicle_in}
+use Rattle.street_tile.proofs.SameLanes.{LanesDone}
+use Rattle.street_tile.proofs.WrittenList.{IsWritten}
+use Rattle.street_tile.proofs.entries.enter_lanes.Given as goal
+
+abbrev pub invariant-loop-n : goal.invariant-loop-n
+invariant-loop-n l = record {
+  same : Same l.fn.own l.own;
+  room : length l.fn.own.places ≤ l.own.room + l.n;
+  done : (m : Traffic) (entry : Place → Option Vehicle) → LanesStand l.fn.own.places l.fn.own.lanes m → map vehicle_in l.fn.coming ≡ map entry l.fn.own.places → AllFree l.fn.own.places m entry → LanesDone (λ p s. departed_lane l.clock (placed_lane entry p s)) m l.fn.own l.n l.own;
+  long : length l.coming ≡ length l.fn.coming;
+  coming : IsWritten (map (λ x. None) l.fn.coming) l.fn.coming l.n l.coming;
+}

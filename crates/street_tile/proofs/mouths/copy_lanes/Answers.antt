@@ -1,0 +1,59 @@
+use Rattle.std.proofs.Common.{◌≡◌, ℕ, ◌+◌, ◌*◌, ◌<◌, false, length, get_or, ◌∙◌, ap, refl, sym, subst, arith}
+use Rattle.std.specs.Prelude.{slice_set}
+use Rattle.std.proofs.lemmas.List.{length-set}
+use Rattle.std.proofs.lemmas.Option.{slice_get_within}
+use Rattle.street_base.specs.Network.{Place}
+use Rattle.street_net.specs.Tables.{place_of}
+use Rattle.street_lanes.specs.Lanes.{place_at}
+use Rattle.street_tile.specs.Tiles.{mouth, slot_of}
+use Rattle.street_tile.proofs.SameLanes.{place-is}
+use Rattle.street_tile.proofs.HeldMouths.{IsHeld, slot-inside, shown-start, shown-next}
+use Rattle.street_tile.proofs.mouths.copy_lanes.Goals as goal
+
+pub loop-n-init : goal.loop-n-init
+loop-n-init c = λ roads there. shown-start c.args.net.now roads c.args.own.now.places there (IsHeld c.args.mouths.now) c.args.view.now c.requires.wide
+
+pub slot-requires : goal.slot-requires
+slot-requires c = subst (λ (p : Place). slot_of p < 65536) (sym c.at-at.ensures) (slot-inside c.args.net.now c.requires.roads c.args.own.now c.requires.there c.loop-n.n (omega arith)).0
+
+pub bounds-mouths-slot : goal.bounds-mouths-slot
+bounds-mouths-slot c =
+    let inside : 2 * c.at-at.result.link + c.at-at.result.lane < 2 * length c.args.net.now.links =
+    subst (λ (p : Place). slot_of p < 2 * length c.args.net.now.links) (sym c.at-at.ensures) (slot-inside c.args.net.now c.requires.roads c.args.own.now c.requires.there c.loop-n.n (omega arith)).1 in
+    let held = c.requires.held in
+    let is = c.slot.ensures in
+    omega arith
+
+pub show-requires-clause-small : goal.show-requires-clause-small
+show-requires-clause-small c = subst (λ (p : Place). slot_of p < 65536) (sym c.at-at.ensures) (slot-inside c.args.net.now c.requires.roads c.args.own.now c.requires.there c.loop-n.n (omega arith)).0
+
+pub show-requires-clause-within : goal.show-requires-clause-within
+show-requires-clause-within c =
+    let inside = (slot-inside c.args.net.now c.requires.roads c.args.own.now c.requires.there c.loop-n.n (omega arith)).1 in
+    let wide = (c.loop-n.invariant c.requires.roads c.requires.there).wide in
+    subst (λ (p : Place). slot_of p < length c.loop-n.view) (sym c.at-at.ensures) (omega arith)
+
+pub loop-n-preserved : goal.loop-n-preserved
+loop-n-preserved c = λ roads there.
+    let own = c.args.own.now in
+    let held = c.args.mouths.now in
+    let n = c.loop-n.n in
+    let p = place_at own n in
+    let before = c.loop-n.invariant roads there in
+    let within : n < length own.places = omega arith in
+    let at : c.show.new.self ≡ slice_set c.loop-n.view (slot_of p) (mouth held p) = c.show.ensures
+    ∙ ap (λ (k : ℕ). slice_set c.loop-n.view (slot_of (place_of c.at-at.result)) (get_or held k false)) c.slot.ensures
+    ∙ ap (λ (q : Place). slice_set c.loop-n.view (slot_of q) (mouth held q)) c.at-at.ensures in
+    rw at
+    (shown-next c.args.net.now roads own.places there (IsHeld held) c.args.view.now n c.loop-n.view p (mouth held p) before (place-is own n within) refl
+    (length-set c.loop-n.view (slot_of p) (mouth held p) ∙ before.wide))
+
+pub returns-clause-own : goal.returns-clause-own
+returns-clause-own c = λ j p at.
+    (c.loop-n.invariant c.requires.roads c.requires.there).shown j p (let h = slice_get_within c.args.own.now.places j p at in omega arith) at
+
+pub returns-clause-rest : goal.returns-clause-rest
+returns-clause-rest c = (c.loop-n.invariant c.requires.roads c.requires.there).rest
+
+pub returns-clause-wide : goal.returns-clause-wide
+returns-clause-wide c = (c.loop-n.invariant c.requires.roads c.requires.there).wide ∙ sym c.requires.wide

@@ -1,0 +1,29 @@
+-- Hand-overs on their way from the tiles that let them go to the tiles that own their lanes.
+use Rattle.std.specs.Prelude.{◌≡◌, ℕ, ◌<◌, ◌==◌, List, [], ◌∷◌, ◌++◌, map, length, slice_index_or, if◌then◌else◌}
+use Rattle.street_base.specs.Network.{Place}
+use Rattle.street_tile.specs.Halves.{Transfer, entry_in}
+use Rattle.street_tile.specs.Tiles.{Part}
+
+-- the hand-overs of all tiles, and their lanes, those of the last tile first: the order of moving them, backwards
+abbrev pub all_handed : List Part → List Transfer
+all_handed [] = []
+all_handed (x ∷ xs) = all_handed xs ++ x.handed
+
+abbrev pub all_places : List Part → List Place
+all_places [] = []
+all_places (x ∷ xs) = all_places xs ++ x.own.places
+
+-- hand-overs moved to a tile: who comes to each of its lanes is the entry of that lane among all
+abbrev pub received : List Transfer → Part → Part
+received entries x = record x { handed = []; coming = map (entry_in entries) x.own.places }
+
+-- who comes to a tile are the entries of its lanes among these
+abbrev pub Awaits : List Transfer → Part → Type 0
+Awaits entries x = x.coming ≡ map (entry_in entries) x.own.places
+
+-- the tile at j while hand-overs of the tile at i are moved: those that are left, and those that were moved
+abbrev pub moved_at : ℕ → List Transfer → List Transfer → ℕ → Part → Part
+moved_at i left moved j x = record x { handed = if j == i then left else x.handed; coming = map (entry_in moved) x.own.places }
+
+abbrev pub IsMoved : ℕ → List Transfer → List Transfer → List Part → List Part → Type 0
+IsMoved i left moved xs ys = (j : ℕ) (d : Part) → j < length xs → slice_index_or ys j d ≡ moved_at i left moved j (slice_index_or xs j d)

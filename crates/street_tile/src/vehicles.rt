@@ -1,0 +1,160 @@
+//! Commands that name a vehicle, and how many vehicles there are.
+//!
+//! Source: this profile.
+ghost use Rattle.std.specs.Prelude.{◌≡◌, ◌<◌, length, count_by, is_some, option_map, None, true, IfOk, IfSome};
+ghost use Rattle.street_base.specs.Vehicle.{vehicle_of};
+ghost use Rattle.street_base.specs.State.{Traffic, lane_at};
+ghost use Rattle.street_base.specs.Census.{in_lane};
+ghost use Rattle.street_base.specs.Machine.{seen_in};
+ghost use Rattle.street_net.specs.Tables.{place_of};
+ghost use Rattle.street_lanes.specs.Lanes.{IsLane, place_at};
+ghost use Rattle.street_lanes.specs.Whereabouts.{vehicle_on};
+ghost use Rattle.street_lanes.specs.Whole.{IsOn};
+ghost use Rattle.street_tile.specs.Tiles.{IsTileOf, StandsFor, is_own};
+ghost use Rattle.street_tile.specs.Commands.{without, DoesIf, HaveNot, Have, Hold, HaveAtMostOne, Finds, over};
+
+use crate::tile::Tile;
+use std::alloc::Global;
+use street_base::{Car, CarNo, Starved, Whereabouts};
+use street_net::{LaneId, Network};
+
+/// How many vehicles are on the lanes of a tile.
+#[derive(Clone, Copy, Debug, PartialEq, Eq)]
+pub struct TileSizes {
+    /// Those in cells.
+    pub cells: u64,
+    /// Those in buffers.
+    pub buffers: u64,
+    /// Those who wait.
+    pub waiting: u64,
+}
+
+impl Tile {
+    /// Takes a vehicle out of own lane `n`, if it is there.
+    fn take_at(&mut self, net: &Network, n: usize, number: CarNo) -> Option<Car>
+        requires tile { IsTileOf net.now self.old }
+        requires lane { n < length self.old.own.places }
+        ensures number { IfSome result (λ car. car.number ≡ number) }
+        ensures some { IfSome result (λ car. DoesIf net.now (λ m. HaveAtMostOne self.old.own.places m number) (without number) self.old self.new) }
+        ensures vehicle { (m : Traffic) → IsOn net.now m → StandsFor self.old m → HaveAtMostOne self.old.own.places m number
+            → option_map vehicle_of result ≡ vehicle_on number (lane_at m (place_at self.old.own n)) }
+        ensures had { IfSome result (λ car. (m : Traffic) → IsOn net.now m → StandsFor self.old m → HaveAtMostOne self.old.own.places m number → 0 < in_lane number (lane_at m (place_at self.old.own n))) }
+        ensures none { result ≡ None → self.new ≡ self.old }
+        ensures had_not { result ≡ None → (m : Traffic) → IsOn net.now m → StandsFor self.old m → HaveAtMostOne self.old.own.places m number → in_lane number (lane_at m (place_at self.old.own n)) ≡ 0 }
+    {
+        self.own.take_out(n, number)
+    }
+
+    /// Takes a vehicle out of an own lane, if it is there. Takes no memory.
+    pub fn take_out_on(&mut self, net: &Network, at: LaneId, number: CarNo) -> Option<Car>
+        requires tile { IsTileOf net.now self.old }
+        requires lane { IsLane net.now (place_of at) }
+        requires own { is_own net.now self.old.low self.old.high (place_of at) ≡ true }
+        ensures number { IfSome result (λ car. car.number ≡ number) }
+        ensures some { IfSome result (λ car. DoesIf net.now (λ m. HaveAtMostOne self.old.own.places m number) (without number) self.old self.new) }
+        ensures vehicle { (m : Traffic) → IsOn net.now m → StandsFor self.old m → HaveAtMostOne self.old.own.places m number
+            → option_map vehicle_of result ≡ vehicle_on number (lane_at m (place_of at)) }
+        ensures had { IfSome result (λ car. (m : Traffic) → IsOn net.now m → StandsFor self.old m → HaveAtMostOne self.old.own.places m number → 0 < in_lane number (lane_at m (place_of at))) }
+        ensures none { result ≡ None → self.new ≡ self.old }
+        ensures had_not { result ≡ None → (m : Traffic) → IsOn net.now m → StandsFor self.old m → HaveAtMostOne self.old.own.places m number → in_lane number (lane_at m (place_of at)) ≡ 0 }
+    {
+        let n = self.number(net, at);
+        self.take_at(net, n, number)
+    }
+
+    /// Takes a vehicle out, wherever it is on the own lanes. Takes no memory.
+    pub fn take_out(&mut self, net: &Network, number: CarNo) -> Option<Car>
+        requires { IsTileOf net.now self.old }
+        ensures number { IfSome result (λ car. car.number ≡ number) }
+        ensures some { IfSome result (λ car. DoesIf net.now (λ m. HaveAtMostOne self.old.own.places m number) (without number) self.old self.new) }
+        ensures vehicle { IfSome result (λ car. (m : Traffic) → IsOn net.now m → StandsFor self.old m → HaveAtMostOne self.old.own.places m number
+            → Hold self.old.own.places m number (vehicle_of car)) }
+        ensures had { IfSome result (λ car. (m : Traffic) → IsOn net.now m → StandsFor self.old m → HaveAtMostOne self.old.own.places m number → Have self.old.own.places m number) }
+        ensures none { result ≡ None → self.new ≡ self.old }
+        ensures had_not { result ≡ None → (m : Traffic) → IsOn net.now m → StandsFor self.old m → HaveAtMostOne self.old.own.places m number → HaveNot self.old.own.places m number }
+    {
+        for n in 0..self.own.len() {
+            if let Some(car) = self.take_at(net, n, number) {
+                return Some(car);
+            }
+        }
+        None
+    }
+
+    /// Where a vehicle is on own lane `n`. Takes memory for the plan that it answers.
+    fn find_at(
+        &self,
+        alloc: Global,
+        net: &Network,
+        n: usize,
+        number: CarNo,
+    ) -> Result<Option<Whereabouts>, Starved>
+        requires tile { IsTileOf net.now self.now }
+        requires lane { n < length self.now.own.places }
+        ensures found { IfOk result (λ found. (m : Traffic) → IsOn net.now m → StandsFor self.now m → HaveAtMostOne self.now.own.places m number → found ≡ seen_in net.now (place_at self.now.own n) number (lane_at m (place_at self.now.own n))) }
+        ensures there { IfOk result (λ found. (m : Traffic) → IsOn net.now m → StandsFor self.now m → HaveAtMostOne self.now.own.places m number → found ≡ None → in_lane number (lane_at m (place_at self.now.own n)) ≡ 0) }
+    {
+        self.own.find_on(alloc, net, n, number)
+    }
+
+    /// Where a vehicle is on an own lane. Takes memory for the plan that it answers.
+    ///
+    /// # Errors
+    /// Memory for the plan was refused.
+    pub fn find_on(
+        &self,
+        alloc: Global,
+        net: &Network,
+        at: LaneId,
+        number: CarNo,
+    ) -> Result<Option<Whereabouts>, Starved>
+        requires tile { IsTileOf net.now self.now }
+        requires lane { IsLane net.now (place_of at) }
+        requires own { is_own net.now self.now.low self.now.high (place_of at) ≡ true }
+        ensures { IfOk result (λ found. (m : Traffic) → IsOn net.now m → StandsFor self.now m → HaveAtMostOne self.now.own.places m number → found ≡ seen_in net.now (place_of at) number (lane_at m (place_of at))) }
+    {
+        let n = self.number(net, at);
+        self.find_at(alloc, net, n, number)
+    }
+
+    /// Where a vehicle is on the own lanes. Takes memory for the plan that it answers.
+    ///
+    /// # Errors
+    /// Memory for the plan was refused.
+    pub fn find(
+        &self,
+        alloc: Global,
+        net: &Network,
+        number: CarNo,
+    ) -> Result<Option<Whereabouts>, Starved>
+        requires { IsTileOf net.now self.now }
+        ensures { IfOk result (λ found. (m : Traffic) → IsOn net.now m → StandsFor self.now m → HaveAtMostOne self.now.own.places m number → Finds net.now self.now.own.places m number found) }
+    {
+        for n in 0..self.own.len() {
+            if let Some(found) = self.find_at(alloc, net, n, number)? {
+                return Ok(Some(found));
+            }
+        }
+        Ok(None)
+    }
+
+    /// How many vehicles are on the own lanes; looks at counts that are kept for each lane.
+    pub fn sizes(&self) -> TileSizes
+        ensures cells { (m : Traffic) → StandsFor self.now m → result.cells ≡ over self.now.own.places (λ lane. count_by is_some lane.track.cells) m }
+        ensures buffers { (m : Traffic) → StandsFor self.now m → result.buffers ≡ over self.now.own.places (λ lane. length lane.queue) m }
+        ensures waiting { (m : Traffic) → StandsFor self.now m → result.waiting ≡ over self.now.own.places (λ lane. length lane.waiting) m }
+    {
+        let mut all = TileSizes {
+            cells: 0,
+            buffers: 0,
+            waiting: 0,
+        };
+        for n in 0..self.own.len() {
+            let own = self.own.sizes(n);
+            all.cells += own.cells as u64;
+            all.buffers += own.buffer as u64;
+            all.waiting += own.waiting as u64;
+        }
+        all
+    }
+}

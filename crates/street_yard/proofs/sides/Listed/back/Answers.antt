@@ -1,0 +1,10 @@
+use Rattle.std.proofs.Common.{ap, arith}
+use Rattle.street_yard.specs.declared.sides.Sides.{Sides}
+use Rattle.street_yard.proofs.Joined.{rests-below, rest-read}
+use Rattle.street_yard.proofs.sides.Listed.back.Goals as goal
+
+pub index-requires : goal.index-requires
+index-requires c = let lt = rests-below c.self.inside.fronts.items c.self.inside.rests.items c.args.self.now c.self.invariant c.self.view_is c.args.list c.requires in omega arith
+
+pub returns : goal.returns
+returns c = ap (λ (e : Sides). e.back) (rest-read c.self.inside.fronts.items c.self.inside.rests.items c.args.self.now c.self.invariant c.self.view_is c.args.list c.requires c.index.result.now c.index.ensures)

@@ -1,0 +1,115 @@
+//! The fronts and the backs of lists.
+ghost use Rattle.std.specs.Prelude.{◌≡◌, ◌<◌, length, replicate, IfOk, slice_index_or, slice_set};
+
+use crate::hot::Neighbour;
+use std::alloc::{AllocError, Global};
+use std::marker::Model;
+
+/// The first and the last key of a list, and how many it has.
+#[derive(Clone, Copy)]
+pub(crate) struct Sides {
+    pub(crate) front: Neighbour,
+    pub(crate) back: Neighbour,
+    pub(crate) count: u32,
+}
+
+/// What is kept of a list beside its first key.
+#[derive(Clone, Copy)]
+struct Rest {
+    back: Neighbour,
+    count: u32,
+}
+
+/// The fronts and the backs of all lists by number, in two tables: the first keys, for which a step asks each list, lie close together.
+#[derive(Drop)]
+pub(crate) struct Listed {
+    fronts: Vec<Neighbour>,
+    rests: Vec<Rest>,
+}
+
+impl Model for Listed {
+    ghost use Rattle.std.specs.Prelude.{◌≡◌, List, length};
+    ghost use Rattle.street_yard.specs.declared.sides.Sides.{Sides as Both};
+
+    ghost Value = { List Both };
+
+    ghost use Rattle.street_yard.specs.Tables.{joined};
+
+    ghost view = { λ l. joined l.fronts.items l.rests.items };
+
+    ghost invariant = { λ l. length l.fronts.items ≡ length l.rests.items };
+}
+
+impl Listed {
+    ghost use Rattle.street_yard.specs.Thread.{no_sides};
+
+    /// So many lists without keys.
+    ///
+    /// # Errors
+    /// Memory was refused.
+    pub(crate) fn new(alloc: Global, lists: usize) -> Result<Self, AllocError>
+        ensures { IfOk result (λ l. l ≡ replicate lists no_sides) }
+    {
+        let nobody = Rest {
+            back: Neighbour::nobody(),
+            count: 0,
+        };
+        let fronts = vec![in alloc; Neighbour::nobody(); lists]?;
+        let rests = vec![in alloc; nobody; lists]?;
+        Ok(Listed { fronts, rests })
+    }
+
+    /// The first key of a list.
+    #[inline]
+    pub(crate) fn front(&self, list: usize) -> Neighbour
+        requires { list < length self.now }
+        ensures { result ≡ (slice_index_or self.now list no_sides).front }
+    {
+        self.fronts[list]
+    }
+
+    /// The last key of a list.
+    #[inline]
+    pub(crate) fn back(&self, list: usize) -> Neighbour
+        requires { list < length self.now }
+        ensures { result ≡ (slice_index_or self.now list no_sides).back }
+    {
+        self.rests[list].back
+    }
+
+    /// How many keys a list has.
+    #[inline]
+    pub(crate) fn count(&self, list: usize) -> u32
+        requires { list < length self.now }
+        ensures { result ≡ (slice_index_or self.now list no_sides).count }
+    {
+        self.rests[list].count
+    }
+
+    /// The front and the back of a list.
+    #[inline]
+    pub(crate) fn get(&self, list: usize) -> Sides
+        requires { list < length self.now }
+        ensures { result ≡ slice_index_or self.now list result }
+    {
+        let rest = self.rests[list];
+        Sides {
+            front: self.fronts[list],
+            back: rest.back,
+            count: rest.count,
+        }
+    }
+
+    /// Writes the front and the back of a list.
+    #[inline]
+    pub(crate) fn set(&mut self, list: usize, sides: Sides)
+        requires { list < length self.old }
+        ensures { self.new ≡ slice_set self.old list sides }
+    {
+        self.fronts[list] = sides.front;
+        self.rests[list] = Rest {
+            back: sides.back,
+            count: sides.count,
+        };
+    }
+}
