@@ -18,7 +18,7 @@ from words import NONE, Record, Variant, some
 
 TOP = Path(__file__).resolve().parent.parent
 MACHINE = "street_base.specs.Outcomes"
-RUNNING = "street_line.specs.Running"
+RUNNING = "street_line.specs.Runs"
 WHOLE = Variant("Outcome.Whole")
 # A row about all states, numbers or lists is evaluated at these, as far as its premises leave them free.
 STATES = "street_base.proofs.rows.States"
@@ -101,11 +101,11 @@ class Definitions:
         """The replies to these calls from nothing loaded."""
         answers = self.word("street_desk.specs.History", "answers_of")(calls)
         self.program.forget()
-        return [without_end(self.word("street_text.specs.Printing", "reply_line")(reply)) for reply, _ in answers]
+        return [without_end(self.word("street_text.specs.ReplyLines", "reply_line")(reply)) for reply, _ in answers]
 
     def count(self, state):
         """The reply to a count, with which a replay ends."""
-        return without_end(self.word("street_text.specs.Printing", "reply_line")(self.call(state, Variant("Command.Count"))[0]))
+        return without_end(self.word("street_text.specs.ReplyLines", "reply_line")(self.call(state, Variant("Command.Count"))[0]))
 
     # ---- rows
 

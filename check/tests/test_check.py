@@ -46,11 +46,11 @@ SPOILT = [
     (f"{BASE}/Machine.antt", "nat_lt last_clock (m.clock + n)", "nat_lt last_clock m.clock"),
     (f"{BASE}/Outcomes.antt", "state_of_whole m c (Some r) = m", "state_of_whole m c (Some r) = None"),
     (f"{BASE}/Refusals.antt", "number_of Gone = 11", "number_of Gone = 12"),
-    ("street_text/specs/Reading.antt", "option_and_then node_from (row_in 3 d)", "option_and_then node_from (row_in 4 d)"),
+    ("street_text/specs/LineCommands.antt", "option_and_then node_from (row_in 3 d)", "option_and_then node_from (row_in 4 d)"),
     ("street_text/specs/Faults.antt", "Some 20", "Some 22"),
-    ("street_text/specs/Printing.antt", "(e.car ∷ e.cell ∷ e.speed", "(e.car ∷ e.speed ∷ e.cell"),
+    ("street_text/specs/ReplyLines.antt", "(e.car ∷ e.cell ∷ e.speed", "(e.car ∷ e.speed ∷ e.cell"),
     ("street_text/specs/FaultLines.antt", "(error_data n (name_of fault))", "(error_data 21 (name_of fault))"),
-    ("street_line/specs/Running.antt", "said_by (Err f) = faulty f", "said_by (Err f) = silent"),
+    ("street_line/specs/Runs.antt", "said_by (Err f) = faulty f", "said_by (Err f) = silent"),
     ("street_stream/specs/Lines.antt", "is_blank [] = true", "is_blank [] = false"),
 ]
 # What only the program's tapes show.
