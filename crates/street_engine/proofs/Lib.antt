@@ -8,7 +8,7 @@ pub mod LaneCommands
 pub mod SignalCommand
 pub mod EnterCommand
 pub mod DetectorCommands
-mod Sites
+mod AreSites
 mod Together
 mod LaneUpdate
 mod SignalPlans

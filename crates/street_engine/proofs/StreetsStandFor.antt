@@ -41,7 +41,7 @@ use Rattle.street_engine.specs.Sites.{AreDetectorSites}
 use Rattle.street_engine.specs.Streets.{StreetsView, IsTrafficOf, IsKept, StreetsStandFor, StreetsGo}
 use Rattle.street_engine.specs.Together.{AllDoIf, AllKeep}
 use Rattle.street_engine.specs.Ends.{AreComing, all_arrived}
-use Rattle.street_engine.proofs.Sites.{sites-map, sites-more}
+use Rattle.street_engine.proofs.AreSites.{sites-map, sites-more}
 use Rattle.street_engine.proofs.Ones.{sum-one}
 use Rattle.street_engine.proofs.StepArrivals.{arrivals-coming, arrivals-end}
 

@@ -24,7 +24,7 @@ use Rattle.street_tile.proofs.Rows.{in-row}
 use Rattle.street_tile.proofs.MovedHandOvers.{row-alone}
 use Rattle.street_tile.proofs.PhasesOfAll.{tiles-of}
 use Rattle.street_engine.specs.Together.{AllDoIf}
-use Rattle.street_engine.proofs.Sites.{same-meters}
+use Rattle.street_engine.proofs.AreSites.{same-meters}
 use Rattle.street_engine.proofs.Together.{one-does}
 use Rattle.street_engine.proofs.Ones.{on-one, have-one}
 

@@ -12,7 +12,7 @@ use Rattle.street_tile.specs.TileDetectors.{MetersStand}
 use Rattle.street_tile.proofs.SameTile.{tile-none}
 use Rattle.street_tile.proofs.BetweenPhases.{tiles-same}
 use Rattle.street_engine.specs.Together.{AllDoIf, AllKeep}
-use Rattle.street_engine.proofs.Sites.{same-meters}
+use Rattle.street_engine.proofs.AreSites.{same-meters}
 
 set-same : (xs : List Part) (i : ℕ) (y d : Part) → i < length xs → SameTile (get_or xs i d) y → Each SameTile xs (set xs i y)
 set-same xs i y d h same k e l = elim (cases_eq k i) as (λ _. SameTile (get_or xs k e) (get_or (set xs i y) k e)) [

@@ -8,7 +8,7 @@ use Rattle.street_base.specs.State.{Detector}
 use Rattle.street_tile.specs.Tiles.{Part}
 use Rattle.street_tile.specs.TileDetectors.{AllMetersStand}
 use Rattle.street_engine.specs.declared.sites.DetectorSite.{DetectorSite}
-use Rattle.street_engine.proofs.Sites.{site-at, no-site}
+use Rattle.street_engine.proofs.AreSites.{site-at, no-site}
 use Rattle.street_engine.proofs.StreetsStandFor.{view, traffic-of}
 use Rattle.street_engine.proofs.streets.Streets.read_meter.Goals as goal
 
