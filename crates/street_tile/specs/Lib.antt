@@ -1,5 +1,6 @@
 pub mod Halves
 pub mod Tiles
+pub mod Inside
 pub mod TileDetectors
 pub mod Phases
 pub mod Walks

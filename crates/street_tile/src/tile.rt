@@ -64,27 +64,15 @@ impl Drop for Tile {
 }
 
 impl Model for Tile {
-    ghost use Rattle.std.specs.Prelude.{map, length, vec_capacity};
-    ghost use Rattle.street_tile.specs.Halves.{vehicle_in};
-    ghost use Rattle.street_tile.specs.Tiles.{Part, IsKept};
+    ghost use Rattle.street_tile.specs.Tiles.{Part};
 
     ghost Value = { Part };
 
-    ghost view = { λ t. record {
-      low = t.low;
-      high = t.high;
-      links = t.links;
-      own = t.own;
-      clock = t.clock;
-      signals = t.signals.items;
-      mouths = t.mouths.items;
-      handed = t.handed.items;
-      coming = map vehicle_in t.coming;
-      arrived = t.arrived.items;
-      detectors = t.detectors.items;
-    } };
+    ghost use Rattle.street_tile.specs.Inside.{seen, IsSound};
 
-    ghost invariant = { λ t. IsKept t.low t.high t.links t.own.places t.numbers.items (length t.signals.items) (length t.mouths.items) (length t.coming) (vec_capacity t.handed) (vec_capacity t.arrived) t.clock t.has_meters t.detectors.items };
+    ghost view = { seen };
+
+    ghost invariant = { IsSound };
 }
 
 impl Tile {
