@@ -14,7 +14,7 @@ ghost use Rattle.street_tile.specs.HandOvers.{Awaits};
 use crate::comers::Comers;
 use crate::entries::enter_lanes;
 use crate::hand_over::HandOver;
-use crate::lanes::{change_lanes, drive_lanes};
+use crate::lanes::{MotionStep, change_lanes, drive_lanes};
 use crate::meters::note_lanes;
 use crate::mouths::copy_lanes;
 use crate::release::release_lanes;
@@ -92,13 +92,16 @@ impl Tile {
         requires in_time { self.old.clock < last_clock }
         ensures { MotionPhase net.now self.old self.new }
     {
+        let step = MotionStep {
+            net,
+            clock: self.clock,
+            low: self.low,
+            signals: &self.signals,
+        };
         drive_lanes(
             &mut self.own,
             &mut self.detectors,
-            net,
-            self.clock,
-            self.low,
-            &self.signals,
+            &step,
             &mut self.arrived,
             &mut self.mouths,
         );

@@ -70,9 +70,9 @@ returns c =
     let keep : KeepMeters s.detectors.items c.drive_lanes.new.detectors = subst (λ gs. KeepMeters gs c.drive_lanes.new.detectors) c.deref_mut.ensures.value c.drive_lanes.ensures.meters in
     let mouths : (with_items s.mouths c.drive_lanes.new.mouths).items ≡ c.drive_lanes.new.mouths = with_items_is s.mouths c.drive_lanes.new.mouths (let e = c.drive_lanes.auto.mouths in let f = c.deref_mut-2.ensures.len in let ok = s.mouths.ok in omega arith) in
     let moves = moves-of c.args.net.now x tile c.drive_lanes.new.own (with_items s.mouths c.drive_lanes.new.mouths).items c.drive_lanes.new.arrived.items (with_items s.detectors c.drive_lanes.new.detectors).items c.drive_lanes.ensures.same c.drive_lanes.ensures.room
-    (λ m on clock signals stand. c.drive_lanes.ensures.stand m on clock (shows m signals) stand)
-    (λ m on clock signals stand. rw none at (c.drive_lanes.ensures.arrived m on clock (shows m signals) stand))
+    (λ m on clock signals stand. c.drive_lanes.ensures.stand m (record { on = on; in_time = clock; signals = shows m signals }) stand)
+    (λ m on clock signals stand. rw none at (c.drive_lanes.ensures.arrived m (record { on = on; in_time = clock; signals = shows m signals }) stand))
     (subst (KeepMeters s.detectors.items) (sym items) keep)
-    (λ m on clock signals stand. subst (HaveWatched m s.own.places) (sym items) (c.drive_lanes.ensures.watched m on clock (shows m signals) stand))
+    (λ m on clock signals stand. subst (HaveWatched m s.own.places) (sym items) (c.drive_lanes.ensures.watched m (record { on = on; in_time = clock; signals = shows m signals }) stand))
     (λ m stand j p at. ap (λ (ms : List Bool). mouth ms p) mouths ∙ c.drive_lanes.ensures.shown m stand j p at) in
     at-view (MotionPhase c.args.net.now) c.self.view_is moves
