@@ -1,5 +1,7 @@
 pub mod Halves
 pub mod Tiles
+pub mod Inside
+pub mod Motion
 pub mod TileDetectors
 pub mod Phases
 pub mod Walks

@@ -46,7 +46,8 @@ Shows net mouths m = (p : Place) → p.link < length net.links → p.lane < (lin
 
 -- these are the signal plans of the nodes from low up to high: each shows what the machine's shows
 abbrev pub ShowSignals : ℕ → ℕ → List (Option SignalPlan) → Traffic → Type 0
-ShowSignals low high signals m = (node : ℕ) → low ≤ node → node < high → PlanStands (slice_index_or signals (node - low) None) (slice_index_or m.signals node None)
+ShowSignals low high signals m = (node : ℕ) → low ≤ node → node < high
+    → PlanStands (slice_index_or signals (node - low) None) (slice_index_or m.signals node None)
 
 -- ---- a tile
 
@@ -127,18 +128,6 @@ AreDue clock detectors = All (λ g. All (λ x. next_step x ≡ clock) g.meters) 
 -- none of these lanes has a detector
 abbrev pub AreBare : List Detectors → Type 0
 AreBare detectors = All (λ g. g.meters ≡ []) detectors
-
--- what a tile keeps beside its lanes: a place for each of its nodes, links and lanes, and room for a hand-over and an arrival of each lane; where it says
--- that it has no detectors it has none, and those that it has have noted all steps so far
-pub record IsKept (low high links : ℕ) (ps : List Place) (numbers : List ℕ) (signals mouths coming handed arrived clock : ℕ) (has_meters : Bool) (detectors : List Detectors) : Type 0 where
-  pub nodes : low + signals ≡ high
-  pub numbered : AreNumbers links ps numbers
-  pub mouths_wide : mouths ≡ 2 * links
-  pub coming_long : coming ≡ length ps
-  pub handed_room : length ps ≤ handed
-  pub arrived_room : length ps ≤ arrived
-  pub bare : has_meters ≡ false → AreBare detectors
-  pub due : AreDue clock detectors
 
 -- nobody is on the way to a tile
 abbrev pub nobody : Part → List (Option Vehicle)

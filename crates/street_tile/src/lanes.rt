@@ -12,7 +12,8 @@ ghost use Rattle.street_lanes.specs.Lanes.{Same, Others, IsOf, lane_of, place_at
 ghost use Rattle.street_lanes.specs.Whole.{IsOn, LanesStand};
 ghost use Rattle.street_lanes.specs.Motion.{cells_on};
 ghost use Rattle.street_lanes.specs.Detectors.{watch_of};
-ghost use Rattle.street_tile.specs.Tiles.{IsRoads, ArePairs, ShowSignals, is_own, mouth, sizes_of};
+ghost use Rattle.street_tile.specs.Tiles.{IsRoads, ArePairs, mouth, sizes_of};
+ghost use Rattle.street_tile.specs.Motion.{IsOfStep, HasPlanFor};
 ghost use Rattle.street_tile.specs.TileDetectors.{KeepMeters, HaveWatched};
 
 use crate::view::slot;
@@ -48,42 +49,46 @@ pub(crate) fn change_lanes(own: &mut Lanes, net: &Network, clock: Step)
     }
 }
 
-/// Motion on lane `n`, by the signal plan of the node that its link runs to. `signals` are the plans of the nodes from
-/// `low` on. The lane's detectors watch. Answers who arrived.
+/// What motion on a tile's lanes reads of the step.
+#[derive(Clone, Copy)]
+pub(crate) struct MotionStep<'a> {
+    pub(crate) net: &'a Network,
+    pub(crate) clock: Step,
+    /// The first of the tile's nodes.
+    pub(crate) low: usize,
+    /// The signal plans of the tile's nodes, from `low` on.
+    pub(crate) signals: &'a [Option<SignalPlan>],
+}
+
+/// Motion on lane `n`, by the signal plan of the node that its link runs to. The lane's detectors watch. Answers who arrived.
 fn drive_lane(
     own: &mut Lanes,
     detectors: &mut Detectors,
-    net: &Network,
+    step: &MotionStep<'_>,
     n: usize,
-    clock: Step,
-    low: usize,
-    signals: &[Option<SignalPlan>],
 ) -> Option<CarNo>
     requires lane { n < length own.old.lanes }
-    requires of { IsOf net.now own.old }
-    requires in_time { clock ≤ last_clock }
-    requires node { is_own net.now low (low + length signals.now) (place_at own.old n) ≡ true }
+    requires of { IsOf step.now.net.now own.old }
+    requires in_time { step.now.clock ≤ last_clock }
+    requires node { HasPlanFor step.now (place_at own.old n) }
     requires size { detectors.old.size ≡ length (lane_of own.old n).track.cells }
     ensures same { Same own.old own.new }
-    ensures stands { (m : Traffic) → IsOn net.now m → m.clock ≡ clock
-        → ShowSignals low (low + length signals.now) signals.now m
+    ensures stands { (m : Traffic) → IsOfStep step.now m
         → LaneStands (lane_of own.old n) (lane_at m (place_at own.old n))
         → LaneStands (lane_of own.new n) (driven_lane m (place_at own.old n) (lane_at m (place_at own.old n))) }
-    ensures arrived { (m : Traffic) → IsOn net.now m → m.clock ≡ clock
-        → ShowSignals low (low + length signals.now) signals.now m
+    ensures arrived { (m : Traffic) → IsOfStep step.now m
         → LaneStands (lane_of own.old n) (lane_at m (place_at own.old n))
         → result ≡ arrival (leaver_of m (place_at own.old n)) }
     ensures others { Others n own.old own.new }
     ensures room { own.old.room ≤ own.new.room }
     ensures meters { detectors.new ≡ record detectors.old { watches = detectors.new.watches } }
-    ensures watched { (m : Traffic) → IsOn net.now m → m.clock ≡ clock
-        → ShowSignals low (low + length signals.now) signals.now m
+    ensures watched { (m : Traffic) → IsOfStep step.now m
         → LaneStands (lane_of own.old n) (lane_at m (place_at own.old n))
         → detectors.new.watches ≡ map (watch_of m (place_at own.old n)) detectors.old.meters }
 {
-    let node = net.end_of(own.at(n).link);
-    let plan = signals[node.position() - low].as_ref();
-    detectors.drive(own, net, n, clock, plan)
+    let node = step.net.end_of(own.at(n).link);
+    let plan = step.signals[node.position() - step.low].as_ref();
+    detectors.drive(own, step.net, n, step.clock, plan)
 }
 
 /// Motion on each of these lanes, which their detectors watch. The numbers of those who arrived are added to `arrived`, and
@@ -91,33 +96,27 @@ fn drive_lane(
 pub(crate) fn drive_lanes(
     own: &mut Lanes,
     detectors: &mut [Detectors],
-    net: &Network,
-    clock: Step,
-    low: usize,
-    signals: &[Option<SignalPlan>],
+    step: &MotionStep<'_>,
     arrived: &mut Vec<CarNo>,
     mouths: &mut [bool],
 )
-    requires of { IsOf net.now own.old }
-    requires in_time { clock ≤ last_clock }
-    requires nodes { (n : ℕ) → n < length own.old.places → is_own net.now low (low + length signals.now) (place_at own.old n) ≡ true }
-    requires sized { sizes_of detectors.old ≡ map (cells_on net.now) own.old.places }
+    requires of { IsOf step.now.net.now own.old }
+    requires in_time { step.now.clock ≤ last_clock }
+    requires nodes { (n : ℕ) → n < length own.old.places → HasPlanFor step.now (place_at own.old n) }
+    requires sized { sizes_of detectors.old ≡ map (cells_on step.now.net.now) own.old.places }
     requires room { vec_len arrived.old + length own.old.places ≤ vec_capacity arrived.old }
-    requires roads { IsRoads net.now }
-    requires wide { length mouths.old ≡ 2 * length net.now.links }
+    requires roads { IsRoads step.now.net.now }
+    requires wide { length mouths.old ≡ 2 * length step.now.net.now.links }
     ensures same { Same own.old own.new }
     ensures room { own.old.room ≤ own.new.room }
-    ensures stand { (m : Traffic) → IsOn net.now m → m.clock ≡ clock
-        → ShowSignals low (low + length signals.now) signals.now m
+    ensures stand { (m : Traffic) → IsOfStep step.now m
         → LanesStand own.old.places own.old.lanes m → LanesStand own.new.places own.new.lanes (driven m) }
-    ensures arrived { (m : Traffic) → IsOn net.now m → m.clock ≡ clock
-        → ShowSignals low (low + length signals.now) signals.now m
+    ensures arrived { (m : Traffic) → IsOfStep step.now m
         → LanesStand own.old.places own.old.lanes m
         → arrived.new.items ≡ arrived.old.items ++ filter_map (λ p. arrival (leaver_of m p)) own.old.places }
     ensures capacity { vec_capacity arrived.old ≤ vec_capacity arrived.new }
     ensures meters { KeepMeters detectors.old detectors.new }
-    ensures watched { (m : Traffic) → IsOn net.now m → m.clock ≡ clock
-        → ShowSignals low (low + length signals.now) signals.now m
+    ensures watched { (m : Traffic) → IsOfStep step.now m
         → LanesStand own.old.places own.old.lanes m → HaveWatched m own.old.places detectors.new }
     ensures shown { (m : Traffic) → LanesStand own.new.places own.new.lanes m → (j : ℕ)
         → (p : Place) → slice_get own.new.places j ≡ Some p
@@ -125,7 +124,7 @@ pub(crate) fn drive_lanes(
 {
     for n in 0..own.len() {
         let at = own.at(n);
-        if let Some(number) = drive_lane(own, &mut detectors[n], net, n, clock, low, signals) {
+        if let Some(number) = drive_lane(own, &mut detectors[n], step, n) {
             arrived.push_reserved(number);
         }
         mouths[slot(at.link, at.lane)] = own.is_open(n);

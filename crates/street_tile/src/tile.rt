@@ -14,7 +14,7 @@ ghost use Rattle.street_tile.specs.HandOvers.{Awaits};
 use crate::comers::Comers;
 use crate::entries::enter_lanes;
 use crate::hand_over::HandOver;
-use crate::lanes::{change_lanes, drive_lanes};
+use crate::lanes::{MotionStep, change_lanes, drive_lanes};
 use crate::meters::note_lanes;
 use crate::mouths::copy_lanes;
 use crate::release::release_lanes;
@@ -64,27 +64,15 @@ impl Drop for Tile {
 }
 
 impl Model for Tile {
-    ghost use Rattle.std.specs.Prelude.{map, length, vec_capacity};
-    ghost use Rattle.street_tile.specs.Halves.{vehicle_in};
-    ghost use Rattle.street_tile.specs.Tiles.{Part, IsKept};
+    ghost use Rattle.street_tile.specs.Tiles.{Part};
 
     ghost Value = { Part };
 
-    ghost view = { λ t. record {
-      low = t.low;
-      high = t.high;
-      links = t.links;
-      own = t.own;
-      clock = t.clock;
-      signals = t.signals.items;
-      mouths = t.mouths.items;
-      handed = t.handed.items;
-      coming = map vehicle_in t.coming;
-      arrived = t.arrived.items;
-      detectors = t.detectors.items;
-    } };
+    ghost use Rattle.street_tile.specs.Inside.{seen, IsSound};
 
-    ghost invariant = { λ t. IsKept t.low t.high t.links t.own.places t.numbers.items (length t.signals.items) (length t.mouths.items) (length t.coming) (vec_capacity t.handed) (vec_capacity t.arrived) t.clock t.has_meters t.detectors.items };
+    ghost view = { seen };
+
+    ghost invariant = { IsSound };
 }
 
 impl Tile {
@@ -104,13 +92,16 @@ impl Tile {
         requires in_time { self.old.clock < last_clock }
         ensures { MotionPhase net.now self.old self.new }
     {
+        let step = MotionStep {
+            net,
+            clock: self.clock,
+            low: self.low,
+            signals: &self.signals,
+        };
         drive_lanes(
             &mut self.own,
             &mut self.detectors,
-            net,
-            self.clock,
-            self.low,
-            &self.signals,
+            &step,
             &mut self.arrived,
             &mut self.mouths,
         );

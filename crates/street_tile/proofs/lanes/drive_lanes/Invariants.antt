@@ -4,9 +4,10 @@ use Rattle.street_base.specs.Network.{Place}
 use Rattle.street_base.specs.State.{Traffic}
 use Rattle.street_base.specs.Step.{driven_lane, arrival, leaver_of}
 use Rattle.street_lanes.specs.Lanes.{AllLanes, Same}
-use Rattle.street_lanes.specs.Whole.{IsOn, LanesStand}
+use Rattle.street_lanes.specs.Whole.{LanesStand}
 use Rattle.street_lanes.specs.Detectors.{watch_of}
-use Rattle.street_tile.specs.Tiles.{IsRoads, ShowSignals}
+use Rattle.street_tile.specs.Tiles.{IsRoads}
+use Rattle.street_tile.specs.Motion.{IsOfStep}
 use Rattle.street_tile.specs.TileDetectors.{KeepMeters, detectors_at}
 use Rattle.street_tile.proofs.SameLanes.{LanesDone}
 use Rattle.street_tile.proofs.HeldMouths.{IsShown, IsFreeIn}
@@ -18,9 +19,9 @@ invariant-loop-n l = record {
   room : l.fn.own.room ≤ l.own.room;
   left : vec_len l.arrived + (length l.fn.own.places - l.n) ≤ vec_capacity l.arrived;
   capacity : vec_capacity l.fn.arrived ≤ vec_capacity l.arrived;
-  done : (m : Traffic) → IsOn l.net m → m.clock ≡ l.clock → ShowSignals l.low (l.low + length l.signals) l.signals m → LanesStand l.fn.own.places l.fn.own.lanes m → LanesDone (driven_lane m) m l.fn.own l.n l.own;
-  arrived : (m : Traffic) → IsOn l.net m → m.clock ≡ l.clock → ShowSignals l.low (l.low + length l.signals) l.signals m → LanesStand l.fn.own.places l.fn.own.lanes m → l.arrived.items ≡ l.fn.arrived.items ++ filter_map (λ p. arrival (leaver_of m p)) (take l.n l.fn.own.places);
-  shown : (roads : IsRoads l.net) (there : AllLanes l.net l.fn.own.places) → IsShown l.net roads l.fn.own.places there (IsFreeIn l.fn.own.places l.own l.n) l.fn.mouths l.n l.mouths;
+  done : (m : Traffic) → IsOfStep l.step m → LanesStand l.fn.own.places l.fn.own.lanes m → LanesDone (driven_lane m) m l.fn.own l.n l.own;
+  arrived : (m : Traffic) → IsOfStep l.step m → LanesStand l.fn.own.places l.fn.own.lanes m → l.arrived.items ≡ l.fn.arrived.items ++ filter_map (λ p. arrival (leaver_of m p)) (take l.n l.fn.own.places);
+  shown : (roads : IsRoads l.step.net.now) (there : AllLanes l.step.net.now l.fn.own.places) → IsShown l.step.net.now roads l.fn.own.places there (IsFreeIn l.fn.own.places l.own l.n) l.fn.mouths l.n l.mouths;
   detectors : KeepMeters l.fn.detectors l.detectors;
-  watched : (m : Traffic) → IsOn l.net m → m.clock ≡ l.clock → ShowSignals l.low (l.low + length l.signals) l.signals m → LanesStand l.fn.own.places l.fn.own.lanes m → (k : ℕ) (p : Place) → k < l.n → slice_get l.fn.own.places k ≡ Some p → (detectors_at l.detectors k).watches ≡ map (watch_of m p) (detectors_at l.detectors k).meters;
+  watched : (m : Traffic) → IsOfStep l.step m → LanesStand l.fn.own.places l.fn.own.lanes m → (k : ℕ) (p : Place) → k < l.n → slice_get l.fn.own.places k ≡ Some p → (detectors_at l.detectors k).watches ≡ map (watch_of m p) (detectors_at l.detectors k).meters;
 }

@@ -1,4 +1,4 @@
-use Rattle.std.proofs.Common.{◌≡◌, ◌<◌, None, length, map, sym, subst, arith}
+use Rattle.std.proofs.Common.{◌≡◌, ◌<◌, None, length, sym, subst, arith}
 use Rattle.std.specs.Prelude.{IfOk}
 use Rattle.std.proofs.lemmas.Result.{IfOk-weaker}
 use Rattle.street_base.specs.State.{Traffic, lane_at}
@@ -6,7 +6,7 @@ use Rattle.street_base.specs.Census.{in_lane}
 use Rattle.street_base.specs.Machine.{seen_in}
 use Rattle.street_lanes.specs.Lanes.{place_at}
 use Rattle.street_lanes.specs.Whole.{IsOn}
-use Rattle.street_tile.specs.Halves.{vehicle_in}
+use Rattle.street_tile.specs.Inside.{seen}
 use Rattle.street_tile.specs.Tiles.{Part, IsTileOf, StandsFor}
 use Rattle.street_tile.specs.Commands.{HaveAtMostOne}
 use Rattle.street_tile.proofs.SameLanes.{even-of}
@@ -16,7 +16,7 @@ use Rattle.street_tile.proofs.tile.Tile.find_at.Goals as goal
 pub find_on-requires-clause-lane : goal.find_on-requires-clause-lane
 find_on-requires-clause-lane c =
     let s = c.self.inside in
-    let x : Part = record { low = s.low; high = s.high; links = s.links; own = s.own; clock = s.clock; signals = s.signals.items; mouths = s.mouths.items; handed = s.handed.items; coming = map vehicle_in s.coming; arrived = s.arrived.items; detectors = s.detectors.items } in
+    let x : Part = seen s in
     let is : x ≡ c.args.self.now = c.self.view_is in
     let tile : IsTileOf c.args.net.now x = subst (IsTileOf c.args.net.now) (sym is) c.requires.tile in
     let within : c.args.n < length x.own.places = subst (λ (t : Part). c.args.n < length t.own.places) (sym is) c.requires.lane in
@@ -26,7 +26,7 @@ find_on-requires-clause-lane c =
 pub find_on-requires-clause-of : goal.find_on-requires-clause-of
 find_on-requires-clause-of c =
     let s = c.self.inside in
-    let x : Part = record { low = s.low; high = s.high; links = s.links; own = s.own; clock = s.clock; signals = s.signals.items; mouths = s.mouths.items; handed = s.handed.items; coming = map vehicle_in s.coming; arrived = s.arrived.items; detectors = s.detectors.items } in
+    let x : Part = seen s in
     let is : x ≡ c.args.self.now = c.self.view_is in
     let tile : IsTileOf c.args.net.now x = subst (IsTileOf c.args.net.now) (sym is) c.requires.tile in
     tile.own
@@ -34,7 +34,7 @@ find_on-requires-clause-of c =
 pub returns-clause-found : goal.returns-clause-found
 returns-clause-found c =
     let s = c.self.inside in
-    let x : Part = record { low = s.low; high = s.high; links = s.links; own = s.own; clock = s.clock; signals = s.signals.items; mouths = s.mouths.items; handed = s.handed.items; coming = map vehicle_in s.coming; arrived = s.arrived.items; detectors = s.detectors.items } in
+    let x : Part = seen s in
     let is : x ≡ c.args.self.now = c.self.view_is in
     let tile : IsTileOf c.args.net.now x = subst (IsTileOf c.args.net.now) (sym is) c.requires.tile in
     let within : c.args.n < length x.own.places = subst (λ (t : Part). c.args.n < length t.own.places) (sym is) c.requires.lane in
@@ -44,7 +44,7 @@ returns-clause-found c =
 pub returns-clause-there : goal.returns-clause-there
 returns-clause-there c =
     let s = c.self.inside in
-    let x : Part = record { low = s.low; high = s.high; links = s.links; own = s.own; clock = s.clock; signals = s.signals.items; mouths = s.mouths.items; handed = s.handed.items; coming = map vehicle_in s.coming; arrived = s.arrived.items; detectors = s.detectors.items } in
+    let x : Part = seen s in
     let is : x ≡ c.args.self.now = c.self.view_is in
     let tile : IsTileOf c.args.net.now x = subst (IsTileOf c.args.net.now) (sym is) c.requires.tile in
     let within : c.args.n < length x.own.places = subst (λ (t : Part). c.args.n < length t.own.places) (sym is) c.requires.lane in

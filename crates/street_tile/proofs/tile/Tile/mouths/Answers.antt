@@ -1,11 +1,11 @@
-use Rattle.std.proofs.Common.{◌≡◌, ℕ, ◌*◌, Bool, true, List, length, map, sym, subst, ap, ◌∙◌}
+use Rattle.std.proofs.Common.{◌≡◌, ℕ, ◌*◌, Bool, true, List, length, sym, subst, ap, ◌∙◌}
 use Rattle.std.specs.Prelude.{Some, slice_get}
 use Rattle.std.specs.List.{list_any}
 use Rattle.std.proofs.lemmas.Bool.{both_ways}
 use Rattle.street_base.specs.Network.{is_place}
 use Rattle.street_base.proofs.PlaceLemmas.{places-listed}
 use Rattle.street_base.proofs.PlaceOnceLemmas.{places-once}
-use Rattle.street_tile.specs.Halves.{vehicle_in}
+use Rattle.street_tile.specs.Inside.{seen}
 use Rattle.street_tile.specs.Tiles.{Part, IsTileOf, is_own, mouth}
 use Rattle.street_tile.proofs.Phases.{tile-lanes}
 use Rattle.street_tile.proofs.LaneOwners.{all-own}
@@ -16,12 +16,12 @@ pub copy-requires : goal.copy-requires
 copy-requires c =
     let s = c.self.inside in
     let links : s.links ≡ length c.args.net.now.links = ap (λ (t : Part). t.links) c.self.view_is ∙ c.requires.tile.links in
-    ap length c.deref.ensures.value ∙ c.self.invariant.mouths_wide ∙ ap (λ (n : ℕ). 2 * n) links ∙ sym c.requires.view
+    ap length c.deref.ensures.value ∙ c.self.invariant.wide.mouths ∙ ap (λ (n : ℕ). 2 * n) links ∙ sym c.requires.view
 
 pub copy_lanes-requires-clause-there : goal.copy_lanes-requires-clause-there
 copy_lanes-requires-clause-there c =
     let s = c.self.inside in
-    let x : Part = record { low = s.low; high = s.high; links = s.links; own = s.own; clock = s.clock; signals = s.signals.items; mouths = s.mouths.items; handed = s.handed.items; coming = map vehicle_in s.coming; arrived = s.arrived.items; detectors = s.detectors.items } in
+    let x : Part = seen s in
     let tile : IsTileOf c.args.net.now x = subst (IsTileOf c.args.net.now) (sym c.self.view_is) c.requires.tile in
     tile-lanes c.args.net.now x tile
 
@@ -29,7 +29,7 @@ pub copy_lanes-requires-clause-held : goal.copy_lanes-requires-clause-held
 copy_lanes-requires-clause-held c =
     let s = c.self.inside in
     let links : s.links ≡ length c.args.net.now.links = ap (λ (t : Part). t.links) c.self.view_is ∙ c.requires.tile.links in
-    ap length c.deref-else-has_all_nodes.ensures.value ∙ c.self.invariant.mouths_wide ∙ ap (λ (n : ℕ). 2 * n) links
+    ap length c.deref-else-has_all_nodes.ensures.value ∙ c.self.invariant.wide.mouths ∙ ap (λ (n : ℕ). 2 * n) links
 
 pub returns-then-has_all_nodes-clause-own : goal.returns-then-has_all_nodes-clause-own
 returns-then-has_all_nodes-clause-own c = λ j p at.

@@ -113,12 +113,16 @@ invariant_of-result c =
     let handed = c.in_ok-tables.ensures.handed.1 in
     let arrived = c.in_ok-tables.ensures.arrived.1 in
     record {
-      nodes = omega arith;
-      numbered = subst (λ qs. AreNumbers (length c.as_slice-links.result.now) qs c.in_ok-tables.tables.0.0.items) numbers c.in_ok-tables.ensures.numbers;
-      mouths_wide = c.in_ok-tables.ensures.mouths;
-      coming_long = slots ∙ long;
-      handed_room = omega arith;
-      arrived_room = omega arith;
-      bare = λ none. subst AreBare (sym c.in_ok-own.ensures.detectors) (bare-all net c.deref.result.now);
-      due = subst (AreDue c.spec-2.result.now.start) (sym c.in_ok-own.ensures.detectors) (bare-due net c.deref.result.now c.spec-2.result.now.start);
+      wide = record {
+        nodes = omega arith;
+        numbered = subst (λ qs. AreNumbers (length c.as_slice-links.result.now) qs c.in_ok-tables.tables.0.0.items) numbers c.in_ok-tables.ensures.numbers;
+        mouths = c.in_ok-tables.ensures.mouths;
+        coming = slots ∙ long;
+        handed = omega arith;
+        arrived = omega arith;
+      };
+      noted = record {
+        bare = λ none. subst AreBare (sym c.in_ok-own.ensures.detectors) (bare-all net c.deref.result.now);
+        due = subst (AreDue c.spec-2.result.now.start) (sym c.in_ok-own.ensures.detectors) (bare-due net c.deref.result.now c.spec-2.result.now.start);
+      };
     }

@@ -1,7 +1,7 @@
-use Rattle.std.proofs.Common.{◌≡◌, ◌+◌, length, map, sym, subst, ap, ◌∙◌, arith}
+use Rattle.std.proofs.Common.{◌≡◌, ◌+◌, length, sym, subst, ap, ◌∙◌, arith}
 use Rattle.std.specs.Vec.{with_items}
 use Rattle.std.proofs.lemmas.List.{with_items_is}
-use Rattle.street_tile.specs.Halves.{vehicle_in}
+use Rattle.street_tile.specs.Inside.{seen}
 use Rattle.street_tile.specs.Tiles.{Part, IsTileOf, AreBare, AreDue}
 use Rattle.street_tile.specs.TileDetectors.{HaveNoted}
 use Rattle.street_tile.specs.Phases.{MeterPhase}
@@ -14,23 +14,23 @@ use Rattle.street_tile.proofs.tile.Tile.phase_meter.Goals as goal
 pub note_lanes-requires-clause-even : goal.note_lanes-requires-clause-even
 note_lanes-requires-clause-even c =
     let s = c.self.inside in
-    let x : Part = record { low = s.low; high = s.high; links = s.links; own = s.own; clock = s.clock; signals = s.signals.items; mouths = s.mouths.items; handed = s.handed.items; coming = map vehicle_in s.coming; arrived = s.arrived.items; detectors = s.detectors.items } in
+    let x : Part = seen s in
     let tile : IsTileOf c.args.net.now x = subst (IsTileOf c.args.net.now) (sym c.self.view_is) c.requires.tile in
     ap length c.deref_mut.ensures.value ∙ detectors-even c.args.net.now s.own tile.own s.detectors.items tile.sized ∙ sym (even-of c.args.net.now s.own tile.own)
 
 pub note_lanes-requires-clause-bare : goal.note_lanes-requires-clause-bare
-note_lanes-requires-clause-bare c = λ none. subst AreBare (sym c.deref_mut.ensures.value) (c.self.invariant.bare none)
+note_lanes-requires-clause-bare c = λ none. subst AreBare (sym c.deref_mut.ensures.value) (c.self.invariant.noted.bare none)
 
 pub note_lanes-requires-clause-in_time : goal.note_lanes-requires-clause-in_time
 note_lanes-requires-clause-in_time c =
     let s = c.self.inside in
     let clock : s.clock ≡ c.args.self.now.clock = ap (λ (t : Part). t.clock) c.self.view_is in
-    (s.clock, (let h = c.requires.in_time in omega arith), subst (AreDue s.clock) (sym c.deref_mut.ensures.value) c.self.invariant.due)
+    (s.clock, (let h = c.requires.in_time in omega arith), subst (AreDue s.clock) (sym c.deref_mut.ensures.value) c.self.invariant.noted.due)
 
 pub returns : goal.returns
 returns c =
     let s = c.self.inside in
-    let x : Part = record { low = s.low; high = s.high; links = s.links; own = s.own; clock = s.clock; signals = s.signals.items; mouths = s.mouths.items; handed = s.handed.items; coming = map vehicle_in s.coming; arrived = s.arrived.items; detectors = s.detectors.items } in
+    let x : Part = seen s in
     let tile : IsTileOf c.args.net.now x = subst (IsTileOf c.args.net.now) (sym c.self.view_is) c.requires.tile in
     let items : (with_items s.detectors c.note_lanes.new.detectors).items ≡ c.note_lanes.new.detectors = with_items_is s.detectors c.note_lanes.new.detectors (let e = c.note_lanes.auto.detectors in let f = c.deref_mut.ensures.len in let ok = s.detectors.ok in omega arith) in
     let noted = subst (λ gs. HaveNoted s.own gs c.note_lanes.new.detectors) c.deref_mut.ensures.value c.note_lanes.ensures in
@@ -43,12 +43,16 @@ invariant_of-self c =
     let items : (with_items s.detectors c.note_lanes.new.detectors).items ≡ c.note_lanes.new.detectors = with_items_is s.detectors c.note_lanes.new.detectors (let e = c.note_lanes.auto.detectors in let f = c.deref_mut.ensures.len in let ok = s.detectors.ok in omega arith) in
     let noted = subst (λ gs. HaveNoted s.own gs c.note_lanes.new.detectors) c.deref_mut.ensures.value c.note_lanes.ensures in
     record {
-      nodes = inv.nodes;
-      numbered = inv.numbered;
-      mouths_wide = inv.mouths_wide;
-      coming_long = inv.coming_long;
-      handed_room = inv.handed_room;
-      arrived_room = inv.arrived_room;
-      bare = λ none. subst AreBare (sym items) (noted-bare s.own s.detectors.items c.note_lanes.new.detectors noted (inv.bare none));
-      due = subst (AreDue (s.clock + 1)) (sym items) (noted-due s.own s.detectors.items s.clock c.note_lanes.new.detectors noted inv.due);
+      wide = record {
+        nodes = inv.wide.nodes;
+        numbered = inv.wide.numbered;
+        mouths = inv.wide.mouths;
+        coming = inv.wide.coming;
+        handed = inv.wide.handed;
+        arrived = inv.wide.arrived;
+      };
+      noted = record {
+        bare = λ none. subst AreBare (sym items) (noted-bare s.own s.detectors.items c.note_lanes.new.detectors noted (inv.noted.bare none));
+        due = subst (AreDue (s.clock + 1)) (sym items) (noted-due s.own s.detectors.items s.clock c.note_lanes.new.detectors noted inv.noted.due);
+      };
     }

@@ -1,10 +1,10 @@
-use Rattle.std.proofs.Common.{◌≡◌, ℕ, ◌+◌, ◌*◌, Bool, List, length, map, true, sym, subst, ap, ◌∙◌, arith}
+use Rattle.std.proofs.Common.{◌≡◌, ℕ, ◌+◌, ◌*◌, Bool, List, length, true, sym, subst, ap, ◌∙◌, arith}
 use Rattle.std.specs.Prelude.{[]}
 use Rattle.std.specs.Vec.{with_items}
 use Rattle.std.proofs.lemmas.List.{with_items_is}
 use Rattle.street_base.specs.State.{Traffic}
 use Rattle.street_lanes.specs.Lanes.{place_at}
-use Rattle.street_tile.specs.Halves.{vehicle_in}
+use Rattle.street_tile.specs.Inside.{seen}
 use Rattle.street_tile.specs.Tiles.{Part, IsTileOf, AreBare, AreDue, ShowSignals, mouth, is_own, sizes_of}
 use Rattle.street_tile.specs.TileDetectors.{KeepMeters, HaveWatched}
 use Rattle.street_tile.specs.Phases.{MotionPhase}
@@ -16,24 +16,24 @@ use Rattle.street_tile.proofs.tile.Tile.phase_motion.Goals as goal
 pub drive_lanes-requires-clause-nodes : goal.drive_lanes-requires-clause-nodes
 drive_lanes-requires-clause-nodes c = λ n h.
     let s = c.self.inside in
-    let x : Part = record { low = s.low; high = s.high; links = s.links; own = s.own; clock = s.clock; signals = s.signals.items; mouths = s.mouths.items; handed = s.handed.items; coming = map vehicle_in s.coming; arrived = s.arrived.items; detectors = s.detectors.items } in
+    let x : Part = seen s in
     let tile : IsTileOf c.args.net.now x = subst (IsTileOf c.args.net.now) (sym c.self.view_is) c.requires.tile in
-    let nodes : s.low + length c.deref.result.now ≡ s.high = rw c.deref.ensures.value c.self.invariant.nodes in
+    let nodes : s.low + length c.deref.result.now ≡ s.high = rw c.deref.ensures.value c.self.invariant.wide.nodes in
     subst (λ high. is_own c.args.net.now s.low high (place_at s.own n) ≡ true) (sym nodes) (tile-owns c.args.net.now x tile n h)
 
 pub drive_lanes-requires-clause-sized : goal.drive_lanes-requires-clause-sized
 drive_lanes-requires-clause-sized c =
     let s = c.self.inside in
-    let x : Part = record { low = s.low; high = s.high; links = s.links; own = s.own; clock = s.clock; signals = s.signals.items; mouths = s.mouths.items; handed = s.handed.items; coming = map vehicle_in s.coming; arrived = s.arrived.items; detectors = s.detectors.items } in
+    let x : Part = seen s in
     let tile : IsTileOf c.args.net.now x = subst (IsTileOf c.args.net.now) (sym c.self.view_is) c.requires.tile in
     ap sizes_of c.deref_mut.ensures.value ∙ tile.sized
 
 pub drive_lanes-requires-clause-wide : goal.drive_lanes-requires-clause-wide
 drive_lanes-requires-clause-wide c =
     let s = c.self.inside in
-    let x : Part = record { low = s.low; high = s.high; links = s.links; own = s.own; clock = s.clock; signals = s.signals.items; mouths = s.mouths.items; handed = s.handed.items; coming = map vehicle_in s.coming; arrived = s.arrived.items; detectors = s.detectors.items } in
+    let x : Part = seen s in
     let tile : IsTileOf c.args.net.now x = subst (IsTileOf c.args.net.now) (sym c.self.view_is) c.requires.tile in
-    ap length c.deref_mut-2.ensures.value ∙ c.self.invariant.mouths_wide ∙ ap (λ (n : ℕ). 2 * n) tile.links
+    ap length c.deref_mut-2.ensures.value ∙ c.self.invariant.wide.mouths ∙ ap (λ (n : ℕ). 2 * n) tile.links
 
 pub invariant_of-self : goal.invariant_of-self
 invariant_of-self c =
@@ -44,31 +44,35 @@ invariant_of-self c =
     let keep : KeepMeters s.detectors.items c.drive_lanes.new.detectors = subst (λ gs. KeepMeters gs c.drive_lanes.new.detectors) c.deref_mut.ensures.value c.drive_lanes.ensures.meters in
     let mouths : (with_items s.mouths c.drive_lanes.new.mouths).items ≡ c.drive_lanes.new.mouths = with_items_is s.mouths c.drive_lanes.new.mouths (let e = c.drive_lanes.auto.mouths in let f = c.deref_mut-2.ensures.len in let ok = s.mouths.ok in omega arith) in
     record {
-      nodes = inv.nodes;
-      numbered = rw places inv.numbered;
-      mouths_wide = (let is = ap length mouths in let e = c.drive_lanes.auto.mouths in let old = ap length c.deref_mut-2.ensures.value in let wide = inv.mouths_wide in omega arith);
-      coming_long = rw places inv.coming_long;
-      handed_room = rw places inv.handed_room;
-      arrived_room = (let le = inv.arrived_room in let cap = c.drive_lanes.ensures.capacity in rw places (omega arith));
-      bare = λ none. subst AreBare (sym items) (keep-bare s.detectors.items c.drive_lanes.new.detectors keep (inv.bare none));
-      due = subst (AreDue s.clock) (sym items) (keep-due s.clock s.detectors.items c.drive_lanes.new.detectors keep inv.due);
+      wide = record {
+        nodes = inv.wide.nodes;
+        numbered = rw places inv.wide.numbered;
+        mouths = (let is = ap length mouths in let e = c.drive_lanes.auto.mouths in let old = ap length c.deref_mut-2.ensures.value in let wide = inv.wide.mouths in omega arith);
+        coming = rw places inv.wide.coming;
+        handed = rw places inv.wide.handed;
+        arrived = (let le = inv.wide.arrived in let cap = c.drive_lanes.ensures.capacity in rw places (omega arith));
+      };
+      noted = record {
+        bare = λ none. subst AreBare (sym items) (keep-bare s.detectors.items c.drive_lanes.new.detectors keep (inv.noted.bare none));
+        due = subst (AreDue s.clock) (sym items) (keep-due s.clock s.detectors.items c.drive_lanes.new.detectors keep inv.noted.due);
+      };
     }
 
 pub returns : goal.returns
 returns c =
     let s = c.self.inside in
-    let x : Part = record { low = s.low; high = s.high; links = s.links; own = s.own; clock = s.clock; signals = s.signals.items; mouths = s.mouths.items; handed = s.handed.items; coming = map vehicle_in s.coming; arrived = s.arrived.items; detectors = s.detectors.items } in
+    let x : Part = seen s in
     let tile : IsTileOf c.args.net.now x = subst (IsTileOf c.args.net.now) (sym c.self.view_is) c.requires.tile in
-    let nodes : s.low + length c.deref.result.now ≡ s.high = rw c.deref.ensures.value c.self.invariant.nodes in
+    let nodes : s.low + length c.deref.result.now ≡ s.high = rw c.deref.ensures.value c.self.invariant.wide.nodes in
     let shows : (m : Traffic) → ShowSignals s.low s.high s.signals.items m → ShowSignals s.low (s.low + length c.deref.result.now) c.deref.result.now m = λ m h. rw (nodes, c.deref.ensures.value) h in
     let none : s.arrived.items ≡ [] = ap (λ (t : Part). t.arrived) c.self.view_is ∙ c.requires.none in
     let items : (with_items s.detectors c.drive_lanes.new.detectors).items ≡ c.drive_lanes.new.detectors = with_items_is s.detectors c.drive_lanes.new.detectors (let e = c.drive_lanes.auto.detectors in let f = c.deref_mut.ensures.len in let ok = s.detectors.ok in omega arith) in
     let keep : KeepMeters s.detectors.items c.drive_lanes.new.detectors = subst (λ gs. KeepMeters gs c.drive_lanes.new.detectors) c.deref_mut.ensures.value c.drive_lanes.ensures.meters in
     let mouths : (with_items s.mouths c.drive_lanes.new.mouths).items ≡ c.drive_lanes.new.mouths = with_items_is s.mouths c.drive_lanes.new.mouths (let e = c.drive_lanes.auto.mouths in let f = c.deref_mut-2.ensures.len in let ok = s.mouths.ok in omega arith) in
     let moves = moves-of c.args.net.now x tile c.drive_lanes.new.own (with_items s.mouths c.drive_lanes.new.mouths).items c.drive_lanes.new.arrived.items (with_items s.detectors c.drive_lanes.new.detectors).items c.drive_lanes.ensures.same c.drive_lanes.ensures.room
-    (λ m on clock signals stand. c.drive_lanes.ensures.stand m on clock (shows m signals) stand)
-    (λ m on clock signals stand. rw none at (c.drive_lanes.ensures.arrived m on clock (shows m signals) stand))
+    (λ m on clock signals stand. c.drive_lanes.ensures.stand m (record { on = on; in_time = clock; signals = shows m signals }) stand)
+    (λ m on clock signals stand. rw none at (c.drive_lanes.ensures.arrived m (record { on = on; in_time = clock; signals = shows m signals }) stand))
     (subst (KeepMeters s.detectors.items) (sym items) keep)
-    (λ m on clock signals stand. subst (HaveWatched m s.own.places) (sym items) (c.drive_lanes.ensures.watched m on clock (shows m signals) stand))
+    (λ m on clock signals stand. subst (HaveWatched m s.own.places) (sym items) (c.drive_lanes.ensures.watched m (record { on = on; in_time = clock; signals = shows m signals }) stand))
     (λ m stand j p at. ap (λ (ms : List Bool). mouth ms p) mouths ∙ c.drive_lanes.ensures.shown m stand j p at) in
     at-view (MotionPhase c.args.net.now) c.self.view_is moves

@@ -1,7 +1,7 @@
-use Rattle.std.proofs.Common.{◌≡◌, map, sym, subst, ap, ◌∙◌}
+use Rattle.std.proofs.Common.{◌≡◌, sym, subst, ap, ◌∙◌}
 use Rattle.std.specs.Prelude.{[]}
 use Rattle.street_base.specs.State.{Traffic}
-use Rattle.street_tile.specs.Halves.{vehicle_in}
+use Rattle.street_tile.specs.Inside.{seen}
 use Rattle.street_tile.specs.Tiles.{Part, IsTileOf}
 use Rattle.street_tile.specs.Phases.{ReleasePhase}
 use Rattle.street_tile.specs.Walks.{IsReleasing}
@@ -12,14 +12,14 @@ use Rattle.street_tile.proofs.tile.Tile.phase_release.Goals as goal
 pub release_lanes-requires-clause-there : goal.release_lanes-requires-clause-there
 release_lanes-requires-clause-there c =
     let s = c.self.inside in
-    let x : Part = record { low = s.low; high = s.high; links = s.links; own = s.own; clock = s.clock; signals = s.signals.items; mouths = s.mouths.items; handed = s.handed.items; coming = map vehicle_in s.coming; arrived = s.arrived.items; detectors = s.detectors.items } in
+    let x : Part = seen s in
     let tile : IsTileOf c.args.net.now x = subst (IsTileOf c.args.net.now) (sym c.self.view_is) c.requires.tile in
     tile-lanes c.args.net.now x tile
 
 pub returns : goal.returns
 returns c =
     let s = c.self.inside in
-    let x : Part = record { low = s.low; high = s.high; links = s.links; own = s.own; clock = s.clock; signals = s.signals.items; mouths = s.mouths.items; handed = s.handed.items; coming = map vehicle_in s.coming; arrived = s.arrived.items; detectors = s.detectors.items } in
+    let x : Part = seen s in
     let tile : IsTileOf c.args.net.now x = subst (IsTileOf c.args.net.now) (sym c.self.view_is) c.requires.tile in
     let shown : c.deref_mut.result.now ≡ c.args.view.now = c.deref_mut.ensures.value ∙ c.copy_from_slice.ensures.items ∙ c.mouths.ensures in
     let now : (m : Traffic) → IsReleasing c.args.net.now s.clock s.own c.args.view.now m → IsReleasing c.args.net.now s.clock s.own c.deref_mut.result.now m = λ m r. rw shown r in

@@ -43,12 +43,16 @@ invariant_of-self c =
     let ok = subst (λ (h : Detectors). OnOk c.place.result (Placed p c.args.cell c.args.period s.clock h c.place.new.self)) is c.place.ensures.ok in
     let err = subst (λ (h : Detectors). OnErr c.place.result (c.place.new.self ≡ h)) is c.place.ensures.err in
     record {
-      nodes = inv.nodes;
-      numbered = inv.numbered;
-      mouths_wide = inv.mouths_wide;
-      coming_long = inv.coming_long;
-      handed_room = inv.handed_room;
-      arrived_room = inv.arrived_room;
-      bare = λ none. cc;
-      due = placed-or-not s.clock s.detectors.items n p c.args.cell c.args.period g c.place.new.self (seen-there c.args.net.now c.self.view_is c.requires.tile n p c.number-n.ensures) c.place.result ok err inv.due;
+      wide = record {
+        nodes = inv.wide.nodes;
+        numbered = inv.wide.numbered;
+        mouths = inv.wide.mouths;
+        coming = inv.wide.coming;
+        handed = inv.wide.handed;
+        arrived = inv.wide.arrived;
+      };
+      noted = record {
+        bare = λ none. cc;
+        due = placed-or-not s.clock s.detectors.items n p c.args.cell c.args.period g c.place.new.self (seen-there c.args.net.now c.self.view_is c.requires.tile n p c.number-n.ensures) c.place.result ok err inv.noted.due;
+      };
     }

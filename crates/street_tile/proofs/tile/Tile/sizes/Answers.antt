@@ -1,11 +1,11 @@
-use Rattle.std.proofs.Common.{◌≡◌, ℕ, ◌+◌, ◌<◌, ◌≤◌, List, length, map, take, ap, sym, subst, ◌∙◌, arith}
+use Rattle.std.proofs.Common.{◌≡◌, ℕ, ◌+◌, ◌<◌, ◌≤◌, List, length, take, ap, sym, subst, ◌∙◌, arith}
 use Rattle.std.proofs.lemmas.List.{take_all}
 use Rattle.std.specs.Prelude.{is_some, count_by}
 use Rattle.street_base.specs.Network.{Place}
 use Rattle.street_base.specs.State.{Traffic, LaneState}
 use Rattle.street_lanes.specs.Views.{LaneStands}
 use Rattle.street_lanes.specs.Lanes.{lane_of}
-use Rattle.street_tile.specs.Halves.{vehicle_in}
+use Rattle.street_tile.specs.Inside.{seen}
 use Rattle.street_tile.specs.Tiles.{Part, StandsFor}
 use Rattle.street_tile.specs.Commands.{over}
 use Rattle.street_tile.proofs.NumberOnce.{over-more}
@@ -27,7 +27,7 @@ module _ (f : LaneState → ℕ) (m : Traffic) (x y : Part) (is : x ≡ y) (n al
 pub loop-n-preserved : goal.loop-n-preserved
 loop-n-preserved c =
     let s = c.self.inside in
-    let x : Part = record { low = s.low; high = s.high; links = s.links; own = s.own; clock = s.clock; signals = s.signals.items; mouths = s.mouths.items; handed = s.handed.items; coming = map vehicle_in s.coming; arrived = s.arrived.items; detectors = s.detectors.items } in
+    let x : Part = seen s in
     let is : x ≡ c.args.self.now = c.self.view_is in
     let few = c.loop-n.invariant.few in
     let own = c.sizes-own.ensures.few in
@@ -41,20 +41,20 @@ loop-n-preserved c =
 pub returns-clause-cells : goal.returns-clause-cells
 returns-clause-cells c = λ m stand.
     let s = c.self.inside in
-    let x : Part = record { low = s.low; high = s.high; links = s.links; own = s.own; clock = s.clock; signals = s.signals.items; mouths = s.mouths.items; handed = s.handed.items; coming = map vehicle_in s.coming; arrived = s.arrived.items; detectors = s.detectors.items } in
+    let x : Part = seen s in
     let is : x ≡ c.args.self.now = c.self.view_is in
     all-counted (λ lane. count_by is_some lane.track.cells) m x c.args.self.now is c.loop-n.n c.loop-n.all.cells (omega arith) (c.loop-n.invariant.cells m stand)
 
 pub returns-clause-buffers : goal.returns-clause-buffers
 returns-clause-buffers c = λ m stand.
     let s = c.self.inside in
-    let x : Part = record { low = s.low; high = s.high; links = s.links; own = s.own; clock = s.clock; signals = s.signals.items; mouths = s.mouths.items; handed = s.handed.items; coming = map vehicle_in s.coming; arrived = s.arrived.items; detectors = s.detectors.items } in
+    let x : Part = seen s in
     let is : x ≡ c.args.self.now = c.self.view_is in
     all-counted (λ lane. length lane.queue) m x c.args.self.now is c.loop-n.n c.loop-n.all.buffers (omega arith) (c.loop-n.invariant.buffers m stand)
 
 pub returns-clause-waiting : goal.returns-clause-waiting
 returns-clause-waiting c = λ m stand.
     let s = c.self.inside in
-    let x : Part = record { low = s.low; high = s.high; links = s.links; own = s.own; clock = s.clock; signals = s.signals.items; mouths = s.mouths.items; handed = s.handed.items; coming = map vehicle_in s.coming; arrived = s.arrived.items; detectors = s.detectors.items } in
+    let x : Part = seen s in
     let is : x ≡ c.args.self.now = c.self.view_is in
     all-counted (λ lane. length lane.waiting) m x c.args.self.now is c.loop-n.n c.loop-n.all.waiting (omega arith) (c.loop-n.invariant.waiting m stand)

@@ -1,4 +1,4 @@
-use Rattle.std.proofs.Common.{◌≡◌, ◌<◌, None, length, map, sym, subst, arith}
+use Rattle.std.proofs.Common.{◌≡◌, ◌<◌, None, length, sym, subst, arith}
 use Rattle.std.specs.Prelude.{IfSome, option_map}
 use Rattle.street_base.specs.Vehicle.{vehicle_of}
 use Rattle.street_base.specs.State.{Traffic, lane_at}
@@ -6,7 +6,7 @@ use Rattle.street_base.specs.Census.{in_lane}
 use Rattle.street_lanes.specs.Lanes.{place_at}
 use Rattle.street_lanes.specs.Whereabouts.{vehicle_on}
 use Rattle.street_lanes.specs.Whole.{IsOn}
-use Rattle.street_tile.specs.Halves.{vehicle_in}
+use Rattle.street_tile.specs.Inside.{seen}
 use Rattle.street_tile.specs.Tiles.{Part, IsTileOf, StandsFor}
 use Rattle.street_tile.specs.Commands.{without, DoesIf, HaveAtMostOne}
 use Rattle.street_tile.proofs.SameLanes.{even-of}
@@ -17,7 +17,7 @@ use Rattle.street_tile.proofs.tile.Tile.take_at.Goals as goal
 pub take_out-requires : goal.take_out-requires
 take_out-requires c =
     let s = c.self.inside in
-    let x : Part = record { low = s.low; high = s.high; links = s.links; own = s.own; clock = s.clock; signals = s.signals.items; mouths = s.mouths.items; handed = s.handed.items; coming = map vehicle_in s.coming; arrived = s.arrived.items; detectors = s.detectors.items } in
+    let x : Part = seen s in
     let is : x ≡ c.args.self.now = c.self.view_is in
     let tile : IsTileOf c.args.net.now x = subst (IsTileOf c.args.net.now) (sym is) c.requires.tile in
     let within : c.args.n < length x.own.places = subst (λ (t : Part). c.args.n < length t.own.places) (sym is) c.requires.lane in
@@ -27,7 +27,7 @@ take_out-requires c =
 pub returns-clause-some : goal.returns-clause-some
 returns-clause-some c =
     let s = c.self.inside in
-    let x : Part = record { low = s.low; high = s.high; links = s.links; own = s.own; clock = s.clock; signals = s.signals.items; mouths = s.mouths.items; handed = s.handed.items; coming = map vehicle_in s.coming; arrived = s.arrived.items; detectors = s.detectors.items } in
+    let x : Part = seen s in
     let is : x ≡ c.args.self.now = c.self.view_is in
     let tile : IsTileOf c.args.net.now x = subst (IsTileOf c.args.net.now) (sym is) c.requires.tile in
     let within : c.args.n < length x.own.places = subst (λ (t : Part). c.args.n < length t.own.places) (sym is) c.requires.lane in
@@ -37,7 +37,7 @@ returns-clause-some c =
 pub returns-clause-had : goal.returns-clause-had
 returns-clause-had c =
     let s = c.self.inside in
-    let x : Part = record { low = s.low; high = s.high; links = s.links; own = s.own; clock = s.clock; signals = s.signals.items; mouths = s.mouths.items; handed = s.handed.items; coming = map vehicle_in s.coming; arrived = s.arrived.items; detectors = s.detectors.items } in
+    let x : Part = seen s in
     let is : x ≡ c.args.self.now = c.self.view_is in
     let tile : IsTileOf c.args.net.now x = subst (IsTileOf c.args.net.now) (sym is) c.requires.tile in
     let within : c.args.n < length x.own.places = subst (λ (t : Part). c.args.n < length t.own.places) (sym is) c.requires.lane in
@@ -47,7 +47,7 @@ returns-clause-had c =
 pub returns-clause-had_not : goal.returns-clause-had_not
 returns-clause-had_not c =
     let s = c.self.inside in
-    let x : Part = record { low = s.low; high = s.high; links = s.links; own = s.own; clock = s.clock; signals = s.signals.items; mouths = s.mouths.items; handed = s.handed.items; coming = map vehicle_in s.coming; arrived = s.arrived.items; detectors = s.detectors.items } in
+    let x : Part = seen s in
     let is : x ≡ c.args.self.now = c.self.view_is in
     let tile : IsTileOf c.args.net.now x = subst (IsTileOf c.args.net.now) (sym is) c.requires.tile in
     let within : c.args.n < length x.own.places = subst (λ (t : Part). c.args.n < length t.own.places) (sym is) c.requires.lane in
@@ -57,7 +57,7 @@ returns-clause-had_not c =
 pub returns-clause-vehicle : goal.returns-clause-vehicle
 returns-clause-vehicle c =
     let s = c.self.inside in
-    let x : Part = record { low = s.low; high = s.high; links = s.links; own = s.own; clock = s.clock; signals = s.signals.items; mouths = s.mouths.items; handed = s.handed.items; coming = map vehicle_in s.coming; arrived = s.arrived.items; detectors = s.detectors.items } in
+    let x : Part = seen s in
     let is : x ≡ c.args.self.now = c.self.view_is in
     let tile : IsTileOf c.args.net.now x = subst (IsTileOf c.args.net.now) (sym is) c.requires.tile in
     let within : c.args.n < length x.own.places = subst (λ (t : Part). c.args.n < length t.own.places) (sym is) c.requires.lane in
