@@ -1,6 +1,7 @@
 use Rattle.std.proofs.Common.{◌≡◌, ◌+◌, length, map, sym, subst, ap, ◌∙◌, arith}
 use Rattle.std.specs.Vec.{with_items}
 use Rattle.std.proofs.lemmas.List.{with_items_is}
+use Rattle.street_lanes.specs.Lanes.{Lanes}
 use Rattle.street_tile.specs.Halves.{vehicle_in}
 use Rattle.street_tile.specs.Tiles.{Part, IsTileOf, AreBare, AreDue}
 use Rattle.street_tile.specs.TileDetectors.{HaveNoted}
@@ -34,7 +35,9 @@ returns c =
     let tile : IsTileOf c.args.net.now x = subst (IsTileOf c.args.net.now) (sym c.self.view_is) c.requires.tile in
     let items : (with_items s.detectors c.note_lanes.new.detectors).items ≡ c.note_lanes.new.detectors = with_items_is s.detectors c.note_lanes.new.detectors (let e = c.note_lanes.auto.detectors in let f = c.deref_mut.ensures.len in let ok = s.detectors.ok in omega arith) in
     let noted = subst (λ gs. HaveNoted s.own gs c.note_lanes.new.detectors) c.deref_mut.ensures.value c.note_lanes.ensures in
-    at-view (MeterPhase c.args.net.now) c.self.view_is (ticks-of c.args.net.now x _ tile (subst (HaveNoted s.own s.detectors.items) (sym items) noted))
+    at-view (MeterPhase c.args.net.now) c.self.view_is
+    (subst (λ (own : Lanes). MeterPhase c.args.net.now x (record x { own = own; clock = s.clock + 1; detectors = (with_items s.detectors c.note_lanes.new.detectors).items })) (sym c.pack.ensures)
+    (ticks-of c.args.net.now x (with_items s.detectors c.note_lanes.new.detectors).items tile (subst (HaveNoted s.own s.detectors.items) (sym items) noted)))
 
 pub invariant_of-self : goal.invariant_of-self
 invariant_of-self c =
@@ -42,7 +45,7 @@ invariant_of-self c =
     let inv = c.self.invariant in
     let items : (with_items s.detectors c.note_lanes.new.detectors).items ≡ c.note_lanes.new.detectors = with_items_is s.detectors c.note_lanes.new.detectors (let e = c.note_lanes.auto.detectors in let f = c.deref_mut.ensures.len in let ok = s.detectors.ok in omega arith) in
     let noted = subst (λ gs. HaveNoted s.own gs c.note_lanes.new.detectors) c.deref_mut.ensures.value c.note_lanes.ensures in
-    record {
+    rw (ap (λ (own : Lanes). own.places) c.pack.ensures) (record {
       nodes = inv.nodes;
       numbered = inv.numbered;
       mouths_wide = inv.mouths_wide;
@@ -51,4 +54,4 @@ invariant_of-self c =
       arrived_room = inv.arrived_room;
       bare = λ none. subst AreBare (sym items) (noted-bare s.own s.detectors.items c.note_lanes.new.detectors noted (inv.bare none));
       due = subst (AreDue (s.clock + 1)) (sym items) (noted-due s.own s.detectors.items s.clock c.note_lanes.new.detectors noted inv.due);
-    }
+})
