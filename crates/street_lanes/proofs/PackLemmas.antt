@@ -118,10 +118,10 @@ module _ (old new : Yard) (key next : ℕ) (whole : IsWhole old) (few : next < 4
 
 -- ---- what a lane has, by what its keys hold
 
-cell_in : Option Car → ℕ
+abbrev cell_in : Option Car → ℕ
 cell_in o = unwrap_or (option_map (λ (c : Car). c.cell) o) 0
 
-found_in : List (Option Car) → ℕ → Option Vehicle
+abbrev found_in : List (Option Car) → ℕ → Option Vehicle
 found_in [] z = None
 found_in (o ∷ os) z = cond (cell_in o == z) (option_map vehicle_of o) (found_in os z)
 
@@ -132,7 +132,7 @@ found-held y (x ∷ xs) z = elim (cases_Bool (cell_at y x == z)) as (λ _. optio
   | inr f ↦ rw f (found-held y xs z)
 ]
 
-AreFalling : ℕ → List (Option Car) → Type 0
+abbrev AreFalling : ℕ → List (Option Car) → Type 0
 AreFalling bound [] = Unit {0}
 AreFalling bound (o ∷ os) = (cell_in o < bound) × AreFalling (cell_in o) os
 
