@@ -7,9 +7,9 @@ use Rattle.std.proofs.lemmas.List.{map-append, append_assoc}
 use Rattle.std.proofs.lemmas.List.Elements.{filter_map-append}
 use Rattle.street_base.specs.declared.car.Car.{Car}
 use Rattle.street_base.specs.Shown.{put_in_order}
-use Rattle.street_yard.specs.Yard.{YardEntry, Yard, list_at, entry_at, car_of, list_on, list_set, put_behind, first_or, last_or, Has, IsOnList, IsWhole, Updates}
-use Rattle.street_yard.proofs.Keys.{snoc_cases, last_or-push, has-behind}
-use Rattle.street_yard.proofs.YardLemmas.{list-written, car_of-list_set, put_behind-is}
+use Rattle.street_yard.specs.Yard.{YardEntry, Yard, list_at, entry_at, car_of, list_on, list_set, put_behind, first_or, last_or, Has, IsApart, IsOnList, IsWhole, Updates}
+use Rattle.street_yard.proofs.Keys.{snoc_cases, last_or-push, has-behind, put_behind-last}
+use Rattle.street_yard.proofs.YardLemmas.{list-written, car_of-list_set}
 use Rattle.street_lanes.specs.Views.{waiting_of, AreInOrder}
 use Rattle.street_lanes.specs.Lists.{cars_on, Touches, IsShort, IsPlaceFor, Enters, Joins}
 use Rattle.street_lanes.proofs.WaitingOrder.{LastNotAfter, LastNotAfter-push, GoesBeforeFirst, put-split}
@@ -55,13 +55,7 @@ enters y a new list key car whole there short vacant updates lists room pushed =
 
 -- the key comes behind the last of the part ahead
 put-at : (y : Yard) (list key : ℕ) (at : Option ℕ) (up down : List ℕ) → IsWhole y → list_at y list ≡ up ++ down → at ≡ last_or up None → put_behind at key (list_at y list) ≡ up ++ key ∷ down
-put-at y list key at up down whole split at_end = elim (snoc_cases up) as (λ _. put_behind at key (list_at y list) ≡ up ++ key ∷ down) [
-  | inl none ↦ ap (λ o. put_behind o key (list_at y list)) (at_end ∙ ap (λ l. last_or l None) none) ∙ ap (λ l. key ∷ l) (split ∙ ap (λ l. l ++ down) none) ∙ sym (ap (λ l. l ++ key ∷ down) none)
-  | inr s ↦ (
-      ap (λ o. put_behind o key (list_at y list)) (at_end ∙ ap (λ l. last_or l None) s.2 ∙ last_or-push s.0 s.1 None)
-      ∙ put_behind-is y list s.1 s.0 down whole (split ∙ ap (λ l. l ++ down) s.2 ∙ append_assoc s.0 (s.1 ∷ []) down) key
-      ∙ sym (ap (λ l. l ++ key ∷ down) s.2 ∙ append_assoc s.0 (s.1 ∷ []) (key ∷ down)))
-]
+put-at y list key at up down whole split at_end = (λ i. put_behind (at_end i) key (split i)) ∙ put_behind-last up down key (subst IsApart split (whole.apart list))
 
 pub has-left : (xs ys : List ℕ) (k : ℕ) → Has xs k → Has (xs ++ ys) k
 has-left xs ys k h = (h.0, h.1 ++ ys, ap (λ l. l ++ ys) h.2 ∙ append_assoc h.0 (k ∷ h.1) ys)

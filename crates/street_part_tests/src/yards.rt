@@ -255,6 +255,38 @@ fn the_last_of_three_goes_over(rt: HostRuntime) -> Result<(), Fail> {
     Ok(())
 }
 
+// A key of that list takes the spare key at a position among those.
+fn renew(rt: &impl Abort, yard: &mut Yard, list: ListId, key: Key, at: usize) -> Key
+    ensures { length yard.new.lists ≡ length yard.old.lists }
+{
+    assert!(rt; yard.list_of(key) == Some(list));
+    yard.renew(key, at)
+}
+
+// Three cars of a list take the three spare keys in order, and keep their order; then no spare key has a position past two.
+fn renew_three(rt: &(impl Abort + AllocGlobal), yard: &mut Yard)
+    requires { 0 < length yard.old.lists }
+{
+    let (a, b, c) = push_three(rt, yard);
+    yard.sort_spare();
+    let a = renew(rt, yard, FIRST, a, 0);
+    let b = renew(rt, yard, FIRST, b, 1);
+    let c = renew(rt, yard, FIRST, c, 2);
+    assert!(rt; a.index() == 0 && b.index() == 1 && c.index() == 2);
+    is_listed(rt, yard, FIRST, Some(a), Some(c), 3);
+    is_between(rt, yard, FIRST, Some(a), b, Some(c));
+    assert!(rt; renew(rt, yard, FIRST, b, 3) == b);
+    is_between(rt, yard, FIRST, Some(a), b, Some(c));
+}
+
+#[test]
+fn cars_take_other_keys(rt: HostRuntime) -> Result<(), Fail> {
+    let mut yard = yard_of(&rt, 1)?;
+    yard.reserve(6)?;
+    renew_three(&rt, &mut yard);
+    Ok(())
+}
+
 // The key has a car: it is loose.
 fn is_named(rt: &impl Abort, yard: &Yard, key: Key)
     ensures { IsSome (entry_at yard.now key.0) }

@@ -236,6 +236,16 @@ impl Dice {
         }
     }
 
+    /// The draws kept at one place are kept at another too, to which their vehicle has gone. Takes no memory.
+    pub fn follow(&mut self, from: usize, to: usize)
+        ensures { self.new ≡ self.old }
+    {
+        let count = self.kept.len();
+        if from < count && to < count {
+            self.kept[to] = self.kept[from];
+        }
+    }
+
     /// The draws of a vehicle in a block: those that were put aside, or else drawn now. It stands apart from the walk of a lane,
     /// which asks for it once in 32 steps and has better use for the registers.
     #[cold]

@@ -167,6 +167,7 @@ impl Tile {
         ensures { MeterPhase net.now self.old self.new }
     {
         note_lanes(self.has_meters, &mut self.detectors, &self.own);
+        self.own.pack();
         self.clock += 1;
     }
 

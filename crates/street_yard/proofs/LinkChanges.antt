@@ -120,7 +120,7 @@ StandsFor-insert at sides lists n key us vs count l counts within y is here loos
 
 -- the lists that links stand for are those that `walk` finds
 
-IsDistinct-from_apart : (xs : List ℕ) → IsApart xs → IsDistinct eqb xs
+pub IsDistinct-from_apart : (xs : List ℕ) → IsApart xs → IsDistinct eqb xs
 unfolding IsDistinct
 IsDistinct-from_apart [] h = tt
 IsDistinct-from_apart (x ∷ xs) h = (all xs h.0, IsDistinct-from_apart xs h.1)

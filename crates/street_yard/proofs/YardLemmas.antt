@@ -4,9 +4,9 @@ use Rattle.std.specs.Option.{option_map, option_and_then, unwrap_or}
 use Rattle.std.proofs.lemmas.Bool.{cases_eq}
 use Rattle.std.proofs.lemmas.List.{get_or-set_same, get_or-set_other}
 use Rattle.street_base.specs.declared.car.Car.{Car}
-use Rattle.street_yard.specs.Yard.{YardEntry, Yard, list_at, entry_at, car_of, mark_of, list_on, kept_set, list_set, car_set, mark_set, without, put_behind, first_or, Away, IsApart, IsLoose, IsWhole}
+use Rattle.street_yard.specs.Yard.{YardEntry, Yard, list_at, entry_at, car_of, mark_of, list_on, kept_set, list_set, car_set, mark_set, without, first_or, Away, IsApart, IsLoose, IsWhole}
 use Rattle.street_yard.specs.Listed.{cell_at, AllAbove}
-use Rattle.street_yard.proofs.Keys.{Away-append, IsApart-split, listed_within, without-split, put_behind-split}
+use Rattle.street_yard.proofs.Keys.{Away-append, IsApart-split, listed_within, without-split}
 
 -- a change of one key's entry
 
@@ -99,7 +99,7 @@ on_has_entry y k n h = some_slot (entry_at y k) n h
 pub on_within : (y : Yard) (k n : ℕ) → IsWhole y → list_on y k ≡ Some n → n < length y.lists
 on_within y k n w h = listed_within y.lists n k (w.listed k n h)
 
--- what a list is after a key of it is unlinked, or another comes behind it
+-- what a list is after a key of it is unlinked
 module _ (y : Yard) (n key : ℕ) (us vs : List ℕ) (whole : IsWhole y) (split : list_at y n ≡ us ++ key ∷ vs) where
   abbrev pub parts_apart : Away key us × Away key vs × IsApart (us ++ vs)
   parts_apart = IsApart-split us key vs (subst IsApart split (whole.apart n))
@@ -112,9 +112,6 @@ module _ (y : Yard) (n key : ℕ) (us vs : List ℕ) (whole : IsWhole y) (split 
 
   pub without-is : without key (list_at y n) ≡ us ++ vs
   without-is = ap (without key) split ∙ without-split us key vs parts_apart.0 parts_apart.1
-
-  pub put_behind-is : (other : ℕ) → put_behind (Some key) other (list_at y n) ≡ us ++ key ∷ other ∷ vs
-  put_behind-is other = ap (put_behind (Some key) other) split ∙ put_behind-split us key vs other parts_apart.0
 
 -- a list that was written, and the others
 pub list-written : (lists : List (List ℕ)) (n : ℕ) (xs : List ℕ) → n < length lists → get_or (set lists n xs) n [] ≡ xs

@@ -1,8 +1,9 @@
-use Rattle.std.proofs.Common.{◌≡◌, ◌+◌, length, sym, subst, ap, ◌∙◌, arith}
+use Rattle.std.proofs.Common.{◌≡◌, ◌+◌, ◌≤◌, length, vec_capacity, sym, subst, ap, ◌∙◌, arith}
 use Rattle.std.specs.Vec.{with_items}
 use Rattle.std.proofs.lemmas.List.{with_items_is}
+use Rattle.street_lanes.specs.Lanes.{Lanes}
 use Rattle.street_tile.specs.Inside.{seen}
-use Rattle.street_tile.specs.Tiles.{Part, IsTileOf, AreBare, AreDue}
+use Rattle.street_tile.specs.Tiles.{Part, IsTileOf, AreNumbers, AreBare, AreDue}
 use Rattle.street_tile.specs.TileDetectors.{HaveNoted}
 use Rattle.street_tile.specs.Phases.{MeterPhase}
 use Rattle.street_tile.proofs.SameLanes.{even-of}
@@ -34,7 +35,9 @@ returns c =
     let tile : IsTileOf c.args.net.now x = subst (IsTileOf c.args.net.now) (sym c.self.view_is) c.requires.tile in
     let items : (with_items s.detectors c.note_lanes.new.detectors).items ≡ c.note_lanes.new.detectors = with_items_is s.detectors c.note_lanes.new.detectors (let e = c.note_lanes.auto.detectors in let f = c.deref_mut.ensures.len in let ok = s.detectors.ok in omega arith) in
     let noted = subst (λ gs. HaveNoted s.own gs c.note_lanes.new.detectors) c.deref_mut.ensures.value c.note_lanes.ensures in
-    at-view (MeterPhase c.args.net.now) c.self.view_is (ticks-of c.args.net.now x _ tile (subst (HaveNoted s.own s.detectors.items) (sym items) noted))
+    at-view (MeterPhase c.args.net.now) c.self.view_is
+    (subst (λ (own : Lanes). MeterPhase c.args.net.now x (record x { own = own; clock = s.clock + 1; detectors = (with_items s.detectors c.note_lanes.new.detectors).items })) (sym c.pack.ensures)
+    (ticks-of c.args.net.now x (with_items s.detectors c.note_lanes.new.detectors).items tile (subst (HaveNoted s.own s.detectors.items) (sym items) noted)))
 
 pub invariant_of-self : goal.invariant_of-self
 invariant_of-self c =
@@ -45,11 +48,11 @@ invariant_of-self c =
     record {
       wide = record {
         nodes = inv.wide.nodes;
-        numbered = inv.wide.numbered;
+        numbered = subst (λ (own : Lanes). AreNumbers s.links own.places s.numbers.items) (sym c.pack.ensures) inv.wide.numbered;
         mouths = inv.wide.mouths;
-        coming = inv.wide.coming;
-        handed = inv.wide.handed;
-        arrived = inv.wide.arrived;
+        coming = subst (λ (own : Lanes). length s.coming ≡ length own.places) (sym c.pack.ensures) inv.wide.coming;
+        handed = subst (λ (own : Lanes). length own.places ≤ vec_capacity s.handed) (sym c.pack.ensures) inv.wide.handed;
+        arrived = subst (λ (own : Lanes). length own.places ≤ vec_capacity s.arrived) (sym c.pack.ensures) inv.wide.arrived;
       };
       noted = record {
         bare = λ none. subst AreBare (sym items) (noted-bare s.own s.detectors.items c.note_lanes.new.detectors noted (inv.noted.bare none));

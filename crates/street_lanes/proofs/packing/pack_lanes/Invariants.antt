@@ -1,0 +1,6 @@
+use Rattle.std.proofs.Common.{◌≡◌}
+use Rattle.street_lanes.specs.Lists.{Packs}
+use Rattle.street_lanes.proofs.packing.pack_lanes.Given as goal
+
+abbrev pub invariant-loop-lane : goal.invariant-loop-lane
+invariant-loop-lane l = Packs l.fn.yard l.yard × (l.dice ≡ l.fn.dice)

@@ -1,0 +1,66 @@
+//! Vehicles in memory in the order in which they stand on the road.
+ghost use Rattle.std.specs.Prelude.{◌≡◌, ◌*◌, ◌^◌, ◌<◌, ◌≤◌, length, option_map};
+ghost use Rattle.street_yard.specs.Yard.{IsOnList};
+ghost use Rattle.street_lanes.specs.Lists.{Packs};
+
+use crate::lanes::Lanes;
+use crate::lists::{buffer_list, cells_list};
+use street_rule::Dice;
+use street_yard::{ListId, Yard};
+
+/// The fewest who come to lanes until keys are given anew.
+const FEWEST: usize = 64;
+
+/// The cars on a list take spare keys one after another, from a position among those on; answers the position behind them.
+/// Where there are no more, cars keep their keys.
+fn pack_list(yard: &mut Yard, dice: &mut Dice, list: ListId, from: usize) -> usize
+    requires { list.0 < length yard.old.lists }
+    ensures packs { Packs yard.old yard.new }
+    ensures dice { dice.new ≡ dice.old }
+{
+    let mut at = from;
+    let mut cursor = yard.list_front(list);
+    for _car in 0..yard.list_len(list) {
+        let Some(key) = cursor else {
+            return at;
+        };
+        yard.whole();
+        let next = yard.renew(key, at);
+        yard.whole();
+        dice.follow(key.index(), next.index());
+        at = at.saturating_add(1);
+        cursor = yard.behind(next);
+    }
+    at
+}
+
+/// The cars in the cells and in the buffers of so many lanes take spare keys one after another; answers how many cars these are.
+fn pack_lanes(yard: &mut Yard, dice: &mut Dice, lanes: usize) -> usize
+    requires few { lanes < 2 ^ 32 }
+    requires lists { 3 * lanes ≤ length yard.old.lists }
+    ensures packs { Packs yard.old yard.new }
+    ensures dice { dice.new ≡ dice.old }
+{
+    let mut at = 0;
+    for lane in 0..lanes {
+        at = pack_list(yard, dice, cells_list(lane), at);
+        at = pack_list(yard, dice, buffer_list(lane), at);
+    }
+    at
+}
+
+impl Lanes {
+    /// Gives the vehicles in cells and buffers keys in the order in which they stand, once as many have come to lanes as half
+    /// of those who stood there as this was last done: a walk along a lane is then one along memory. Nothing else changes.
+    /// Takes no memory.
+    pub fn pack(&mut self)
+        ensures { self.new ≡ self.old }
+    {
+        if self.come < FEWEST.max(self.packed / 2) {
+            return;
+        }
+        self.come = 0;
+        self.yard.sort_spare();
+        self.packed = pack_lanes(&mut self.yard, &mut self.dice, self.extents.len());
+    }
+}
