@@ -151,13 +151,12 @@ fn check_free(rt: &impl Abort, lanes: &Lanes) {
     );
 }
 
-/// A car comes into cell 0.
-pub(crate) fn place(rt: &(impl Abort + AllocGlobal), lanes: &mut Lanes) -> Result<(), Fail> {
+/// A car comes to cell 0. Answers whether it stands there; else it was given back.
+pub(crate) fn place(rt: &(impl Abort + AllocGlobal), lanes: &mut Lanes) -> Result<bool, Fail> {
     let car = car(rt.alloc(), 0, 0)?;
     lanes.reserve(1)?;
     assert!(rt; lanes.len() == 1);
-    lanes.place(0, car);
-    Ok(())
+    Ok(lanes.place(0, car).is_none())
 }
 
 /// Whether the front of the buffer goes.
@@ -166,14 +165,15 @@ fn lets_go(rt: &impl Abort, lanes: &mut Lanes) -> bool {
     lanes.let_go(0).is_some()
 }
 
-/// A car comes into cell 0, and does not go.
+/// A car comes into cell 0, and does not go; the next one is given back.
 fn check_coming(rt: &(impl Abort + AllocGlobal), lanes: &mut Lanes) -> Result<(), Fail> {
     check_free(rt, lanes);
-    place(rt, lanes)?;
+    assert!(rt; place(rt, lanes)?);
     counts(rt, lanes, 1, 0, 0);
     assert!(rt; lanes.len() == 1);
     assert!(rt; !lanes.is_open(0));
     assert!(rt; !lets_go(rt, lanes));
+    assert!(rt; !place(rt, lanes)?);
     counts(rt, lanes, 1, 0, 0);
     Ok(())
 }
