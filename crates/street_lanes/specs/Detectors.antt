@@ -49,7 +49,8 @@ pub record AllGoOn (olds news : List Meter) : Type 0 where
 
 -- each of these meters notes what its watch saw
 abbrev pub AllNote : Cells → List Watch → List Meter → List Meter → Type 0
-AllNote cells ws olds news = (k : ℕ) (x : Meter) (w : Watch) → k < length olds → Notes cells (slice_index_or ws k w) (slice_index_or olds k x) (slice_index_or news k x)
+AllNote cells ws olds news = (k : ℕ) (x : Meter) (w : Watch) → k < length olds
+    → Notes cells (slice_index_or ws k w) (slice_index_or olds k x) (slice_index_or news k x)
 
 -- ---- the machine's detectors
 

@@ -9,9 +9,17 @@ use Rattle.street_base.specs.Step.{changing_on, with_cells}
 use Rattle.street_gap.specs.declared.closures.Stretch.{Stretch}
 use Rattle.street_yard.specs.Yard.{Yard}
 use Rattle.street_yard.specs.Listed.{IsLane}
-use Rattle.street_lanes.specs.Views.{LaneStands, IsLaneOf}
+use Rattle.street_lanes.specs.Views.{LaneView, LaneStands, IsLaneOf}
 use Rattle.street_lanes.specs.Lanes.{Lanes, lane_of, place_at, Same}
 use Rattle.street_lanes.specs.Lists.{cells_list, lane_seen, NoneLoose, Touches}
+
+-- of whatever two lanes, of whatever traffic of the network at the clock, these two lists stand for, P holds
+abbrev pub WhereBothSeen : NetSpec → ℕ → LaneView → LaneView → (Traffic → LaneState → LaneState → Type 0) → Type 0
+WhereBothSeen net clock l r P = (m : Traffic) (a b : LaneState) → m.network ≡ net → m.clock ≡ clock → IsLaneOf l a → IsLaneOf r b → P m a b
+
+-- of whatever two lanes, of whatever traffic of the network at the clock, these two lanes stand for, P holds
+abbrev pub WhereBothStand : NetSpec → ℕ → LaneView → LaneView → (Traffic → LaneState → LaneState → Type 0) → Type 0
+WhereBothStand net clock l r P = (m : Traffic) (a b : LaneState) → m.network ≡ net → m.clock ≡ clock → LaneStands l a → LaneStands r b → P m a b
 
 -- one of two lanes beside each other after lane changes
 abbrev pub changed_lane : Changing → ℕ → LaneState → LaneState → LaneState
@@ -24,17 +32,17 @@ pub record ChangesLanes (net : NetSpec) (clock link : ℕ) (own other : List Str
   pub none_loose : NoneLoose old → NoneLoose new
   pub first_lane : IsLane new (cells_list n) (link_at net link).length
   pub second_lane : IsLane new (cells_list (n + 1)) (link_at net link).length
-  pub first : (m : Traffic) (a b : LaneState) → m.network ≡ net → m.clock ≡ clock → IsLaneOf (lane_seen old own (link_at net link).length n) a → IsLaneOf (lane_seen old other (link_at net link).length (n + 1)) b
-      → IsLaneOf (lane_seen new own (link_at net link).length n) (changed_lane (changing_on m link) 0 a b)
-  pub second : (m : Traffic) (a b : LaneState) → m.network ≡ net → m.clock ≡ clock → IsLaneOf (lane_seen old own (link_at net link).length n) a → IsLaneOf (lane_seen old other (link_at net link).length (n + 1)) b
-      → IsLaneOf (lane_seen new other (link_at net link).length (n + 1)) (changed_lane (changing_on m link) 1 b a)
+  pub first : WhereBothSeen net clock (lane_seen old own (link_at net link).length n) (lane_seen old other (link_at net link).length (n + 1))
+      (λ m a b. IsLaneOf (lane_seen new own (link_at net link).length n) (changed_lane (changing_on m link) 0 a b))
+  pub second : WhereBothSeen net clock (lane_seen old own (link_at net link).length n) (lane_seen old other (link_at net link).length (n + 1))
+      (λ m a b. IsLaneOf (lane_seen new other (link_at net link).length (n + 1)) (changed_lane (changing_on m link) 1 b a))
 
 -- whatever lanes of whatever traffic lanes n and n + 1 stood for, they then stand for those lanes after lane changes; the other lanes are as they were
 pub record ChangesAt (net : NetSpec) (clock n : ℕ) (x y : Lanes) : Type 0 where
   pub same : Same x y
   pub others : (k : ℕ) → k ≢ n → k ≢ n + 1 → lane_of y k ≡ lane_of x k
   pub room : y.room ≡ x.room
-  pub first : (m : Traffic) (a b : LaneState) → m.network ≡ net → m.clock ≡ clock → LaneStands (lane_of x n) a → LaneStands (lane_of x (n + 1)) b
-      → LaneStands (lane_of y n) (changed_lane (changing_on m (place_at x n).link) 0 a b)
-  pub second : (m : Traffic) (a b : LaneState) → m.network ≡ net → m.clock ≡ clock → LaneStands (lane_of x n) a → LaneStands (lane_of x (n + 1)) b
-      → LaneStands (lane_of y (n + 1)) (changed_lane (changing_on m (place_at x n).link) 1 b a)
+  pub first : WhereBothStand net clock (lane_of x n) (lane_of x (n + 1))
+      (λ m a b. LaneStands (lane_of y n) (changed_lane (changing_on m (place_at x n).link) 0 a b))
+  pub second : WhereBothStand net clock (lane_of x n) (lane_of x (n + 1))
+      (λ m a b. LaneStands (lane_of y (n + 1)) (changed_lane (changing_on m (place_at x n).link) 1 b a))

@@ -1,7 +1,7 @@
 -- Motion on one lane of a tile.
 -- Source: this profile.
 use Rattle.std.specs.Prelude.{◌≡◌, ◌⊎◌, ℕ, ◌+◌, ◌<◌, ◌≤◌, nat_lt, List, [], ◌∷◌, ◌++◌, length, map, Bool, true, false, ◌&&◌, Option, Some, if◌then◌else◌}
-use Rattle.std.specs.Option.{option_map_or, option_to_list}
+use Rattle.std.specs.Option.{option_map_or, option_to_list, option_copied}
 use Rattle.street_base.specs.declared.car.Car.{Car}
 use Rattle.street_base.specs.declared.net.NetSpec.{NetSpec}
 use Rattle.street_base.specs.Limits.{last_clock}
@@ -15,7 +15,9 @@ use Rattle.street_yard.specs.Yard.{Yard}
 use Rattle.street_yard.specs.Listed.{IsLane}
 use Rattle.street_rule.specs.declared.watch.Watch.{Watch}
 use Rattle.street_rule.specs.Watch.{watched}
-use Rattle.street_lanes.specs.Views.{LaneStands, IsLaneOf}
+use Rattle.street_net.specs.Tables.{place_of}
+use Rattle.street_lanes.specs.declared.motion.Leg.{Leg}
+use Rattle.street_lanes.specs.Views.{LaneView, LaneStands, IsLaneOf}
 use Rattle.street_lanes.specs.Lanes.{Lanes, lane_of, place_at, Same, Others}
 use Rattle.street_lanes.specs.Lists.{cells_list, buffer_list, cars_on, lane_seen, NoneLoose, Touches}
 
@@ -34,10 +36,15 @@ pub record IsStepOf (net : NetSpec) (signal : Option SignalPlan) (step : ℕ) (p
 
 -- ---- the exit
 
--- a lane's exit is open to a vehicle that goes on to this link, with so many in the buffer: on its last link, or with a turn of the lane that is green by the plan, and a buffer below its capacity
+-- the buffer of a lane, in which there are so many, is below its capacity
+abbrev pub has_room : NetSpec → Place → ℕ → Bool
+has_room net place buffered = option_map_or (λ node. nat_lt buffered node.capacity) (end_node net place.link) false
+
+-- a lane's exit is open to a vehicle that goes on to this link, with so many in the buffer: on its last link, or with a turn of
+-- the lane that is green by the plan, and room in the buffer
 abbrev pub opens_to : NetSpec → Option SignalPlan → ℕ → Place → ℕ → Option ℕ → Bool
 opens_to net plan step place buffered next =
-    option_map_or (λ next. serves net place next && is_green plan place next step && option_map_or (λ node. nat_lt buffered node.capacity) (end_node net place.link) false) next true
+    option_map_or (λ next. serves net place next && is_green plan place next step && has_room net place buffered) next true
 
 abbrev pub is_open_to : NetSpec → Option SignalPlan → ℕ → Place → ℕ → Vehicle → Bool
 is_open_to net plan step place buffered v = opens_to net plan step place buffered (next_link v)
@@ -69,21 +76,38 @@ pub record Settles (list ready : ℕ) (car : Car) (old new : Yard) (told : Optio
 
 -- ---- the lane
 
--- the lists of lane n, which is the lane at p, stand for whatever lane they stood for after motion; who arrives is told, and each watch has noted what its detector notes
-pub record MovesLane (net : NetSpec) (signal : Option SignalPlan) (step : ℕ) (p : Place) (closed : List Stretch) (n : ℕ) (old new : Yard) (told : Option ℕ) (before after : List Watch) : Type 0 where
+-- of whatever traffic of the step these lists stand for its lane at p, P holds
+abbrev pub WhereSeen : NetSpec → Option SignalPlan → ℕ → Place → LaneView → (Traffic → Type 0) → Type 0
+WhereSeen net signal step p lane P = (m : Traffic) → IsStepOf net signal step p m → IsLaneOf lane (lane_at m p) → P m
+
+-- the lists of lane n, which is the lane at p, stand for whatever lane they stood for after motion; who arrives is told, and each
+-- watch has noted what its detector notes
+pub record MovesLane (net : NetSpec) (signal : Option SignalPlan) (step : ℕ) (p : Place) (closed : List Stretch) (n : ℕ)
+    (old new : Yard) (told : Option ℕ) (before after : List Watch) : Type 0 where
   pub touches : Touches (cells_list n ∷ buffer_list n ∷ []) old new
   pub room : new.room ≡ old.room + length (option_to_list told)
   pub none_loose : NoneLoose old → NoneLoose new
   pub lane : IsLane new (cells_list n) (cells_on net p)
-  pub goes : (m : Traffic) → IsStepOf net signal step p m → IsLaneOf (lane_seen old closed (cells_on net p) n) (lane_at m p) → IsLaneOf (lane_seen new closed (cells_on net p) n) (driven_lane m p (lane_at m p))
-  pub arrived : (m : Traffic) → IsStepOf net signal step p m → IsLaneOf (lane_seen old closed (cells_on net p) n) (lane_at m p) → told ≡ arrival (leaver_of m p)
-  pub watched : (m : Traffic) → IsStepOf net signal step p m → IsLaneOf (lane_seen old closed (cells_on net p) n) (lane_at m p) → after ≡ map (watched (drive_on m p) (lane_at m p).track) before
+  pub goes : WhereSeen net signal step p (lane_seen old closed (cells_on net p) n)
+      (λ m. IsLaneOf (lane_seen new closed (cells_on net p) n) (driven_lane m p (lane_at m p)))
+  pub arrived : WhereSeen net signal step p (lane_seen old closed (cells_on net p) n) (λ m. told ≡ arrival (leaver_of m p))
+  pub watched : WhereSeen net signal step p (lane_seen old closed (cells_on net p) n) (λ m. after ≡ map (watched (drive_on m p) (lane_at m p).track) before)
 
--- of whatever traffic lane n stood for its lane, it then stands for that lane after motion, who arrives is told, and each watch has noted what its detector notes; the other lanes are as they were
+-- what motion does to the lists of a leg's lane
+abbrev pub MovesLeg : Leg → Yard → Yard → Option ℕ → List Watch → List Watch → Type 0
+MovesLeg leg old new told before after =
+    MovesLane leg.net.now (option_copied leg.plan) leg.clock (place_of leg.at) leg.closures.now leg.lane old new told before after
+
+-- of whatever traffic of the step lane n stands for its lane, P holds
+abbrev pub WhereStands : NetSpec → Option SignalPlan → ℕ → ℕ → Lanes → (Traffic → Type 0) → Type 0
+WhereStands net signal step n x P = (m : Traffic) → IsStepOf net signal step (place_at x n) m → LaneStands (lane_of x n) (lane_at m (place_at x n)) → P m
+
+-- of whatever traffic lane n stood for its lane, it then stands for that lane after motion, who arrives is told, and each watch has
+-- noted what its detector notes; the other lanes are as they were
 pub record DrivesAt (net : NetSpec) (signal : Option SignalPlan) (step n : ℕ) (x y : Lanes) (told : Option ℕ) (before after : List Watch) : Type 0 where
   pub same : Same x y
   pub others : Others n x y
   pub room : y.room ≡ x.room + length (option_to_list told)
-  pub goes : (m : Traffic) → IsStepOf net signal step (place_at x n) m → LaneStands (lane_of x n) (lane_at m (place_at x n)) → LaneStands (lane_of y n) (driven_lane m (place_at x n) (lane_at m (place_at x n)))
-  pub arrived : (m : Traffic) → IsStepOf net signal step (place_at x n) m → LaneStands (lane_of x n) (lane_at m (place_at x n)) → told ≡ arrival (leaver_of m (place_at x n))
-  pub watched : (m : Traffic) → IsStepOf net signal step (place_at x n) m → LaneStands (lane_of x n) (lane_at m (place_at x n)) → after ≡ map (watched (drive_on m (place_at x n)) (lane_at m (place_at x n)).track) before
+  pub goes : WhereStands net signal step n x (λ m. LaneStands (lane_of y n) (driven_lane m (place_at x n) (lane_at m (place_at x n))))
+  pub arrived : WhereStands net signal step n x (λ m. told ≡ arrival (leaver_of m (place_at x n)))
+  pub watched : WhereStands net signal step n x (λ m. after ≡ map (watched (drive_on m (place_at x n)) (lane_at m (place_at x n)).track) before)

@@ -16,7 +16,7 @@ ghost use Rattle.street_yard.specs.Yard.{list_at, entry_at, car_of, IsLoose};
 ghost use Rattle.street_yard.specs.Listed.{IsLane};
 ghost use Rattle.street_lanes.specs.Lanes.{lane_of, IsOf};
 ghost use Rattle.street_lanes.specs.Lists.{cells_list, buffer_list, NoneLoose, NoneLooseBut};
-ghost use Rattle.street_lanes.specs.Motion.{opens_to, cells_on, IsToldExit, Settles, MovesLane, DrivesAt};
+ghost use Rattle.street_lanes.specs.Motion.{opens_to, cells_on, IsToldExit, Settles, MovesLeg, DrivesAt};
 
 use crate::lanes::Lanes;
 use crate::lists::{buffer_list, cells_list};
@@ -133,7 +133,7 @@ fn drive(yard: &mut Yard, dice: &mut Dice, leg: &Leg<'_>, watches: &mut [Watch])
     requires closed { IsWithin leg.now.closures.now (cells_on leg.now.net.now (place_of leg.now.at)) }
     requires dice { dice.old ≡ odds_of leg.now.net.now }
     requires watches { All (IsReady (cells_on leg.now.net.now (place_of leg.now.at))) watches.old }
-    ensures moves { MovesLane leg.now.net.now (option_copied leg.now.plan) leg.now.clock (place_of leg.now.at) leg.now.closures.now leg.now.lane yard.old yard.new result watches.old watches.new }
+    ensures moves { MovesLeg leg.now yard.old yard.new result watches.old watches.new }
     ensures dice { dice.new ≡ dice.old }
 {
     let cells = cells_list(leg.lane);

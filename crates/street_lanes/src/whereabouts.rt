@@ -126,8 +126,10 @@ impl Lanes {
     ) -> Result<Option<Whereabouts>, Starved>
         requires lane { lane < length self.now.lanes }
         requires of { IsOf net.now self.now }
-        ensures found { IfOk result (λ found. (s : LaneState) → LaneStands (lane_of self.now lane) s → in_lane number s ≤ 1 → found ≡ seen_in net.now (place_at self.now lane) number s) }
-        ensures there { IfOk result (λ found. (s : LaneState) → LaneStands (lane_of self.now lane) s → (found ≡ None → in_lane number s ≡ 0) × (IsSome found → 0 < in_lane number s)) }
+        ensures found { IfOk result (λ found. (s : LaneState) → LaneStands (lane_of self.now lane) s → in_lane number s ≤ 1
+            → found ≡ seen_in net.now (place_at self.now lane) number s) }
+        ensures there { IfOk result (λ found. (s : LaneState) → LaneStands (lane_of self.now lane) s
+            → (found ≡ None → in_lane number s ≡ 0) × (IsSome found → 0 < in_lane number s)) }
     {
         self.yard.whole();
         let spec = net.spec();

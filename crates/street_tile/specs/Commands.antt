@@ -72,3 +72,7 @@ over ps f m = sum_by (λ p. f (lane_at m p)) ps
 -- these lanes together have at most one vehicle of this number
 abbrev pub HaveAtMostOne : List Place → Traffic → ℕ → Type 0
 HaveAtMostOne ps m number = over ps (in_lane number) m ≤ 1
+
+-- of whatever traffic the tile stands for, with at most one vehicle of this number on its lanes, P holds
+abbrev pub WhereOnce : NetSpec → Part → ℕ → (Traffic → Type 0) → Type 0
+WhereOnce net x number P = (m : Traffic) → IsOn net m → StandsFor x m → HaveAtMostOne x.own.places m number → P m

@@ -26,9 +26,13 @@ takes chosen from = option_map_or (is_place from) chosen false
 abbrev pub entry_on : NetSpec → Vehicle → Place → Transfer
 entry_on net v to = record { to = to; vehicle = on_next_link (link_at net to.link).limit v }
 
+-- whereto this front of a buffer is let go, if its exit lane takes it from there
+abbrev pub crossing_of : Traffic → Place → Vehicle → Option Transfer
+crossing_of m from v = option_and_then (λ to. if takes (giver m to) from then Some (entry_on m.network v to) else None) (exit_lane m from v)
+
 -- who is let go of a buffer, and whereto
 abbrev pub crossing : Traffic → Place → Option Transfer
-crossing m from = option_and_then (λ q. option_and_then (λ to. if takes (giver m to) from then Some (entry_on m.network q.vehicle to) else None) (exit_lane m from q.vehicle)) (front m from)
+crossing m from = option_and_then (λ q. crossing_of m from q.vehicle) (front m from)
 
 -- those who enter a lane, of a list of entries
 abbrev pub entries_to : Place → List Transfer → List Vehicle

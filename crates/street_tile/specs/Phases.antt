@@ -51,7 +51,8 @@ pub record EnterPhase (net : NetSpec) (x y : Part) : Type 0 where
   pub arrived : y.arrived ≡ x.arrived
   pub coming : y.coming ≡ nobody x
   pub detectors : y.detectors ≡ x.detectors
-  pub stands : (m : Traffic) (entry : Place → Option Vehicle) → IsOn net m → StandsFor x m → x.coming ≡ map entry x.own.places → AllFree x.own.places m entry → StandsFor y (departed (placed entry m))
+  pub stands : (m : Traffic) (entry : Place → Option Vehicle) → IsOn net m → StandsFor x m → x.coming ≡ map entry x.own.places
+      → AllFree x.own.places m entry → StandsFor y (departed (placed entry m))
 
 -- the clock goes on
 unfoldable pub ticked : Traffic → Traffic
@@ -61,4 +62,5 @@ ticked m = record m { clock = m.clock + 1 }
 pub record MeterPhase (net : NetSpec) (x y : Part) : Type 0 where
   pub goes : GoesBy net ticked x y
   pub arrived : y.arrived ≡ x.arrived
-  pub noted : (before m : Traffic) → IsOn net m → StandsFor x m → HaveWatched before x.own.places x.detectors → MetersStand x m → MetersStand y (noted_by before m)
+  pub noted : (before m : Traffic) → IsOn net m → StandsFor x m → HaveWatched before x.own.places x.detectors
+      → MetersStand x m → MetersStand y (noted_by before m)

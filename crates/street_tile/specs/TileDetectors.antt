@@ -33,14 +33,16 @@ pub record KeepMeters (olds news : List Detectors) : Type 0 where
 
 -- the watches of these lanes have seen the motion of this traffic, and no other
 abbrev pub HaveWatched : Traffic → List Place → List Detectors → Type 0
-HaveWatched m ps detectors = (k : ℕ) (p : Place) → slice_get ps k ≡ Some p → (detectors_at detectors k).watches ≡ map (watch_of m p) (detectors_at detectors k).meters
+HaveWatched m ps detectors = (k : ℕ) (p : Place) → slice_get ps k ≡ Some p
+    → (detectors_at detectors k).watches ≡ map (watch_of m p) (detectors_at detectors k).meters
 
 -- the meters of these lanes have noted what their watches saw, and who stands where now
 pub record HaveNoted (own : Lanes) (olds news : List Detectors) : Type 0 where
   pub even : length news ≡ length olds
   pub each : (k : ℕ) → detectors_at news k ≡ record (detectors_at olds k) { meters = (detectors_at news k).meters }
   pub go : (k : ℕ) → k < length olds → AllGoOn (detectors_at olds k).meters (detectors_at news k).meters
-  pub note : (k : ℕ) (s : LaneState) → k < length olds → LaneStands (lane_of own k) s → AllNote s.track.cells (detectors_at olds k).watches (detectors_at olds k).meters (detectors_at news k).meters
+  pub note : (k : ℕ) (s : LaneState) → k < length olds → LaneStands (lane_of own k) s
+      → AllNote s.track.cells (detectors_at olds k).watches (detectors_at olds k).meters (detectors_at news k).meters
 
 -- all detectors have noted a step, of whose motion their watches saw what it was from the traffic `before`
 unfoldable pub noted_by : Traffic → Traffic → Traffic

@@ -46,7 +46,8 @@ Shows net mouths m = (p : Place) → p.link < length net.links → p.lane < (lin
 
 -- these are the signal plans of the nodes from low up to high: each shows what the machine's shows
 abbrev pub ShowSignals : ℕ → ℕ → List (Option SignalPlan) → Traffic → Type 0
-ShowSignals low high signals m = (node : ℕ) → low ≤ node → node < high → PlanStands (slice_index_or signals (node - low) None) (slice_index_or m.signals node None)
+ShowSignals low high signals m = (node : ℕ) → low ≤ node → node < high
+    → PlanStands (slice_index_or signals (node - low) None) (slice_index_or m.signals node None)
 
 -- ---- a tile
 

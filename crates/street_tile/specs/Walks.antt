@@ -20,7 +20,8 @@ AtMostOnce ps = (q : Place) → times q ps ≤ 1
 -- the order of a walk over buffers: each at most once; and for a lane to which one of them leads, the first is that of the whole network
 pub record IsWalk (m : Traffic) (ps : List Place) : Type 0 where
   pub once : AtMostOnce ps
-  pub firsts : (k : ℕ) (to from : Place) → slice_get ps k ≡ Some from → may_give m to from ≡ true → find (may_give m to) ps ≡ find (may_give m to) (places m.network)
+  pub firsts : (k : ℕ) (to from : Place) → slice_get ps k ≡ Some from → may_give m to from ≡ true
+      → find (may_give m to) ps ≡ find (may_give m to) (places m.network)
 
 -- what a tile's lanes and the view show as the releases begin
 pub record IsReleasing (net : NetSpec) (clock : ℕ) (own : Lanes) (mouths : List Bool) (m : Traffic) : Type 0 where

@@ -46,7 +46,8 @@ impl Tile {
         requires lane { IsLane net.now (place_of at) }
         requires own { is_own net.now self.old.low self.old.high (place_of at) ≡ true }
         requires short { HasShortPlan car }
-        ensures waits { OnOk result (DoesIf net.now (λ m. in_lane car.number (lane_at m (place_of at)) ≡ 0) (at_place (place_of at) (with_waiting (waiting_of car))) self.old self.new) }
+        ensures waits { OnOk result (DoesIf net.now (λ m. in_lane car.number (lane_at m (place_of at)) ≡ 0)
+            (at_place (place_of at) (with_waiting (waiting_of car))) self.old self.new) }
         ensures starved { OnErr result (KeepsAll self.old self.new) }
     {
         let lane = self.number(net, at);

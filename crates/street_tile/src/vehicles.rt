@@ -9,9 +9,8 @@ ghost use Rattle.street_base.specs.Machine.{seen_in};
 ghost use Rattle.street_net.specs.Tables.{place_of};
 ghost use Rattle.street_lanes.specs.Lanes.{IsLane, place_at};
 ghost use Rattle.street_lanes.specs.Whereabouts.{vehicle_on};
-ghost use Rattle.street_lanes.specs.Whole.{IsOn};
 ghost use Rattle.street_tile.specs.Tiles.{IsTileOf, StandsFor, is_own};
-ghost use Rattle.street_tile.specs.Commands.{without, DoesIf, HaveNot, Have, Hold, HaveAtMostOne, Finds, over};
+ghost use Rattle.street_tile.specs.Commands.{without, DoesIf, HaveNot, Have, Hold, HaveAtMostOne, WhereOnce, Finds, over};
 
 use crate::tile::Tile;
 use std::alloc::Global;
@@ -36,11 +35,10 @@ impl Tile {
         requires lane { n < length self.old.own.places }
         ensures number { IfSome result (λ car. car.number ≡ number) }
         ensures some { IfSome result (λ car. DoesIf net.now (λ m. HaveAtMostOne self.old.own.places m number) (without number) self.old self.new) }
-        ensures vehicle { (m : Traffic) → IsOn net.now m → StandsFor self.old m → HaveAtMostOne self.old.own.places m number
-            → option_map vehicle_of result ≡ vehicle_on number (lane_at m (place_at self.old.own n)) }
-        ensures had { IfSome result (λ car. (m : Traffic) → IsOn net.now m → StandsFor self.old m → HaveAtMostOne self.old.own.places m number → 0 < in_lane number (lane_at m (place_at self.old.own n))) }
+        ensures vehicle { WhereOnce net.now self.old number (λ m. option_map vehicle_of result ≡ vehicle_on number (lane_at m (place_at self.old.own n))) }
+        ensures had { IfSome result (λ car. WhereOnce net.now self.old number (λ m. 0 < in_lane number (lane_at m (place_at self.old.own n)))) }
         ensures none { result ≡ None → self.new ≡ self.old }
-        ensures had_not { result ≡ None → (m : Traffic) → IsOn net.now m → StandsFor self.old m → HaveAtMostOne self.old.own.places m number → in_lane number (lane_at m (place_at self.old.own n)) ≡ 0 }
+        ensures had_not { result ≡ None → WhereOnce net.now self.old number (λ m. in_lane number (lane_at m (place_at self.old.own n)) ≡ 0) }
     {
         self.own.take_out(n, number)
     }
@@ -52,11 +50,10 @@ impl Tile {
         requires own { is_own net.now self.old.low self.old.high (place_of at) ≡ true }
         ensures number { IfSome result (λ car. car.number ≡ number) }
         ensures some { IfSome result (λ car. DoesIf net.now (λ m. HaveAtMostOne self.old.own.places m number) (without number) self.old self.new) }
-        ensures vehicle { (m : Traffic) → IsOn net.now m → StandsFor self.old m → HaveAtMostOne self.old.own.places m number
-            → option_map vehicle_of result ≡ vehicle_on number (lane_at m (place_of at)) }
-        ensures had { IfSome result (λ car. (m : Traffic) → IsOn net.now m → StandsFor self.old m → HaveAtMostOne self.old.own.places m number → 0 < in_lane number (lane_at m (place_of at))) }
+        ensures vehicle { WhereOnce net.now self.old number (λ m. option_map vehicle_of result ≡ vehicle_on number (lane_at m (place_of at))) }
+        ensures had { IfSome result (λ car. WhereOnce net.now self.old number (λ m. 0 < in_lane number (lane_at m (place_of at)))) }
         ensures none { result ≡ None → self.new ≡ self.old }
-        ensures had_not { result ≡ None → (m : Traffic) → IsOn net.now m → StandsFor self.old m → HaveAtMostOne self.old.own.places m number → in_lane number (lane_at m (place_of at)) ≡ 0 }
+        ensures had_not { result ≡ None → WhereOnce net.now self.old number (λ m. in_lane number (lane_at m (place_of at)) ≡ 0) }
     {
         let n = self.number(net, at);
         self.take_at(net, n, number)
@@ -67,11 +64,10 @@ impl Tile {
         requires { IsTileOf net.now self.old }
         ensures number { IfSome result (λ car. car.number ≡ number) }
         ensures some { IfSome result (λ car. DoesIf net.now (λ m. HaveAtMostOne self.old.own.places m number) (without number) self.old self.new) }
-        ensures vehicle { IfSome result (λ car. (m : Traffic) → IsOn net.now m → StandsFor self.old m → HaveAtMostOne self.old.own.places m number
-            → Hold self.old.own.places m number (vehicle_of car)) }
-        ensures had { IfSome result (λ car. (m : Traffic) → IsOn net.now m → StandsFor self.old m → HaveAtMostOne self.old.own.places m number → Have self.old.own.places m number) }
+        ensures vehicle { IfSome result (λ car. WhereOnce net.now self.old number (λ m. Hold self.old.own.places m number (vehicle_of car))) }
+        ensures had { IfSome result (λ car. WhereOnce net.now self.old number (λ m. Have self.old.own.places m number)) }
         ensures none { result ≡ None → self.new ≡ self.old }
-        ensures had_not { result ≡ None → (m : Traffic) → IsOn net.now m → StandsFor self.old m → HaveAtMostOne self.old.own.places m number → HaveNot self.old.own.places m number }
+        ensures had_not { result ≡ None → WhereOnce net.now self.old number (λ m. HaveNot self.old.own.places m number) }
     {
         for n in 0..self.own.len() {
             if let Some(car) = self.take_at(net, n, number) {
@@ -91,8 +87,10 @@ impl Tile {
     ) -> Result<Option<Whereabouts>, Starved>
         requires tile { IsTileOf net.now self.now }
         requires lane { n < length self.now.own.places }
-        ensures found { IfOk result (λ found. (m : Traffic) → IsOn net.now m → StandsFor self.now m → HaveAtMostOne self.now.own.places m number → found ≡ seen_in net.now (place_at self.now.own n) number (lane_at m (place_at self.now.own n))) }
-        ensures there { IfOk result (λ found. (m : Traffic) → IsOn net.now m → StandsFor self.now m → HaveAtMostOne self.now.own.places m number → found ≡ None → in_lane number (lane_at m (place_at self.now.own n)) ≡ 0) }
+        ensures found { IfOk result (λ found. WhereOnce net.now self.now number
+            (λ m. found ≡ seen_in net.now (place_at self.now.own n) number (lane_at m (place_at self.now.own n)))) }
+        ensures there { IfOk result (λ found. WhereOnce net.now self.now number
+            (λ m. found ≡ None → in_lane number (lane_at m (place_at self.now.own n)) ≡ 0)) }
     {
         self.own.find_on(alloc, net, n, number)
     }
@@ -111,7 +109,7 @@ impl Tile {
         requires tile { IsTileOf net.now self.now }
         requires lane { IsLane net.now (place_of at) }
         requires own { is_own net.now self.now.low self.now.high (place_of at) ≡ true }
-        ensures { IfOk result (λ found. (m : Traffic) → IsOn net.now m → StandsFor self.now m → HaveAtMostOne self.now.own.places m number → found ≡ seen_in net.now (place_of at) number (lane_at m (place_of at))) }
+        ensures { IfOk result (λ found. WhereOnce net.now self.now number (λ m. found ≡ seen_in net.now (place_of at) number (lane_at m (place_of at)))) }
     {
         let n = self.number(net, at);
         self.find_at(alloc, net, n, number)
@@ -128,7 +126,7 @@ impl Tile {
         number: CarNo,
     ) -> Result<Option<Whereabouts>, Starved>
         requires { IsTileOf net.now self.now }
-        ensures { IfOk result (λ found. (m : Traffic) → IsOn net.now m → StandsFor self.now m → HaveAtMostOne self.now.own.places m number → Finds net.now self.now.own.places m number found) }
+        ensures { IfOk result (λ found. WhereOnce net.now self.now number (λ m. Finds net.now self.now.own.places m number found)) }
     {
         for n in 0..self.own.len() {
             if let Some(found) = self.find_at(alloc, net, n, number)? {
