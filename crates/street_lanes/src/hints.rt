@@ -62,7 +62,6 @@ impl Marks {
     fn renew(&mut self, yard: &Yard, list: ListId)
         requires { list.0 < length yard.now.lists }
     {
-        yard.whole();
         self.hops = 0;
         self.marks.clear();
         let mut passed = 0;

@@ -72,7 +72,6 @@ fn entries<E: CarEntry + Drop>(
     requires { list.0 < length yard.now.lists }
     ensures { IfOk result (λ entries. entries ≡ map E.shown (cars_on yard.now list.0)) }
 {
-    yard.whole();
     let mut entries = Vec::with_capacity(alloc, yard.list_len(list))?;
     let mut cursor = yard.list_front(list);
     while let Some(key) = cursor {

@@ -47,7 +47,6 @@ fn end_node(net: &Network, link: LinkIx) -> NodeSpec
     ensures node { end_node net.now link ≡ Some result }
     ensures residence { result.residence ≤ most_residence }
 {
-    let _faultless = net.spec();
     net.spec().nodes.as_slice()[net.end_of(link).position()]
 }
 

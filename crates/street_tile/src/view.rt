@@ -43,7 +43,6 @@ impl View {
     pub fn new(alloc: Global, net: &Network) -> Result<View, Starved>
         ensures { IfOk result (λ view. length view ≡ 2 * length net.now.links) }
     {
-        let _faultless = net.spec();
         let count = 2 * net.spec().links.as_slice().len();
         let mouths = vec![in alloc; false; count]?;
         Ok(View { mouths })
