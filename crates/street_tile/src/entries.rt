@@ -30,7 +30,7 @@ fn enter_lane(own: &mut Lanes, n: usize, coming: Option<HandOver>, clock: Step)
     ensures room { own.old.room ≤ own.new.room + 1 }
 {
     if let Some(hand_over) = coming {
-        // Into a free cell 0, of which the clause `stands` speaks, and nobody is given back.
+        // Where cell 0 is free, as `stands` asks, nobody is given back.
         let _nobody = own.place(n, hand_over.into_car());
     }
     own.depart(n, clock);
