@@ -16,14 +16,11 @@ const MOST_STEPS: u64 = 10_000;
 pub(crate) fn advance<R: Threads + Sync, G: Gate + Sync>(
     rt: &R,
     gate: &G,
-    state: &mut Option<Streets>,
+    streets: &mut Streets,
     steps: u64,
 ) -> (Reply, Outcome)
-    ensures { Serves state.old (Advance steps) result.0 result.1 state.new }
+    ensures { Serves (Some streets.old) (Advance steps) result.0 result.1 (Some streets.new) }
 {
-    let Some(streets) = state else {
-        return (Reply::Refused(Refusal::NotLoaded), Outcome::Whole);
-    };
     if steps > MOST_STEPS {
         return (Reply::Refused(Refusal::BadCount), Outcome::Whole);
     }
@@ -43,11 +40,8 @@ pub(crate) fn advance<R: Threads + Sync, G: Gate + Sync>(
 }
 
 /// Takes no memory.
-pub(crate) fn count(state: &Option<Streets>) -> (Reply, Outcome)
-    ensures { Serves state.now Count result.0 result.1 state.now }
+pub(crate) fn count(streets: &Streets) -> (Reply, Outcome)
+    ensures { Serves (Some streets.now) Count result.0 result.1 (Some streets.now) }
 {
-    match state {
-        Some(streets) => (streets.census(), Outcome::Whole),
-        None => (Reply::Refused(Refusal::NotLoaded), Outcome::Whole),
-    }
+    (streets.census(), Outcome::Whole)
 }

@@ -38,17 +38,14 @@ fn entry_refusal(net: &Network, plan: &[u64], lane: u64, depart: u64, size: u64)
 /// Takes memory for the vehicle and its plan.
 pub(crate) fn enter(
     alloc: Global,
-    state: &mut Option<Streets>,
+    streets: &mut Streets,
     plan: &[u64],
     lane: u64,
     depart: u64,
     size: u64,
 ) -> (Reply, Outcome)
-    ensures { Serves state.old (Enter plan.now lane depart size) result.0 result.1 state.new }
+    ensures { Serves (Some streets.old) (Enter plan.now lane depart size) result.0 result.1 (Some streets.new) }
 {
-    let Some(streets) = state else {
-        return (Reply::Refused(Refusal::NotLoaded), Outcome::Whole);
-    };
     let car = streets.admitted();
     if car >= MOST_VEHICLES {
         return (Reply::Refused(Refusal::TooMany), Outcome::Whole);
@@ -73,12 +70,9 @@ pub(crate) fn enter(
 }
 
 /// Takes no memory.
-pub(crate) fn take_out(state: &mut Option<Streets>, car: u64) -> (Reply, Outcome)
-    ensures { Serves state.old (TakeOut car) result.0 result.1 state.new }
+pub(crate) fn take_out(streets: &mut Streets, car: u64) -> (Reply, Outcome)
+    ensures { Serves (Some streets.old) (TakeOut car) result.0 result.1 (Some streets.new) }
 {
-    let Some(streets) = state else {
-        return (Reply::Refused(Refusal::NotLoaded), Outcome::Whole);
-    };
     if car >= u64::from(streets.admitted()) {
         return (Reply::Refused(Refusal::NoVehicle), Outcome::Whole);
     }
@@ -91,12 +85,9 @@ pub(crate) fn take_out(state: &mut Option<Streets>, car: u64) -> (Reply, Outcome
 }
 
 /// Takes memory for the plan that it answers, where the vehicle has not ended.
-pub(crate) fn vehicle(alloc: Global, state: &Option<Streets>, car: u64) -> (Reply, Outcome)
-    ensures { Serves state.now (Vehicle car) result.0 result.1 state.now }
+pub(crate) fn vehicle(alloc: Global, streets: &Streets, car: u64) -> (Reply, Outcome)
+    ensures { Serves (Some streets.now) (Vehicle car) result.0 result.1 (Some streets.now) }
 {
-    let Some(streets) = state else {
-        return (Reply::Refused(Refusal::NotLoaded), Outcome::Whole);
-    };
     if car >= u64::from(streets.admitted()) {
         return (Reply::Refused(Refusal::NoVehicle), Outcome::Whole);
     }
