@@ -20,33 +20,6 @@ use Rattle.street_engine.specs.Streets.{StreetsView, StreetsStandFor, StreetsGo}
 use Rattle.street_engine.specs.Refines.{Serves}
 use Rattle.street_engine.proofs.Serves.{same-network, same-ends, streets-refused, streets-starved, streets-starving, streets-done}
 
--- ---- a good plan
-
-kept-one : {A B : Type 0} (f : A → Option B) (x : A) (xs : List A) (o : Option B) → f x ≡ o → length (filter_map f xs) ≤ length xs → length (filter_map f (x ∷ xs)) ≤ length (x ∷ xs)
-kept-one f x xs None e rest = rw e (omega (arith, rest))
-kept-one f x xs (Some y) e rest = rw e (omega (arith, rest))
-
-kept-few : {A B : Type 0} (f : A → Option B) (xs : List A) → length (filter_map f xs) ≤ length xs
-kept-few f [] = omega arith
-kept-few f (x ∷ xs) = kept-one f x xs (f x) refl (kept-few f xs)
-
-module _ (net : NetSpec) (plan : List ℕ) (good : plan_fault net plan ≡ None) where
-  faultless : first_bad (is_bad_entry net plan) plan ≡ None
-  faultless = elim (cases_Bool (length plan == 0)) [
-    | inl t ↦ absurd (none-some 0 (sym good ∙ cond-true _ _ _ t))
-    | inr f ↦ sym (cond-false _ _ _ f) ∙ good
-  ]
-
-  pub short-plan : length (plan_links net plan) ≤ most_plan
-  short-plan = elim (cases_lt most_plan (length plan)) [
-    | inl more ↦ absurd (
-        let fine : true ≡ false = first_bad-none (is_bad_entry net plan) plan faultless most_plan 0 more in
-        true≢false fine)
-    | inr few ↦ omega (arith, few, kept-few (link_of net) plan)
-  ]
-
--- ---- the command
-
 module _ (s : StreetsView) (plan : List ℕ) (lane depart size : ℕ) where
   many : (m : Traffic) → StreetsStandFor s m → length m.ends ≡ length s.ends
   many m stands = ap length (same-ends s m stands)

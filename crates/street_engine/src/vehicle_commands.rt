@@ -7,6 +7,7 @@ ghost use Rattle.street_base.specs.Limits.{last_clock, most_vehicles, most_size}
 ghost use Rattle.street_base.specs.Faults.{is_within};
 ghost use Rattle.street_base.specs.State.{Traffic};
 ghost use Rattle.street_base.specs.Machine.{enter_refusal};
+ghost use Rattle.street_net.specs.Refused.{plan_refusal};
 ghost use Rattle.street_engine.specs.Refines.{Serves};
 
 use crate::Streets;
@@ -22,6 +23,7 @@ const MOST_VEHICLES: CarNo = 1_000_000;
 fn entry_refusal(net: &Network, plan: &[u64], lane: u64, depart: u64, size: u64) -> Option<Refusal>
     ensures refusal { (m : Traffic) → m.network ≡ net.now → length m.ends < most_vehicles
         → result ≡ enter_refusal plan.now lane depart size m }
+    ensures planned { result ≡ None → plan_refusal net.now plan.now lane ≡ None }
     ensures in_time { result ≡ None → depart ≤ last_clock }
     ensures sized { result ≡ None → is_within 1 most_size size ≡ true }
 {
@@ -56,7 +58,7 @@ pub(crate) fn enter(
     let Some(size) = Size::new(size) else {
         unreachable!();
     };
-    let Ok(links) = streets.network().check_plan(alloc, plan, lane) else {
+    let Ok(links) = streets.network().links_of(alloc, plan) else {
         return (Reply::Starved, Outcome::Starved);
     };
     let lane = lane_number(streets.network(), lane);

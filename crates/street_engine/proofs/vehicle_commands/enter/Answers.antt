@@ -1,12 +1,12 @@
-use Rattle.std.proofs.Common.{List, length, subst, ap, sym, ◌∙◌, arith}
-use Rattle.std.specs.Prelude.{ℕ, ◌≤◌}
+use Rattle.std.proofs.Common.{◌≡◌, subst, ap, sym, ◌∙◌, arith}
+use Rattle.std.specs.Prelude.{None}
 use Rattle.std.proofs.lemmas.Option.{cond_some}
 use Rattle.street_base.specs.declared.net.NetSpec.{NetSpec}
-use Rattle.street_base.specs.Limits.{most_plan}
 use Rattle.street_base.specs.Machine.{plan_links, entered}
+use Rattle.street_net.specs.Refused.{plan_refusal}
 use Rattle.street_net.proofs.PlanRefusal.{taken}
 use Rattle.street_engine.specs.Streets.{StreetsStandFor}
-use Rattle.street_engine.proofs.EnterCommand.{too-many, enter-refused, enter-starving, enter-starved, enter-done, short-plan}
+use Rattle.street_engine.proofs.EnterCommand.{too-many, enter-refused, enter-starving, enter-starved, enter-done}
 use Rattle.street_engine.proofs.vehicle_commands.enter.Goals as goal
 
 pub returns-then-car-ge-MOST_VEHICLES : goal.returns-then-car-ge-MOST_VEHICLES
@@ -16,12 +16,13 @@ pub returns-in-Some : goal.returns-in-Some
 returns-in-Some c = enter-refused c.args.streets.now c.args.plan.now c.args.lane c.args.depart c.args.size (omega (arith, c.admitted-car.ensures.count, c.if-car-ge-MOST_VEHICLES.false))
     c.entry_refusal.result (λ m same few. c.entry_refusal.ensures.refusal m (same ∙ sym c.network.ensures) few) c.in-Some.refusal c.in-Some.is
 
-pub returns-in_default-check_plan : goal.returns-in_default-check_plan
-returns-in_default-check_plan c = enter-starving c.args.streets.now c.args.plan.now c.args.lane c.args.depart c.args.size (omega (arith, c.admitted-car.ensures.count, c.if-car-ge-MOST_VEHICLES.false))
+pub returns-in_default-links_of : goal.returns-in_default-links_of
+returns-in_default-links_of c = enter-starving c.args.streets.now c.args.plan.now c.args.lane c.args.depart c.args.size (omega (arith, c.admitted-car.ensures.count, c.if-car-ge-MOST_VEHICLES.false))
     c.entry_refusal.result (λ m same few. c.entry_refusal.ensures.refusal m (same ∙ sym c.network.ensures) few) c.in_default.is
 
-pub admit-requires-clause-short : goal.admit-requires-clause-short
-admit-requires-clause-short c = subst (λ (p : List ℕ). length p ≤ most_plan) (sym c.in-Ok.ensures.links) (short-plan c.network-2.result.now c.args.plan.now (taken c.network-2.result.now c.args.plan.now c.args.lane c.in-Ok.ensures.faultless).0)
+pub links_of-requires : goal.links_of-requires
+links_of-requires c = (taken c.network-2.result.now c.args.plan.now c.args.lane
+    (subst (λ (net : NetSpec). plan_refusal net c.args.plan.now c.args.lane ≡ None) (c.network.ensures ∙ sym c.network-2.ensures) (c.entry_refusal.ensures.planned c.in_default.is))).0
 
 pub returns-in-Ok-admit : goal.returns-in-Ok-admit
 returns-in-Ok-admit c = enter-done c.args.streets.now c.args.plan.now c.args.lane c.args.depart c.args.size (omega (arith, c.admitted-car.ensures.count, c.if-car-ge-MOST_VEHICLES.false))
