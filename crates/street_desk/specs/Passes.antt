@@ -56,7 +56,8 @@ pub record Rests (v : SeatView) : Type 0 where
 abbrev pub Same : PassView → PassView → Type 0
 Same p q = (q.desk ≡ p.desk) × (q.least ≡ p.least) × (q.greatest ≡ p.greatest)
 
--- the command was answered: the history seen then is legal, begins with all that was seen and with as many calls as were known of, and ends with this call; the reply is the machine's there, and this call is one more of its own
+-- the command was answered: the history seen then is legal, begins with all that was seen and with as many calls as were known
+-- of, and ends with this call; the reply is the machine's there, and this call is one more of its own
 pub record Answered (p : PassView) (command : Command) (answer : Reply) (q : PassView) : Type 0 where
   pub before : List Entry
   pub outcome : Outcome

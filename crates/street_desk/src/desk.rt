@@ -1,7 +1,8 @@
 //! The desk and its calls.
 //!
 //! Source: this profile.
-ghost use Rattle.std.specs.Prelude.{◌≡◌, ◌+◌, ◌*◌, ◌/◌, ◌%◌, ◌^◌, ◌<◌, ◌≤◌, [], ◌∷◌, ◌++◌, length, true, false, Some, None, MatchBool, MatchResult, IfOk, IfErr, IsOk};
+ghost use Rattle.std.specs.Prelude.{◌≡◌, ◌+◌, ◌*◌, ◌/◌, ◌%◌, ◌^◌, ◌<◌, ◌≤◌, [], ◌∷◌, ◌++◌, length, true, false, Some, None};
+ghost use Rattle.std.specs.Prelude.{MatchBool, MatchResult, IfOk, IfErr, IsOk};
 ghost use Rattle.street_base.specs.declared.reply.Outcome.{Outcome};
 ghost use Rattle.street_base.specs.Outcomes.{reply_to};
 ghost use Rattle.street_engine.specs.Refines.{StandsFor};
@@ -9,7 +10,8 @@ ghost use Rattle.street_desk.specs.declared.faults.SplitFault.TheVariants.{Singl
 ghost use Rattle.street_desk.specs.History.{entry, state_of, IsLegal};
 ghost use Rattle.street_desk.specs.Rule.{recorded};
 ghost use Rattle.street_desk.specs.Steps.{Looks, Grabs, with_turn};
-ghost use Rattle.street_desk.specs.Passes.{desk_view, pass_view, Rests, first_pass, without_last, of_last, Answered, Filled, ServedCount, OwnsUnused, Heard, Finished};
+ghost use Rattle.street_desk.specs.Passes.{desk_view, pass_view, Rests, first_pass, without_last, of_last};
+ghost use Rattle.street_desk.specs.Passes.{Answered, Filled, ServedCount, OwnsUnused, Heard, Finished};
 
 use crate::faults::{Full, SplitFault, Torn};
 use crate::journal::{Journal, Recorder};

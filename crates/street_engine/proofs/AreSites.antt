@@ -1,6 +1,6 @@
 -- What sites and the detectors of a tile stand for, by the detectors of the machine.
-use Rattle.std.proofs.Common.{◌≡◌, ℕ, ◌+◌, ◌<◌, ◌≤◌, true, false, List, [], ◌∷◌, ◌++◌, length, map, get_or, refl, sym, ◌∙◌, ap, subst, arith, inl, inr}
-use Rattle.std.specs.Prelude.{Option, Some, None, slice_get, option_map, filter, if◌then◌else◌}
+use Rattle.std.proofs.Common.{◌≡◌, ℕ, ◌<◌, true, List, [], ◌∷◌, ◌++◌, length, map, get_or, refl, sym, ◌∙◌, ap, subst, arith, inl, inr}
+use Rattle.std.specs.Prelude.{Some, None, slice_get, option_map}
 use Rattle.std.proofs.Math.ListN.{length-map}
 use Rattle.std.proofs.lemmas.Bool.{cases_eq, cases_lt, cases_Bool}
 use Rattle.std.proofs.lemmas.List.{get_or_append_left, get_or_push, length-append}

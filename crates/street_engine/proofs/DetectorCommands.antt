@@ -18,7 +18,7 @@ use Rattle.street_base.specs.Shown.{shown_rows}
 use Rattle.street_base.specs.Machine.{first_of, lane_tests, is_past, closure_refusal, place_refusal, read_refusal, told_rows}
 use Rattle.street_base.specs.Outcomes.{MayStarveUnder}
 use Rattle.street_engine.specs.Streets.{StreetsView, StreetsStandFor, StreetsGo}
-use Rattle.street_engine.specs.Refines.{EngineView, Serves}
+use Rattle.street_engine.specs.Refines.{Serves}
 use Rattle.street_engine.proofs.Serves.{same-network, same-count, streets-refused, streets-starved, streets-starving, streets-done, streets-told}
 
 -- ---- refusals in their order
@@ -50,7 +50,7 @@ long-period period long = rw (le-leb 1 period (omega arith), lt-leb period most_
 
 -- ---- placed
 
-module _ (x : EngineView) (s : StreetsView) (is : x ≡ Some s) (link lane cell period : ℕ) where
+module _ (s : StreetsView) (link lane cell period : ℕ) where
   -- what is asked of the lane and the cell, and what after them
   abbrev cell_tests : Traffic → List (Bool × Refusal)
   cell_tests m = lane_tests link lane m ++ (is_past link cell m, BadRange) ∷ []
@@ -62,20 +62,20 @@ module _ (x : EngineView) (s : StreetsView) (is : x ≡ Some s) (link lane cell 
   as-closure : (m : Traffic) → closure_refusal link lane cell cell m ≡ first_of (cell_tests m)
   as-closure m = let e : nat_lt cell cell ≡ false = le-ltb cell cell (omega arith) in rw e refl
 
-  pub meter-refused : (q : Refusal) → ((m : Traffic) → m.network ≡ s.network → closure_refusal link lane cell cell m ≡ Some q) → Serves x (PlaceMeter link lane cell period) (Refused q) Whole (Some s)
-  meter-refused q refused = streets-refused x s (PlaceMeter link lane cell period) is (Some s) refl q (λ m stands.
+  pub meter-refused : (q : Refusal) → ((m : Traffic) → m.network ≡ s.network → closure_refusal link lane cell cell m ≡ Some q) → Serves (Some s) (PlaceMeter link lane cell period) (Refused q) Whole (Some s)
+  meter-refused q refused = streets-refused s (PlaceMeter link lane cell period) q (λ m stands.
       first-stays (cell_tests m) (later m) q (sym (as-closure m) ∙ refused m (same-network s m stands)))
 
   module _ (passed : (m : Traffic) → m.network ≡ s.network → closure_refusal link lane cell cell m ≡ None) where
     reaches : (m : Traffic) → StreetsStandFor s m → place_refusal link lane cell period m ≡ first_of (later m)
     reaches m stands = first-passes (cell_tests m) (later m) (sym (as-closure m) ∙ passed m (same-network s m stands))
 
-    pub bad-period : is_within 1 most_period period ≡ false → Serves x (PlaceMeter link lane cell period) (Refused BadCount) Whole (Some s)
-    bad-period bad = streets-refused x s (PlaceMeter link lane cell period) is (Some s) refl BadCount (λ m stands. reaches m stands ∙ rw bad refl)
+    pub bad-period : is_within 1 most_period period ≡ false → Serves (Some s) (PlaceMeter link lane cell period) (Refused BadCount) Whole (Some s)
+    bad-period bad = streets-refused s (PlaceMeter link lane cell period) BadCount (λ m stands. reaches m stands ∙ rw bad refl)
 
     module _ (good : is_within 1 most_period period ≡ true) where
-      pub too-many-meters : most_detectors ≤ length s.sites → Serves x (PlaceMeter link lane cell period) (Refused TooMany) Whole (Some s)
-      too-many-meters full = streets-refused x s (PlaceMeter link lane cell period) is (Some s) refl TooMany (λ m stands.
+      pub too-many-meters : most_detectors ≤ length s.sites → Serves (Some s) (PlaceMeter link lane cell period) (Refused TooMany) Whole (Some s)
+      too-many-meters full = streets-refused s (PlaceMeter link lane cell period) TooMany (λ m stands.
           let e = le-leb most_detectors (length m.detectors) (omega (arith, full, same-count s m stands)) in
           reaches m stands ∙ rw (good, e) refl)
 
@@ -85,12 +85,12 @@ module _ (x : EngineView) (s : StreetsView) (is : x ≡ Some s) (link lane cell 
             let e = lt-leb most_detectors (length m.detectors) (omega (arith, room, same-count s m stands)) in
             reaches m stands ∙ rw (good, e) refl
 
-        pub meter-starved : StreetsGo (λ m. m) s t → Serves x (PlaceMeter link lane cell period) StarvedReply Starved (Some t)
-        meter-starved keeps = streets-starved x s (PlaceMeter link lane cell period) is t (λ m stands. subst MayStarveUnder (sym (accepted m stands)) tt) keeps
+        pub meter-starved : StreetsGo (λ m. m) s t → Serves (Some s) (PlaceMeter link lane cell period) StarvedReply Starved (Some t)
+        meter-starved keeps = streets-starved s (PlaceMeter link lane cell period) t (λ m stands. subst MayStarveUnder (sym (accepted m stands)) tt) keeps
 
-        pub meter-done : (at : Place) (first steps number : ℕ) → at ≡ named_lane s.network link lane → first ≡ cell → steps ≡ period → number ≡ length s.sites → StreetsGo (λ m. metered m at first steps) s t → Serves x (PlaceMeter link lane cell period) (Placed number) Whole (Some t)
+        pub meter-done : (at : Place) (first steps number : ℕ) → at ≡ named_lane s.network link lane → first ≡ cell → steps ≡ period → number ≡ length s.sites → StreetsGo (λ m. metered m at first steps) s t → Serves (Some s) (PlaceMeter link lane cell period) (Placed number) Whole (Some t)
         meter-done at first steps number place first_is steps_is number_is goes =
-            streets-done x s (PlaceMeter link lane cell period) is t (Placed number) (λ m. metered m (named_lane m.network link lane) cell period) (λ m. refl)
+            streets-done s (PlaceMeter link lane cell period) t (Placed number) (λ m. metered m (named_lane m.network link lane) cell period) (λ m. refl)
             (λ m stands.
             let there : at ≡ named_lane m.network link lane = place ∙ ap (λ (net : NetSpec). named_lane net link lane) (sym (same-network s m stands)) in
             subst (λ (p : Place). StreetsStandFor t (metered m p cell period)) there
@@ -108,20 +108,20 @@ told-none : (o : Option Detector) → None ≡ option_map shown_rows o → Refus
 told-none None h = refl
 told-none (Some d) h = cc
 
-module _ (x : EngineView) (s : StreetsView) (is : x ≡ Some s) (meter : ℕ) where
-  pub no-meter : length s.sites ≤ meter → Serves x (ReadMeter meter) (Refused NoMeter) Whole x
-  no-meter past = streets-refused x s (ReadMeter meter) is x is NoMeter (λ m stands.
+module _ (s : StreetsView) (meter : ℕ) where
+  pub no-meter : length s.sites ≤ meter → Serves (Some s) (ReadMeter meter) (Refused NoMeter) Whole (Some s)
+  no-meter past = streets-refused s (ReadMeter meter) NoMeter (λ m stands.
       let e = le-leb (length m.detectors) meter (omega (arith, past, same-count s m stands)) in rw e refl)
 
   module _ (given : meter < length s.sites) where
     known : (m : Traffic) → StreetsStandFor s m → read_refusal meter m ≡ None
     known m stands = let e = lt-leb (length m.detectors) meter (omega (arith, given, same-count s m stands)) in rw e refl
 
-    pub rows-told : (rows : Reply) → ((m : Traffic) → StreetsStandFor s m → Some rows ≡ option_map shown_rows (slice_get m.detectors meter)) → Serves x (ReadMeter meter) rows Whole x
-    rows-told rows told = streets-told x s (ReadMeter meter) is rows (λ m. refl) (λ m stands. (known m stands, told-shown (slice_get m.detectors meter) rows (told m stands)))
+    pub rows-told : (rows : Reply) → ((m : Traffic) → StreetsStandFor s m → Some rows ≡ option_map shown_rows (slice_get m.detectors meter)) → Serves (Some s) (ReadMeter meter) rows Whole (Some s)
+    rows-told rows told = streets-told s (ReadMeter meter) rows (λ m. refl) (λ m stands. (known m stands, told-shown (slice_get m.detectors meter) rows (told m stands)))
 
-    pub rows-nowhere : ((m : Traffic) → StreetsStandFor s m → None ≡ option_map shown_rows (slice_get m.detectors meter)) → Serves x (ReadMeter meter) (Refused NoMeter) Whole x
-    rows-nowhere nowhere = streets-told x s (ReadMeter meter) is (Refused NoMeter) (λ m. refl) (λ m stands. (known m stands, told-none (slice_get m.detectors meter) (nowhere m stands)))
+    pub rows-nowhere : ((m : Traffic) → StreetsStandFor s m → None ≡ option_map shown_rows (slice_get m.detectors meter)) → Serves (Some s) (ReadMeter meter) (Refused NoMeter) Whole (Some s)
+    rows-nowhere nowhere = streets-told s (ReadMeter meter) (Refused NoMeter) (λ m. refl) (λ m stands. (known m stands, told-none (slice_get m.detectors meter) (nowhere m stands)))
 
-    pub rows-starved : Serves x (ReadMeter meter) StarvedReply Starved x
-    rows-starved = streets-starving x s (ReadMeter meter) is x is (λ m stands. subst MayStarveUnder (sym (known m stands)) tt)
+    pub rows-starved : Serves (Some s) (ReadMeter meter) StarvedReply Starved (Some s)
+    rows-starved = streets-starving s (ReadMeter meter) (λ m stands. subst MayStarveUnder (sym (known m stands)) tt)

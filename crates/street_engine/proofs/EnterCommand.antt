@@ -17,60 +17,33 @@ use Rattle.street_base.specs.Machine.{plan_links, enter_refusal, entered}
 use Rattle.street_base.specs.Outcomes.{MayStarveUnder}
 use Rattle.street_base.proofs.FirstBadLemmas.{first_bad-none}
 use Rattle.street_engine.specs.Streets.{StreetsView, StreetsStandFor, StreetsGo}
-use Rattle.street_engine.specs.Refines.{EngineView, Serves}
+use Rattle.street_engine.specs.Refines.{Serves}
 use Rattle.street_engine.proofs.Serves.{same-network, same-ends, streets-refused, streets-starved, streets-starving, streets-done}
 
--- ---- a good plan
-
-kept-one : {A B : Type 0} (f : A → Option B) (x : A) (xs : List A) (o : Option B) → f x ≡ o → length (filter_map f xs) ≤ length xs → length (filter_map f (x ∷ xs)) ≤ length (x ∷ xs)
-kept-one f x xs None e rest = rw e (omega (arith, rest))
-kept-one f x xs (Some y) e rest = rw e (omega (arith, rest))
-
-kept-few : {A B : Type 0} (f : A → Option B) (xs : List A) → length (filter_map f xs) ≤ length xs
-kept-few f [] = omega arith
-kept-few f (x ∷ xs) = kept-one f x xs (f x) refl (kept-few f xs)
-
-module _ (net : NetSpec) (plan : List ℕ) (good : plan_fault net plan ≡ None) where
-  faultless : first_bad (is_bad_entry net plan) plan ≡ None
-  faultless = elim (cases_Bool (length plan == 0)) [
-    | inl t ↦ absurd (none-some 0 (sym good ∙ cond-true _ _ _ t))
-    | inr f ↦ sym (cond-false _ _ _ f) ∙ good
-  ]
-
-  pub short-plan : length (plan_links net plan) ≤ most_plan
-  short-plan = elim (cases_lt most_plan (length plan)) [
-    | inl more ↦ absurd (
-        let fine : true ≡ false = first_bad-none (is_bad_entry net plan) plan faultless most_plan 0 more in
-        true≢false fine)
-    | inr few ↦ omega (arith, few, kept-few (link_of net) plan)
-  ]
-
--- ---- the command
-
-module _ (x : EngineView) (s : StreetsView) (plan : List ℕ) (lane depart size : ℕ) (is : x ≡ Some s) where
+module _ (s : StreetsView) (plan : List ℕ) (lane depart size : ℕ) where
   many : (m : Traffic) → StreetsStandFor s m → length m.ends ≡ length s.ends
   many m stands = ap length (same-ends s m stands)
 
-  pub too-many : most_vehicles ≤ length s.ends → Serves x (Enter plan lane depart size) (Refused TooMany) Whole (Some s)
-  too-many full = streets-refused x s (Enter plan lane depart size) is (Some s) refl TooMany (λ m stands. let e = le-leb most_vehicles (length m.ends) (omega (arith, full, many m stands)) in rw e refl)
+  pub too-many : most_vehicles ≤ length s.ends → Serves (Some s) (Enter plan lane depart size) (Refused TooMany) Whole (Some s)
+  too-many full = streets-refused s (Enter plan lane depart size) TooMany (λ m stands. let e = le-leb most_vehicles (length m.ends) (omega (arith, full, many m stands)) in rw e refl)
 
   module _ (few : length s.ends < most_vehicles) (refusal : Option Refusal) (told_is : (m : Traffic) → m.network ≡ s.network → length m.ends < most_vehicles → refusal ≡ enter_refusal plan lane depart size m) where
     told-of : (m : Traffic) → StreetsStandFor s m → refusal ≡ enter_refusal plan lane depart size m
     told-of m stands = told_is m (same-network s m stands) (omega (arith, few, many m stands))
 
-    pub enter-refused : (q : Refusal) → refusal ≡ Some q → Serves x (Enter plan lane depart size) (Refused q) Whole (Some s)
-    enter-refused q e = streets-refused x s (Enter plan lane depart size) is (Some s) refl q (λ m stands. sym (told-of m stands) ∙ e)
+    pub enter-refused : (q : Refusal) → refusal ≡ Some q → Serves (Some s) (Enter plan lane depart size) (Refused q) Whole (Some s)
+    enter-refused q e = streets-refused s (Enter plan lane depart size) q (λ m stands. sym (told-of m stands) ∙ e)
 
     module _ (none : refusal ≡ None) where
       accepted : (m : Traffic) → StreetsStandFor s m → enter_refusal plan lane depart size m ≡ None
       accepted m stands = sym (told-of m stands) ∙ none
 
-      pub enter-starving : Serves x (Enter plan lane depart size) StarvedReply Starved (Some s)
-      enter-starving = streets-starving x s (Enter plan lane depart size) is (Some s) refl (λ m stands. subst MayStarveUnder (sym (accepted m stands)) tt)
+      pub enter-starving : Serves (Some s) (Enter plan lane depart size) StarvedReply Starved (Some s)
+      enter-starving = streets-starving s (Enter plan lane depart size) (λ m stands. subst MayStarveUnder (sym (accepted m stands)) tt)
 
-      pub enter-starved : (t : StreetsView) → StreetsGo (λ m. m) s t → Serves x (Enter plan lane depart size) StarvedReply Starved (Some t)
-      enter-starved t keeps = streets-starved x s (Enter plan lane depart size) is t (λ m stands. subst MayStarveUnder (sym (accepted m stands)) tt) keeps
+      pub enter-starved : (t : StreetsView) → StreetsGo (λ m. m) s t → Serves (Some s) (Enter plan lane depart size) StarvedReply Starved (Some t)
+      enter-starved t keeps = streets-starved s (Enter plan lane depart size) t (λ m stands. subst MayStarveUnder (sym (accepted m stands)) tt) keeps
 
-      pub enter-done : (t : StreetsView) (car : ℕ) → car ≡ length s.ends → StreetsGo (λ m. entered m plan lane depart size) s t → Serves x (Enter plan lane depart size) (Entered car) Whole (Some t)
-      enter-done t car number goes = streets-done x s (Enter plan lane depart size) is t (Entered car) (λ m. entered m plan lane depart size) (λ m. refl) goes
+      pub enter-done : (t : StreetsView) (car : ℕ) → car ≡ length s.ends → StreetsGo (λ m. entered m plan lane depart size) s t → Serves (Some s) (Enter plan lane depart size) (Entered car) Whole (Some t)
+      enter-done t car number goes = streets-done s (Enter plan lane depart size) t (Entered car) (λ m. entered m plan lane depart size) (λ m. refl) goes
           (λ m stands. (accepted m stands, ap (λ n. Entered n) (number ∙ sym (many m stands))))

@@ -15,10 +15,10 @@ use Rattle.street_base.specs.Shown.{shown_lane}
 use Rattle.street_base.specs.Machine.{first_of, lane_tests, lane_refusal, closure_refusal, closed_after}
 use Rattle.street_base.specs.Outcomes.{MayStarveUnder}
 use Rattle.street_engine.specs.Streets.{StreetsView, StreetsStandFor, StreetsGo}
-use Rattle.street_engine.specs.Refines.{EngineView, Serves}
+use Rattle.street_engine.specs.Refines.{Serves}
 use Rattle.street_engine.proofs.Serves.{same-network, streets-refused, streets-starved, streets-starving, streets-done, streets-told}
 
-module _ (x : EngineView) (s : StreetsView) (link lane : ℕ) (is : x ≡ Some s) where
+module _ (s : StreetsView) (link lane : ℕ) where
   -- the lane that the machine names
   named-as : (at : Place) → at ≡ named_lane s.network link lane → (m : Traffic) → StreetsStandFor s m → at ≡ named_lane m.network link lane
   named-as at place m stands = place ∙ ap (λ (net : NetSpec). named_lane net link lane) (sym (same-network s m stands))
@@ -26,21 +26,21 @@ module _ (x : EngineView) (s : StreetsView) (link lane : ℕ) (is : x ≡ Some s
   -- ---- cells
 
   module _ (first last : ℕ) where
-    pub close-refused : (q : Refusal) → ((m : Traffic) → m.network ≡ s.network → closure_refusal link lane first last m ≡ Some q) → Serves x (CloseLane link lane first last) (Refused q) Whole (Some s)
-    close-refused q refused = streets-refused x s (CloseLane link lane first last) is (Some s) refl q (λ m stands. refused m (same-network s m stands))
+    pub close-refused : (q : Refusal) → ((m : Traffic) → m.network ≡ s.network → closure_refusal link lane first last m ≡ Some q) → Serves (Some s) (CloseLane link lane first last) (Refused q) Whole (Some s)
+    close-refused q refused = streets-refused s (CloseLane link lane first last) q (λ m stands. refused m (same-network s m stands))
 
-    pub reopen-refused : (q : Refusal) → ((m : Traffic) → m.network ≡ s.network → closure_refusal link lane first last m ≡ Some q) → Serves x (ReopenLane link lane first last) (Refused q) Whole (Some s)
-    reopen-refused q refused = streets-refused x s (ReopenLane link lane first last) is (Some s) refl q (λ m stands. refused m (same-network s m stands))
+    pub reopen-refused : (q : Refusal) → ((m : Traffic) → m.network ≡ s.network → closure_refusal link lane first last m ≡ Some q) → Serves (Some s) (ReopenLane link lane first last) (Refused q) Whole (Some s)
+    reopen-refused q refused = streets-refused s (ReopenLane link lane first last) q (λ m stands. refused m (same-network s m stands))
 
     module _ (passed : (m : Traffic) → m.network ≡ s.network → closure_refusal link lane first last m ≡ None) (t : StreetsView) where
       accepted : (m : Traffic) → StreetsStandFor s m → closure_refusal link lane first last m ≡ None
       accepted m stands = passed m (same-network s m stands)
 
-      pub close-starved : StreetsGo (λ m. m) s t → Serves x (CloseLane link lane first last) StarvedReply Starved (Some t)
-      close-starved keeps = streets-starved x s (CloseLane link lane first last) is t (λ m stands. subst MayStarveUnder (sym (accepted m stands)) tt) keeps
+      pub close-starved : StreetsGo (λ m. m) s t → Serves (Some s) (CloseLane link lane first last) StarvedReply Starved (Some t)
+      close-starved keeps = streets-starved s (CloseLane link lane first last) t (λ m stands. subst MayStarveUnder (sym (accepted m stands)) tt) keeps
 
-      pub reopen-starved : StreetsGo (λ m. m) s t → Serves x (ReopenLane link lane first last) StarvedReply Starved (Some t)
-      reopen-starved keeps = streets-starved x s (ReopenLane link lane first last) is t (λ m stands. subst MayStarveUnder (sym (accepted m stands)) tt) keeps
+      pub reopen-starved : StreetsGo (λ m. m) s t → Serves (Some s) (ReopenLane link lane first last) StarvedReply Starved (Some t)
+      reopen-starved keeps = streets-starved s (ReopenLane link lane first last) t (λ m stands. subst MayStarveUnder (sym (accepted m stands)) tt) keeps
 
       module _ (at : Place) (low high count : ℕ) (place : at ≡ named_lane s.network link lane) (low_is : low ≡ first) (high_is : high ≡ last) where
         goes-as : (closed : Bool) → StreetsGo (with_closure closed at low high) s t → StreetsGo (λ m. with_closure closed (named_lane m.network link lane) first last m) s t
@@ -56,25 +56,25 @@ module _ (x : EngineView) (s : StreetsView) (link lane : ℕ) (is : x ≡ Some s
             ∙ ap (λ n. closed_after closed first n (lane_at m at)) high_is
             ∙ ap (λ (p : Place). closed_after closed first last (lane_at m p)) (named-as at place m stands)
 
-        pub close-done : StreetsGo (with_closure true at low high) s t → ((m : Traffic) → StreetsStandFor s m → count ≡ closed_after true low high (lane_at m at)) → Serves x (CloseLane link lane first last) (Closed count) Whole (Some t)
-        close-done goes counts = streets-done x s (CloseLane link lane first last) is t (Closed count) (λ m. with_closure true (named_lane m.network link lane) first last m) (λ m. refl) (goes-as true goes)
+        pub close-done : StreetsGo (with_closure true at low high) s t → ((m : Traffic) → StreetsStandFor s m → count ≡ closed_after true low high (lane_at m at)) → Serves (Some s) (CloseLane link lane first last) (Closed count) Whole (Some t)
+        close-done goes counts = streets-done s (CloseLane link lane first last) t (Closed count) (λ m. with_closure true (named_lane m.network link lane) first last m) (λ m. refl) (goes-as true goes)
             (λ m stands. (accepted m stands, ap (λ n. Closed n) (counts-as true counts m stands)))
 
-        pub reopen-done : StreetsGo (with_closure false at low high) s t → ((m : Traffic) → StreetsStandFor s m → count ≡ closed_after false low high (lane_at m at)) → Serves x (ReopenLane link lane first last) (Closed count) Whole (Some t)
-        reopen-done goes counts = streets-done x s (ReopenLane link lane first last) is t (Closed count) (λ m. with_closure false (named_lane m.network link lane) first last m) (λ m. refl) (goes-as false goes)
+        pub reopen-done : StreetsGo (with_closure false at low high) s t → ((m : Traffic) → StreetsStandFor s m → count ≡ closed_after false low high (lane_at m at)) → Serves (Some s) (ReopenLane link lane first last) (Closed count) Whole (Some t)
+        reopen-done goes counts = streets-done s (ReopenLane link lane first last) t (Closed count) (λ m. with_closure false (named_lane m.network link lane) first last m) (λ m. refl) (goes-as false goes)
             (λ m stands. (accepted m stands, ap (λ n. Closed n) (counts-as false counts m stands)))
 
   -- ---- a lane
 
-  pub lane-refused : (q : Refusal) → ((m : Traffic) (rest : List (Bool × Refusal)) → m.network ≡ s.network → first_of (lane_tests link lane m ++ rest) ≡ Some q) → Serves x (AskLane link lane) (Refused q) Whole x
-  lane-refused q refused = streets-refused x s (AskLane link lane) is x is q (λ m stands. refused m [] (same-network s m stands))
+  pub lane-refused : (q : Refusal) → ((m : Traffic) (rest : List (Bool × Refusal)) → m.network ≡ s.network → first_of (lane_tests link lane m ++ rest) ≡ Some q) → Serves (Some s) (AskLane link lane) (Refused q) Whole (Some s)
+  lane-refused q refused = streets-refused s (AskLane link lane) q (λ m stands. refused m [] (same-network s m stands))
 
   module _ (passed : (m : Traffic) (rest : List (Bool × Refusal)) → m.network ≡ s.network → first_of (lane_tests link lane m ++ rest) ≡ first_of rest) where
     there : (m : Traffic) → StreetsStandFor s m → lane_refusal link lane m ≡ None
     there m stands = passed m [] (same-network s m stands)
 
-    pub lane-starved : Serves x (AskLane link lane) StarvedReply Starved x
-    lane-starved = streets-starving x s (AskLane link lane) is x is (λ m stands. subst MayStarveUnder (sym (there m stands)) tt)
+    pub lane-starved : Serves (Some s) (AskLane link lane) StarvedReply Starved (Some s)
+    lane-starved = streets-starving s (AskLane link lane) (λ m stands. subst MayStarveUnder (sym (there m stands)) tt)
 
-    pub lane-shown : (at : Place) (reply : Reply) → at ≡ named_lane s.network link lane → ((m : Traffic) → StreetsStandFor s m → reply ≡ shown_lane (lane_at m at)) → Serves x (AskLane link lane) reply Whole x
-    lane-shown at reply place shown = streets-told x s (AskLane link lane) is reply (λ m. refl) (λ m stands. (there m stands, shown m stands ∙ ap (λ (p : Place). shown_lane (lane_at m p)) (named-as at place m stands)))
+    pub lane-shown : (at : Place) (reply : Reply) → at ≡ named_lane s.network link lane → ((m : Traffic) → StreetsStandFor s m → reply ≡ shown_lane (lane_at m at)) → Serves (Some s) (AskLane link lane) reply Whole (Some s)
+    lane-shown at reply place shown = streets-told s (AskLane link lane) reply (λ m. refl) (λ m stands. (there m stands, shown m stands ∙ ap (λ (p : Place). shown_lane (lane_at m p)) (named-as at place m stands)))

@@ -1,9 +1,8 @@
 -- What it takes to serve a command: what is shown of all traffic that the streets stand for.
-use Rattle.std.proofs.Common.{◌≡◌, false, length, refl, sym, ◌∙◌, ap, subst}
-use Rattle.std.specs.Prelude.{Option, Some, None, is_some}
+use Rattle.std.proofs.Common.{◌≡◌, length, refl, sym, ◌∙◌, ap, subst}
+use Rattle.std.specs.Prelude.{Some, None}
 use Rattle.street_base.specs.declared.command.Command.{Command}
 use Rattle.street_base.specs.declared.refusal.Refusal.{Refusal}
-use Rattle.street_base.specs.declared.refusal.Refusal.TheVariants.{NotLoaded}
 use Rattle.street_base.specs.declared.reply.Reply.{Reply}
 use Rattle.street_base.specs.declared.reply.Reply.TheVariants.{Refused, Starved as StarvedReply}
 use Rattle.street_base.specs.declared.reply.Outcome.TheVariants.{Whole, Starved}
@@ -31,28 +30,17 @@ module _ (x : EngineView) (c : Command) where
 
 -- ---- nothing loaded
 
-pub none-of : {A : Type 0} (o : Option A) → is_some o ≡ false → o ≡ None
-none-of None e = refl
-none-of (Some s) e = cc
-
-pub at-none : (x : EngineView) (P : State → Type 0) → x ≡ None → P None → (m : State) → StandsFor x m → P m
+pub at-none : (P : State → Type 0) → P None → (m : State) → StandsFor None m → P m
 unfolding StandsFor
-at-none None P is h None stands = h
-at-none None P is h (Some m) stands = absurd stands
-at-none (Some s) P is h m stands = cc
-
-pub not-loaded : (x : EngineView) (c : Command) → x ≡ None → refusal None c ≡ Some NotLoaded → Serves x c (Refused NotLoaded) Whole x
-not-loaded x c is refused = serves-refused x c NotLoaded (at-none x (λ m. refusal m c ≡ Some NotLoaded) is refused)
+at-none P h None stands = h
+at-none P h (Some m) stands = absurd stands
 
 -- ---- streets
 
-pub at-some : (x : EngineView) (s : StreetsView) (P : State → Type 0) → x ≡ Some s → ((m : Traffic) → StreetsStandFor s m → P (Some m)) → (m : State) → StandsFor x m → P m
+pub at-some : (s : StreetsView) (P : State → Type 0) → ((m : Traffic) → StreetsStandFor s m → P (Some m)) → (m : State) → StandsFor (Some s) m → P m
 unfolding StandsFor
-at-some None s P is h m stands = cc
-at-some (Some t) s P is h None stands = absurd stands
-at-some (Some t) s P is h (Some m) stands =
-    let same : t ≡ s = cc in
-    h m (subst (λ (u : StreetsView). StreetsStandFor u m) same stands)
+at-some s P h None stands = absurd stands
+at-some s P h (Some m) stands = h m stands
 
 pub some-stands : (s : StreetsView) (m : Traffic) → StreetsStandFor s m → StandsFor (Some s) (Some m)
 unfolding StandsFor
@@ -75,26 +63,21 @@ module _ (s : StreetsView) (m : Traffic) (stands : StreetsStandFor s m) where
   unfolding StreetsStandFor
   same-count = sym stands.sites.even
 
-module _ (x : EngineView) (s : StreetsView) (c : Command) (is : x ≡ Some s) where
+module _ (s : StreetsView) (c : Command) where
+  pub streets-refused : (q : Refusal) → ((m : Traffic) → StreetsStandFor s m → refusal (Some m) c ≡ Some q) → Serves (Some s) c (Refused q) Whole (Some s)
+  streets-refused q refused = serves-refused (Some s) c q (at-some s (λ m. refusal m c ≡ Some q) refused)
+
+  pub streets-starved : (t : StreetsView) → ((m : Traffic) → StreetsStandFor s m → MayStarve (Some m) c) → StreetsGo (λ m. m) s t → Serves (Some s) c StarvedReply Starved (Some t)
+  streets-starved t may keeps = serves-starved (Some s) c (Some t) (at-some s (λ m. MayStarve m c) may) (at-some s (λ m. StandsFor (Some t) m) (λ m stands. some-stands t m (keeps m stands)))
+
   -- where nothing is changed
-  module _ (y : EngineView) (after : y ≡ Some s) where
-    same-view : x ≡ y
-    same-view = is ∙ sym after
+  pub streets-starving : ((m : Traffic) → StreetsStandFor s m → MayStarve (Some m) c) → Serves (Some s) c StarvedReply Starved (Some s)
+  streets-starving may = streets-starved s may (λ m stands. stands)
 
-    pub streets-refused : (q : Refusal) → ((m : Traffic) → StreetsStandFor s m → refusal (Some m) c ≡ Some q) → Serves x c (Refused q) Whole y
-    streets-refused q refused = subst (λ (z : EngineView). Serves x c (Refused q) Whole z) same-view (serves-refused x c q (at-some x s (λ m. refusal m c ≡ Some q) is refused))
-
-    pub streets-starving : ((m : Traffic) → StreetsStandFor s m → MayStarve (Some m) c) → Serves x c StarvedReply Starved y
-    streets-starving may = subst (λ (z : EngineView). Serves x c StarvedReply Starved z) same-view (serves-starved x c x (at-some x s (λ m. MayStarve m c) is may) (λ m stands. stands))
-
-  pub streets-starved : (t : StreetsView) → ((m : Traffic) → StreetsStandFor s m → MayStarve (Some m) c) → StreetsGo (λ m. m) s t → Serves x c StarvedReply Starved (Some t)
-  streets-starved t may keeps = serves-starved x c (Some t) (at-some x s (λ m. MayStarve m c) is may) (at-some x s (λ m. StandsFor (Some t) m) is (λ m stands. some-stands t m (keeps m stands)))
-
-  pub streets-done : (t : StreetsView) (r : Reply) (f : Traffic → Traffic) → ((m : Traffic) → done (Some m) c ≡ Some (f m)) → StreetsGo f s t → ((m : Traffic) → StreetsStandFor s m → (refusal (Some m) c ≡ None) × (r ≡ answered (Some m) c)) → Serves x c r Whole (Some t)
-  streets-done t r f does goes h = serves-done x c r (Some t) (at-some x s (λ m. (refusal m c ≡ None) × (r ≡ answered m c) × StandsFor (Some t) (done m c)) is
+  pub streets-done : (t : StreetsView) (r : Reply) (f : Traffic → Traffic) → ((m : Traffic) → done (Some m) c ≡ Some (f m)) → StreetsGo f s t → ((m : Traffic) → StreetsStandFor s m → (refusal (Some m) c ≡ None) × (r ≡ answered (Some m) c)) → Serves (Some s) c r Whole (Some t)
+  streets-done t r f does goes h = serves-done (Some s) c r (Some t) (at-some s (λ m. (refusal m c ≡ None) × (r ≡ answered m c) × StandsFor (Some t) (done m c))
       (λ m stands. let both = h m stands in (both.0, both.1, subst (λ (n : State). StandsFor (Some t) n) (sym (does m)) (some-stands t (f m) (goes m stands)))))
 
   -- a command that only looks
-  pub streets-told : (r : Reply) → ((m : Traffic) → done (Some m) c ≡ Some m) → ((m : Traffic) → StreetsStandFor s m → (refusal (Some m) c ≡ None) × (r ≡ answered (Some m) c)) → Serves x c r Whole x
-  streets-told r does h = serves-done x c r x (at-some x s (λ m. (refusal m c ≡ None) × (r ≡ answered m c) × StandsFor x (done m c)) is
-      (λ m stands. let both = h m stands in (both.0, both.1, subst (λ (n : State). StandsFor x n) (sym (does m)) (subst (λ (y : EngineView). StandsFor y (Some m)) (sym is) (some-stands s m stands)))))
+  pub streets-told : (r : Reply) → ((m : Traffic) → done (Some m) c ≡ Some m) → ((m : Traffic) → StreetsStandFor s m → (refusal (Some m) c ≡ None) × (r ≡ answered (Some m) c)) → Serves (Some s) c r Whole (Some s)
+  streets-told r does h = streets-done s r (λ m. m) does (λ m stands. stands) h

@@ -1,5 +1,5 @@
 -- Signal plans set.
-use Rattle.std.proofs.Common.{◌≡◌, ℕ, ◌+◌, List, [], ◌∷◌, map, refl, sym, ◌∙◌, ap, subst}
+use Rattle.std.proofs.Common.{◌≡◌, ℕ, List, [], ◌∷◌, refl, sym, ◌∙◌, ap, subst}
 use Rattle.std.specs.Prelude.{Option, Some, None, is_some, unwrap_or, not, ◌==◌}
 use Rattle.std.proofs.lemmas.Bool.{eqb-true}
 use Rattle.std.proofs.lemmas.List.Quantifiers.{position-Some}
@@ -20,7 +20,7 @@ use Rattle.street_base.specs.Machine.{first_of, signal_refusal}
 use Rattle.street_base.specs.Outcomes.{MayStarveUnder}
 use Rattle.street_node.specs.Greens.{ShowsAs, node_id}
 use Rattle.street_engine.specs.Streets.{StreetsView, StreetsStandFor, StreetsGo}
-use Rattle.street_engine.specs.Refines.{EngineView, Serves}
+use Rattle.street_engine.specs.Refines.{Serves}
 use Rattle.street_engine.proofs.Serves.{same-network, streets-refused, streets-starving, streets-done}
 
 -- the node at the position of an identifier has it
@@ -31,7 +31,7 @@ same-node net node position e = eqb-true _ _ (position-Some (λ (n : NodeSpec). 
 judged : Option ℕ → Option ℕ → Option Refusal
 judged found fault = first_of ((not (is_some found), NoNode) ∷ (is_some fault, BadSignal (unwrap_or fault 0)) ∷ [])
 
-module _ (x : EngineView) (s : StreetsView) (node offset : ℕ) (phases : List PhaseSpec) (is : x ≡ Some s) where
+module _ (s : StreetsView) (node offset : ℕ) (phases : List PhaseSpec) where
   refusal-as : (found fault : Option ℕ) → node_of s.network node ≡ found → signal_fault s.network node offset phases ≡ fault → (m : Traffic) → StreetsStandFor s m → signal_refusal node offset phases m ≡ judged found fault
   unfolding judged
   refusal-as found fault a b m stands =
@@ -39,27 +39,27 @@ module _ (x : EngineView) (s : StreetsView) (node offset : ℕ) (phases : List P
       ∙ ap (λ (o : Option ℕ). judged o (signal_fault s.network node offset phases)) a
       ∙ ap (λ (o : Option ℕ). judged found o) b
 
-  pub no-node : node_of s.network node ≡ None → Serves x (Signal node offset phases) (Refused NoNode) Whole (Some s)
+  pub no-node : node_of s.network node ≡ None → Serves (Some s) (Signal node offset phases) (Refused NoNode) Whole (Some s)
   unfolding judged
-  no-node none = streets-refused x s (Signal node offset phases) is (Some s) refl NoNode (refusal-as None (signal_fault s.network node offset phases) none refl)
+  no-node none = streets-refused s (Signal node offset phases) NoNode (refusal-as None (signal_fault s.network node offset phases) none refl)
 
   module _ (position : ℕ) (found : node_of s.network node ≡ Some position) where
     fault-as : signal_fault s.network (node_id s.network position) offset phases ≡ signal_fault s.network node offset phases
     fault-as = ap (λ n. signal_fault s.network n offset phases) (same-node s.network node position found)
 
-    pub bad-signal : (at : ℕ) → signal_fault s.network (node_id s.network position) offset phases ≡ Some at → Serves x (Signal node offset phases) (Refused (BadSignal at)) Whole (Some s)
+    pub bad-signal : (at : ℕ) → signal_fault s.network (node_id s.network position) offset phases ≡ Some at → Serves (Some s) (Signal node offset phases) (Refused (BadSignal at)) Whole (Some s)
     unfolding judged
-    bad-signal at fault = streets-refused x s (Signal node offset phases) is (Some s) refl (BadSignal at) (refusal-as (Some position) (Some at) found (sym fault-as ∙ fault))
+    bad-signal at fault = streets-refused s (Signal node offset phases) (BadSignal at) (refusal-as (Some position) (Some at) found (sym fault-as ∙ fault))
 
     module _ (faultless : signal_fault s.network (node_id s.network position) offset phases ≡ None) where
       accepted : (m : Traffic) → StreetsStandFor s m → signal_refusal node offset phases m ≡ None
       unfolding judged
       accepted = refusal-as (Some position) None found (sym fault-as ∙ faultless)
 
-      pub signal-starved : Serves x (Signal node offset phases) StarvedReply Starved (Some s)
-      signal-starved = streets-starving x s (Signal node offset phases) is (Some s) refl (λ m stands. subst MayStarveUnder (sym (accepted m stands)) tt)
+      pub signal-starved : Serves (Some s) (Signal node offset phases) StarvedReply Starved (Some s)
+      signal-starved = streets-starving s (Signal node offset phases) (λ m stands. subst MayStarveUnder (sym (accepted m stands)) tt)
 
-      pub signal-done : (t : StreetsView) (plan : SignalPlan) (told : ℕ) → told ≡ cycle plan → ShowsAs plan (plan_of s.network offset phases) → ((id : ℕ) (other : SignalPlan) → node_of s.network id ≡ Some position → ShowsAs plan other → StreetsGo (λ m. signalled m id other) s t) → Serves x (Signal node offset phases) (Signalled told) Whole (Some t)
-      signal-done t plan told told_is shows goes = streets-done x s (Signal node offset phases) is t (Signalled told) (λ m. signalled m node (plan_of m.network offset phases)) (λ m. refl)
+      pub signal-done : (t : StreetsView) (plan : SignalPlan) (told : ℕ) → told ≡ cycle plan → ShowsAs plan (plan_of s.network offset phases) → ((id : ℕ) (other : SignalPlan) → node_of s.network id ≡ Some position → ShowsAs plan other → StreetsGo (λ m. signalled m id other) s t) → Serves (Some s) (Signal node offset phases) (Signalled told) Whole (Some t)
+      signal-done t plan told told_is shows goes = streets-done s (Signal node offset phases) t (Signalled told) (λ m. signalled m node (plan_of m.network offset phases)) (λ m. refl)
           (λ m stands. subst (λ (net : NetSpec). StreetsStandFor t (signalled m node (plan_of net offset phases))) (sym (same-network s m stands)) (goes node (plan_of s.network offset phases) found shows m stands))
           (λ m stands. (accepted m stands, ap (λ n. Signalled n) (told_is ∙ shows.cycle_is ∙ ap (λ (net : NetSpec). cycle (plan_of net offset phases)) (sym (same-network s m stands)))))

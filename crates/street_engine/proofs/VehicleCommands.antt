@@ -15,40 +15,40 @@ use Rattle.street_base.specs.Effects.{taken_out}
 use Rattle.street_base.specs.Machine.{end_of, vehicle_refusal, seen, told}
 use Rattle.street_base.specs.Outcomes.{MayStarveUnder}
 use Rattle.street_engine.specs.Streets.{StreetsView, StreetsStandFor, StreetsGo}
-use Rattle.street_engine.specs.Refines.{EngineView, Serves}
+use Rattle.street_engine.specs.Refines.{Serves}
 use Rattle.street_engine.proofs.Serves.{same-ends, streets-refused, streets-starving, streets-done, streets-told}
 
-module _ (x : EngineView) (s : StreetsView) (car : ℕ) (is : x ≡ Some s) where
+module _ (s : StreetsView) (car : ℕ) where
   many : (m : Traffic) → StreetsStandFor s m → length m.ends ≡ length s.ends
   many m stands = ap length (same-ends s m stands)
 
   ended : (m : Traffic) → StreetsStandFor s m → end_of m car ≡ slice_index_or s.ends car None
   ended m stands = ap (λ (ends : List (Option End)). slice_index_or ends car None) (same-ends s m stands)
 
-  pub takeout-unknown : length s.ends ≤ car → Serves x (TakeOut car) (Refused NoVehicle) Whole (Some s)
-  takeout-unknown past = streets-refused x s (TakeOut car) is (Some s) refl NoVehicle (λ m stands. let e = le-leb (length m.ends) car (omega (arith, past, many m stands)) in rw e refl)
+  pub takeout-unknown : length s.ends ≤ car → Serves (Some s) (TakeOut car) (Refused NoVehicle) Whole (Some s)
+  takeout-unknown past = streets-refused s (TakeOut car) NoVehicle (λ m stands. let e = le-leb (length m.ends) car (omega (arith, past, many m stands)) in rw e refl)
 
-  pub vehicle-unknown : length s.ends ≤ car → Serves x (AskVehicle car) (Refused NoVehicle) Whole x
-  vehicle-unknown past = streets-refused x s (AskVehicle car) is x is NoVehicle (λ m stands. let e = le-leb (length m.ends) car (omega (arith, past, many m stands)) in rw e refl)
+  pub vehicle-unknown : length s.ends ≤ car → Serves (Some s) (AskVehicle car) (Refused NoVehicle) Whole (Some s)
+  vehicle-unknown past = streets-refused s (AskVehicle car) NoVehicle (λ m stands. let e = le-leb (length m.ends) car (omega (arith, past, many m stands)) in rw e refl)
 
   module _ (given : car < length s.ends) where
     known : (m : Traffic) → StreetsStandFor s m → vehicle_refusal car m ≡ None
     known m stands = let e = lt-leb (length m.ends) car (omega (arith, given, many m stands)) in rw e refl
 
-    pub takeout-gone : is_some (slice_index_or s.ends car None) ≡ true → Serves x (TakeOut car) (Refused Gone) Whole (Some s)
-    takeout-gone gone = streets-refused x s (TakeOut car) is (Some s) refl Gone (λ m stands.
+    pub takeout-gone : is_some (slice_index_or s.ends car None) ≡ true → Serves (Some s) (TakeOut car) (Refused Gone) Whole (Some s)
+    takeout-gone gone = streets-refused s (TakeOut car) Gone (λ m stands.
         let a = lt-leb (length m.ends) car (omega (arith, given, many m stands)) in
         let b : is_some (end_of m car) ≡ true = ap is_some (ended m stands) ∙ gone in
         rw (a, b) refl)
 
-    pub takeout-done : (t : StreetsView) → is_some (slice_index_or s.ends car None) ≡ false → StreetsGo (λ m. taken_out m car) s t → Serves x (TakeOut car) (Taken car) Whole (Some t)
-    takeout-done t going goes = streets-done x s (TakeOut car) is t (Taken car) (λ m. taken_out m car) (λ m. refl) goes (λ m stands.
+    pub takeout-done : (t : StreetsView) → is_some (slice_index_or s.ends car None) ≡ false → StreetsGo (λ m. taken_out m car) s t → Serves (Some s) (TakeOut car) (Taken car) Whole (Some t)
+    takeout-done t going goes = streets-done s (TakeOut car) t (Taken car) (λ m. taken_out m car) (λ m. refl) goes (λ m stands.
         let a = lt-leb (length m.ends) car (omega (arith, given, many m stands)) in
         let b : is_some (end_of m car) ≡ false = ap is_some (ended m stands) ∙ going in
         (rw (a, b) refl, refl))
 
-    pub vehicle-ended : (end : End) → slice_index_or s.ends car None ≡ Some end → Serves x (AskVehicle car) (TellVehicle car (Ended end)) Whole x
-    vehicle-ended end gone = streets-told x s (AskVehicle car) is _ (λ m. refl) (λ m stands.
+    pub vehicle-ended : (end : End) → slice_index_or s.ends car None ≡ Some end → Serves (Some s) (AskVehicle car) (TellVehicle car (Ended end)) Whole (Some s)
+    vehicle-ended end gone = streets-told s (AskVehicle car) _ (λ m. refl) (λ m stands.
         (known m stands, sym (ap (λ (o : Option End). option_map_or (λ found. TellVehicle car found) (option_or (option_map (λ e. Ended e) o) (seen m car)) (Refused NoVehicle)) (ended m stands ∙ gone))))
 
     module _ (going : slice_index_or s.ends car None ≡ None) where
@@ -57,11 +57,11 @@ module _ (x : EngineView) (s : StreetsView) (car : ℕ) (is : x ≡ Some s) wher
           ap (λ (o : Option End). option_map_or (λ w. TellVehicle car w) (option_or (option_map (λ e. Ended e) o) (seen m car)) (Refused NoVehicle)) (ended m stands ∙ going)
           ∙ ap (λ (o : Option Whereabouts). option_map_or (λ w. TellVehicle car w) o (Refused NoVehicle)) (sym e)
 
-      pub vehicle-found : (w : Whereabouts) → ((m : Traffic) → StreetsStandFor s m → Some w ≡ seen m car) → Serves x (AskVehicle car) (TellVehicle car w) Whole x
-      vehicle-found w found = streets-told x s (AskVehicle car) is _ (λ m. refl) (λ m stands. (known m stands, sym (told-seen m stands (Some w) (found m stands))))
+      pub vehicle-found : (w : Whereabouts) → ((m : Traffic) → StreetsStandFor s m → Some w ≡ seen m car) → Serves (Some s) (AskVehicle car) (TellVehicle car w) Whole (Some s)
+      vehicle-found w found = streets-told s (AskVehicle car) _ (λ m. refl) (λ m stands. (known m stands, sym (told-seen m stands (Some w) (found m stands))))
 
-      pub vehicle-nowhere : ((m : Traffic) → StreetsStandFor s m → None ≡ seen m car) → Serves x (AskVehicle car) (Refused NoVehicle) Whole x
-      vehicle-nowhere nowhere = streets-told x s (AskVehicle car) is _ (λ m. refl) (λ m stands. (known m stands, sym (told-seen m stands None (nowhere m stands))))
+      pub vehicle-nowhere : ((m : Traffic) → StreetsStandFor s m → None ≡ seen m car) → Serves (Some s) (AskVehicle car) (Refused NoVehicle) Whole (Some s)
+      vehicle-nowhere nowhere = streets-told s (AskVehicle car) _ (λ m. refl) (λ m stands. (known m stands, sym (told-seen m stands None (nowhere m stands))))
 
-      pub vehicle-starved : Serves x (AskVehicle car) StarvedReply Starved x
-      vehicle-starved = streets-starving x s (AskVehicle car) is x is (λ m stands. (subst MayStarveUnder (sym (known m stands)) tt, ended m stands ∙ going))
+      pub vehicle-starved : Serves (Some s) (AskVehicle car) StarvedReply Starved (Some s)
+      vehicle-starved = streets-starving s (AskVehicle car) (λ m stands. (subst MayStarveUnder (sym (known m stands)) tt, ended m stands ∙ going))

@@ -20,7 +20,8 @@ pub record StreetsView : Type 0 where
   pub tiles : List Part
   pub ends : List (Option End)
 
--- the tiles and their detectors stand for the traffic, each tile at its own lanes and nodes; the traffic has each number in one place or ended, a signal plan or none for each node, and the detectors of these sites
+-- the tiles and their detectors stand for the traffic, each tile at its own lanes and nodes; the traffic has each number in
+-- one place or ended, a signal plan or none for each node, and the detectors of these sites
 pub record IsTrafficOf (x : StreetsView) (m : Traffic) : Type 0 where
   pub clock : x.clock ≡ m.clock
   pub ends : x.ends ≡ m.ends
@@ -38,7 +39,8 @@ StreetsStandFor x m = IsTrafficOf x m
 abbrev pub StreetsGo : (Traffic → Traffic) → StreetsView → StreetsView → Type 0
 StreetsGo f x y = (m : Traffic) → StreetsStandFor x m → StreetsStandFor y (f m)
 
--- what is kept between commands: idle tiles of the network, at most one a worker, a view of its lanes, a clock in its range; and there is traffic for which all this stands
+-- what is kept between commands: idle tiles of the network, at most one a worker, a view of its lanes, a clock in its range;
+-- and there is traffic for which all this stands
 pub record IsKept (x : StreetsView) (mouths : ℕ) : Type 0 where
   pub tiles : AreTiles x.network x.tiles
   pub few : length x.tiles ≤ 64

@@ -1,9 +1,13 @@
 //! Commands of the clock and of all vehicles together.
 //!
 //! Source: this profile.
-ghost use Rattle.std.specs.Prelude.{◌≡◌};
+ghost use Rattle.std.specs.Prelude.{◌≡◌, ◌+◌, ◌≤◌, Some, None};
 ghost use Rattle.street_base.specs.declared.command.Command.TheVariants.{Advance, Count};
+ghost use Rattle.street_base.specs.Limits.{last_clock};
+ghost use Rattle.street_base.specs.Machine.{advance_refusal};
+ghost use Rattle.street_base.specs.State.{Traffic};
 ghost use Rattle.street_engine.specs.Refines.{Serves};
+ghost use Rattle.street_engine.specs.Streets.{StreetsStandFor};
 
 use crate::Streets;
 use std::thread::Threads;
@@ -12,25 +16,33 @@ use street_tile::Gate;
 
 const MOST_STEPS: u64 = 10_000;
 
+/// Why an advance of so many steps is refused. Takes no memory.
+pub(crate) fn advance_refusal(streets: &Streets, steps: u64) -> Option<Refusal>
+    ensures refusal { (m : Traffic) → StreetsStandFor streets.now m → result ≡ advance_refusal steps m }
+    ensures in_time { result ≡ None → streets.now.clock + steps ≤ last_clock }
+{
+    if steps > MOST_STEPS {
+        return Some(Refusal::BadCount);
+    }
+    if u64::from(streets.clock()) + steps > u64::from(LAST_CLOCK) {
+        return Some(Refusal::ClockEnd);
+    }
+    None
+}
+
 /// Takes memory before each step.
 pub(crate) fn advance<R: Threads + Sync, G: Gate + Sync>(
     rt: &R,
     gate: &G,
-    state: &mut Option<Streets>,
+    streets: &mut Streets,
     steps: u64,
 ) -> (Reply, Outcome)
-    ensures { Serves state.old (Advance steps) result.0 result.1 state.new }
+    ensures { Serves (Some streets.old) (Advance steps) result.0 result.1 (Some streets.new) }
 {
-    let Some(streets) = state else {
-        return (Reply::Refused(Refusal::NotLoaded), Outcome::Whole);
-    };
-    if steps > MOST_STEPS {
-        return (Reply::Refused(Refusal::BadCount), Outcome::Whole);
+    if let Some(refusal) = advance_refusal(streets, steps) {
+        return (Reply::Refused(refusal), Outcome::Whole);
     }
     let before = u64::from(streets.clock());
-    if before + steps > u64::from(LAST_CLOCK) {
-        return (Reply::Refused(Refusal::ClockEnd), Outcome::Whole);
-    }
     let made = streets.steps(rt, gate, steps);
     let clock = before + made;
     if made == steps {
@@ -43,11 +55,8 @@ pub(crate) fn advance<R: Threads + Sync, G: Gate + Sync>(
 }
 
 /// Takes no memory.
-pub(crate) fn count(state: &Option<Streets>) -> (Reply, Outcome)
-    ensures { Serves state.now Count result.0 result.1 state.now }
+pub(crate) fn count(streets: &Streets) -> (Reply, Outcome)
+    ensures { Serves (Some streets.now) Count result.0 result.1 (Some streets.now) }
 {
-    match state {
-        Some(streets) => (streets.census(), Outcome::Whole),
-        None => (Reply::Refused(Refusal::NotLoaded), Outcome::Whole),
-    }
+    (streets.census(), Outcome::Whole)
 }

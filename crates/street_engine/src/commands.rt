@@ -1,7 +1,7 @@
 //! Each command by its name: refusals in their order, then what is done.
 //!
 //! Source: this profile.
-ghost use Rattle.std.specs.Prelude.{◌≡◌, ◌≤◌};
+ghost use Rattle.std.specs.Prelude.{◌≤◌, Some, None};
 ghost use Rattle.street_base.specs.declared.command.Command.TheVariants.{Load};
 ghost use Rattle.street_engine.specs.Refines.{Serves};
 
@@ -29,59 +29,75 @@ pub(crate) fn apply<R: Threads + Sync, G: Gate + Sync>(
     requires few { workers ≤ 64 }
     ensures { Serves state.old command.now result.0 result.1 state.new }
 {
+    match state {
+        Some(streets) => serve(rt, gate, alloc, streets, command),
+        None => match command {
+            Command::Load(net) => {
+                let (streets, reply, outcome) = load(alloc, workers, net);
+                *state = streets;
+                (reply, outcome)
+            }
+            _ => (Reply::Refused(Refusal::NotLoaded), Outcome::Whole),
+        },
+    }
+}
+
+/// Applies one command to a loaded network.
+fn serve<R: Threads + Sync, G: Gate + Sync>(
+    rt: &R,
+    gate: &G,
+    alloc: Global,
+    streets: &mut Streets,
+    command: &Command,
+) -> (Reply, Outcome)
+    ensures { Serves (Some streets.old) command.now result.0 result.1 (Some streets.new) }
+{
     match command {
-        Command::Load(net) => load(alloc, workers, state, net),
+        Command::Load(_) => (Reply::Refused(Refusal::AlreadyLoaded), Outcome::Whole),
         Command::Signal {
             node,
             offset,
             phases,
-        } => signal(alloc, state, *node, *offset, phases.as_slice()),
+        } => signal(alloc, streets, *node, *offset, phases.as_slice()),
         Command::Enter {
             plan,
             lane,
             depart,
             size,
-        } => enter(alloc, state, plan.as_slice(), *lane, *depart, *size),
-        Command::Advance { steps } => advance(rt, gate, state, *steps),
+        } => enter(alloc, streets, plan.as_slice(), *lane, *depart, *size),
+        Command::Advance { steps } => advance(rt, gate, streets, *steps),
         Command::CloseLane {
             link,
             lane,
             first,
             last,
-        } => close_lane(state, *link, *lane, *first, *last),
+        } => close_lane(streets, *link, *lane, *first, *last),
         Command::ReopenLane {
             link,
             lane,
             first,
             last,
-        } => reopen_lane(state, *link, *lane, *first, *last),
-        Command::TakeOut { car } => take_out(state, *car),
+        } => reopen_lane(streets, *link, *lane, *first, *last),
+        Command::TakeOut { car } => take_out(streets, *car),
         Command::PlaceMeter {
             link,
             lane,
             cell,
             period,
-        } => place_meter(alloc, state, *link, *lane, *cell, *period),
-        Command::ReadMeter { meter } => read_meter(alloc, state, *meter),
-        Command::Vehicle { car } => vehicle(alloc, state, *car),
-        Command::Lane { link, lane: number } => lane(alloc, state, *link, *number),
-        Command::Count => count(state),
+        } => place_meter(alloc, streets, *link, *lane, *cell, *period),
+        Command::ReadMeter { meter } => read_meter(alloc, streets, *meter),
+        Command::Vehicle { car } => vehicle(alloc, streets, *car),
+        Command::Lane { link, lane: number } => lane(alloc, streets, *link, *number),
+        Command::Count => count(streets),
     }
 }
 
-fn load(
-    alloc: Global,
-    workers: usize,
-    state: &mut Option<Streets>,
-    net: &NetSpec,
-) -> (Reply, Outcome)
+/// Applies a load where nothing is loaded: the streets where there are some then, the reply, and its outcome.
+fn load(alloc: Global, workers: usize, net: &NetSpec) -> (Option<Streets>, Reply, Outcome)
     requires some { 1 ≤ workers }
     requires few { workers ≤ 64 }
-    ensures { Serves state.old (Load net.now) result.0 result.1 state.new }
+    ensures { Serves None (Load net.now) result.1 result.2 result.0 }
 {
-    if state.is_some() {
-        return (Reply::Refused(Refusal::AlreadyLoaded), Outcome::Whole);
-    }
     match Streets::load(alloc, net, workers) {
         Ok(streets) => {
             let reply = Reply::Loaded {
@@ -89,13 +105,12 @@ fn load(
                 nodes: net.nodes.as_slice().len() as u64,
                 turns: net.turns.as_slice().len() as u64,
             };
-            *state = Some(streets);
-            (reply, Outcome::Whole)
+            (Some(streets), reply, Outcome::Whole)
         }
-        Err(NetFault::Bad { part, at }) => (
-            Reply::Refused(Refusal::BadNetwork { part, at }),
-            Outcome::Whole,
-        ),
-        Err(NetFault::Starved) => (Reply::Starved, Outcome::Starved),
+        Err(NetFault::Bad { part, at }) => {
+            let refusal = Refusal::BadNetwork { part, at };
+            (None, Reply::Refused(refusal), Outcome::Whole)
+        }
+        Err(NetFault::Starved) => (None, Reply::Starved, Outcome::Starved),
     }
 }

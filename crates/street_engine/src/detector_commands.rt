@@ -17,17 +17,14 @@ const MOST_DETECTORS: usize = 1_024;
 /// Takes memory for the detector.
 pub(crate) fn place_meter(
     alloc: Global,
-    state: &mut Option<Streets>,
+    streets: &mut Streets,
     link: u64,
     lane: u64,
     cell: u64,
     period: u64,
 ) -> (Reply, Outcome)
-    ensures { Serves state.old (PlaceMeter link lane cell period) result.0 result.1 state.new }
+    ensures { Serves (Some streets.old) (PlaceMeter link lane cell period) result.0 result.1 (Some streets.new) }
 {
-    let Some(streets) = state else {
-        return (Reply::Refused(Refusal::NotLoaded), Outcome::Whole);
-    };
     let cells = match named_cells(streets.network(), link, lane, cell, cell) {
         Ok(cells) => cells,
         Err(refusal) => return (Reply::Refused(refusal), Outcome::Whole),
@@ -48,12 +45,9 @@ pub(crate) fn place_meter(
 }
 
 /// Takes memory for the list of rows.
-pub(crate) fn read_meter(alloc: Global, state: &Option<Streets>, meter: u64) -> (Reply, Outcome)
-    ensures { Serves state.now (ReadMeter meter) result.0 result.1 state.now }
+pub(crate) fn read_meter(alloc: Global, streets: &Streets, meter: u64) -> (Reply, Outcome)
+    ensures { Serves (Some streets.now) (ReadMeter meter) result.0 result.1 (Some streets.now) }
 {
-    let Some(streets) = state else {
-        return (Reply::Refused(Refusal::NotLoaded), Outcome::Whole);
-    };
     if meter >= streets.detectors() as u64 {
         return (Reply::Refused(Refusal::NoMeter), Outcome::Whole);
     }

@@ -2,13 +2,17 @@
 //!
 //! Source: this profile.
 ghost use Rattle.std.specs.Prelude.{◌≡◌, ◌≤◌, IfOk, OnErr, None};
+ghost use Rattle.street_base.specs.declared.command.Command.TheVariants.{Advance};
+ghost use Rattle.street_base.specs.Machine.{refusal};
+ghost use Rattle.street_base.specs.State.{State};
 ghost use Rattle.street_engine.specs.Refines.{StandsFor, Serves, ServesAll};
 
+use crate::clock_commands::advance_refusal;
 use crate::{Streets, commands};
 use std::alloc::{AllocError, Global};
 use std::marker::Model;
 use std::thread::Threads;
-use street_base::{Command, Outcome, Reply};
+use street_base::{Command, Outcome, Refusal, Reply};
 use street_tile::Gate;
 
 /// Serves commands over one network, or over nothing loaded. The gate is called by the workers of each step.
@@ -69,6 +73,16 @@ impl<G: Gate + Sync + Drop> Engine<G> {
             &mut self.streets,
             command,
         )
+    }
+
+    /// Why an advance of so many steps is refused. Changes nothing, and takes no memory.
+    pub fn advance_refusal(&self, steps: u64) -> Option<Refusal>
+        ensures { (m : State) → StandsFor self.now m → result ≡ refusal m (Advance steps) }
+    {
+        match &self.streets {
+            Some(streets) => advance_refusal(streets, steps),
+            None => Some(Refusal::NotLoaded),
+        }
     }
 
     /// Serves all commands in order.

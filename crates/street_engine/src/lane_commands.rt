@@ -14,16 +14,13 @@ use street_node::{SignalFault, SignalPlan};
 /// Takes memory for the plan.
 pub(crate) fn signal(
     alloc: Global,
-    state: &mut Option<Streets>,
+    streets: &mut Streets,
     node: u64,
     offset: u64,
     phases: &[PhaseSpec],
 ) -> (Reply, Outcome)
-    ensures { Serves state.old (Signal node offset phases.now) result.0 result.1 state.new }
+    ensures { Serves (Some streets.old) (Signal node offset phases.now) result.0 result.1 (Some streets.new) }
 {
-    let Some(streets) = state else {
-        return (Reply::Refused(Refusal::NotLoaded), Outcome::Whole);
-    };
     let Some(position) = streets.network().node_of(node) else {
         return (Reply::Refused(Refusal::NoNode), Outcome::Whole);
     };
@@ -42,17 +39,14 @@ pub(crate) fn signal(
 
 /// Takes memory for a stretch of closed cells.
 pub(crate) fn close_lane(
-    state: &mut Option<Streets>,
+    streets: &mut Streets,
     link: u64,
     lane: u64,
     first: u64,
     last: u64,
 ) -> (Reply, Outcome)
-    ensures { Serves state.old (CloseLane link lane first last) result.0 result.1 state.new }
+    ensures { Serves (Some streets.old) (CloseLane link lane first last) result.0 result.1 (Some streets.new) }
 {
-    let Some(streets) = state else {
-        return (Reply::Refused(Refusal::NotLoaded), Outcome::Whole);
-    };
     let cells = match named_cells(streets.network(), link, lane, first, last) {
         Ok(cells) => cells,
         Err(refusal) => return (Reply::Refused(refusal), Outcome::Whole),
@@ -65,17 +59,14 @@ pub(crate) fn close_lane(
 
 /// Takes memory for a stretch of closed cells.
 pub(crate) fn reopen_lane(
-    state: &mut Option<Streets>,
+    streets: &mut Streets,
     link: u64,
     lane: u64,
     first: u64,
     last: u64,
 ) -> (Reply, Outcome)
-    ensures { Serves state.old (ReopenLane link lane first last) result.0 result.1 state.new }
+    ensures { Serves (Some streets.old) (ReopenLane link lane first last) result.0 result.1 (Some streets.new) }
 {
-    let Some(streets) = state else {
-        return (Reply::Refused(Refusal::NotLoaded), Outcome::Whole);
-    };
     let cells = match named_cells(streets.network(), link, lane, first, last) {
         Ok(cells) => cells,
         Err(refusal) => return (Reply::Refused(refusal), Outcome::Whole),
@@ -87,12 +78,9 @@ pub(crate) fn reopen_lane(
 }
 
 /// Takes memory for the lists that it answers.
-pub(crate) fn lane(alloc: Global, state: &Option<Streets>, link: u64, lane: u64) -> (Reply, Outcome)
-    ensures { Serves state.now (Lane link lane) result.0 result.1 state.now }
+pub(crate) fn lane(alloc: Global, streets: &Streets, link: u64, lane: u64) -> (Reply, Outcome)
+    ensures { Serves (Some streets.now) (Lane link lane) result.0 result.1 (Some streets.now) }
 {
-    let Some(streets) = state else {
-        return (Reply::Refused(Refusal::NotLoaded), Outcome::Whole);
-    };
     let at = match named_lane(streets.network(), link, lane) {
         Ok(at) => at,
         Err(refusal) => return (Reply::Refused(refusal), Outcome::Whole),

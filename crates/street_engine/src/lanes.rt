@@ -35,7 +35,8 @@ pub(crate) fn admit(net: &Network, tiles: &mut [Tile], at: LaneId, car: Car) -> 
     requires idle { All IsIdle tiles.old }
     requires lane { IsLane net.now (place_of at) }
     requires short { HasShortPlan car }
-    ensures waits { OnOk result (AllDoIf net.now (λ m. in_lane car.number (lane_at m (place_of at)) ≡ 0) (at_place (place_of at) (with_waiting (waiting_of car))) tiles.old tiles.new) }
+    ensures waits { OnOk result (AllDoIf net.now (λ m. in_lane car.number (lane_at m (place_of at)) ≡ 0)
+        (at_place (place_of at) (with_waiting (waiting_of car))) tiles.old tiles.new) }
     ensures starved { OnErr result (AllKeep net.now tiles.old tiles.new) }
 {
     let i = owner_of_link(net, tiles, at.link);

@@ -1,5 +1,6 @@
 //! The traffic on a loaded network.
-ghost use Rattle.std.specs.Prelude.{◌≡◌, ℕ, ◌+◌, ◌<◌, ◌≤◌, List, length, Some, None, option_map, slice_get, slice_index_or, min, true, false, IfOk, IfErr, OnOk, OnErr};
+ghost use Rattle.std.specs.Prelude.{◌≡◌, ℕ, ◌+◌, ◌<◌, ◌≤◌, List, length, slice_get, slice_index_or, min, true, false};
+ghost use Rattle.std.specs.Prelude.{Some, None, option_map, IfOk, IfErr, OnOk, OnErr};
 ghost use Rattle.std.specs.List.{All};
 ghost use Rattle.street_base.specs.Limits.{last_clock, most_plan, most_vehicles, most_period, most_detectors};
 ghost use Rattle.street_base.specs.Network.{link_at, node_of};
@@ -67,7 +68,9 @@ impl Model for Streets {
 
     ghost view = { λ s. record { network = s.network; sites = s.sites.items; clock = s.clock; tiles = s.tiles.items; ends = s.ends.ends } };
 
-    ghost invariant = { λ s. IsKept (record { network = s.network; sites = s.sites.items; clock = s.clock; tiles = s.tiles.items; ends = s.ends.ends }) (length s.view) };
+    ghost invariant = { λ s. IsKept
+        (record { network = s.network; sites = s.sites.items; clock = s.clock; tiles = s.tiles.items; ends = s.ends.ends })
+        (length s.view) };
 }
 
 impl Streets {
@@ -148,7 +151,8 @@ impl Streets {
         requires short { length plan ≤ most_plan }
         requires lane { lane < (link_at self.old.network (slice_index_or plan 0 0)).lanes }
         requires few { length self.old.ends < most_vehicles }
-        ensures waits { OnOk result ((ids : List ℕ) → plan ≡ plan_links self.old.network ids → StreetsGo (λ m. entered m ids lane depart size) self.old self.new) }
+        ensures waits { OnOk result ((ids : List ℕ) → plan ≡ plan_links self.old.network ids
+            → StreetsGo (λ m. entered m ids lane depart size) self.old self.new) }
         ensures starved { OnErr result (StreetsGo (λ m. m) self.old self.new) }
     {
         let at = LaneId {

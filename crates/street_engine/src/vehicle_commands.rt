@@ -7,6 +7,7 @@ ghost use Rattle.street_base.specs.Limits.{last_clock, most_vehicles, most_size}
 ghost use Rattle.street_base.specs.Faults.{is_within};
 ghost use Rattle.street_base.specs.State.{Traffic};
 ghost use Rattle.street_base.specs.Machine.{enter_refusal};
+ghost use Rattle.street_net.specs.Refused.{plan_refusal};
 ghost use Rattle.street_engine.specs.Refines.{Serves};
 
 use crate::Streets;
@@ -22,6 +23,7 @@ const MOST_VEHICLES: CarNo = 1_000_000;
 fn entry_refusal(net: &Network, plan: &[u64], lane: u64, depart: u64, size: u64) -> Option<Refusal>
     ensures refusal { (m : Traffic) → m.network ≡ net.now → length m.ends < most_vehicles
         → result ≡ enter_refusal plan.now lane depart size m }
+    ensures planned { result ≡ None → plan_refusal net.now plan.now lane ≡ None }
     ensures in_time { result ≡ None → depart ≤ last_clock }
     ensures sized { result ≡ None → is_within 1 most_size size ≡ true }
 {
@@ -38,17 +40,14 @@ fn entry_refusal(net: &Network, plan: &[u64], lane: u64, depart: u64, size: u64)
 /// Takes memory for the vehicle and its plan.
 pub(crate) fn enter(
     alloc: Global,
-    state: &mut Option<Streets>,
+    streets: &mut Streets,
     plan: &[u64],
     lane: u64,
     depart: u64,
     size: u64,
 ) -> (Reply, Outcome)
-    ensures { Serves state.old (Enter plan.now lane depart size) result.0 result.1 state.new }
+    ensures { Serves (Some streets.old) (Enter plan.now lane depart size) result.0 result.1 (Some streets.new) }
 {
-    let Some(streets) = state else {
-        return (Reply::Refused(Refusal::NotLoaded), Outcome::Whole);
-    };
     let car = streets.admitted();
     if car >= MOST_VEHICLES {
         return (Reply::Refused(Refusal::TooMany), Outcome::Whole);
@@ -59,7 +58,7 @@ pub(crate) fn enter(
     let Some(size) = Size::new(size) else {
         unreachable!();
     };
-    let Ok(links) = streets.network().check_plan(alloc, plan, lane) else {
+    let Ok(links) = streets.network().links_of(alloc, plan) else {
         return (Reply::Starved, Outcome::Starved);
     };
     let lane = lane_number(streets.network(), lane);
@@ -73,12 +72,9 @@ pub(crate) fn enter(
 }
 
 /// Takes no memory.
-pub(crate) fn take_out(state: &mut Option<Streets>, car: u64) -> (Reply, Outcome)
-    ensures { Serves state.old (TakeOut car) result.0 result.1 state.new }
+pub(crate) fn take_out(streets: &mut Streets, car: u64) -> (Reply, Outcome)
+    ensures { Serves (Some streets.old) (TakeOut car) result.0 result.1 (Some streets.new) }
 {
-    let Some(streets) = state else {
-        return (Reply::Refused(Refusal::NotLoaded), Outcome::Whole);
-    };
     if car >= u64::from(streets.admitted()) {
         return (Reply::Refused(Refusal::NoVehicle), Outcome::Whole);
     }
@@ -91,12 +87,9 @@ pub(crate) fn take_out(state: &mut Option<Streets>, car: u64) -> (Reply, Outcome
 }
 
 /// Takes memory for the plan that it answers, where the vehicle has not ended.
-pub(crate) fn vehicle(alloc: Global, state: &Option<Streets>, car: u64) -> (Reply, Outcome)
-    ensures { Serves state.now (Vehicle car) result.0 result.1 state.now }
+pub(crate) fn vehicle(alloc: Global, streets: &Streets, car: u64) -> (Reply, Outcome)
+    ensures { Serves (Some streets.now) (Vehicle car) result.0 result.1 (Some streets.now) }
 {
-    let Some(streets) = state else {
-        return (Reply::Refused(Refusal::NotLoaded), Outcome::Whole);
-    };
     if car >= u64::from(streets.admitted()) {
         return (Reply::Refused(Refusal::NoVehicle), Outcome::Whole);
     }

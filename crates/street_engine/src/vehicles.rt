@@ -3,7 +3,7 @@
 //! A vehicle is on one lane of one tile. First the lanes of the link are asked on which it was last put, then all tiles.
 //!
 //! Source: this profile.
-ghost use Rattle.std.specs.Prelude.{◌≡◌, ◌<◌, ◌≤◌, length, slice_index_or, true, false, ℕ, IsSome, IfOk};
+ghost use Rattle.std.specs.Prelude.{◌≡◌, ◌<◌, ◌≤◌, length, true, false, ℕ, IsSome, IfOk};
 ghost use Rattle.std.specs.List.{All};
 ghost use Rattle.street_base.specs.Limits.{most_vehicles};
 ghost use Rattle.street_base.specs.State.{Traffic};
@@ -12,9 +12,9 @@ ghost use Rattle.street_base.specs.Machine.{seen};
 ghost use Rattle.street_base.specs.Shown.{in_cells, in_buffers, in_wait};
 ghost use Rattle.street_net.specs.Tables.{place_of};
 ghost use Rattle.street_lanes.specs.Lanes.{IsLane};
-ghost use Rattle.street_tile.specs.Tiles.{Part, AreTiles, AllStand, IsIdle};
-ghost use Rattle.street_tile.specs.Commands.{without, HaveNot};
-ghost use Rattle.street_engine.specs.Together.{AllDoIf};
+ghost use Rattle.street_tile.specs.Tiles.{AreTiles, AllStand, IsIdle};
+ghost use Rattle.street_tile.specs.Commands.{without};
+ghost use Rattle.street_engine.specs.Together.{AllDoIf, TileHasNot};
 
 use crate::owners::owner_of_link;
 use std::alloc::Global;
@@ -66,7 +66,7 @@ fn take_at(net: &Network, tiles: &mut [Tile], i: usize, number: CarNo) -> bool
     requires inside { i < length tiles.old }
     ensures taken { result ≡ true → AllDoIf net.now IsWhole (without number) tiles.old tiles.new }
     ensures kept { result ≡ false → tiles.new ≡ tiles.old }
-    ensures nowhere { result ≡ false → (m : Traffic) → IsWhole m → AllStand net.now tiles.old m → (d : Part) → HaveNot (slice_index_or tiles.old i d).own.places m number }
+    ensures nowhere { result ≡ false → TileHasNot net.now tiles.old i number }
 {
     tiles[i].take_out(net, number).is_some()
 }

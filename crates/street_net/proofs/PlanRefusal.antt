@@ -1,11 +1,12 @@
 -- Plans, entry by entry.
 use Rattle.std.proofs.Common.{◌≡◌, ℕ, ◌<◌, ◌≤◌, ◌+◌, ◌++◌, true, false, List, [], ◌∷◌, length, get_or, take, sym, ◌∙◌, ap, arith, refl, inl, inr, ◌≢◌}
-use Rattle.std.specs.Prelude.{Option, Some, None}
+use Rattle.std.specs.Prelude.{Option, Some, None, filter_map}
 use Rattle.std.specs.List.{cons_option}
 use Rattle.street_base.specs.declared.net.NetSpec.{NetSpec}
+use Rattle.street_base.specs.Limits.{most_plan}
 use Rattle.street_base.specs.Network.{link_of}
 use Rattle.std.specs.Option.{option_map_or}
-use Rattle.std.proofs.lemmas.Bool.{cond-true, cond-false, ne_eqb, le-leb, cases_lt}
+use Rattle.std.proofs.lemmas.Bool.{true≢false, cond-true, cond-false, ne_eqb, le-leb, cases_lt}
 use Rattle.std.proofs.lemmas.List.{take_more, take_all}
 use Rattle.std.proofs.lemmas.List.Elements.{filter_map-append}
 use Rattle.street_base.proofs.FaultLemmas.{not-false}
@@ -39,6 +40,24 @@ some-link net (id ∷ more) faultless = by_link (link_of net id) (not-false _ (f
     by_link : (o : Option ℕ) → option_map_or (λ _. true) o false ≡ true → 0 < length (cons_option o (plan_links net more))
     by_link None e = cc
     by_link (Some link) e = omega arith
+
+-- and at most as many links as a plan may have
+kept-one : {A B : Type 0} (f : A → Option B) (x : A) (xs : List A) (o : Option B) → f x ≡ o → length (filter_map f xs) ≤ length xs → length (filter_map f (x ∷ xs)) ≤ length (x ∷ xs)
+kept-one f x xs None e rest = rw e (omega (arith, rest))
+kept-one f x xs (Some y) e rest = rw e (omega (arith, rest))
+
+kept-few : {A B : Type 0} (f : A → Option B) (xs : List A) → length (filter_map f xs) ≤ length xs
+kept-few f [] = omega arith
+kept-few f (x ∷ xs) = kept-one f x xs (f x) refl (kept-few f xs)
+
+pub short-plan : (net : NetSpec) (plan : List ℕ) → plan_fault net plan ≡ None → length (plan_links net plan) ≤ most_plan
+short-plan net plan good = elim (cases_lt most_plan (length plan)) [
+  | inl more ↦ absurd (
+      let some : 0 < length plan = omega (arith, more) in
+      let fine : true ≡ false = faultless-each (is_bad_entry net plan) plan (sym (by-entries net plan some) ∙ good) most_plan 0 more in
+      true≢false fine)
+  | inr few ↦ omega (arith, few, kept-few (link_of net) plan)
+]
 
 -- a plan that is not refused has no bad entry
 pub not-refused : (fault : Option ℕ) (rest : Option PlanFault) → option_map_or (λ at. Some (Bad at)) fault rest ≡ None → fault ≡ None

@@ -71,14 +71,3 @@ impl From<AllocError> for PlanFault {
         PlanFault::Starved
     }
 }
-
-impl<T: Drop> From<AllocFailed<T>> for PlanFault {
-    ghost use Rattle.std.specs.Prelude.{◌≡◌};
-    ghost use Rattle.street_net.specs.declared.faults.PlanFault.TheVariants.{Starved};
-
-    ghost from_gives = { λ _ fault. fault ≡ Starved };
-
-    fn from(_error: AllocFailed<T>) -> PlanFault {
-        PlanFault::Starved
-    }
-}

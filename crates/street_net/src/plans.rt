@@ -1,8 +1,9 @@
 //! Plans: the first bad entry, and the links by their positions.
 //!
 //! Source: this profile. An entry is good if it is a link, and the first or one to which a lane of the link before has a turn.
-ghost use Rattle.std.specs.Prelude.{◌≡◌, ◌-◌, ◌<◌, ℕ, true, false, None, Some, length, IfOk, IfErr, OnOk, MatchOption, slice_index};
+ghost use Rattle.std.specs.Prelude.{◌≡◌, ◌-◌, ◌<◌, ◌≤◌, ℕ, true, false, None, Some, length, IfOk, IfErr, OnOk, MatchOption, slice_index};
 ghost use Rattle.std.specs.List.{list_any, range_with_len};
+ghost use Rattle.street_base.specs.Limits.{most_plan};
 ghost use Rattle.street_base.specs.Network.{Place, link_at, link_of, serves};
 ghost use Rattle.street_base.specs.Faults.{is_bad_entry, plan_fault};
 ghost use Rattle.street_base.specs.Machine.{plan_links};
@@ -10,7 +11,7 @@ ghost use Rattle.street_net.specs.Refused.{TellsRefusal, plan_refusal};
 
 use crate::faults::PlanFault;
 use crate::network::Network;
-use std::alloc::Global;
+use std::alloc::{AllocError, Global};
 use street_base::{LinkIx, Plan};
 
 /// How many links a plan has at most.
@@ -82,6 +83,26 @@ impl Network {
         }
     }
 
+    /// The links of a plan of identifiers that has no bad entry. Takes memory for the plan's length.
+    ///
+    /// # Errors
+    ///
+    /// Memory was refused.
+    pub fn links_of(&self, alloc: Global, plan: &[u64]) -> Result<Plan, AllocError>
+        requires { plan_fault self.now plan.now ≡ None }
+        ensures links { IfOk result (λ links. links ≡ plan_links self.now plan.now) }
+        ensures some { IfOk result (λ links. 0 < length links) }
+        ensures short { IfOk result (λ links. length links ≤ most_plan) }
+    {
+        let mut links = Vec::with_capacity(alloc, plan.len())?;
+        for id in plan {
+            if let Some(link) = self.link_of(*id) {
+                links.push(link)?;
+            }
+        }
+        Ok(Plan::from_vec(links))
+    }
+
     /// The links of a plan of identifiers, for a vehicle that enters on a lane of the first. Takes memory for the plan's
     /// length.
     ///
@@ -94,15 +115,9 @@ impl Network {
         ensures faultless { OnOk result (plan_refusal self.now plan.now lane ≡ None) }
         ensures fault { IfErr result (TellsRefusal (plan_refusal self.now plan.now lane)) }
     {
-        if let Some(fault) = self.plan_refusal(plan, lane) {
-            return Err(fault);
+        match self.plan_refusal(plan, lane) {
+            Some(fault) => Err(fault),
+            None => Ok(self.links_of(alloc, plan)?),
         }
-        let mut links = Vec::with_capacity(alloc, plan.len())?;
-        for id in plan {
-            if let Some(link) = self.link_of(*id) {
-                links.push(link)?;
-            }
-        }
-        Ok(Plan::from_vec(links))
     }
 }

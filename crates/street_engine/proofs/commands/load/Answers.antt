@@ -1,18 +1,15 @@
-use Rattle.std.proofs.Common.{sym, ◌∙◌, ap, subst}
+use Rattle.std.proofs.Common.{ap, subst}
 use Rattle.std.specs.Prelude.{length}
 use Rattle.street_base.specs.Faults.{network_fault}
 use Rattle.street_net.specs.Refused.{TellsFault}
-use Rattle.street_engine.proofs.LoadCommand.{loaded-already, load-done, load-refused, load-starved}
+use Rattle.street_engine.proofs.LoadCommand.{load-done, load-refused, load-starved}
 use Rattle.street_engine.proofs.commands.load.Goals as goal
 
-pub returns-then-is_some : goal.returns-then-is_some
-returns-then-is_some c = loaded-already c.args.state.now c.args.net.now (sym c.if-is_some.ensures)
-
 pub returns-in-Ok : goal.returns-in-Ok
-returns-in-Ok c = load-done c.args.state.now c.args.net.now (sym c.is_some.ensures ∙ c.if-is_some.false) c.in-Ok.streets _ _ _ (ap length c.as_slice.ensures) (ap length c.as_slice-in-Ok.ensures) (ap length c.as_slice-in-Ok-2.ensures) c.in-Ok.ensures.faultless c.in-Ok.ensures.stands
+returns-in-Ok c = load-done c.args.net.now c.in-Ok.streets _ _ _ (ap length c.as_slice.ensures) (ap length c.as_slice-in-Ok.ensures) (ap length c.as_slice-in-Ok-2.ensures) c.in-Ok.ensures.faultless c.in-Ok.ensures.stands
 
 pub returns-in-Err-Bad : goal.returns-in-Err-Bad
-returns-in-Err-Bad c = load-refused c.args.state.now c.args.net.now (sym c.is_some.ensures ∙ c.if-is_some.false) c.in-Err-Bad.part c.in-Err-Bad.at (subst (TellsFault (network_fault c.args.net.now)) c.in-Err-Bad.field-0-is c.in-Err-Bad.ensures.fault)
+returns-in-Err-Bad c = load-refused c.args.net.now c.in-Err-Bad.part c.in-Err-Bad.at (subst (TellsFault (network_fault c.args.net.now)) c.in-Err-Bad.field-0-is c.in-Err-Bad.ensures.fault)
 
 pub returns-in-Err-Starved : goal.returns-in-Err-Starved
-returns-in-Err-Starved c = load-starved c.args.state.now c.args.net.now (sym c.is_some.ensures ∙ c.if-is_some.false)
+returns-in-Err-Starved c = load-starved c.args.net.now

@@ -1,7 +1,6 @@
-use Rattle.std.proofs.Common.{◌≡◌, ◌≤◌, true, refl, ◌∙◌, ap, arith}
+use Rattle.std.proofs.Common.{refl, arith}
 use Rattle.std.proofs.lemmas.Result.{on_ok_weaker, on_err_weaker, IfOk-weaker}
 use Rattle.street_net.specs.Tables.{place_of}
-use Rattle.street_tile.specs.Tiles.{Part}
 use Rattle.street_engine.proofs.PlacedDetector.{meter-does, same-keeps}
 use Rattle.street_engine.proofs.detectors.place.Goals as goal
 

@@ -1,22 +1,17 @@
-use Rattle.std.proofs.Common.{refl, ap, sym, ◌∙◌}
+use Rattle.std.proofs.Common.{ap, sym, ◌∙◌}
 use Rattle.street_base.specs.declared.net.NetSpec.{NetSpec}
-use Rattle.street_base.specs.declared.command.Command.TheVariants.{CloseLane}
 use Rattle.street_base.specs.Effects.{named_lane}
-use Rattle.street_engine.proofs.Serves.{not-loaded}
 use Rattle.street_engine.proofs.LaneCommands.{close-refused, close-starved, close-done}
 use Rattle.street_engine.proofs.lane_commands.close_lane.Goals as goal
 
-pub returns-in_default : goal.returns-in_default
-returns-in_default c = not-loaded _ (CloseLane c.args.link c.args.lane c.args.first c.args.last) c.in_default.is refl
-
 pub returns-in-Err : goal.returns-in-Err
-returns-in-Err c = close-refused _ c.in-Some.streets c.args.link c.args.lane c.in-Some.is c.args.first c.args.last c.in-Err.refusal (λ m same. c.in-Err.ensures.refused m (same ∙ sym c.network.ensures))
+returns-in-Err c = close-refused c.args.streets.now c.args.link c.args.lane c.args.first c.args.last c.in-Err.refusal (λ m same. c.in-Err.ensures.refused m (same ∙ sym c.network.ensures))
 
 pub returns-in-Ok-close : goal.returns-in-Ok-close
-returns-in-Ok-close c = close-done _ c.in-Some.streets c.args.link c.args.lane c.in-Some.is c.args.first c.args.last
+returns-in-Ok-close c = close-done c.args.streets.now c.args.link c.args.lane c.args.first c.args.last
     (λ m same. c.in-Ok.ensures.passed m (same ∙ sym c.network.ensures)) _ _ _ _ _
     (c.in-Ok.ensures.place ∙ ap (λ (net : NetSpec). named_lane net c.args.link c.args.lane) c.network.ensures) c.in-Ok.ensures.first c.in-Ok.ensures.last
     c.in-Ok-close.ensures.closes c.in-Ok-close.ensures.count
 
 pub returns-in-Err-close : goal.returns-in-Err-close
-returns-in-Err-close c = close-starved _ c.in-Some.streets c.args.link c.args.lane c.in-Some.is c.args.first c.args.last (λ m same. c.in-Ok.ensures.passed m (same ∙ sym c.network.ensures)) _ c.in-Err-close.ensures.starved
+returns-in-Err-close c = close-starved c.args.streets.now c.args.link c.args.lane c.args.first c.args.last (λ m same. c.in-Ok.ensures.passed m (same ∙ sym c.network.ensures)) _ c.in-Err-close.ensures.starved

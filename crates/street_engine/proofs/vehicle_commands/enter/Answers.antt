@@ -1,40 +1,36 @@
-use Rattle.std.proofs.Common.{List, length, refl, subst, ap, sym, ◌∙◌, arith}
-use Rattle.std.specs.Prelude.{ℕ, ◌≤◌}
+use Rattle.std.proofs.Common.{◌≡◌, subst, ap, sym, ◌∙◌, arith}
+use Rattle.std.specs.Prelude.{None}
 use Rattle.std.proofs.lemmas.Option.{cond_some}
 use Rattle.street_base.specs.declared.net.NetSpec.{NetSpec}
-use Rattle.street_base.specs.declared.command.Command.TheVariants.{Enter}
-use Rattle.street_base.specs.Limits.{most_plan}
 use Rattle.street_base.specs.Machine.{plan_links, entered}
+use Rattle.street_net.specs.Refused.{plan_refusal}
 use Rattle.street_net.proofs.PlanRefusal.{taken}
 use Rattle.street_engine.specs.Streets.{StreetsStandFor}
-use Rattle.street_engine.proofs.Serves.{not-loaded}
-use Rattle.street_engine.proofs.EnterCommand.{too-many, enter-refused, enter-starving, enter-starved, enter-done, short-plan}
+use Rattle.street_engine.proofs.EnterCommand.{too-many, enter-refused, enter-starving, enter-starved, enter-done}
 use Rattle.street_engine.proofs.vehicle_commands.enter.Goals as goal
 
-pub returns-in_default : goal.returns-in_default
-returns-in_default c = not-loaded _ (Enter c.args.plan.now c.args.lane c.args.depart c.args.size) c.in_default.is refl
-
 pub returns-then-car-ge-MOST_VEHICLES : goal.returns-then-car-ge-MOST_VEHICLES
-returns-then-car-ge-MOST_VEHICLES c = too-many _ c.in-Some.streets c.args.plan.now c.args.lane c.args.depart c.args.size c.in-Some.is (omega (arith, c.admitted-car.ensures.count, c.if-car-ge-MOST_VEHICLES.true))
+returns-then-car-ge-MOST_VEHICLES c = too-many c.args.streets.now c.args.plan.now c.args.lane c.args.depart c.args.size (omega (arith, c.admitted-car.ensures.count, c.if-car-ge-MOST_VEHICLES.true))
 
-pub returns-in-Some-entry_refusal : goal.returns-in-Some-entry_refusal
-returns-in-Some-entry_refusal c = enter-refused _ c.in-Some.streets c.args.plan.now c.args.lane c.args.depart c.args.size c.in-Some.is (omega (arith, c.admitted-car.ensures.count, c.if-car-ge-MOST_VEHICLES.false))
-    c.entry_refusal.result (λ m same few. c.entry_refusal.ensures.refusal m (same ∙ sym c.network.ensures) few) c.in-Some-entry_refusal.refusal c.in-Some-entry_refusal.is
+pub returns-in-Some : goal.returns-in-Some
+returns-in-Some c = enter-refused c.args.streets.now c.args.plan.now c.args.lane c.args.depart c.args.size (omega (arith, c.admitted-car.ensures.count, c.if-car-ge-MOST_VEHICLES.false))
+    c.entry_refusal.result (λ m same few. c.entry_refusal.ensures.refusal m (same ∙ sym c.network.ensures) few) c.in-Some.refusal c.in-Some.is
 
-pub returns-in_default-check_plan : goal.returns-in_default-check_plan
-returns-in_default-check_plan c = enter-starving _ c.in-Some.streets c.args.plan.now c.args.lane c.args.depart c.args.size c.in-Some.is (omega (arith, c.admitted-car.ensures.count, c.if-car-ge-MOST_VEHICLES.false))
-    c.entry_refusal.result (λ m same few. c.entry_refusal.ensures.refusal m (same ∙ sym c.network.ensures) few) c.in_default-entry_refusal.is
+pub returns-in_default-links_of : goal.returns-in_default-links_of
+returns-in_default-links_of c = enter-starving c.args.streets.now c.args.plan.now c.args.lane c.args.depart c.args.size (omega (arith, c.admitted-car.ensures.count, c.if-car-ge-MOST_VEHICLES.false))
+    c.entry_refusal.result (λ m same few. c.entry_refusal.ensures.refusal m (same ∙ sym c.network.ensures) few) c.in_default.is
 
-pub admit-requires-clause-short : goal.admit-requires-clause-short
-admit-requires-clause-short c = subst (λ (p : List ℕ). length p ≤ most_plan) (sym c.in-Ok.ensures.links) (short-plan c.network-2.result.now c.args.plan.now (taken c.network-2.result.now c.args.plan.now c.args.lane c.in-Ok.ensures.faultless).0)
+pub links_of-requires : goal.links_of-requires
+links_of-requires c = (taken c.network-2.result.now c.args.plan.now c.args.lane
+    (subst (λ (net : NetSpec). plan_refusal net c.args.plan.now c.args.lane ≡ None) (c.network.ensures ∙ sym c.network-2.ensures) (c.entry_refusal.ensures.planned c.in_default.is))).0
 
 pub returns-in-Ok-admit : goal.returns-in-Ok-admit
-returns-in-Ok-admit c = enter-done _ c.in-Some.streets c.args.plan.now c.args.lane c.args.depart c.args.size c.in-Some.is (omega (arith, c.admitted-car.ensures.count, c.if-car-ge-MOST_VEHICLES.false))
-    c.entry_refusal.result (λ m same few. c.entry_refusal.ensures.refusal m (same ∙ sym c.network.ensures) few) c.in_default-entry_refusal.is _ _ (c.from-car.ensures ∙ c.admitted-car.ensures.count)
+returns-in-Ok-admit c = enter-done c.args.streets.now c.args.plan.now c.args.lane c.args.depart c.args.size (omega (arith, c.admitted-car.ensures.count, c.if-car-ge-MOST_VEHICLES.false))
+    c.entry_refusal.result (λ m same few. c.entry_refusal.ensures.refusal m (same ∙ sym c.network.ensures) few) c.in_default.is _ _ (c.from-car.ensures ∙ c.admitted-car.ensures.count)
     (λ m stands. subst (λ size. StreetsStandFor c.admit.new.self (entered m c.args.plan.now c.args.lane c.args.depart size)) (sym (cond_some _ c.args.size c.in-Some-new.size (sym c.new.ensures ∙ c.in-Some-new.is)).1)
     (subst (λ lane. StreetsStandFor c.admit.new.self (entered m c.args.plan.now lane c.args.depart c.in-Some-new.size)) c.lane_number-lane.ensures
     (c.in-Ok-admit.ensures.waits c.args.plan.now (c.in-Ok.ensures.links ∙ ap (λ (net : NetSpec). plan_links net c.args.plan.now) c.network-2.ensures) m stands)))
 
 pub returns-in-Err : goal.returns-in-Err
-returns-in-Err c = enter-starved _ c.in-Some.streets c.args.plan.now c.args.lane c.args.depart c.args.size c.in-Some.is (omega (arith, c.admitted-car.ensures.count, c.if-car-ge-MOST_VEHICLES.false))
-    c.entry_refusal.result (λ m same few. c.entry_refusal.ensures.refusal m (same ∙ sym c.network.ensures) few) c.in_default-entry_refusal.is _ c.in-Err.ensures.starved
+returns-in-Err c = enter-starved c.args.streets.now c.args.plan.now c.args.lane c.args.depart c.args.size (omega (arith, c.admitted-car.ensures.count, c.if-car-ge-MOST_VEHICLES.false))
+    c.entry_refusal.result (λ m same few. c.entry_refusal.ensures.refusal m (same ∙ sym c.network.ensures) few) c.in_default.is _ c.in-Err.ensures.starved

@@ -1,10 +1,9 @@
-use Rattle.std.proofs.Common.{◌≡◌, ◌<◌, ◌≤◌, ℕ, List, length, get_or, sym, ◌∙◌, ap, subst, arith}
+use Rattle.std.proofs.Common.{◌≡◌, ◌<◌, ◌≤◌, List, length, sym, ◌∙◌, ap, subst}
 use Rattle.std.specs.Prelude.{Some, None, option_map, slice_get}
 use Rattle.std.proofs.lemmas.Bool.{ltb-true}
 use Rattle.std.proofs.lemmas.Option.{slice_get-get_or, slice_get_past}
 use Rattle.std.proofs.lemmas.Result.{IfOk-weaker}
 use Rattle.street_base.specs.Shown.{shown_rows}
-use Rattle.street_base.specs.State.{Detector}
 use Rattle.street_tile.specs.Tiles.{Part}
 use Rattle.street_tile.specs.TileDetectors.{AllMetersStand}
 use Rattle.street_engine.specs.declared.sites.DetectorSite.{DetectorSite}

@@ -1,36 +1,6 @@
-use Rattle.std.proofs.Common.{◌≡◌, ◌<◌, ◌++◌, ◌∷◌, [], Some, None, length, take, Vec, sym, ◌∙◌, ap, arith}
-use Rattle.std.specs.Prelude.{List, ℕ}
-use Rattle.std.proofs.lemmas.List.{append-nil}
-use Rattle.std.specs.declared.alloc.Global.{Global}
-use Rattle.street_base.specs.declared.names.LinkIx.{LinkIx}
-use Rattle.street_base.specs.Faults.{plan_fault}
-use Rattle.street_base.specs.Machine.{plan_links}
-use Rattle.street_net.proofs.PlanRefusal.{some-link, not-refused, links-more, all-taken}
+use Rattle.std.proofs.Common.{sym, ◌∙◌}
+use Rattle.street_net.proofs.PlanRefusal.{not-refused}
 use Rattle.street_net.proofs.network.Network.check_plan.Goals as goal
-use Rattle.street_net.proofs.network.Network.check_plan.Goals.{in-Some-link_of+in_ok-push, in_default-link_of}
 
-pub loop-id-preserved : goal.loop-id-preserved
-loop-id-preserved c =
-    let net = c.args.self.now in
-    let plan = c.args.plan.now in
-    let within : c.loop-id.id-index < length plan = omega arith in
-    elim c.match-link_of.branch [
-      | in-Some-link_of+in_ok-push w ↦
-          ap (λ (v : Vec LinkIx Global). v.items) w.links-is
-          ∙ w.in_ok-push.ensures.items
-          ∙ ap (λ (xs : List ℕ). xs ++ w.in-Some-link_of.link ∷ []) c.loop-id.invariant
-          ∙ sym (links-more net plan c.loop-id.id-index (Some w.in-Some-link_of.link) within (sym w.in-Some-link_of.ensures.position))
-      | in_default-link_of w ↦
-          ap (λ (v : Vec LinkIx Global). v.items) w.links-is
-          ∙ c.loop-id.invariant
-          ∙ sym (append-nil (plan_links net (take c.loop-id.id-index plan)))
-          ∙ sym (links-more net plan c.loop-id.id-index None within (sym w.in_default-link_of.ensures.position))
-    ]
-
-pub returns-clause-some : goal.returns-clause-some
-returns-clause-some c =
-    let net = c.args.self.now in
-    let plan = c.args.plan.now in
-    let faultless : plan_fault net plan ≡ None = not-refused _ _ (sym c.plan_refusal.ensures ∙ c.in_default.is) in
-    let links : c.from_vec.result ≡ plan_links net plan = c.from_vec.ensures ∙ c.loop-id.invariant ∙ all-taken net plan c.loop-id.id-index c.loop-id-test.false in
-    omega (arith, some-link net plan faultless, ap length links)
+pub links_of-requires : goal.links_of-requires
+links_of-requires c = not-refused _ _ (sym c.plan_refusal.ensures ∙ c.in-None.is)

@@ -1,0 +1,14 @@
+use Rattle.std.proofs.Common.{refl, sym, subst}
+use Rattle.std.specs.Prelude.{Some}
+use Rattle.street_base.specs.declared.command.Command.{Command}
+use Rattle.street_base.specs.declared.command.Command.TheVariants.{Load}
+use Rattle.street_base.specs.declared.refusal.Refusal.TheVariants.{AlreadyLoaded}
+use Rattle.street_base.specs.declared.reply.Reply.TheVariants.{Refused}
+use Rattle.street_base.specs.declared.reply.Outcome.TheVariants.{Whole}
+use Rattle.street_engine.specs.Refines.{Serves}
+use Rattle.street_engine.proofs.Serves.{streets-refused}
+use Rattle.street_engine.proofs.commands.serve.Goals as goal
+
+pub returns-in-Load : goal.returns-in-Load
+returns-in-Load g c = subst (λ (d : Command). Serves (Some c.args.streets.now) d (Refused AlreadyLoaded) Whole (Some c.args.streets.now)) (sym c.in-Load.is)
+    (streets-refused c.args.streets.now (Load c.in-Load.field-0) AlreadyLoaded (λ m stands. refl))
