@@ -1,9 +1,10 @@
 -- What a service is as a handler of lines.
-use Rattle.std.proofs.Common.{◌≡◌, ◌∙◌, ℕ, ◌+◌, ◌<◌, ◌⊎◌, length, arith, List, [], ◌∷◌, ◌++◌, Option, if◌then◌else◌, inl, inr, refl, sym, ap}
+use Rattle.std.proofs.Common.{◌≡◌, ◌∙◌, ℕ, ◌+◌, List, [], ◌∷◌, ◌++◌, Option, if◌then◌else◌, inl, inr, refl, sym, ap}
 use Rattle.std.proofs.lemmas.List.Sums.{sum_by-cons}
 use Rattle.std.specs.List.{count_by}
 use Rattle.street_base.specs.declared.command.Command.{Command}
 use Rattle.street_base.specs.declared.reply.Starved.{Starved as NoMemory}
+use Rattle.street_stream.proofs.Handles.{all_replies}
 use Rattle.street_stream.specs.HandledLines.{Effect, has_reply as effect_has_reply, text_in, Handles, output, calls_in, replies_in, IsTally as IsTallyOf, Breaks as LinesBreak, Whole, Broke}
 use Rattle.street_stream.specs.declared.answer.Cause.{Cause}
 use Rattle.street_stream.specs.declared.answer.Cause.TheVariants.{Run, Line}
@@ -15,12 +16,6 @@ use Rattle.street_line.specs.declared.service.Served.{Served}
 
 abbrev pub LeavesState : {S : Type 0} → S → List ℕ → NoMemory → S → Type 0
 LeavesState old line stop new = new ≡ old
-
--- where all bytes are written no reply is cut off
-all_replies : (tally : Tally) (es : List Effect) → ((tally.bytes ≡ length (output es)) × (tally.replies ≡ replies_in es)) ⊎ ((tally.bytes < length (output es)) × (tally.replies + 1 ≡ replies_in es))
-    → tally.bytes ≡ length (output es) → tally.replies ≡ replies_in es
-all_replies tally es (inl is) all = is.1
-all_replies tally es (inr less) all = absurd (omega (arith, less.0, all))
 
 module _ {S : Type 0} (serves : S → Command → Served → S → Type 0) where
   -- what a line gives has its output as text
@@ -99,7 +94,7 @@ module _ {S : Type 0} (serves : S → Command → Served → S → Type 0) where
         whole = λ read.
             let whole = h.leaves.2 read in
             let all = whole.1 in
-            (whole.0, record { lines = h.leaves.1; calls = called; replies = all_replies tally h.effects h.replies all ∙ replied; bytes = all });
+            (whole.0, record { lines = h.leaves.1; calls = called; replies = all_replies tally (output h.effects) (replies_in h.effects) h.replies all ∙ replied; bytes = all });
       }
   served_breaks at_end old before text new after (Line stop) tally h =
       let went = goes old h.done h.effects h.mid h.handled in

@@ -1,11 +1,11 @@
 -- What a fault leaves of a run.
 -- Source: this profile.
-use Rattle.std.specs.Prelude.{◌≡◌, ℕ, ◌+◌, ◌<◌, ◌≤◌, List, ◌++◌, length, take, Option, ◌⊎◌}
+use Rattle.std.specs.Prelude.{◌≡◌, ℕ, ◌≤◌, List, ◌++◌, length, take, Option}
 use Rattle.std.specs.List.{count_by}
 use Rattle.std.specs.Io.KnownBytes.{Appends, Consumes}
 use Rattle.street_base.specs.declared.command.Command.{Command}
 use Rattle.street_base.specs.declared.reply.Starved.{Starved as NoMemory}
-use Rattle.street_stream.specs.Faults.{IsAtRead}
+use Rattle.street_stream.specs.Faults.{IsAtRead, CountsLines, CountsReplies}
 use Rattle.street_stream.specs.Lines.{cut, lines_of}
 use Rattle.street_stream.specs.declared.answer.Cause.{Cause}
 use Rattle.street_stream.specs.declared.answer.Cause.TheVariants.{Run, Line}
@@ -34,11 +34,9 @@ pub record Breaks {S : Type 0} (serves : S → Command → Served → S → Type
   pub within : tally.bytes ≤ length out
   pub written : Appends before after (take tally.bytes out)
   -- a line that memory was wanting for was taken up, but not served
-  pub lines : (tally.lines ≡ length done) ⊎ ((kind ≡ Starved) × (tally.lines ≡ length done + 1))
+  pub lines : CountsLines kind tally done
   pub calls : tally.calls ≡ count_by (λ l. is_call (said l)) done
-  -- the last reply alone may be cut off
-  pub replies : ((tally.bytes ≡ length out) × (tally.replies ≡ count_by (λ l. has_reply (said l)) done))
-      ⊎ ((tally.bytes < length out) × (tally.replies + 1 ≡ count_by (λ l. has_reply (said l)) done))
+  pub replies : CountsReplies tally out (count_by (λ l. has_reply (said l)) done)
   pub whole : IsAtRead kind → (done ≡ (cut text).0) × IsTally tally done out
 
 -- so of what was read

@@ -9,7 +9,7 @@ use Rattle.std.specs.Io.KnownBytes.{Appends, Keeps}
 use Rattle.street_stream.proofs.Cut.{lines_after, lines_more, cut_newline}
 use Rattle.street_stream.proofs.Feeds.{last_line}
 use Rattle.street_stream.proofs.Handles.{handles_more, output_more}
-use Rattle.street_stream.specs.Faults.{IsAtRead, IsAtLine}
+use Rattle.street_stream.specs.Faults.{IsAtRead}
 use Rattle.street_stream.specs.HandledLines.{Effect, has_reply, has_text, text_in, Handles, output, IsTally, EndsLine, IsNext, Leaves, Breaks}
 use Rattle.street_stream.specs.Lines.{cut, lines_of, if_any, kept, IsPart}
 use Rattle.street_stream.specs.Progress.{Stands, Feeds, Finishes, FeedBreaks, FinishBreaks, LineBreaks, IsUntouched, IsHalf}
@@ -17,14 +17,8 @@ use Rattle.street_stream.specs.declared.answer.Cause.{Cause}
 use Rattle.street_stream.specs.declared.answer.Cause.TheVariants.{Run, Line}
 use Rattle.street_stream.specs.declared.driver.Progress.{Progress}
 use Rattle.street_stream.specs.declared.tally.FaultKind.{FaultKind}
-use Rattle.street_stream.specs.declared.tally.FaultKind.TheVariants.{Read, Write, Starved, Endless}
+use Rattle.street_stream.specs.declared.tally.FaultKind.TheVariants.{Write, Starved}
 use Rattle.street_stream.specs.declared.tally.Tally.{Tally}
-
-not_both : (kind : FaultKind) → IsAtLine kind → IsAtRead kind → ⊥
-not_both Read line read = line
-not_both Endless line read = line
-not_both Write line read = read
-not_both Starved line read = read
 
 -- ---- where a line ends
 
@@ -80,7 +74,7 @@ module _ {S Stop : Type 0} (takes : S → List ℕ → Effect → S → Type 0) 
   -- of its reply only the first bytes are written
   half : (at_end : Type 0) (start : S) (before : Option (List ℕ)) (text : List ℕ) (ls : List (List ℕ)) (l : List ℕ) (rest : List (List ℕ)) (es : List Effect) (s t : S) (w v : Option (List ℕ))
       (tally counted : Tally) (kind : FaultKind) → lines_of text ≡ ls ++ l ∷ rest → Handles takes start ls es s → Appends before w (output es) → IsTally tally ls es
-      → IsAtLine kind → IsHalf takes s w tally l t v counted → Breaks takes stops at_end start before text t v (Run kind) counted
+      → (IsAtRead kind → ⊥) → IsHalf takes s w tally l t v counted → Breaks takes stops at_end start before text t v (Run kind) counted
   half at_end start before text ls l rest es s t w v tally counted kind first went wrote is at_line h =
       let e = h.effect in
       let less = h.less in
@@ -99,7 +93,7 @@ module _ {S Stop : Type 0} (takes : S → List ℕ → Effect → S → Type 0) 
         written = rw (all, bytes, take-append-add (output es) h.out h.sent) (Appends-trans before w v (output es) (take h.sent h.out) wrote h.written);
         calls = h.calls ∙ ap (λ n. n + (if e.is_call then 1 else 0)) is.calls ∙ sym (sum_by_push (λ (k : Effect). (if k.is_call then 1 else 0)) es e);
         replies = inr (rw all short, ap (λ n. n + 1) (h.replies ∙ is.replies) ∙ sym (rw replied at (sum_by_push (λ k. (if has_reply k then 1 else 0)) es e)));
-        leaves = (refl, h.lines ∙ ap (λ n. n + 1) is.lines ∙ sym (length-append ls (l ∷ [])), λ read. absurd (not_both kind at_line read));
+        leaves = (refl, h.lines ∙ ap (λ n. n + 1) is.lines ∙ sym (length-append ls (l ∷ [])), λ read. absurd (at_line read));
       }
 
   line_breaks : (at_end : Type 0) (start : S) (before : Option (List ℕ)) (text : List ℕ) (ls : List (List ℕ)) (l : List ℕ) (rest : List (List ℕ)) (es : List Effect) (s t : S) (w v : Option (List ℕ))

@@ -1,6 +1,7 @@
--- One line more.
-use Rattle.std.proofs.Common.{◌≡◌, ℕ, ◌+◌, List, [], ◌∷◌, ◌++◌, length, if◌then◌else◌, refl, sym, ap, ◌∙◌, subst, append_assoc, append-nil, length-append, arith}
+-- One line more, and what a tally of lines counts.
+use Rattle.std.proofs.Common.{◌≡◌, ℕ, ◌+◌, List, [], ◌∷◌, ◌++◌, length, if◌then◌else◌, inl, inr, refl, sym, ap, ◌∙◌, subst, append_assoc, append-nil, length-append, arith}
 use Rattle.std.proofs.lemmas.List.Sums.{sum_by_push}
+use Rattle.street_stream.specs.Faults.{CountsReplies}
 use Rattle.street_stream.specs.HandledLines.{Effect, has_reply, text_in, Handles, output, IsTally}
 use Rattle.street_stream.specs.Progress.{Counts, IsWithin}
 use Rattle.street_stream.specs.declared.tally.Tally.{Tally}
@@ -16,6 +17,11 @@ module _ {S : Type 0} (takes : S → List ℕ → Effect → S → Type 0) where
 pub output_more : (es : List Effect) (e : Effect) → output (es ++ e ∷ []) ≡ output es ++ text_in e.reply
 output_more [] e = append-nil (text_in e.reply)
 output_more (x ∷ es) e = ap (λ (out : List ℕ). text_in x.reply ++ out) (output_more es e) ∙ sym (append_assoc (text_in x.reply) (output es) (text_in e.reply))
+
+-- where all bytes are written no reply is cut off
+pub all_replies : (tally : Tally) (out : List ℕ) (replies : ℕ) → CountsReplies tally out replies → tally.bytes ≡ length out → tally.replies ≡ replies
+all_replies tally out replies (inl is) all = is.1
+all_replies tally out replies (inr less) all = absurd (omega (arith, less.0, all))
 
 pub none_within : (tally : Tally) → IsTally tally [] [] → IsWithin tally
 none_within tally h = record { calls = omega (arith, h.calls); replies = omega (arith, h.replies); bytes = omega (arith, h.bytes) }

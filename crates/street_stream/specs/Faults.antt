@@ -1,46 +1,56 @@
--- What causes each fault of a run.
+-- What causes each fault of a run, where in the run it comes, and what it leaves counted.
 -- Source: this profile.
-use Rattle.std.specs.Prelude.{◌≡◌, ℕ, ◌<◌, ⊤}
+use Rattle.std.specs.Prelude.{◌≡◌, ℕ, ◌+◌, ◌<◌, ◌⊎◌, List, length, ⊤}
 use Rattle.street_stream.specs.Streams.{HasFailed}
 use Rattle.street_stream.specs.declared.answer.Cause.{Cause}
 use Rattle.street_stream.specs.declared.answer.Cause.TheVariants.{Run, Line}
 use Rattle.street_stream.specs.declared.counted.Counted.{Counted}
 use Rattle.street_stream.specs.declared.tally.FaultKind.{FaultKind}
 use Rattle.street_stream.specs.declared.tally.FaultKind.TheVariants.{Read, Write, Starved, Endless}
+use Rattle.street_stream.specs.declared.tally.Tally.{Tally}
 
--- each kind comes only where its cause was counted: a read that failed; a write that failed or took no byte; so many reads
+-- ---- causes
+
+-- where nothing is read: memory was wanting, a write or a flush failed, or a write took no byte
+abbrev pub IsCausedByWriting : {W : Type 0} → FaultKind → Counted W → Type 0
+IsCausedByWriting Write writer = HasFailed writer
+IsCausedByWriting Starved writer = ⊤
+IsCausedByWriting Read writer = ⊥
+IsCausedByWriting Endless writer = ⊥
+
+-- each kind comes only where its cause was counted: a read that failed; so many reads; else as in writing
 abbrev pub IsCaused : {R W : Type 0} → FaultKind → Counted R → Counted W → ℕ → Type 0
 IsCaused Read reader writer reads = 0 < reader.failures
-IsCaused Write reader writer reads = HasFailed writer
-IsCaused Starved reader writer reads = ⊤
 IsCaused Endless reader writer reads = reader.calls ≡ reads
-
--- a read that failed, and the last read that was allowed, come between lines and not in the midst of a reply
-abbrev pub IsAtRead : FaultKind → Type 0
-IsAtRead Read = ⊤
-IsAtRead Endless = ⊤
-IsAtRead Write = ⊥
-IsAtRead Starved = ⊥
-
--- faults that come while a line is handled: memory, or a write
-abbrev pub IsAtLine : FaultKind → Type 0
-IsAtLine Starved = ⊤
-IsAtLine Write = ⊤
-IsAtLine Read = ⊥
-IsAtLine Endless = ⊥
+IsCaused Write reader writer reads = IsCausedByWriting Write writer
+IsCaused Starved reader writer reads = IsCausedByWriting Starved writer
 
 -- a line that ends a run says why itself
 abbrev pub IsCausedBy : {S R W : Type 0} → Cause S → Counted R → Counted W → ℕ → Type 0
 IsCausedBy (Run kind) reader writer reads = IsCaused kind reader writer reads
 IsCausedBy (Line stop) reader writer reads = ⊤
 
--- while a line is handled no read fails, and a write only where it was counted
-abbrev pub IsCausedHere : {W : Type 0} → FaultKind → Counted W → Type 0
-IsCausedHere Starved writer = ⊤
-IsCausedHere Write writer = HasFailed writer
-IsCausedHere Read writer = ⊥
-IsCausedHere Endless writer = ⊥
-
+-- so while a line is handled, when nothing is read
 abbrev pub IsCausedByLine : {S W : Type 0} → Cause S → Counted W → Type 0
-IsCausedByLine (Run kind) writer = IsCausedHere kind writer
+IsCausedByLine (Run kind) writer = IsCausedByWriting kind writer
 IsCausedByLine (Line stop) writer = ⊤
+
+-- ---- places
+
+-- a read that failed, and the last read that was allowed, come between lines; the others while a line is handled
+abbrev pub IsAtRead : FaultKind → Type 0
+IsAtRead Read = ⊤
+IsAtRead Endless = ⊤
+IsAtRead Write = ⊥
+IsAtRead Starved = ⊥
+
+-- ---- counts
+
+-- the lines that were done are counted, and one more where memory was wanting for it
+abbrev pub CountsLines : FaultKind → Tally → List (List ℕ) → Type 0
+CountsLines kind tally done = (tally.lines ≡ length done) ⊎ ((kind ≡ Starved) × (tally.lines ≡ length done + 1))
+
+-- of an output of so many replies these bytes are written; the last reply alone may be cut off, and is then not counted
+abbrev pub CountsReplies : Tally → List ℕ → ℕ → Type 0
+CountsReplies tally out replies =
+    ((tally.bytes ≡ length out) × (tally.replies ≡ replies)) ⊎ ((tally.bytes < length out) × (tally.replies + 1 ≡ replies))

@@ -5,7 +5,7 @@ use Rattle.std.specs.List.{count_by}
 use Rattle.std.specs.Io.KnownBytes.{Appends, Consumes, IsAtEnd}
 use Rattle.std.specs.declared.alloc.Global.{Global}
 use Rattle.street_base.specs.declared.reply.Starved.{Starved}
-use Rattle.street_stream.specs.Faults.{IsAtRead}
+use Rattle.street_stream.specs.Faults.{IsAtRead, CountsReplies}
 use Rattle.street_stream.specs.Lines.{cut, lines_of}
 use Rattle.street_stream.specs.declared.answer.Answer.{Answer}
 use Rattle.street_stream.specs.declared.answer.Cause.{Cause}
@@ -116,8 +116,7 @@ pub record Breaks {S Stop : Type 0} (takes : S → List ℕ → Effect → S →
   pub within : tally.bytes ≤ length (output effects)
   pub written : Appends before after (take tally.bytes (output effects))
   pub calls : tally.calls ≡ calls_in effects
-  pub replies : ((tally.bytes ≡ length (output effects)) × (tally.replies ≡ replies_in effects))
-      ⊎ ((tally.bytes < length (output effects)) × (tally.replies + 1 ≡ replies_in effects))
+  pub replies : CountsReplies tally (output effects) (replies_in effects)
   pub leaves : Leaves stops at_end text done effects mid now cause tally
 
 -- so of what was read

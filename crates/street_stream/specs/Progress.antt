@@ -2,7 +2,7 @@
 -- Source: this profile.
 use Rattle.std.specs.Prelude.{◌≡◌, ℕ, ◌+◌, ◌*◌, ◌^◌, ◌<◌, ◌≤◌, List, [], ◌++◌, length, take, if◌then◌else◌, Option, Some, ⊤}
 use Rattle.std.specs.Io.KnownBytes.{Appends}
-use Rattle.street_stream.specs.Faults.{IsAtLine}
+use Rattle.street_stream.specs.Faults.{IsAtRead}
 use Rattle.street_stream.specs.HandledLines.{Effect, has_reply, text_in, Handles, output, IsTally, Breaks}
 use Rattle.street_stream.specs.Lines.{cut, lines_of, IsPart}
 use Rattle.street_stream.specs.declared.answer.Cause.{Cause}
@@ -55,7 +55,7 @@ pub record IsHalf {S : Type 0} (takes : S → List ℕ → Effect → S → Type
 -- a line ended the run, or its reply was not written whole
 abbrev pub LineBreaks : {S Stop : Type 0} (takes : S → List ℕ → Effect → S → Type 0) (stops : S → List ℕ → Stop → S → Type 0)
     → S → Option (List ℕ) → Tally → List ℕ → S → Option (List ℕ) → Cause Stop → Tally → Type 0
-LineBreaks takes stops old before tally line new after (Run kind) counted = IsAtLine kind × IsHalf takes old before tally line new after counted
+LineBreaks takes stops old before tally line new after (Run kind) counted = (IsAtRead kind → ⊥) × IsHalf takes old before tally line new after counted
 LineBreaks takes stops old before tally line new after (Line stop) counted = stops old line stop new × IsUntouched before tally after counted
 
 module _ {S : Type 0} (takes : S → List ℕ → Effect → S → Type 0) (longest : ℕ) where

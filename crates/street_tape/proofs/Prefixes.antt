@@ -12,7 +12,7 @@ use Rattle.street_tape.specs.Written.{IsPrefix}
 
 -- ---- lines
 
-lines_append : (xs ys : List Entry) → entry_lines (xs ++ ys) ≡ entry_lines xs ++ entry_lines ys
+pub lines_append : (xs ys : List Entry) → entry_lines (xs ++ ys) ≡ entry_lines xs ++ entry_lines ys
 lines_append [] ys = refl
 lines_append (x ∷ xs) ys = ap (λ (t : List ℕ). entry_line x ++ t) (lines_append xs ys) ∙ sym (append_assoc (entry_line x) (entry_lines xs) (entry_lines ys))
 

@@ -1,14 +1,14 @@
 -- What a replay as a handler of lines has done.
-use Rattle.std.proofs.Common.{◌≡◌, ℕ, ◌+◌, ◌<◌, ◌≤◌, ◌⊎◌, List, [], ◌∷◌, ◌++◌, length, take, Bool, true, false, if◌then◌else◌, Option, Some, None, inl, inr, refl, sym, ap, ◌∙◌, subst, append_assoc, append-nil, length-append, arith}
+use Rattle.std.proofs.Common.{◌≡◌, ℕ, ◌+◌, ◌<◌, ◌≤◌, List, [], ◌∷◌, ◌++◌, length, take, Bool, true, false, if◌then◌else◌, Option, Some, None, inl, inr, refl, sym, ap, ◌∙◌, subst, append_assoc, append-nil, arith}
 use Rattle.std.proofs.Math.Seq.{take-length}
 use Rattle.std.specs.Io.KnownBytes.{Appends}
 use Rattle.street_base.specs.Outcomes.{reply_to, state_after}
 use Rattle.street_base.specs.State.{State}
 use Rattle.street_desk.specs.declared.journal.Entry.{Entry}
 use Rattle.street_desk.specs.History.{state_from}
-use Rattle.street_stream.specs.Faults.{IsAtRead}
-use Rattle.street_stream.specs.HandledLines.{Effect, has_text, has_reply, text_in, Handles, output, calls_in as calls_of_effects, replies_in, IsNext, Leaves, Breaks as LinesBreak, Whole, Broke}
-use Rattle.street_stream.specs.Lines.{cut, lines_of}
+use Rattle.street_stream.proofs.Handles.{all_replies}
+use Rattle.street_stream.specs.HandledLines.{Effect, has_text, has_reply, text_in, Handles, output, calls_in as calls_of_effects, replies_in, IsNext, Breaks as LinesBreak, Whole, Broke}
+use Rattle.street_stream.specs.Lines.{lines_of}
 use Rattle.street_stream.specs.declared.answer.Cause.{Cause}
 use Rattle.street_stream.specs.declared.answer.Cause.TheVariants as cause
 use Rattle.street_stream.specs.declared.tally.FaultKind.{FaultKind}
@@ -19,14 +19,14 @@ use Rattle.street_tape.proofs.Counts.{calls_first, replies_first, none_more}
 use Rattle.street_tape.proofs.GoodTapes.{next_lines}
 use Rattle.street_tape.proofs.Legal.{replayable_last}
 use Rattle.street_tape.specs.BadTapes.{SaysCalls}
-use Rattle.street_tape.specs.Faults.{HasBegun, HasBegunNext, BreaksAfter, ReplaysWhole, ReplayStops, TapeBreaks}
-use Rattle.street_tape.specs.ReplayHandler.{Applies, ReplaysLine, CallStops, StopsLine, fault_of, Misses}
+use Rattle.street_tape.specs.Faults.{HasBegunNext, BreaksAfter, ReplaysWhole, ReplayStops, TapeBreaks}
+use Rattle.street_tape.specs.ReplayHandler.{Applies, ReplaysLine, StopsLine, fault_of, Misses}
 use Rattle.street_tape.specs.Replies.{AreReplayable, output_from}
 use Rattle.street_tape.specs.declared.fault.TapeFault.{TapeFault}
 use Rattle.street_tape.specs.declared.fault.TapeFault.TheVariants as fault
 use Rattle.street_tape.proofs.Taken.{says, none_read, some_read, whole_read, missing_read, takes_more, refused_entry, refused_head}
-use Rattle.street_tape.specs.Entries.{calls_in, tape_in}
-use Rattle.street_tape.specs.TapeLines.{Takes, Refuses, TakesAll, calls_of, may_end}
+use Rattle.street_tape.specs.Entries.{calls_in}
+use Rattle.street_tape.specs.TapeLines.{Takes, Refuses, TakesAll, may_end}
 use Rattle.street_tape.specs.declared.head.Head.{Head}
 use Rattle.street_tape.specs.declared.tape.Stop.{Stop}
 use Rattle.street_tape.specs.declared.tape.Stop.TheVariants.{NotTape, BadEntry, Starved}
@@ -106,10 +106,6 @@ from_first start fresh stands ls effects new h =
     (all.0, subst (λ (o : Option Head). AreReplayed None o ls all.0 effects new) fresh all.1)
 
 -- ---- a tape that was read to its end
-
-whole_replies : (bytes replies all n : ℕ) → ((bytes ≡ all) × (replies ≡ n)) ⊎ ((bytes < all) × (replies + 1 ≡ n)) → bytes ≡ all → replies ≡ n
-whole_replies bytes replies all n (inl is) same = is.1
-whole_replies bytes replies all n (inr less) same = absurd (omega (arith, less.0, same))
 
 module _ (start : Option Head × EngineView) (fresh : start.0 ≡ None) (stands : StandsFor start.1 None) (unread before : Option (List ℕ)) (now : Option Head × EngineView) (left after : Option (List ℕ)) where
   pub replays_whole : (tally : Tally) → Whole ReplaysLine start unread before now left after tally → may_end now.0 ≡ true → ReplaysWhole unread before now.1 left after tally
@@ -201,7 +197,7 @@ module _ (start : Option Head × EngineView) (fresh : start.0 ≡ None) (stands 
         lines = inl leaves.1;
         whole = λ read.
             let whole = leaves.2 read in
-            (whole.0, whole_replies tally.bytes tally.replies (length (output h.effects)) (replies_in h.effects) h.replies whole.1 ∙ r.replies ∙ sym (h.calls ∙ r.calls));
+            (whole.0, all_replies tally (output h.effects) (replies_in h.effects) h.replies whole.1 ∙ r.replies ∙ sym (h.calls ∙ r.calls));
       }
 
   -- all that was done is written

@@ -1,35 +1,32 @@
 -- What an upgrade as a handler of lines has done.
-use Rattle.std.proofs.Common.{◌≡◌, ℕ, ◌+◌, ◌<◌, ◌≤◌, ◌^◌, ◌⊎◌, List, [], ◌∷◌, ◌++◌, length, take, Bool, true, false, if◌then◌else◌, Option, Some, None, inl, inr, refl, sym, ap, ◌∙◌, subst, append_assoc, append-nil, length-append, arith}
+use Rattle.std.proofs.Common.{◌≡◌, ℕ, ◌+◌, ◌<◌, ◌≤◌, ◌^◌, List, [], ◌∷◌, ◌++◌, length, take, Bool, true, false, if◌then◌else◌, Option, Some, None, inl, inr, refl, sym, ap, ◌∙◌, subst, append_assoc, append-nil, length-append, arith}
 use Rattle.std.proofs.KnownBytes.{Appends-trans}
 use Rattle.std.proofs.lemmas.List.{take_all}
 use Rattle.std.specs.Io.KnownBytes.{Appends}
-use Rattle.std.specs.Prelude.{⊤}
 use Rattle.serde_json.specs.Written.{compact_text}
 use Rattle.street_desk.specs.declared.journal.Entry.{Entry}
+use Rattle.street_stream.proofs.Handles.{all_replies}
 use Rattle.street_stream.specs.HandledLines.{Effect, has_reply, text_in, Handles, output, calls_in as calls_of_effects, replies_in, IsNext, Breaks as LinesBreak, Whole, Broke}
 use Rattle.street_stream.specs.Lines.{lines_of}
 use Rattle.street_stream.specs.declared.answer.Cause.{Cause}
 use Rattle.street_stream.specs.declared.answer.Cause.TheVariants as cause
-use Rattle.street_stream.specs.Faults.{IsCaused}
-use Rattle.street_stream.specs.declared.counted.Counted.{Counted}
+use Rattle.street_stream.specs.Faults.{CountsLines}
 use Rattle.street_stream.specs.declared.tally.FaultKind.{FaultKind}
 use Rattle.street_stream.specs.declared.tally.FaultKind.TheVariants as kinds
 use Rattle.street_stream.specs.declared.tally.RunFault.{RunFault}
 use Rattle.street_stream.specs.declared.tally.Tally.{Tally}
 use Rattle.street_tape.proofs.Counts.{calls_first, replies_first, none_more}
 use Rattle.street_tape.proofs.GoodTapes.{next_lines}
-use Rattle.street_tape.specs.Faults.{IsTapeCaused}
 use Rattle.street_tape.specs.ReplayHandler.{fault_of, Misses}
-use Rattle.street_tape.specs.Upgrades.{Cuts, CutShort, IsCausedByWrite, UpgradesWhole, UpgradeStops, UpgradeBreaks, UpgradesLine, RefusesLine, line_of_call, is_call, with_bytes}
+use Rattle.street_tape.specs.Upgrades.{Cuts, CutShort, UpgradesWhole, UpgradeStops, UpgradeBreaks, UpgradesLine, RefusesLine, line_of_call, is_call, with_bytes}
 use Rattle.street_tape.specs.declared.fault.TapeFault.{TapeFault}
 use Rattle.street_tape.specs.declared.fault.TapeFault.TheVariants as fault
 use Rattle.street_tape.specs.declared.upgrades.Upgrader.{Upgrader}
-use Rattle.street_tape.proofs.Prefixes.{prefix_second}
+use Rattle.street_tape.proofs.Prefixes.{lines_append, prefix_second}
 use Rattle.street_tape.proofs.Taken.{says, none_read, some_read, whole_read, missing_read, refused_entry, refused_head}
-use Rattle.street_tape.specs.Entries.{calls_in}
-use Rattle.street_tape.specs.TapeLines.{Takes, Refuses, TakesAll, calls_of, may_end}
+use Rattle.street_tape.specs.TapeLines.{TakesAll, calls_of, may_end}
 use Rattle.street_tape.specs.Tapes.{entry_data, entry_line, entry_lines, head_line, tape_text}
-use Rattle.street_tape.specs.Written.{IsPrefix, IsCausedByWriting}
+use Rattle.street_tape.specs.Written.{IsPrefix}
 use Rattle.street_tape.specs.declared.head.Head.{Head}
 use Rattle.street_tape.specs.declared.tape.Stop.{Stop}
 use Rattle.street_tape.specs.declared.tape.Stop.TheVariants.{NotTape, BadEntry, Starved}
@@ -51,10 +48,6 @@ one_line (Some e) = sym (append-nil (entry_line e))
 one_call : (call : Option Entry) → (if is_call call then 1 else 0) ≡ length (calls_of call)
 one_call None = refl
 one_call (Some e) = refl
-
-lines_append : (xs ys : List Entry) → entry_lines (xs ++ ys) ≡ entry_lines xs ++ entry_lines ys
-lines_append [] ys = refl
-lines_append (x ∷ xs) ys = ap (λ (t : List ℕ). entry_line x ++ t) (lines_append xs ys) ∙ sym (append_assoc (entry_line x) (entry_lines xs) (entry_lines ys))
 
 upgraded : (old : Upgrader) (ls : List (List ℕ)) (effects : List Effect) (new : Upgrader) → Handles UpgradesLine old ls effects new → (es : List Entry) × AreUpgraded old ls es effects new
 upgraded old [] effects new h = (
@@ -156,9 +149,12 @@ module _ (start : Upgrader) (fresh : start.tape.rest ≡ None) (none : start.lin
         counted = record { lines = h.counted.lines; calls = k.calls; replies = k.replies; bytes = ap length text };
       })
 
-  cut_by : (after : Option (List ℕ)) (told : RunFault) → may_end now.tape.rest ≡ true → told.tally ≡ with_bytes tally told.tally.bytes
-      → IsPrefix mid 0 (head_line tally.calls ++ now.lines.items) after told.tally.bytes → UpgradeStops unread before left after (fault.Run told)
-  cut_by after told end is part =
+  -- of the tape only the first bytes were written
+  pub upgrade_cut : (after : Option (List ℕ)) (told : RunFault) → may_end now.tape.rest ≡ true → CutShort tally mid (head_line tally.calls ++ now.lines.items) after told
+      → UpgradeStops unread before left after (fault.Run told)
+  upgrade_cut after told end cut =
+      let is = cut.0 in
+      let part = cut.1 in
       let k = kept.1 in
       let says_all = whole_read (lines_of h.text) kept.0 now.tape.rest k.taken end in
       let bytes : ℕ = told.tally.bytes in
@@ -179,12 +175,6 @@ module _ (start : Upgrader) (fresh : start.tape.rest ≡ None) (none : start.lin
           replies = ap (λ (t : Tally). t.replies) is ∙ k.replies;
         };
       }
-
-  -- of the tape only the first bytes were written
-  pub upgrade_cut : (after : Option (List ℕ)) (told : TapeFault) → may_end now.tape.rest ≡ true → CutShort tally mid (head_line tally.calls ++ now.lines.items) after told → UpgradeStops unread before left after told
-  upgrade_cut after fault.NotTape end cut = absurd cut
-  upgrade_cut after (fault.BadEntry line) end cut = absurd cut
-  upgrade_cut after (fault.Run told) end cut = cut_by after told end cut.0 cut.1
 
   missing_by : (rest : Option Head) (fault : TapeFault) (es : List Entry) → AreKept es → now.tape.rest ≡ rest → Misses rest tally fault → UpgradeStops unread before left mid fault
   missing_by None fault.NotTape es k is missing =
@@ -230,10 +220,6 @@ module _ (start : Upgrader) (fresh : start.tape.rest ≡ None) (at_end : Type 0)
     calls : tally.calls ≡ length es
     replies : tally.replies ≡ 0
 
-  no_replies : (out n : ℕ) → out ≡ 0 → n ≡ 0 → ((tally.bytes ≡ out) × (tally.replies ≡ n)) ⊎ ((tally.bytes < out) × (tally.replies + 1 ≡ n)) → tally.replies ≡ 0
-  no_replies out n none zero (inl is) = is.1 ∙ zero
-  no_replies out n none zero (inr less) = absurd (omega (arith, less.0, none))
-
   unwritten : (why : Cause Stop) (h : Broken why) → (es : List Entry) × IsUnwritten h.done es h.mid.tape.rest
   unwritten why h =
       let all = upgraded start h.done h.effects h.mid h.handled in
@@ -246,12 +232,12 @@ module _ (start : Upgrader) (fresh : start.tape.rest ≡ None) (at_end : Type 0)
           written = subst (Appends before after) nothing h.written;
           bytes = omega (arith, h.within, none);
           calls = h.calls ∙ r.calls;
-          replies = no_replies (length (output h.effects)) (replies_in h.effects) none r.replies h.replies;
+          replies = all_replies tally (output h.effects) (replies_in h.effects) h.replies (omega (arith, h.within, none)) ∙ r.replies;
         },
       )
 
   cuts : (kind : FaultKind) (done rest : List (List ℕ)) (es : List Entry) (mid : Option Head) → IsUnwritten done es mid → lines_of text ≡ done ++ rest
-      → (tally.lines ≡ length done) ⊎ ((kind ≡ kinds.Starved) × (tally.lines ≡ length done + 1)) → Cuts at_end before text after kind tally
+      → CountsLines kind tally done → Cuts at_end before text after kind tally
   cuts kind done rest es mid u first lines = record {
     done = done;
     rest = rest;
@@ -295,15 +281,3 @@ module _ (start : Upgrader) (fresh : start.tape.rest ≡ None) (at_end : Type 0)
 pub upgrade_broke : (start : Upgrader) → start.tape.rest ≡ None → (unread before : Option (List ℕ)) (now : Upgrader) (left after : Option (List ℕ)) (why : Cause Stop) (tally : Tally)
     → Broke UpgradesLine RefusesLine start unread before now left after why tally → UpgradeStops unread before left after (fault_of why tally)
 upgrade_broke start fresh unread before now left after why tally h = record { text = h.text; read = h.read; breaks = breaks_by start fresh _ before h.text now after tally why h.breaks }
-
--- what a write comes as it comes as of the whole
-pub caused_by : {R W : Type 0} → (told : TapeFault) (reader : Counted R) (writer : Counted W) (reads : ℕ) → IsCausedByWrite told writer → IsTapeCaused told reader writer reads
-caused_by fault.NotTape reader writer reads h = tt
-caused_by (fault.BadEntry line) reader writer reads h = tt
-caused_by (fault.Run told) reader writer reads h = by_kind told.kind reader writer reads h
-  where
-    by_kind : {R W : Type 0} → (kind : FaultKind) (reader : Counted R) (writer : Counted W) (reads : ℕ) → IsCausedByWriting kind writer → IsCaused kind reader writer reads
-    by_kind kinds.Write reader writer reads h = h
-    by_kind kinds.Starved reader writer reads h = tt
-    by_kind kinds.Read reader writer reads h = absurd h
-    by_kind kinds.Endless reader writer reads h = absurd h

@@ -1,17 +1,16 @@
 -- What a replay leaves.
 -- Source: this profile.
-use Rattle.std.specs.Prelude.{◌≡◌, ℕ, ◌+◌, ◌<◌, ◌≤◌, ◌⊎◌, List, [], ◌∷◌, ◌++◌, length, take, Option, Some, None, ⊤}
+use Rattle.std.specs.Prelude.{◌≡◌, ℕ, ◌≤◌, ◌⊎◌, List, [], ◌∷◌, ◌++◌, length, take, Option, Some, None, ⊤}
 use Rattle.std.specs.Io.KnownBytes.{Appends, Consumes, IsAtEnd}
 use Rattle.street_base.specs.declared.command.Command.{Command}
 use Rattle.street_base.specs.Outcomes.{MayBeShort, short_state}
 use Rattle.street_base.specs.State.{State}
 use Rattle.street_desk.specs.declared.journal.Entry.{Entry}
 use Rattle.street_desk.specs.History.{state_from, state_of}
-use Rattle.street_stream.specs.Faults.{IsAtRead, IsCaused}
+use Rattle.street_stream.specs.Faults.{IsAtRead, IsCaused, CountsLines, CountsReplies}
 use Rattle.street_stream.specs.Lines.{cut, lines_of}
 use Rattle.street_stream.specs.declared.counted.Counted.{Counted}
 use Rattle.street_stream.specs.declared.tally.FaultKind.{FaultKind}
-use Rattle.street_stream.specs.declared.tally.FaultKind.TheVariants.{Starved}
 use Rattle.street_stream.specs.declared.tally.Tally.{Tally}
 use Rattle.street_engine.specs.Refines.{EngineView, StandsFor}
 use Rattle.street_tape.specs.BadTapes.{SaysCalls, IsNoTape, IsBadAt}
@@ -47,25 +46,26 @@ HasBegunNext start done es (l ∷ ls) view =
     StandsFor view (state_from start es)
     ⊎ ((e : Entry) × (calls_in (done ++ l ∷ []) ≡ Some (es ++ e ∷ [])) × HasBegun (state_from start es) e.command view)
 
--- the calls of the first lines are applied, and the first bytes of their replies are written; the last reply alone may be cut off
-pub record BreaksAfter (start : State) (before : Option (List ℕ)) (done rest : List (List ℕ)) (view : EngineView) (after : Option (List ℕ)) (tally : Tally) : Type 0 where
+-- the calls of the first lines are applied, and the first bytes of their replies are written
+pub record BreaksAfter (start : State) (before : Option (List ℕ)) (done rest : List (List ℕ)) (view : EngineView)
+    (after : Option (List ℕ)) (tally : Tally) : Type 0 where
   pub entries : List Entry
   pub says : SaysCalls (AreReplayable start) done entries
   pub state : HasBegunNext start done entries rest view
   pub within : tally.bytes ≤ length (output_from start entries)
   pub written : Appends before after (take tally.bytes (output_from start entries))
   pub calls : tally.calls ≡ length entries
-  pub replies : ((tally.bytes ≡ length (output_from start entries)) × (tally.replies ≡ length entries))
-      ⊎ ((tally.bytes < length (output_from start entries)) × (tally.replies + 1 ≡ length entries))
+  pub replies : CountsReplies tally (output_from start entries) (length entries)
 
 -- so of the lines of a text; at a read the replies are whole, and those of all lines read to their end
-pub record Breaks (start : State) (before : Option (List ℕ)) (text : List ℕ) (view : EngineView) (after : Option (List ℕ)) (kind : FaultKind) (tally : Tally) : Type 0 where
+pub record Breaks (start : State) (before : Option (List ℕ)) (text : List ℕ) (view : EngineView)
+    (after : Option (List ℕ)) (kind : FaultKind) (tally : Tally) : Type 0 where
   pub done : List (List ℕ)
   pub rest : List (List ℕ)
   pub first_lines : lines_of text ≡ done ++ rest
   pub broken : BreaksAfter start before done rest view after tally
   -- a line that memory was wanting for was taken up, but not done
-  pub lines : (tally.lines ≡ length done) ⊎ ((kind ≡ Starved) × (tally.lines ≡ length done + 1))
+  pub lines : CountsLines kind tally done
   pub whole : IsAtRead kind → (done ≡ (cut text).0) × (tally.replies ≡ tally.calls)
 
 -- ---- all faults

@@ -1,13 +1,13 @@
 -- What an upgrade leaves.
 -- Source: this profile. Nothing is applied; what is written is the tape of version 2.
-use Rattle.std.specs.Prelude.{◌≡◌, ℕ, ◌+◌, ◌⊎◌, List, [], ◌++◌, length, Bool, true, false, Option, Some, None, ⊤}
+use Rattle.std.specs.Prelude.{◌≡◌, ℕ, ◌⊎◌, List, [], ◌++◌, length, Bool, true, false, Option, Some, None, ⊤}
 use Rattle.std.specs.Io.KnownBytes.{Appends, Consumes, IsAtEnd}
 use Rattle.street_desk.specs.declared.journal.Entry.{Entry}
+use Rattle.street_stream.specs.Faults.{CountsLines}
 use Rattle.street_stream.specs.HandledLines.{Effect}
 use Rattle.street_stream.specs.Lines.{lines_of}
-use Rattle.street_stream.specs.declared.counted.Counted.{Counted}
 use Rattle.street_stream.specs.declared.tally.FaultKind.{FaultKind}
-use Rattle.street_stream.specs.declared.tally.FaultKind.TheVariants.{Starved}
+use Rattle.street_stream.specs.declared.tally.RunFault.{RunFault}
 use Rattle.street_stream.specs.declared.tally.Tally.{Tally}
 use Rattle.street_tape.specs.BadTapes.{IsNoTape, IsBadAt}
 use Rattle.street_tape.specs.declared.fault.TapeFault.{TapeFault}
@@ -16,7 +16,7 @@ use Rattle.street_tape.specs.declared.upgrades.Upgrader.{Upgrader}
 use Rattle.street_tape.specs.Entries.{calls_in, tape_reading}
 use Rattle.street_tape.specs.TapeLines.{Takes, Refuses}
 use Rattle.street_tape.specs.Tapes.{entry_line, tape_text}
-use Rattle.street_tape.specs.Written.{IsPrefix, IsCausedByWriting}
+use Rattle.street_tape.specs.Written.{IsPrefix}
 use Rattle.street_tape.specs.declared.tape.Stop.{Stop}
 
 -- the tally of a whole upgrade: no reply is written, but the tape of the calls
@@ -49,7 +49,7 @@ pub record Cuts (at_end : Type 0) (before : Option (List ℕ)) (text : List ℕ)
   pub written : IsPrefix before 0 (tape_text entries) after tally.bytes
   pub whole : (tally.bytes ≡ 0) ⊎ (at_end × (tape_reading text ≡ Some entries))
   -- a line that memory was wanting for was taken up, but not kept
-  pub lines : (tally.lines ≡ length done) ⊎ ((kind ≡ Starved) × (tally.lines ≡ length done + 1))
+  pub lines : CountsLines kind tally done
   pub calls : tally.calls ≡ length entries
   pub replies : tally.replies ≡ 0
 
@@ -68,15 +68,8 @@ pub record UpgradeStops (unread before left after : Option (List ℕ)) (fault : 
 -- ---- the end of an upgrade
 
 -- of the text only the first bytes were written, and counted
-abbrev pub CutShort : Tally → Option (List ℕ) → List ℕ → Option (List ℕ) → TapeFault → Type 0
-CutShort tally before text after NotTape = ⊥
-CutShort tally before text after (BadEntry line) = ⊥
-CutShort tally before text after (Run told) = (told.tally ≡ with_bytes tally told.tally.bytes) × IsPrefix before 0 text after told.tally.bytes
-
-abbrev pub IsCausedByWrite : {W : Type 0} → TapeFault → Counted W → Type 0
-IsCausedByWrite NotTape writer = ⊥
-IsCausedByWrite (BadEntry line) writer = ⊥
-IsCausedByWrite (Run told) writer = IsCausedByWriting told.kind writer
+abbrev pub CutShort : Tally → Option (List ℕ) → List ℕ → Option (List ℕ) → RunFault → Type 0
+CutShort tally before text after fault = (fault.tally ≡ with_bytes tally fault.tally.bytes) × IsPrefix before 0 text after fault.tally.bytes
 
 -- ---- an upgrade as a handler of lines
 

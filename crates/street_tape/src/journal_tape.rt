@@ -4,9 +4,10 @@
 ghost use Rattle.std.specs.Prelude.{◌≡◌, ◌≤◌, ◌+◌, ◌-◌, ◌^◌, ◌++◌, OnOk, IfOk, IfErr, length, take};
 ghost use Rattle.std.specs.Io.KnownBytes.{Appends};
 ghost use Rattle.street_stream.specs.Streams.{HasFailed, IsFresh};
+ghost use Rattle.street_stream.specs.Faults.{IsCausedByWriting};
 ghost use Rattle.street_stream.specs.declared.tally.FaultKind.TheVariants as kinds;
 ghost use Rattle.street_tape.specs.Tapes.{head_line, tape_text};
-ghost use Rattle.street_tape.specs.Written.{IsPrefix, IsCausedByWriting};
+ghost use Rattle.street_tape.specs.Written.{IsPrefix};
 
 use crate::texts::{entry_text, head_text};
 use std::alloc::Global;

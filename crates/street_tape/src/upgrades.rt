@@ -4,8 +4,9 @@
 ghost use Rattle.std.specs.Prelude.{◌≡◌, ◌≤◌, ◌<◌, ◌^◌, ◌++◌, OnOk, IfOk, IfErr, length};
 ghost use Rattle.std.specs.Io.KnownBytes.{Appends};
 ghost use Rattle.street_stream.specs.Streams.{IsFresh};
+ghost use Rattle.street_stream.specs.Faults.{IsCausedByWriting};
 ghost use Rattle.street_tape.specs.Faults.{IsTapeCaused};
-ghost use Rattle.street_tape.specs.Upgrades.{UpgradesWhole, UpgradeStops, CutShort, IsCausedByWrite, with_bytes};
+ghost use Rattle.street_tape.specs.Upgrades.{UpgradesWhole, UpgradeStops, CutShort, with_bytes};
 ghost use Rattle.street_tape.specs.Tapes.{entry_line, head_line};
 
 use crate::fault::{TapeFault, check_end, fault_of};
@@ -81,21 +82,21 @@ fn write_kept<W: Write>(
     lines: &[u8],
     writer: &mut Counted<W>,
     tally: Tally,
-) -> Result<Tally, TapeFault>
+) -> Result<Tally, RunFault>
     requires { tally.calls < 2 ^ 64 }
     ensures written { IfOk result (λ all. (all ≡ with_bytes tally (length (head_line tally.calls ++ lines.now)))
         × Appends (W.contents writer.old.stream) (W.contents writer.new.stream) (head_line tally.calls ++ lines.now)) }
     ensures part { IfErr result (λ fault. CutShort tally (W.contents writer.old.stream) (head_line tally.calls ++ lines.now)
         (W.contents writer.new.stream) fault) }
-    ensures caused { IfErr result (λ fault. IsCausedByWrite fault writer.new) }
+    ensures caused { IfErr result (λ fault. IsCausedByWriting fault.kind writer.new) }
 {
     let mut bytes = 0;
     match write_lines(alloc, tally.calls as u64, lines, writer, &mut bytes) {
         Ok(()) => Ok(with_bytes(tally, bytes)),
-        Err(kind) => Err(TapeFault::Run(RunFault {
+        Err(kind) => Err(RunFault {
             kind,
             tally: with_bytes(tally, bytes),
-        })),
+        }),
     }
 }
 
@@ -143,7 +144,10 @@ pub fn upgrade_within<D: Read, W: Write>(
         Err(halt) => return Err(fault_of(halt.cause, halt.tally)),
     };
     match check_end(&upgrader.tape, &tally) {
-        Ok(()) => write_kept(alloc, upgrader.lines.as_slice(), writer, tally),
+        Ok(()) => match write_kept(alloc, upgrader.lines.as_slice(), writer, tally) {
+            Ok(all) => Ok(all),
+            Err(fault) => Err(TapeFault::Run(fault)),
+        },
         Err(fault) => Err(fault),
     }
 }

@@ -1,9 +1,9 @@
 //! Tapes written and read. What is wanted was worked out by hand from the form of a tape.
 ghost use Rattle.std.specs.Prelude.{◌≡◌};
 
+mod writes;
+
 use std::alloc::Global;
-use std::io;
-use std::io::Write;
 use std::process::Abort;
 use std::sync::Wait;
 use std::test::Fail;
@@ -11,7 +11,7 @@ use std::thread::Threads;
 use street_base::{Command, Outcome};
 use street_desk::{Desk, Entry, Journal, Pass};
 use street_engine::{Engine, Unwatched};
-use street_stream::{Counted, FaultKind, RunFault, Tally};
+use street_stream::Counted;
 use street_tape::{Head, Stop, Tape, entry_text, head_text, read_entry, read_head, write_tape};
 use street_text::{LineFault, read_command};
 
@@ -69,32 +69,6 @@ fn journal_of<R: Threads + Wait + Abort + AllocGlobal + Sync>(rt: &R) -> Journal
     }
 }
 
-/// Takes bytes while there is room, seven at most at a time, and then fails.
-#[derive(Drop)]
-struct Short {
-    taken: Vec<u8>,
-    room: usize,
-}
-
-impl Write for Short {
-    fn write(&mut self, bytes: &[u8]) -> io::Result<usize> {
-        let count = bytes.len().min(7).min(self.room);
-        if count == 0 {
-            return Err(io::Error::from(io::ErrorKind::BrokenPipe));
-        }
-        self.taken.extend_from_slice(&bytes[..count])?;
-        self.room -= count;
-        Ok(count)
-    }
-
-    fn flush(&mut self) -> io::Result<()> {
-        if self.room == 0 {
-            return Err(io::Error::from(io::ErrorKind::BrokenPipe));
-        }
-        Ok(())
-    }
-}
-
 /// How many bytes the tape of a journal has, and what was written.
 fn taped(alloc: Global, journal: &Journal) -> (Option<u128>, Vec<u8>) {
     let mut writer = Counted::new(Vec::new(alloc));
@@ -108,41 +82,6 @@ fn a_journal_has_its_tape(rt: HostRuntime) {
     let (bytes, written) = taped(rt.alloc(), &journal);
     assert_eq!(rt; written.as_slice(), TAPE.as_bytes());
     assert_eq!(rt; bytes, Some(TAPE.len() as u128));
-}
-
-/// What is told where there is so much room for a tape, and what was taken.
-fn taped_in(alloc: Global, journal: &Journal, room: usize) -> (Option<RunFault>, Vec<u8>) {
-    let mut writer = Counted::new(Short {
-        taken: Vec::new(alloc),
-        room,
-    });
-    let fault = write_tape(alloc, journal, &mut writer).err();
-    (fault, writer.stream.taken)
-}
-
-/// So many first bytes of the tape were taken, and then a write failed.
-fn check_room(rt: &impl Abort, fault: Option<RunFault>, taken: &[u8], room: usize) {
-    let tally = Tally {
-        lines: 0,
-        calls: 0,
-        replies: 0,
-        bytes: room as u128,
-    };
-    let wanted = RunFault {
-        kind: FaultKind::Write,
-        tally,
-    };
-    assert_eq!(rt; fault, Some(wanted), "at {room}");
-    assert_eq!(rt; Some(taken), TAPE.as_bytes().get(..room), "at {room}");
-}
-
-#[test]
-fn a_fault_leaves_the_first_bytes(rt: HostRuntime) {
-    let journal = journal_of(&rt);
-    for room in [0, 1, 20, 21, 22, 200, TAPE.len() - 1, TAPE.len()] {
-        let (fault, taken) = taped_in(rt.alloc(), &journal, room);
-        check_room(&rt, fault, taken.as_slice(), room);
-    }
 }
 
 /// The outcomes of a call, and its line with each.

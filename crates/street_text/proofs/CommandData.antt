@@ -3,15 +3,18 @@ use Rattle.std.proofs.Common.{◌≡◌, ℕ, ◌≤◌, ◌==◌, List, [], ◌
 use Rattle.std.proofs.lemmas.Bool.{cases_Bool}
 use Rattle.serde_json.specs.Data.{Data, depth, items_depth}
 use Rattle.serde_json.specs.Read.{max_depth}
-use Rattle.serde_json.specs.Written.{has_float}
+use Rattle.serde_json.specs.Written.{has_float, items_have_float}
 use Rattle.street_base.specs.declared.command.Command.{Command}
 use Rattle.street_base.specs.declared.command.Command.TheVariants.{Load, Enter, Signal, Advance, CloseLane, ReopenLane, TakeOut, PlaceMeter, ReadMeter, Vehicle, Lane, Count}
 use Rattle.street_base.specs.declared.command.PhaseSpec.{PhaseSpec}
 use Rattle.street_text.specs.CommandTexts.{command_data}
 use Rattle.street_text.specs.ReplyLines.{items_from, number_data, node_data, link_data, turn_data, green_data, phase_data}
-use Rattle.street_text.proofs.Floats.{whole_list}
 
 -- ---- it has no float
+
+whole_list : {T : Type 0} (one : T → Data) → ((x : T) → has_float (one x) ≡ false) → (xs : List T) → items_have_float (items_from one xs) ≡ false
+whole_list one whole [] = refl
+whole_list one whole (x ∷ xs) = rw (whole x) (whole_list one whole xs)
 
 whole_phase : (p : PhaseSpec) → has_float (phase_data p) ≡ false
 whole_phase p = rw (whole_list green_data (λ g. refl) p.greens) refl

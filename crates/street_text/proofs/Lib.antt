@@ -4,5 +4,5 @@ pub mod Again
 pub mod ListEntries
 pub mod Texts
 pub mod Items
-pub mod Floats
 pub mod Puts
+pub mod Tokens

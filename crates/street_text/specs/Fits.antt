@@ -2,7 +2,8 @@
 -- Source: this profile.
 use Rattle.std.specs.Prelude.{ℕ, ◌<◌, ◌^◌, All}
 use Rattle.street_base.specs.declared.command.Command.{Command}
-use Rattle.street_base.specs.declared.command.Command.TheVariants.{Load, Enter, Signal, Advance, CloseLane, ReopenLane, TakeOut, PlaceMeter, ReadMeter, Vehicle, Lane, Count}
+use Rattle.street_base.specs.declared.command.Command.TheVariants.{Load, Enter, Signal, Advance, CloseLane, ReopenLane}
+use Rattle.street_base.specs.declared.command.Command.TheVariants.{TakeOut, PlaceMeter, ReadMeter, Vehicle, Lane, Count}
 use Rattle.street_base.specs.declared.command.GreenSpec.{GreenSpec}
 use Rattle.street_base.specs.declared.command.PhaseSpec.{PhaseSpec}
 use Rattle.street_base.specs.declared.net.NodeSpec.{NodeSpec}
@@ -31,7 +32,8 @@ PhaseFits p = IsWord p.duration × All GreenFits p.greens
 -- each number of the command is one of 64 bits
 abbrev pub Fits : Command → Type 0
 Fits (Load net) =
-    All NodeFits net.nodes × All LinkFits net.links × All TurnFits net.turns × IsWord net.zone × IsWord net.dawdle × IsWord net.change × IsWord net.seed × IsWord net.start
+    All NodeFits net.nodes × All LinkFits net.links × All TurnFits net.turns
+    × IsWord net.zone × IsWord net.dawdle × IsWord net.change × IsWord net.seed × IsWord net.start
 Fits (Enter plan lane depart size) = All IsWord plan × IsWord lane × IsWord depart × IsWord size
 Fits (Signal node offset phases) = IsWord node × IsWord offset × All PhaseFits phases
 Fits (Advance steps) = IsWord steps

@@ -4,4 +4,5 @@ pub mod Fits
 pub mod Faults
 pub mod LineCommands
 pub mod ReplyLines
+pub mod Tokens
 pub mod Members

@@ -1,23 +1,17 @@
--- The members of an object, each under its key.
+-- The members of a command's object, each under its key.
 -- Source: this profile.
 use Rattle.std.specs.Borrow.{Bor}
 use Rattle.std.specs.Prelude.{ℕ, List, [], ◌∷◌, Bool, true, false, if◌then◌else◌, Some, None}
 use Rattle.serde_json.specs.Data.{Data, null, string, array, object, Members, no_members, put}
 use Rattle.street_text.specs.declared.members.Member.{Member}
-use Rattle.street_text.specs.declared.members.Member.TheVariants.{Number, Text, Numbers, Running, Rows, Buffer, Cells, Stretches, Waiting, Nodes, Links, Turns, Phases, Optional}
-use Rattle.street_text.specs.ReplyLines.{items_from, number_data, numbers, meter_data, running_data, buffer_data, cell_data, stretch_data, waiting_data, node_data, link_data, turn_data, phase_data}
+use Rattle.street_text.specs.declared.members.Member.TheVariants.{Number, Text, Numbers, Nodes, Links, Turns, Phases, Optional}
+use Rattle.street_text.specs.ReplyLines.{items_from, number_data, numbers, node_data, link_data, turn_data, phase_data}
 
 -- what stands under one key
 abbrev pub member_data : Member → Data
 member_data (Number n) = number_data n
 member_data (Text text) = string text.now
 member_data (Numbers list) = array (numbers list.now)
-member_data (Running row) = running_data row.now
-member_data (Rows list) = array (items_from meter_data list.now)
-member_data (Buffer list) = array (items_from buffer_data list.now)
-member_data (Cells list) = array (items_from cell_data list.now)
-member_data (Stretches list) = array (items_from stretch_data list.now)
-member_data (Waiting list) = array (items_from waiting_data list.now)
 member_data (Nodes list) = array (items_from node_data list.now)
 member_data (Links list) = array (items_from link_data list.now)
 member_data (Turns list) = array (items_from turn_data list.now)

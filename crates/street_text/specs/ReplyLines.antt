@@ -10,7 +10,8 @@ use Rattle.street_base.specs.declared.reply.MeterRow.{MeterRow}
 use Rattle.street_base.specs.declared.refusal.Refusal.{Refusal}
 use Rattle.street_base.specs.declared.refusal.Refusal.TheVariants.{BadNetwork, BadPlan, BadSignal}
 use Rattle.street_base.specs.declared.reply.Reply.{Reply}
-use Rattle.street_base.specs.declared.reply.Reply.TheVariants.{Loaded, Signalled, Entered, Clock, Short, Closed, Placed, Rows, Vehicle, Lane, Census, Refused, Starved}
+use Rattle.street_base.specs.declared.reply.Reply.TheVariants.{Loaded, Signalled, Entered, Clock, Short, Closed, Placed}
+use Rattle.street_base.specs.declared.reply.Reply.TheVariants.{Rows, Vehicle, Lane, Census, Refused, Starved}
 use Rattle.street_base.specs.declared.reply.RunningRow.{RunningRow}
 use Rattle.street_base.specs.declared.reply.Stretch.{Stretch}
 use Rattle.street_base.specs.declared.reply.WaitingEntry.{WaitingEntry}

@@ -4,7 +4,9 @@
 ghost use Rattle.std.specs.Prelude.{◌≡◌, ◌⊎◌};
 ghost use Rattle.serde_json.specs.Errors.{IsMemory};
 ghost use Rattle.serde_json.specs.View.{view};
-ghost use Rattle.street_text.specs.LineCommands.{numbers_in, load_in, signal_in, size_in, enter_in, advance_in, close_in, reopen_in, take_out_in, place_meter_in, read_meter_in, vehicle_in, lane_in, observing_names, named_in, named, command_in, or_fault, reading, value_of, Gives, GivesValue};
+ghost use Rattle.street_text.specs.LineCommands.{numbers_in, load_in, signal_in, size_in, enter_in, advance_in, close_in, reopen_in};
+ghost use Rattle.street_text.specs.LineCommands.{take_out_in, place_meter_in, read_meter_in, vehicle_in, lane_in, observing_names, named_in, named};
+ghost use Rattle.street_text.specs.LineCommands.{command_in, or_fault, reading, value_of, Gives, GivesValue};
 
 use crate::fault::LineFault;
 use crate::values::{field_of, number_or};

@@ -1,19 +1,16 @@
-//! The lists of a reply or a command: numbers, and rows of numbers.
+//! The lists of a command: numbers, and rows of numbers.
 //!
 //! Source: this profile.
 ghost use Rattle.std.specs.Prelude.{◌≡◌, IfOk};
 ghost use Rattle.serde_json.specs.Data.{Data, array};
 ghost use Rattle.serde_json.specs.View.{view};
-ghost use Rattle.street_text.specs.ReplyLines.{items_from, number_data, meter_data, running_data, buffer_data, cell_data, stretch_data, waiting_data, node_data, link_data, turn_data, green_data, phase_data};
+ghost use Rattle.street_text.specs.ReplyLines.{items_from, number_data, node_data, link_data, turn_data, green_data, phase_data};
 
 use serde_json::{Value, json};
 use std::alloc::{AllocError, Global};
-use street_base::{
-    BufferEntry, CellEntry, GreenSpec, LinkSpec, MeterRow, NodeSpec, PhaseSpec, RunningRow,
-    Stretch, TurnSpec, WaitingEntry,
-};
+use street_base::{GreenSpec, LinkSpec, NodeSpec, PhaseSpec, TurnSpec};
 
-/// What stands in a list of a reply or a command.
+/// What stands in a list of a command.
 pub trait Printed {
     ghost prints: { Self → Data };
 
@@ -43,70 +40,6 @@ impl Printed for u64 {
 
     fn to_value(&self, _alloc: Global) -> Result<Value, AllocError> {
         Ok(Value::from(*self))
-    }
-}
-
-impl Printed for MeterRow {
-    ghost prints = { meter_data };
-
-    fn to_value(&self, alloc: Global) -> Result<Value, AllocError> {
-        list_value(
-            alloc,
-            &[self.start, self.passes, self.speeds, self.occupied],
-        )
-    }
-}
-
-impl Printed for RunningRow {
-    ghost prints = { running_data };
-
-    fn to_value(&self, alloc: Global) -> Result<Value, AllocError> {
-        list_value(
-            alloc,
-            &[
-                self.start,
-                self.steps,
-                self.passes,
-                self.speeds,
-                self.occupied,
-            ],
-        )
-    }
-}
-
-impl Printed for BufferEntry {
-    ghost prints = { buffer_data };
-
-    fn to_value(&self, alloc: Global) -> Result<Value, AllocError> {
-        list_value(alloc, &[self.car, self.speed, self.ready])
-    }
-}
-
-impl Printed for CellEntry {
-    ghost prints = { cell_data };
-
-    fn to_value(&self, alloc: Global) -> Result<Value, AllocError> {
-        if self.size > 1 {
-            list_value(alloc, &[self.car, self.cell, self.speed, self.size])
-        } else {
-            list_value(alloc, &[self.car, self.cell, self.speed])
-        }
-    }
-}
-
-impl Printed for Stretch {
-    ghost prints = { stretch_data };
-
-    fn to_value(&self, alloc: Global) -> Result<Value, AllocError> {
-        list_value(alloc, &[self.first, self.last])
-    }
-}
-
-impl Printed for WaitingEntry {
-    ghost prints = { waiting_data };
-
-    fn to_value(&self, alloc: Global) -> Result<Value, AllocError> {
-        list_value(alloc, &[self.car, self.depart])
     }
 }
 

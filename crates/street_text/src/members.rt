@@ -1,4 +1,4 @@
-//! The objects of a reply or a command.
+//! The objects of a command.
 //!
 //! Source: this profile.
 ghost use Rattle.std.specs.Prelude.{◌≡◌, IfOk, OnOk};
@@ -8,10 +8,7 @@ ghost use Rattle.street_text.specs.Members.{is_absent, member_data, put_member, 
 use crate::lists::{Printed, list_value};
 use serde_json::{Map, Value, json, put};
 use std::alloc::{AllocError, Global};
-use street_base::{
-    BufferEntry, CellEntry, LinkSpec, MeterRow, NodeSpec, PhaseSpec, RunningRow, Stretch, TurnSpec,
-    WaitingEntry,
-};
+use street_base::{LinkSpec, NodeSpec, PhaseSpec, TurnSpec};
 
 /// What stands under a key of an object.
 #[derive(Clone, Copy)]
@@ -22,18 +19,6 @@ pub enum Member<'a> {
     Text(&'a str),
     /// A list of numbers.
     Numbers(&'a [u64]),
-    /// The running row of a meter.
-    Running(&'a RunningRow),
-    /// The rows of a meter.
-    Rows(&'a [MeterRow]),
-    /// Who is in a buffer.
-    Buffer(&'a [BufferEntry]),
-    /// Who is in the cells of a lane.
-    Cells(&'a [CellEntry]),
-    /// Stretches of a lane.
-    Stretches(&'a [Stretch]),
-    /// Who waits for a lane.
-    Waiting(&'a [WaitingEntry]),
     /// Nodes of a network.
     Nodes(&'a [NodeSpec]),
     /// Links of a network.
@@ -62,12 +47,6 @@ impl Member<'_> {
             Member::Number(number) => Ok(Value::from(*number)),
             Member::Text(text) => json!(in alloc; *text),
             Member::Numbers(list) => list_value(alloc, list),
-            Member::Running(row) => row.to_value(alloc),
-            Member::Rows(list) => list_value(alloc, list),
-            Member::Buffer(list) => list_value(alloc, list),
-            Member::Cells(list) => list_value(alloc, list),
-            Member::Stretches(list) => list_value(alloc, list),
-            Member::Waiting(list) => list_value(alloc, list),
             Member::Nodes(list) => list_value(alloc, list),
             Member::Links(list) => list_value(alloc, list),
             Member::Turns(list) => list_value(alloc, list),

@@ -3,66 +3,37 @@
 //! Source: this profile.
 ghost use Rattle.std.specs.Prelude.{◌≡◌, IfOk, codes, nat_lt, Some, None, if◌then◌else◌};
 ghost use Rattle.serde_json.specs.Data.{object, no_members};
-ghost use Rattle.serde_json.specs.View.{view};
-ghost use Rattle.street_text.specs.ReplyLines.{number_at, text_at, error_at, refused_data, ended_data, vehicle_data, reply_data, reply_line};
-ghost use Rattle.street_base.specs.declared.reply.Reply.TheVariants.{Loaded, Short, Rows, Lane, Census, Starved as StarvedReply};
-ghost use Rattle.street_base.specs.declared.reply.Whereabouts.TheVariants.{Cell, Buffer, Waiting};
+ghost use Rattle.street_text.specs.ReplyLines.{line_of, number_at, refused_data, ended_data, vehicle_data, reply_data, reply_line};
+ghost use Rattle.street_base.specs.declared.reply.Reply.TheVariants.{Rows, Lane};
+ghost use Rattle.street_base.specs.declared.reply.Whereabouts.TheVariants.{Cell, Buffer, Waiting, Ended};
 
-use crate::errors::error_value;
-use crate::lines::line_text;
-use crate::members::{Member, object_value};
-use serde_json::{Value, json};
-use std::alloc::{AllocError, Global};
+use crate::fields::{Field, object_line};
+use std::alloc::Global;
 use street_base::{
     BufferEntry, CellEntry, End, Listing, MeterRow, Refusal, Reply, RunningRow, Starved, Stretch,
     WaitingEntry, Whereabouts,
 };
 
-/// An error in a part of a load.
-fn bad_network<'a>(
-    alloc: Global,
-    at: u64,
-    number: u64,
-    name: &'a str,
-    part: &'a str,
-) -> Result<Value, AllocError>
-    ensures { IfOk result (λ v. view v
-        ≡ object (number_at (codes "at") at (error_at number name.now (text_at (codes "part") part.now no_members)))) }
+fn refused(alloc: Global, refusal: Refusal) -> Result<Vec<u8>, Starved>
+    ensures { IfOk result (λ text. text.items ≡ line_of (refused_data refusal)) }
 {
-    object_value(
-        alloc,
-        &[
-            ("at", Member::Number(at)),
-            ("error", Member::Number(number)),
-            ("name", Member::Text(name)),
-            ("part", Member::Text(part)),
-        ],
-    )
-}
-
-/// An error at a place.
-fn at_place(alloc: Global, at: u64, number: u64, name: &str) -> Result<Value, AllocError>
-    ensures { IfOk result (λ v. view v ≡ object (number_at (codes "at") at (error_at number name.now no_members))) }
-{
-    object_value(
-        alloc,
-        &[
-            ("at", Member::Number(at)),
-            ("error", Member::Number(number)),
-            ("name", Member::Text(name)),
-        ],
-    )
-}
-
-fn refused(alloc: Global, refusal: Refusal) -> Result<Value, AllocError>
-    ensures { IfOk result (λ v. view v ≡ refused_data refusal) }
-{
-    let number = refusal.number();
-    let name = refusal.name();
+    let number = Field::Number(refusal.number());
+    let name = Field::Text(refusal.name());
     match refusal {
-        Refusal::BadNetwork { part, at } => bad_network(alloc, at, number, name, part.name()),
-        Refusal::BadPlan { at } | Refusal::BadSignal { at } => at_place(alloc, at, number, name),
-        _ => error_value(alloc, number, name),
+        Refusal::BadNetwork { part, at } => object_line(
+            alloc,
+            &[
+                ("at", Field::Number(at)),
+                ("error", number),
+                ("name", name),
+                ("part", Field::Text(part.name())),
+            ],
+        ),
+        Refusal::BadPlan { at } | Refusal::BadSignal { at } => object_line(
+            alloc,
+            &[("at", Field::Number(at)), ("error", number), ("name", name)],
+        ),
+        _ => object_line(alloc, &[("error", number), ("name", name)]),
     }
 }
 
@@ -73,100 +44,120 @@ fn told_size(size: u64) -> Option<u64>
     if size > 1 { Some(size) } else { None }
 }
 
-fn in_cell(
-    alloc: Global,
+/// A vehicle that has not ended, on its lane or before it.
+#[derive(Clone, Copy)]
+struct OnLane {
     car: u64,
     link: u64,
     lane: u64,
+    size: u64,
+}
+
+impl OnLane {
+    fn new(car: u64, link: u64, lane: u64, size: u64) -> OnLane
+        ensures { result ≡ record { car = car; link = link; lane = lane; size = size } }
+    {
+        OnLane {
+            car,
+            link,
+            lane,
+            size,
+        }
+    }
+}
+
+fn in_cell(
+    alloc: Global,
+    at: OnLane,
     cell: u64,
     speed: u64,
-    size: u64,
     plan: &[u64],
-) -> Result<Value, AllocError>
-    ensures { IfOk result (λ v. view v ≡ vehicle_data car (Cell link lane cell speed size plan.now)) }
+) -> Result<Vec<u8>, Starved>
+    ensures { IfOk result (λ text. text.items
+        ≡ line_of (vehicle_data at.car (Cell at.link at.lane cell speed at.size plan.now))) }
 {
-    object_value(
+    object_line(
         alloc,
         &[
-            ("car", Member::Number(car)),
-            ("cell", Member::Number(cell)),
-            ("lane", Member::Number(lane)),
-            ("link", Member::Number(link)),
-            ("plan", Member::Numbers(plan)),
-            ("size", Member::Optional(told_size(size))),
-            ("speed", Member::Number(speed)),
-            ("state", Member::Text("cell")),
+            ("car", Field::Number(at.car)),
+            ("cell", Field::Number(cell)),
+            ("lane", Field::Number(at.lane)),
+            ("link", Field::Number(at.link)),
+            ("plan", Field::Numbers(plan)),
+            ("size", Field::Optional(told_size(at.size))),
+            ("speed", Field::Number(speed)),
+            ("state", Field::Text("cell")),
         ],
     )
 }
 
 fn in_buffer(
     alloc: Global,
-    car: u64,
-    link: u64,
-    lane: u64,
+    at: OnLane,
     ready: u64,
     speed: u64,
-    size: u64,
     plan: &[u64],
-) -> Result<Value, AllocError>
-    ensures { IfOk result (λ v. view v ≡ vehicle_data car (Buffer link lane ready speed size plan.now)) }
+) -> Result<Vec<u8>, Starved>
+    ensures { IfOk result (λ text. text.items
+        ≡ line_of (vehicle_data at.car (Buffer at.link at.lane ready speed at.size plan.now))) }
 {
-    object_value(
+    object_line(
         alloc,
         &[
-            ("car", Member::Number(car)),
-            ("lane", Member::Number(lane)),
-            ("link", Member::Number(link)),
-            ("plan", Member::Numbers(plan)),
-            ("ready", Member::Number(ready)),
-            ("size", Member::Optional(told_size(size))),
-            ("speed", Member::Number(speed)),
-            ("state", Member::Text("buffer")),
+            ("car", Field::Number(at.car)),
+            ("lane", Field::Number(at.lane)),
+            ("link", Field::Number(at.link)),
+            ("plan", Field::Numbers(plan)),
+            ("ready", Field::Number(ready)),
+            ("size", Field::Optional(told_size(at.size))),
+            ("speed", Field::Number(speed)),
+            ("state", Field::Text("buffer")),
         ],
     )
 }
 
-fn waiting(
-    alloc: Global,
-    car: u64,
-    link: u64,
-    lane: u64,
-    depart: u64,
-    size: u64,
-    plan: &[u64],
-) -> Result<Value, AllocError>
-    ensures { IfOk result (λ v. view v ≡ vehicle_data car (Waiting link lane depart size plan.now)) }
+fn waiting(alloc: Global, at: OnLane, depart: u64, plan: &[u64]) -> Result<Vec<u8>, Starved>
+    ensures { IfOk result (λ text. text.items
+        ≡ line_of (vehicle_data at.car (Waiting at.link at.lane depart at.size plan.now))) }
 {
-    object_value(
+    object_line(
         alloc,
         &[
-            ("car", Member::Number(car)),
-            ("depart", Member::Number(depart)),
-            ("lane", Member::Number(lane)),
-            ("link", Member::Number(link)),
-            ("plan", Member::Numbers(plan)),
-            ("size", Member::Optional(told_size(size))),
-            ("state", Member::Text("waiting")),
+            ("car", Field::Number(at.car)),
+            ("depart", Field::Number(depart)),
+            ("lane", Field::Number(at.lane)),
+            ("link", Field::Number(at.link)),
+            ("plan", Field::Numbers(plan)),
+            ("size", Field::Optional(told_size(at.size))),
+            ("state", Field::Text("waiting")),
         ],
     )
 }
 
-fn ended(alloc: Global, car: u64, state: &str, step: u64) -> Result<Value, AllocError>
-    ensures { IfOk result (λ v. view v ≡ ended_data car state.now step) }
+fn ended_as(alloc: Global, car: u64, state: &str, step: u64) -> Result<Vec<u8>, Starved>
+    ensures { IfOk result (λ text. text.items ≡ line_of (ended_data car state.now step)) }
 {
-    object_value(
+    object_line(
         alloc,
         &[
-            ("car", Member::Number(car)),
-            ("state", Member::Text(state)),
-            ("step", Member::Number(step)),
+            ("car", Field::Number(car)),
+            ("state", Field::Text(state)),
+            ("step", Field::Number(step)),
         ],
     )
 }
 
-fn vehicle(alloc: Global, car: u64, whereabouts: &Whereabouts) -> Result<Value, AllocError>
-    ensures { IfOk result (λ v. view v ≡ vehicle_data car whereabouts.now) }
+fn ended(alloc: Global, car: u64, end: &End) -> Result<Vec<u8>, Starved>
+    ensures { IfOk result (λ text. text.items ≡ line_of (vehicle_data car (Ended end.now))) }
+{
+    match end {
+        End::Arrived { step } => ended_as(alloc, car, "arrived", *step),
+        End::Taken { step } => ended_as(alloc, car, "taken", *step),
+    }
+}
+
+fn vehicle(alloc: Global, car: u64, whereabouts: &Whereabouts) -> Result<Vec<u8>, Starved>
+    ensures { IfOk result (λ text. text.items ≡ line_of (vehicle_data car whereabouts.now)) }
 {
     match whereabouts {
         Whereabouts::Cell {
@@ -178,12 +169,9 @@ fn vehicle(alloc: Global, car: u64, whereabouts: &Whereabouts) -> Result<Value, 
             plan,
         } => in_cell(
             alloc,
-            car,
-            *link,
-            *lane,
+            OnLane::new(car, *link, *lane, *size),
             *cell,
             *speed,
-            *size,
             plan.as_slice(),
         ),
         Whereabouts::Buffer {
@@ -195,12 +183,9 @@ fn vehicle(alloc: Global, car: u64, whereabouts: &Whereabouts) -> Result<Value, 
             plan,
         } => in_buffer(
             alloc,
-            car,
-            *link,
-            *lane,
+            OnLane::new(car, *link, *lane, *size),
             *ready,
             *speed,
-            *size,
             plan.as_slice(),
         ),
         Whereabouts::Waiting {
@@ -209,20 +194,24 @@ fn vehicle(alloc: Global, car: u64, whereabouts: &Whereabouts) -> Result<Value, 
             depart,
             size,
             plan,
-        } => waiting(alloc, car, *link, *lane, *depart, *size, plan.as_slice()),
-        Whereabouts::Ended(End::Arrived { step }) => ended(alloc, car, "arrived", *step),
-        Whereabouts::Ended(End::Taken { step }) => ended(alloc, car, "taken", *step),
+        } => waiting(
+            alloc,
+            OnLane::new(car, *link, *lane, *size),
+            *depart,
+            plan.as_slice(),
+        ),
+        Whereabouts::Ended(end) => ended(alloc, car, end),
     }
 }
 
-fn rows(alloc: Global, now: &RunningRow, rows: &Listing<MeterRow>) -> Result<Value, AllocError>
-    ensures { IfOk result (λ v. view v ≡ reply_data (Rows now.now rows.now)) }
+fn rows(alloc: Global, now: &RunningRow, rows: &Listing<MeterRow>) -> Result<Vec<u8>, Starved>
+    ensures { IfOk result (λ text. text.items ≡ line_of (reply_data (Rows now.now rows.now))) }
 {
-    object_value(
+    object_line(
         alloc,
         &[
-            ("now", Member::Running(now)),
-            ("rows", Member::Rows(rows.as_slice())),
+            ("now", Field::Running(now)),
+            ("rows", Field::Rows(rows.as_slice())),
         ],
     )
 }
@@ -233,97 +222,56 @@ fn lane(
     cells: &Listing<CellEntry>,
     closed: &Listing<Stretch>,
     waiting: &Listing<WaitingEntry>,
-) -> Result<Value, AllocError>
-    ensures { IfOk result (λ v. view v ≡ reply_data (Lane buffer.now cells.now closed.now waiting.now)) }
+) -> Result<Vec<u8>, Starved>
+    ensures { IfOk result (λ text. text.items
+        ≡ line_of (reply_data (Lane buffer.now cells.now closed.now waiting.now))) }
 {
-    object_value(
+    object_line(
         alloc,
         &[
-            ("buffer", Member::Buffer(buffer.as_slice())),
-            ("cells", Member::Cells(cells.as_slice())),
-            ("closed", Member::Stretches(closed.as_slice())),
-            ("waiting", Member::Waiting(waiting.as_slice())),
-        ],
-    )
-}
-
-fn census(
-    alloc: Global,
-    admitted: u64,
-    arrived: u64,
-    buffers: u64,
-    cells: u64,
-    clock: u64,
-    taken: u64,
-    waiting: u64,
-) -> Result<Value, AllocError>
-    ensures { IfOk result (λ v. view v ≡ reply_data (Census admitted arrived buffers cells clock taken waiting)) }
-{
-    object_value(
-        alloc,
-        &[
-            ("admitted", Member::Number(admitted)),
-            ("arrived", Member::Number(arrived)),
-            ("buffers", Member::Number(buffers)),
-            ("cells", Member::Number(cells)),
-            ("clock", Member::Number(clock)),
-            ("taken", Member::Number(taken)),
-            ("waiting", Member::Number(waiting)),
+            ("buffer", Field::Buffer(buffer.as_slice())),
+            ("cells", Field::Cells(cells.as_slice())),
+            ("closed", Field::Stretches(closed.as_slice())),
+            ("waiting", Field::Waiting(waiting.as_slice())),
         ],
     )
 }
 
 /// An object of one number.
-fn one_number(alloc: Global, name: &str, number: u64) -> Result<Value, AllocError>
-    ensures { IfOk result (λ v. view v ≡ object (number_at name.now number no_members)) }
+fn one_number(alloc: Global, name: &str, number: u64) -> Result<Vec<u8>, Starved>
+    ensures { IfOk result (λ text. text.items ≡ line_of (object (number_at name.now number no_members))) }
 {
-    object_value(alloc, &[(name, Member::Number(number))])
+    object_line(alloc, &[(name, Field::Number(number))])
 }
 
-fn loaded(alloc: Global, links: u64, nodes: u64, turns: u64) -> Result<Value, AllocError>
-    ensures { IfOk result (λ v. view v ≡ reply_data (Loaded links nodes turns)) }
-{
-    object_value(
-        alloc,
-        &[
-            ("links", Member::Number(links)),
-            ("nodes", Member::Number(nodes)),
-            ("turns", Member::Number(turns)),
-        ],
-    )
-}
-
-fn short(alloc: Global, clock: u64, short: u64) -> Result<Value, AllocError>
-    ensures { IfOk result (λ v. view v ≡ reply_data (Short clock short)) }
-{
-    object_value(
-        alloc,
-        &[
-            ("clock", Member::Number(clock)),
-            ("short", Member::Number(short)),
-        ],
-    )
-}
-
-fn starved(alloc: Global) -> Result<Value, AllocError>
-    ensures { IfOk result (λ v. view v ≡ reply_data StarvedReply) }
-{
-    json!(in alloc; {"starved": true})
-}
-
-fn reply_value(alloc: Global, reply: &Reply) -> Result<Value, AllocError>
-    ensures { IfOk result (λ v. view v ≡ reply_data reply.now) }
+/// The line of a reply: one JSON object, its keys in byte order, and LF.
+#[tactic(auto, unfolding(crate::specs::ReplyLines::reply_line))]
+pub fn reply_text(alloc: Global, reply: &Reply) -> Result<Vec<u8>, Starved>
+    ensures { IfOk result (λ text. text.items ≡ reply_line reply.now) }
 {
     match reply {
         Reply::Loaded {
             links,
             nodes,
             turns,
-        } => loaded(alloc, *links, *nodes, *turns),
+        } => object_line(
+            alloc,
+            &[
+                ("links", Field::Number(*links)),
+                ("nodes", Field::Number(*nodes)),
+                ("turns", Field::Number(*turns)),
+            ],
+        ),
         Reply::Signalled { cycle } => one_number(alloc, "cycle", *cycle),
         Reply::Entered { car } => one_number(alloc, "car", *car),
         Reply::Clock { clock } => one_number(alloc, "clock", *clock),
-        Reply::Short { clock, short: made } => short(alloc, *clock, *made),
+        Reply::Short { clock, short } => object_line(
+            alloc,
+            &[
+                ("clock", Field::Number(*clock)),
+                ("short", Field::Number(*short)),
+            ],
+        ),
         Reply::Closed { closed } => one_number(alloc, "closed", *closed),
         Reply::Taken { taken } => one_number(alloc, "taken", *taken),
         Reply::Placed { meter } => one_number(alloc, "meter", *meter),
@@ -343,18 +291,19 @@ fn reply_value(alloc: Global, reply: &Reply) -> Result<Value, AllocError>
             clock,
             taken,
             waiting,
-        } => census(
-            alloc, *admitted, *arrived, *buffers, *cells, *clock, *taken, *waiting,
+        } => object_line(
+            alloc,
+            &[
+                ("admitted", Field::Number(*admitted)),
+                ("arrived", Field::Number(*arrived)),
+                ("buffers", Field::Number(*buffers)),
+                ("cells", Field::Number(*cells)),
+                ("clock", Field::Number(*clock)),
+                ("taken", Field::Number(*taken)),
+                ("waiting", Field::Number(*waiting)),
+            ],
         ),
         Reply::Refused(refusal) => refused(alloc, *refusal),
-        Reply::Starved => starved(alloc),
+        Reply::Starved => object_line(alloc, &[("starved", Field::Flag(true))]),
     }
-}
-
-/// The line of a reply: one JSON object, its keys in byte order, and LF.
-#[tactic(auto, unfolding(crate::specs::ReplyLines::reply_line))]
-pub fn reply_text(alloc: Global, reply: &Reply) -> Result<Vec<u8>, Starved>
-    ensures { IfOk result (λ text. text.items ≡ reply_line reply.now) }
-{
-    line_text(alloc, &reply_value(alloc, reply)?)
 }

@@ -1,5 +1,4 @@
 use Rattle.std.proofs.Common.{◌<◌, ◌^◌, length, arith}
-use Rattle.std.proofs.lemmas.Result.{IfOk-weaker, IfErr-weaker}
 use Rattle.street_tape.proofs.Upgraded.{calls_fit, upgrades_whole, upgrade_cut, upgrade_misses, upgrade_broke}
 use Rattle.street_tape.specs.declared.upgrades.Upgrader.{Upgrader}
 use Rattle.street_tape.proofs.upgrades.upgrade_within.Goals as goal
@@ -10,19 +9,17 @@ write_kept-requires g c =
     let few : length c.drive_lines.new.handler.lines.items < 2 ^ 64 = rw (← c.as_slice.ensures.value) (omega (arith, c.as_slice.ensures.len)) in
     calls_fit start c.new-tape.ensures c.new-lines.ensures.items _ _ _ _ _ _ c.in-Ok.ensures.whole few
 
-pub returns-in-Ok-check_end-clause-upgraded : goal.returns-in-Ok-check_end-clause-upgraded
-returns-in-Ok-check_end-clause-upgraded g c =
+pub returns-in-Ok-write_kept-clause-upgraded : goal.returns-in-Ok-write_kept-clause-upgraded
+returns-in-Ok-write_kept-clause-upgraded g c =
     let start : Upgrader = record { tape = c.new-tape.result; lines = c.new-lines.result } in
-    IfOk-weaker c.write_kept.result _ _
-    (λ all did. upgrades_whole start c.new-tape.ensures c.new-lines.ensures.items _ _ _ _ _ _ c.in-Ok.ensures.whole _ all c.in-Ok-check_end.ensures.whole did.0 did.1)
-    (rw c.as_slice.ensures.value at c.write_kept.ensures.written)
+    let did = rw c.as_slice.ensures.value at c.in-Ok-write_kept.ensures.written in
+    upgrades_whole start c.new-tape.ensures c.new-lines.ensures.items _ _ _ _ _ _ c.in-Ok.ensures.whole _ c.in-Ok-write_kept.all c.in-Ok-check_end.ensures.whole did.0 did.1
 
 pub returns-in-Ok-check_end-clause-stops : goal.returns-in-Ok-check_end-clause-stops
 returns-in-Ok-check_end-clause-stops g c =
     let start : Upgrader = record { tape = c.new-tape.result; lines = c.new-lines.result } in
-    IfErr-weaker c.write_kept.result _ _
-    (λ told cut. upgrade_cut start c.new-tape.ensures c.new-lines.ensures.items _ _ _ _ _ _ c.in-Ok.ensures.whole _ told c.in-Ok-check_end.ensures.whole cut)
-    (rw c.as_slice.ensures.value at c.write_kept.ensures.part)
+    upgrade_cut start c.new-tape.ensures c.new-lines.ensures.items _ _ _ _ _ _ c.in-Ok.ensures.whole _ c.in-Err-write_kept.fault c.in-Ok-check_end.ensures.whole
+    (rw c.as_slice.ensures.value at c.in-Err-write_kept.ensures.part)
 
 pub returns-in-Err-clause-stops : goal.returns-in-Err-clause-stops
 returns-in-Err-clause-stops g c =

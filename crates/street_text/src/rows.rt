@@ -1,0 +1,100 @@
+//! The lists of a reply, printed straight into bytes: numbers, and rows of numbers.
+//!
+//! Source: this profile.
+ghost use Rattle.std.specs.Prelude.{◌≡◌, OnOk};
+ghost use Rattle.serde_json.specs.Data.{Data, array};
+ghost use Rattle.street_text.specs.Tokens.{tokens_of, Adds};
+ghost use Rattle.street_text.specs.ReplyLines.{items_from, number_data, meter_data, running_data, buffer_data, cell_data, stretch_data, waiting_data};
+
+use json::Writer;
+use std::alloc::AllocError;
+use street_base::{BufferEntry, CellEntry, MeterRow, RunningRow, Stretch, WaitingEntry};
+
+/// What stands in a list of a reply.
+pub trait Row {
+    ghost shows: { Self → Data };
+
+    /// Writes its JSON value.
+    fn write(&self, out: &mut Writer) -> Result<(), AllocError>
+        ensures { OnOk result (Adds (tokens_of (shows self.now)) out.old out.new) };
+}
+
+/// Writes the entries of a list, in order.
+pub fn write_list<T: Row>(list: &[T], out: &mut Writer) -> Result<(), AllocError>
+    ensures { OnOk result (Adds (tokens_of (array (items_from T.shows list.now))) out.old out.new) }
+{
+    out.begin_array()?;
+    for entry in list {
+        entry.write(out)?;
+    }
+    out.end_array()
+}
+
+impl Row for u64 {
+    ghost shows = { number_data };
+
+    fn write(&self, out: &mut Writer) -> Result<(), AllocError> {
+        out.u64(*self)
+    }
+}
+
+impl Row for MeterRow {
+    ghost shows = { meter_data };
+
+    fn write(&self, out: &mut Writer) -> Result<(), AllocError> {
+        write_list(&[self.start, self.passes, self.speeds, self.occupied], out)
+    }
+}
+
+impl Row for RunningRow {
+    ghost shows = { running_data };
+
+    fn write(&self, out: &mut Writer) -> Result<(), AllocError> {
+        write_list(
+            &[
+                self.start,
+                self.steps,
+                self.passes,
+                self.speeds,
+                self.occupied,
+            ],
+            out,
+        )
+    }
+}
+
+impl Row for BufferEntry {
+    ghost shows = { buffer_data };
+
+    fn write(&self, out: &mut Writer) -> Result<(), AllocError> {
+        write_list(&[self.car, self.speed, self.ready], out)
+    }
+}
+
+impl Row for CellEntry {
+    ghost shows = { cell_data };
+
+    fn write(&self, out: &mut Writer) -> Result<(), AllocError> {
+        if self.size > 1 {
+            write_list(&[self.car, self.cell, self.speed, self.size], out)
+        } else {
+            write_list(&[self.car, self.cell, self.speed], out)
+        }
+    }
+}
+
+impl Row for Stretch {
+    ghost shows = { stretch_data };
+
+    fn write(&self, out: &mut Writer) -> Result<(), AllocError> {
+        write_list(&[self.first, self.last], out)
+    }
+}
+
+impl Row for WaitingEntry {
+    ghost shows = { waiting_data };
+
+    fn write(&self, out: &mut Writer) -> Result<(), AllocError> {
+        write_list(&[self.car, self.depart], out)
+    }
+}
