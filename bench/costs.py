@@ -7,7 +7,8 @@
 
 `rt ci` proves and tries nothing again that an earlier run on this machine passed and that has not changed since. What each watched run
 proved and tried is noted in out/costs.json; where the gate takes something from an earlier run, its figure is that run's, which the
-table then says. Where no watched run has it, the table is not written, and what is lacking is named; --gaps writes it all the same.
+table then says. Where no watched run has it (it was ./build's, say), the table is not written, and what is lacking is named:
+bench/costs.py rt ci --anew NAME.. proves it and the crates below again, and --gaps writes the table all the same.
 """
 import argparse
 import contextlib
@@ -252,7 +253,7 @@ def write(runs, gaps):
     if lacking:
         print(f"costs: no watched run has what the gate took from earlier ones: {', '.join(lacking)}", file=sys.stderr)
     if lacking and not gaps:
-        print("costs: docs/COSTS.md stays (--gaps writes it all the same, rt ci --anew proves all again)", file=sys.stderr)
+        print("costs: docs/COSTS.md stays; bench/costs.py rt ci --anew NAME.. proves them again, --gaps writes it all the same", file=sys.stderr)
         return False
     used = sorted({number for one in found.values() if one for number in one[2]})
     names = {number: str(at) for at, number in enumerate(used, 1)}
