@@ -1,13 +1,23 @@
 #!/usr/bin/env python3
-"""What a gate costs, crate by crate: writes docs/COSTS.md from a run of the gate that passed.
+"""What the gate costs, crate by crate: writes docs/COSTS.md from a run of the gate that passed.
 
-    bench/costs.py ./test                            runs the gate and watches it
-    bench/costs.py --beside PID --log FILE           watches a gate that runs, and whose output goes to FILE
+    bench/costs.py ./test                     runs the gate and watches it
+    bench/costs.py rt ci NAME..               runs and watches a part of it
+    bench/costs.py --beside PID --log FILE    watches a gate, or a part, that runs and whose output goes to FILE
+
+`rt ci` proves and tries nothing again that an earlier run on this machine passed and that has not changed since. What each watched run
+proved and tried is noted in out/costs.json; where the gate takes something from an earlier run, its figure is that run's, which the
+table then says. Where no watched run has it (it was ./build's, say), the table is not written, and what is lacking is named:
+bench/costs.py rt ci --anew NAME.. proves it and the crates below again, and --gaps writes the table all the same.
 """
 import argparse
+import contextlib
+import hashlib
+import json
 import os
 import platform
 import re
+import signal
 import subprocess
 import sys
 import threading
@@ -18,11 +28,17 @@ from pathlib import Path
 TOP = Path(__file__).resolve().parents[1]
 TICKS = os.sysconf("SC_CLK_TCK")
 # Seconds between two looks at the processes.
-PAUSE = 0.5
+PAUSE = 0.25
 KINDS = ("proof", "tests", "edits", "compiled")
-# A crate's part of the gate's output, and the last line of a check.
-PART = re.compile(r"== (\w+)(: its tests)?")
+HEAD = "| Crate | Code lines | Definition and proof lines | Functions | Tests | Edits | Proof, s | Tests, s | Edits, s | Compiling, s |"
+# The begin of a crate's part of the gate's output, the last line of a check, and what the gate says of a check and of edits.
+PART = re.compile(r"== \w")
 VERDICT = re.compile(r"logic=proved (?:tests=(\d+) )?functions=(\d+)")
+PROVED = re.compile(r"rt: (\w+)(: its tests are)? proved$")
+TRIED = re.compile(r"rt: must-fail (\w+)/\S+: (refused|NOT REFUSED)")
+KNOWN = re.compile(r"rt: (\w+): (\d+) of its \d+ must-fail edits were tried by an earlier run")
+# Only the whole gate says so, once all is proved and each edit is refused.
+PASSED = re.compile(r"^rt: ok; ", re.M)
 
 
 def processes():
@@ -65,13 +81,14 @@ def kind_of(words, folder):
 
 
 class Watch:
-    """The processor seconds of each process below one, as they were seen last."""
+    """The processor seconds of each process below one, as they were seen last, and how busy the machine was."""
 
     def __init__(self, top):
-        self.top, self.seconds = top, {}
+        self.top, self.seconds, self.loads, self.begun = top, {}, [], time.time()
 
     def look(self):
         found = processes()
+        self.loads.append(os.getloadavg()[0])
         for pid in below(found, self.top):
             _, words, folder, started, seconds = found[pid]
             kind = kind_of(words, folder)
@@ -85,39 +102,123 @@ class Watch:
             total[crate, kind] += seconds
         return total
 
+    def minutes(self):
+        return (time.time() - self.begun) / 60
 
-def counts_of(output):
-    """What the gate says of each crate: functions and tests that are proved. None where the gate has not passed."""
-    if not re.search(r"^\d+ passed, 0 failed", output, re.M):
-        return None
-    functions, tests, crate = {}, {}, ""
+    def load(self):
+        return sum(self.loads) / len(self.loads) if self.loads else 0.0
+
+
+def done_in(output):
+    """What a run has done itself: {(crate, kind): functions that were proved, tests that were, edits that were tried}."""
+    done, tried, count = {}, Counter(), 0
     for line in output.splitlines():
-        part, verdict = PART.match(line), VERDICT.match(line)
-        if part:
-            crate = part[1]
-        elif verdict and verdict[1]:
-            tests[crate] = int(verdict[1])
-        elif verdict:
-            functions[crate] = int(verdict[2])
-    return functions, tests
+        if PART.match(line):
+            count = 0
+        elif found := VERDICT.match(line):
+            count = int(found[1] or found[2])
+        elif found := PROVED.match(line):
+            done[found[1], "tests" if found[2] else "proof"] = count
+        elif found := TRIED.match(line):
+            tried[found[1]] += 1
+        elif found := KNOWN.match(line):
+            tried[found[1]] -= int(found[2])
+    return done | {(crate, "edits"): number for crate, number in tried.items() if number > 0}
 
 
-def lines_of(crate, *endings):
-    """How many lines the files of a crate with these endings have."""
-    files = [path for part in ("src", "specs", "proofs") for path in (TOP / "crates" / crate / part).rglob("*")]
-    return sum(path.read_text().count("\n") for path in files if path.suffix in endings)
+def listed():
+    """The crates, in the order of crates.txt."""
+    return re.findall(r"^(\w+)[^:#\n]*:", (TOP / "crates.txt").read_text(), re.M)
 
 
-def table(functions, tests, sums):
-    """A row for each crate, in the order of crates.txt, and the sums."""
-    listed = re.findall(r"^(\w+)[^:#\n]*:", (TOP / "crates.txt").read_text(), re.M)
+def files_of(crate):
+    """The files that a crate's proof reads."""
+    folders = [TOP / "crates" / crate / part for part in ("src", "specs", "proofs")]
+    return sorted(path for folder in folders for path in folder.rglob("*") if path.is_file())
+
+
+def sum_of(crate):
+    """A sum of a crate's own files: figures of an earlier run are of the same ones."""
+    whole = hashlib.sha256()
+    for path in files_of(crate):
+        whole.update(f"{path.relative_to(TOP)}\n".encode() + path.read_bytes())
+    return whole.hexdigest()
+
+
+def lines_of(crate, ending):
+    """How many lines the files of a crate with this ending have."""
+    return sum(path.read_text().count("\n") for path in files_of(crate) if path.suffix == ending)
+
+
+def edits_of(crate):
+    return len(list((TOP / "crates" / crate / "must-fail").glob("*.edit")))
+
+
+def is_program(crate):
+    return (TOP / "crates" / crate / "src/main.rt").exists()
+
+
+def wanted(crate):
+    """The kinds of figures that a crate has."""
+    texts = [path.read_text() for path in files_of(crate) if path.suffix == ".rt"]
+    has = {
+        "proof": True,
+        "tests": any(re.search(r"#\[test\]", text) for text in texts),
+        "edits": edits_of(crate) > 0,
+        "compiled": is_program(crate),
+    }
+    return [kind for kind in KINDS if has[kind]]
+
+
+def noted(command, output, watch, sums):
+    """A run, to be kept: what it did, with its processor seconds and what was counted."""
+    done, seconds = done_in(output), watch.sums()
+    done |= {(crate, "compiled"): 0 for crate, kind in done if kind == "proof" and is_program(crate)}
+    parts = [
+        {"crate": crate, "kind": kind, "sum": sums[crate], "seconds": round(seconds[crate, kind], 1), "count": count}
+        for (crate, kind), count in done.items()
+        if crate in sums
+    ]
+    return {"command": command, "minutes": round(watch.minutes(), 1), "load": round(watch.load(), 1), "parts": parts}
+
+
+def figures(runs, crate, kind, total):
+    """What a crate's proof, tests or edits cost: (seconds, count, numbers of the runs), of the newest run that has them; edits of
+    as many runs as tried them all. None where no run has them."""
+    seconds, count, used = 0.0, 0, []
+    for number, run in reversed(list(enumerate(runs))):
+        for part in run["parts"]:
+            if (part["crate"], part["kind"], part["sum"]) == (crate, kind, total):
+                seconds, count, used = seconds + part["seconds"], count + part["count"], [number, *used]
+        if used and (kind != "edits" or count >= edits_of(crate)):
+            return seconds, count, used
+    return None
+
+
+def all_figures(runs):
+    """{(crate, kind): figures or None} of all that the crates have."""
+    sums = {crate: sum_of(crate) for crate in listed()}
+    return {(crate, kind): figures(runs, crate, kind, sums[crate]) for crate in sums for kind in wanted(crate)}
+
+
+def table(found, names):
+    """A row for each crate, in the order of crates.txt, and the sums; `names` of the runs, where there are several."""
     rows = []
-    for crate in listed:
-        edits = len(list((TOP / "crates" / crate / "must-fail").glob("*.edit")))
-        numbers = [lines_of(crate, ".rt"), lines_of(crate, ".antt"), functions.get(crate, 0), tests.get(crate, 0), edits]
-        rows.append((crate, *numbers, *(round(sums[crate, kind]) for kind in KINDS)))
-    rows.append(("all crates", *(sum(row[at] for row in rows) for at in range(1, 6 + len(KINDS)))))
-    return ["| " + " | ".join([row[0], *(f"{number:,}" if number else "" for number in row[1:])]) + " |" for row in rows]
+    for crate in listed():
+        of = {kind: found.get((crate, kind)) for kind in KINDS}
+        counts = [of[kind][1] if of[kind] else 0 for kind in ("proof", "tests")]
+        numbers = [lines_of(crate, ".rt"), lines_of(crate, ".antt"), *counts, edits_of(crate)]
+        rows.append([crate, *numbers, *(round(of[kind][0]) if of[kind] else 0 for kind in KINDS)])
+    rows.append(["all crates", *(sum(row[at] for row in rows) for at in range(1, len(rows[0])))])
+    lines = [[row[0], *(f"{number:,}" if number else "" for number in row[1:])] for row in rows]
+    for line in lines[:-1] if len(names) > 1 else ():
+        used = {number for kind in KINDS if found.get((line[0], kind)) for number in found[line[0], kind][2]}
+        line.append(", ".join(names[number] for number in sorted(used)))
+    for line in lines:
+        for at, kind in enumerate(KINDS):
+            if (line[0], kind) in found and found[line[0], kind] is None:
+                line[at - len(KINDS) - (len(names) > 1)] = "not known"
+    return [f"| {' | '.join(line)} |" for line in lines]
 
 
 def processor():
@@ -125,39 +226,67 @@ def processor():
     return f"{len(os.sched_getaffinity(0))} cores ({names[0] if names else platform.machine()})"
 
 
-def write(output, watch, minutes):
-    """Writes docs/COSTS.md, and gives whether the gate had passed."""
-    counts = counts_of(output)
-    if counts is None:
-        print("costs: the gate has not passed, and docs/COSTS.md stays", file=sys.stderr)
+def minutes_of(parts):
+    return sum(part["seconds"] for part in parts) / 60
+
+
+def told_of(runs, names):
+    """What is said of the runs whose figures the table has."""
+    if len(names) == 1:
+        [run] = [runs[number] for number in names]
+        return (
+            f"of a run of `{run['command']}` in which all was proved: {run['minutes']:.0f} minutes by the clock, "
+            f"{minutes_of(run['parts']):.0f} processor minutes of checks, mean load {run['load']:.1f}."
+        )
+    rows = []
+    for number, name in names.items():
+        run = runs[number]
+        rows.append(f"| {name} | `{run['command']}` | {run['minutes']:.0f} | {minutes_of(run['parts']):.0f} | {run['load']:.1f} |")
+    head = "| Run | Command | Minutes by the clock | Processor minutes of checks | Mean load |\n|---|---|---|---|---|"
+    return "\n".join(["of these runs, each of which proved what no earlier one had, up to one of the whole gate that passed:", "", head, *rows])
+
+
+def write(runs, gaps):
+    """Writes docs/COSTS.md of the figures of some runs, and gives whether it could."""
+    found = all_figures(runs)
+    lacking = [f"{crate} ({kind})" for (crate, kind), one in found.items() if one is None]
+    if lacking:
+        print(f"costs: no watched run has what the gate took from earlier ones: {', '.join(lacking)}", file=sys.stderr)
+    if lacking and not gaps:
+        print("costs: docs/COSTS.md stays; bench/costs.py rt ci --anew NAME.. proves them again, --gaps writes it all the same", file=sys.stderr)
         return False
-    sums = watch.sums()
+    used = sorted({number for one in found.values() if one for number in one[2]})
+    names = {number: str(at) for at, number in enumerate(used, 1)}
     kit = subprocess.run(["rt", "version"], capture_output=True, text=True, check=False).stdout.strip()
+    own = len(names) > 1
     text = f"""# What the gate costs
 
-Written by [bench/costs.py](../bench/costs.py) from a run of `./test` that passed: {minutes:.0f} minutes by the clock and {sum(sums.values()) / 60:.0f} processor minutes of checks,
-on {processor()}, with {kit or "an unknown kit"}.
+Written by [bench/costs.py](../bench/costs.py), on {processor()}, with {kit or "an unknown kit"},
+{told_of(runs, names)}
 
-Lines are those of `.rt` and of `.antt` files. Functions were proved, tests passed, edits were refused. The last four columns are processor seconds: of the
-proof, of the proof with its tests, of all edits, and of compiling programs. A crate is proved once more for its tests, and once more under its edits.
+Lines are those of `.rt` and of `.antt` files. Functions were proved, tests passed, edits were refused. The columns of seconds are processor
+seconds: of the proof, of the proof with its tests, of all edits, and of compiling programs. A crate is proved once more for its tests, and once
+more under its edits.
+{"The last column says which runs a crate's figures are of." if own else "Other work on the machine makes them greater."}
 
-| Crate | Code lines | Definition and proof lines | Functions | Tests | Edits | Proof, s | Tests, s | Edits, s | Compiling, s |
-|---|---|---|---|---|---|---|---|---|---|
+{HEAD}{" Runs |" if own else ""}
+|{"---|" * (10 + own)}
 """
-    (TOP / "docs/COSTS.md").write_text(text + "\n".join(table(*counts, sums)) + "\n")
+    (TOP / "docs/COSTS.md").write_text(text + "\n".join(table(found, names)) + "\n")
     return True
 
 
 def run_gate(command):
-    """Runs the gate, passes its output on, and gives the output and the watch."""
+    """Runs the gate, passes its output on, and gives the output and the watch; also where it is ended by Ctrl-C."""
     output, ended = [], threading.Event()
     with subprocess.Popen(command, stdout=subprocess.PIPE, text=True, errors="replace") as gate:
         watch = Watch(gate.pid)
         looking = threading.Thread(target=look_until, args=(watch, ended))
         looking.start()
-        for line in gate.stdout:
-            output.append(line)
-            print(line, end="", flush=True)
+        with contextlib.suppress(KeyboardInterrupt):
+            for line in gate.stdout:
+                output.append(line)
+                print(line, end="", flush=True)
         ended.set()
         looking.join()
     return "".join(output), watch
@@ -172,9 +301,10 @@ def look_until(watch, ended):
 def beside(pid, log):
     """Watches a gate that runs, until it has ended."""
     watch = Watch(pid)
-    while Path(f"/proc/{pid}").exists():
-        watch.look()
-        time.sleep(PAUSE)
+    with contextlib.suppress(KeyboardInterrupt):
+        while Path(f"/proc/{pid}").exists():
+            watch.look()
+            time.sleep(PAUSE)
     return Path(log).read_text(errors="replace"), watch
 
 
@@ -182,13 +312,31 @@ def main():
     parser = argparse.ArgumentParser(description=__doc__, formatter_class=argparse.RawDescriptionHelpFormatter)
     parser.add_argument("--beside", type=int, metavar="PID")
     parser.add_argument("--log", metavar="FILE")
-    parser.add_argument("command", nargs="*")
+    parser.add_argument("--gaps", action="store_true")
+    parser.add_argument("command", nargs=argparse.REMAINDER)
     words = parser.parse_args()
     if bool(words.command) == bool(words.beside) or bool(words.beside) != bool(words.log):
         parser.error("give a command, or --beside and --log")
-    begun = time.time()
+    signal.signal(signal.SIGTERM, signal.default_int_handler)
+    sums, notes = {crate: sum_of(crate) for crate in listed()}, TOP / "out/costs.json"
+    name = " ".join(words.command) if words.command else " ".join(named(words.beside))
     output, watch = beside(words.beside, words.log) if words.beside else run_gate(words.command)
-    return 0 if write(output, watch, (time.time() - begun) / 60) else 1
+    run = noted(name, output, watch, sums)
+    runs = [*(json.loads(notes.read_text()) if notes.exists() else []), *([run] if run["parts"] else [])]
+    notes.parent.mkdir(exist_ok=True)
+    notes.write_text(json.dumps(runs, indent=1) + "\n")
+    print(f"costs: {len(run['parts'])} parts of this run are noted in {notes}", file=sys.stderr)
+    if not PASSED.search(output):
+        print("costs: this was not the gate, or it has not passed; docs/COSTS.md stays", file=sys.stderr)
+        return 1
+    return 0 if write(runs, words.gaps) else 1
+
+
+def named(pid):
+    """The words of a process, the last part of the first one."""
+    words = Path(f"/proc/{pid}/cmdline").read_text(errors="replace").rstrip("\0").split("\0")
+    at = 1 if Path(words[0]).name.startswith("python") and len(words) > 1 else 0
+    return [Path(words[at]).name, *words[at + 1 :]]
 
 
 if __name__ == "__main__":

@@ -177,4 +177,5 @@ def main():
         print(f"  {name:<14}" + ", ".join(f"{it} {rate:.1f} ({rate / of:.2f})" for it, rate in rates.items()), flush=True)
 
 
-main()
+if __name__ == "__main__":
+    main()
