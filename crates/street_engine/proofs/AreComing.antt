@@ -1,5 +1,5 @@
 -- Who is about to arrive was given a number, and has not ended.
-use Rattle.std.proofs.Common.{◌≡◌, ◌≢◌, ℕ, zero, suc, ◌+◌, ◌<◌, ◌≤◌, Bool, true, false, List, [], ◌∷◌, ◌++◌, length, set, get_or, refl, sym, ◌∙◌, ap, arith, inl, inr}
+use Rattle.std.proofs.Common.{◌≡◌, ℕ, suc, ◌+◌, ◌<◌, ◌≤◌, List, [], ◌∷◌, ◌++◌, length, set, get_or, refl, sym, ◌∙◌, ap, arith, inl, inr}
 use Rattle.std.specs.Prelude.{Option, Some, None, nat_lt, slice_get, ◌==◌, if◌then◌else◌}
 use Rattle.std.specs.List.{count_by}
 use Rattle.std.proofs.lemmas.Bool.{cases_eq, cases_lt, eq-eqb, cond-true, lt-leb}
@@ -9,6 +9,8 @@ use Rattle.std.proofs.lemmas.Option.{slice_get-get_or}
 use Rattle.street_base.specs.declared.reply.End.{End}
 use Rattle.street_base.specs.Census.{has_ended, one_if}
 use Rattle.street_engine.specs.Ends.{AreComing}
+use Rattle.street_base.proofs.CommandLemmas.{ended-same, ended-other}
+use Rattle.street_base.proofs.PlaceOnceLemmas.{one_if-le}
 
 -- how often a number stands in a list
 abbrev pub often : ℕ → List ℕ → ℕ
@@ -17,18 +19,6 @@ often n numbers = count_by (λ k. k == n) numbers
 pub often-push : (n number : ℕ) (rest : List ℕ) → often n (rest ++ number ∷ []) ≡ often n rest + one_if (number == n)
 often-push n number rest = sum_by_push (λ (k : ℕ). if k == n then 1 else 0) rest number
 
-pub ended-same : (end : End) (ends : List (Option End)) (n : ℕ) → n < length ends → has_ended n (set ends n (Some end)) ≡ 1
-ended-same end [] n within = absurd (omega arith)
-ended-same end (e ∷ ends) zero within = refl
-ended-same end (e ∷ ends) (suc n) within = ended-same end ends n (omega arith)
-
-pub ended-other : (end : Option End) (ends : List (Option End)) (n k : ℕ) → n ≢ k → has_ended n (set ends k end) ≡ has_ended n ends
-ended-other end [] n k other = refl
-ended-other end (e ∷ ends) zero zero other = absurd (other refl)
-ended-other end (e ∷ ends) zero (suc k) other = refl
-ended-other end (e ∷ ends) (suc n) zero other = refl
-ended-other end (e ∷ ends) (suc n) (suc k) other = ended-other end ends n k (λ same. other (ap suc same))
-
 -- a number that was given and has not ended
 pub going : (n : ℕ) (ends : List (Option End)) → 1 + has_ended n ends ≤ one_if (nat_lt n (length ends)) → slice_get ends n ≡ Some None
 going n ends h = elim (cases_lt n (length ends)) as (λ _. slice_get ends n ≡ Some None) [
@@ -36,10 +26,6 @@ going n ends h = elim (cases_lt n (length ends)) as (λ _. slice_get ends n ≡ 
   | inr past ↦ absurd (let none : one_if (nat_lt n (length ends)) ≡ 0 = ap one_if (lt-leb (suc n) (length ends) (omega arith)) in omega arith)
 ]
   where
-    one_if-le : (b : Bool) → one_if b ≤ 1
-    one_if-le true = omega arith
-    one_if-le false = omega arith
-
     by_end : (o : Option End) → slice_get ends n ≡ Some o → slice_get ends n ≡ Some None
     by_end None e = e
     by_end (Some end) e = absurd (let one : has_ended n ends ≡ 1 = rw e refl in let le = one_if-le (nat_lt n (length ends)) in omega arith)

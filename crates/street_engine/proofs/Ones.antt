@@ -7,13 +7,14 @@ use Rattle.std.proofs.lemmas.List.Sums.{sum_by-cons}
 use Rattle.street_base.specs.declared.net.NetSpec.{NetSpec}
 use Rattle.street_base.specs.Network.{Place, is_place, places}
 use Rattle.street_base.specs.State.{Traffic, lane_at}
-use Rattle.street_base.specs.Census.{in_lane, one_if, IsFormed, IsWhole}
+use Rattle.street_base.specs.Census.{in_lane, IsFormed, IsWhole}
 use Rattle.street_base.proofs.ReleaseLemmas.{is_place-same, is_place-refl}
 use Rattle.street_base.proofs.ReleaseCountLemmas.{in_lanes-places}
 use Rattle.street_base.proofs.FormLemmas.{shape-of}
 use Rattle.street_lanes.specs.Whole.{IsOn}
 use Rattle.street_tile.specs.Tiles.{Part, IsTileOf, is_own, own_places}
 use Rattle.street_tile.specs.Commands.{HaveAtMostOne}
+use Rattle.street_base.proofs.PlaceOnceLemmas.{one_if-le}
 
 -- ---- two lanes of a list
 
@@ -45,10 +46,6 @@ sum-two f (r ∷ ps) p q ne a b =
             | inr off ↦ (let rest : list_any (is_place q) ps ≡ true = rw off at b in let le = sum-two f ps p q ne more rest in omega arith)
           ])
     ]
-
-one_if-le : (b : Bool) → one_if b ≤ 1
-one_if-le true = omega arith
-one_if-le false = omega arith
 
 -- where it is on one lane it is on no other
 pub on-one : (m : Traffic) → IsFormed m → IsWhole m → (number : ℕ) (p q : Place) → is_place p q ≡ false → list_any (is_place p) (places m.network) ≡ true → list_any (is_place q) (places m.network) ≡ true → 0 < in_lane number (lane_at m p) → in_lane number (lane_at m q) ≡ 0

@@ -1,23 +1,20 @@
 -- Those who arrived in a step of all tiles are the machine's.
-use Rattle.std.proofs.Common.{◌≡◌, ℕ, zero, suc, ◌+◌, ◌<◌, List, [], ◌∷◌, ◌++◌, length, map, get_or, replicate, refl, sym, ◌∙◌, ap, subst, arith, inl, inr}
+use Rattle.std.proofs.Common.{◌≡◌, ℕ, suc, ◌+◌, ◌<◌, List, [], ◌∷◌, ◌++◌, length, get_or, refl, sym, ◌∙◌, ap, arith, inl, inr}
 use Rattle.std.specs.Prelude.{Option, Some, None, filter_map, nat_lt, ◌==◌}
-use Rattle.std.specs.List.{sum_by, list_any, cons_option, enumerate_from}
+use Rattle.std.specs.List.{sum_by, list_any, cons_option}
 use Rattle.std.proofs.lemmas.Bool.{cases_Bool, cond-true, cond-false, lt-ltb}
-use Rattle.std.proofs.lemmas.List.{get_or_default}
 use Rattle.std.proofs.lemmas.List.Sums.{sum_by-cons}
 use Rattle.std.proofs.lemmas.List.Elements.{filter_map-append}
 use Rattle.street_base.specs.declared.net.NetSpec.{NetSpec}
 use Rattle.street_base.specs.declared.reply.End.{End}
-use Rattle.street_base.specs.Network.{Place, places, link_at}
+use Rattle.street_base.specs.Network.{Place, places}
 use Rattle.street_base.specs.Vehicle.{Vehicle, is_on_last}
-use Rattle.street_base.specs.State.{Traffic, LaneState}
-use Rattle.street_base.specs.LaneChange.{Changing, changed_cells}
-use Rattle.street_base.specs.Census.{in_lane, in_lanes, has_ended, one_if, IsFormed, IsWhole, IsSound}
-use Rattle.street_base.specs.Step.{changing_on, changed_lanes, with_cells, changed, driven, arrival, arrivals, leaver_of, with_arrivals, step}
+use Rattle.street_base.specs.State.{Traffic}
+use Rattle.street_base.specs.Census.{in_lanes, has_ended, one_if, IsSound}
+use Rattle.street_base.specs.Step.{changed, driven, arrival, arrivals, leaver_of, with_arrivals, step}
 use Rattle.street_base.specs.Release.{released}
 use Rattle.street_base.specs.Departure.{departed}
-use Rattle.street_base.proofs.LaneChangeLemmas.{changing-keeps}
-use Rattle.street_base.proofs.FormLemmas.{row-sizes, shape-of, changed-formed}
+use Rattle.street_base.proofs.FormLemmas.{shape-of, changed-formed}
 use Rattle.street_base.proofs.ArrivalLemmas.{arrived, driven-lanes}
 use Rattle.street_tile.specs.Tiles.{Part, AreTiles, Each}
 use Rattle.street_tile.specs.HandOvers.{all_places}
@@ -26,42 +23,7 @@ use Rattle.street_engine.specs.Ends.{AreComing, all_arrived}
 use Rattle.street_engine.proofs.Sums.{tiles-sums}
 use Rattle.street_engine.proofs.AreComing.{often}
 use Rattle.street_engine.proofs.Arrivals.{with_arrivals-same}
-
--- ---- lane changes keep each number
-
-sums-enumerated-each : {A : Type 0} (P : A → Type 0) (g : A → ℕ) (f : ℕ → A → A) (n : ℕ) (xs : List A) → ((k : ℕ) (d : A) → k < length xs → P (get_or xs k d)) → ((i : ℕ) (x : A) → P x → g (f i x) ≡ g x) → sum_by g (map (λ e. f e.0 e.1) (enumerate_from n xs)) ≡ sum_by g xs
-sums-enumerated-each P g f n [] all h = refl
-sums-enumerated-each P g f n (x ∷ xs) all h =
-    let first = h n x (all 0 x (omega arith)) in
-    let rest = sums-enumerated-each P g f (n + 1) xs (λ k d l. all (suc k) d (omega arith)) h in
-    omega (arith, sum_by-cons g (f n x) (map (λ e. f e.0 e.1) (enumerate_from (n + 1) xs)), sum_by-cons g x xs, first, rest)
-
--- the lanes of a link have as many cells each
-abbrev IsEven : List LaneState → Type 0
-IsEven lanes = (n : ℕ) × (c : ℕ) × (map (λ (lane : LaneState). length lane.track.cells) lanes ≡ replicate n c)
-
-two-even : (a b : LaneState) (n c : ℕ) → map (λ (lane : LaneState). length lane.track.cells) (a ∷ b ∷ []) ≡ replicate n c → length a.track.cells ≡ length b.track.cells
-two-even a b zero c e = cc
-two-even a b (suc zero) c e = cc
-two-even a b (suc (suc n)) c e = cc
-
-changed_lanes-keeps : (number : ℕ) (changing : Changing) (lanes : List LaneState) → IsEven lanes → sum_by (in_lane number) (changed_lanes changing lanes) ≡ sum_by (in_lane number) lanes
-changed_lanes-keeps number changing [] even = refl
-changed_lanes-keeps number changing (a ∷ []) even = refl
-changed_lanes-keeps number changing (a ∷ b ∷ []) even =
-    let both = changing-keeps changing a.track b.track (two-even a b even.0 even.1 even.2) number in
-    let new_a = with_cells a (changed_cells changing 0 a.track b.track) in
-    let new_b = with_cells b (changed_cells changing 1 b.track a.track) in
-    omega (arith, both, sum_by-cons (in_lane number) new_a (new_b ∷ []), sum_by-cons (in_lane number) new_b [], sum_by-cons (in_lane number) a (b ∷ []), sum_by-cons (in_lane number) b [])
-changed_lanes-keeps number changing (a ∷ b ∷ c ∷ lanes) even = refl
-
-changed-whole : (m : Traffic) → IsFormed m → IsWhole m → IsWhole (changed m)
-unfolding changed
-changed-whole m formed whole number =
-    ap (λ n. n + has_ended number m.ends) (sums-enumerated-each IsEven (λ lanes. sum_by (in_lane number) lanes) (λ i lanes. changed_lanes (changing_on m i) lanes) 0 m.lanes
-    (λ k d l. subst IsEven (get_or_default m.lanes k [] d l) ((link_at m.network k).lanes, (link_at m.network k).length, row-sizes m formed k))
-    (λ i lanes even. changed_lanes-keeps number (changing_on m i) lanes even))
-    ∙ whole number
+use Rattle.street_base.proofs.StepLemmas.{changed-whole}
 
 changed-ends : (m : Traffic) → (changed m).ends ≡ m.ends
 unfolding changed

@@ -9,19 +9,13 @@ use Rattle.std.proofs.lemmas.Option.{slice_get_within, get_or_from_slice_get}
 use Rattle.street_base.specs.declared.net.LinkSpec.{LinkSpec}
 use Rattle.street_base.specs.declared.net.TurnSpec.{TurnSpec}
 use Rattle.street_base.specs.declared.net.NetSpec.{NetSpec}
-use Rattle.street_base.specs.declared.refusal.Part.{Part}
-use Rattle.street_base.specs.declared.refusal.Part.TheVariants.{Nodes, Links}
 use Rattle.street_base.specs.Limits.{most_lanes, most_limit}
 use Rattle.street_base.specs.Network.{no_link, link_at, link_of, node_of, names_link}
-use Rattle.street_base.specs.Faults.{in_part, is_within, is_bad_link, is_bad_turn, is_same_turn, link_with, joins, links_fault, nodes_fault, network_fault}
-use Rattle.street_base.proofs.OptionLemmas.{option_or-none, holds-some}
+use Rattle.street_base.specs.Faults.{is_within, is_bad_link, is_bad_turn, is_same_turn, link_with, joins, network_fault}
+use Rattle.street_base.proofs.OptionLemmas.{holds-some}
 use Rattle.street_base.proofs.FirstBadLemmas.{first_bad-none}
-use Rattle.street_base.proofs.FaultLemmas.{not-false, turns-good}
+use Rattle.street_base.proofs.FaultLemmas.{not-false, turns-good, links-good}
 use Rattle.street_net.proofs.KeyLemmas.{find-position}
-
-in_part-none : (part : Part) (o : Option ℕ) → in_part part o ≡ None → o ≡ None
-in_part-none part None e = refl
-in_part-none part (Some at) e = cc
 
 -- what an identifier of a link finds
 pub with-at : (net : NetSpec) (id : ℕ) (link : LinkSpec) → link_with net id ≡ Some link → (at : ℕ) × (link_of net id ≡ Some at) × (at < length net.links) × (link_at net at ≡ link)
@@ -88,10 +82,6 @@ joined net t e =
     }
 
 module _ (net : NetSpec) (faultless : network_fault net ≡ None) where
-  links-good : links_fault net ≡ None
-  unfolding network_fault
-  links-good = in_part-none Links (links_fault net) (option_or-none (in_part Links (links_fault net)) _ (option_or-none (in_part Nodes (nodes_fault net)) _ faultless).1).0
-
   -- a link runs to a node, and has at most the lanes that a link may have
   pub record IsGoodLink (link : ℕ) : Type 0 where
     pub some_lane : 0 < (link_at net link).lanes
@@ -102,7 +92,7 @@ module _ (net : NetSpec) (faultless : network_fault net ≡ None) where
   pub good-link : (link : ℕ) → link < length net.links → IsGoodLink link
   good-link link h =
       let spec = link_at net link in
-      let limit = or_parts _ _ (first_bad-none (is_bad_link net) net.links links-good link no_link h) in
+      let limit = or_parts _ _ (first_bad-none (is_bad_link net) net.links (links-good net faultless) link no_link h) in
       let size = or_parts _ _ limit.0 in
       let lanes = or_parts _ _ size.0 in
       let to = or_parts _ _ lanes.0 in

@@ -1,15 +1,15 @@
 -- The two mark passes and the two relink passes make the new arrays.
-use Rattle.std.proofs.Common.{◌≡◌, ◌≢◌, ◌⊎◌, ℕ, ◌-◌, Bool, true, false, not, cond, List, [], ◌∷◌, length, get_or, Option, Some, None, refl, sym, ap, subst, ◌∙◌, inl, inr, arith}
+use Rattle.std.proofs.Common.{◌≡◌, ◌≢◌, ℕ, ◌-◌, Bool, true, false, cond, List, [], ◌∷◌, length, get_or, Option, Some, None, refl, sym, ap, subst, ◌∙◌, inl, inr, arith}
 use Rattle.std.specs.Prelude.{◌==◌}
 use Rattle.std.specs.Option.{option_map, option_and_then, unwrap_or}
 use Rattle.std.specs.List.{filter}
-use Rattle.std.proofs.lemmas.Bool.{cases_Bool, both_ways, and_parts, not-true}
+use Rattle.std.proofs.lemmas.Bool.{both_ways, not-true}
 use Rattle.std.proofs.lemmas.List.FromFn.{fill_by_all}
 use Rattle.street_yard.specs.Yard.{YardEntry, Yard, list_at, car_of, mark_of, list_on, Has, IsWhole}
 use Rattle.street_base.specs.Vehicle.{Vehicle}
 use Rattle.street_base.specs.Lane.{Cells, Track, vehicle_at, rear, is_covered}
 use Rattle.street_base.proofs.CoverLemmas.{rear-le, covered-front, free-uncovered, all-free}
-use Rattle.street_base.proofs.LaneChangeLemmas.{changes-beside, changed_cells-apart}
+use Rattle.street_base.proofs.LaneChangeLemmas.{changes-beside, changed_cells-apart, changes-empty}
 use Rattle.street_base.specs.Apart.{AreDisjoint}
 use Rattle.street_base.specs.LaneChange.{Changing, changes, settled, changed_cells}
 use Rattle.street_yard.specs.Listed.{cell_at, vehicle_with, key_at, seen_at, cells_at, IsFalling, IsLane}
@@ -22,15 +22,7 @@ use Rattle.street_yard.proofs.FallingLists.{cells-agree, cells-length, cells-rea
 use Rattle.street_rule.proofs.Roads.{KeepsElse}
 use Rattle.street_rule.proofs.Exchange.{IsExchange, none-or-key, put_all-same, x_end, y_end, y_mid-falls, x_end-falls, y_end-falls, key-x_end, key-y_end}
 
-veh-none-or-some : (o : Option Vehicle) → (o ≡ None) ⊎ ((v : Vehicle) × (o ≡ Some v))
-veh-none-or-some None = inl refl
-veh-none-or-some (Some v) = inr (v, refl)
-
 module _ (changing : Changing) (lane : ℕ) (own other : Track) (x : ℕ) where
-  changes-empty : vehicle_at own.cells x ≡ None → changes changing lane own other x ≡ false
-  unfolding changes
-  changes-empty e = rw e refl
-
   changes-free : changes changing lane own other x ≡ true → is_covered other.cells x ≡ false
   changes-free e =
       let beside = changes-beside changing lane own other x e in

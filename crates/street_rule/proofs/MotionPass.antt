@@ -24,7 +24,8 @@ use Rattle.street_gap.proofs.Sights.{clear-of-key}
 use Rattle.street_base.specs.Apart.{AreDisjoint}
 use Rattle.street_base.proofs.MotionApartLemmas.{keeps_apart}
 use Rattle.std.specs.Prelude.{MatchOption}
-use Rattle.street_rule.proofs.Steps.{AllFrom, from-lower, from-push, from-same, falling-join, low_of, nobody-between, part_moved-skip, gap-within, speed-within}
+use Rattle.street_rule.proofs.Steps.{AllFrom, from-lower, from-push, from-same, falling-join, low_of, nobody-between, part_moved-skip, gap-within}
+use Rattle.street_base.proofs.MotionOrderLemmas.{speed_after-le}
 
 module _ (drive : Drive) (closed : List Bool) where
   pub record IsPass (first now : Yard) (n count : ℕ) (ahead rear cursor away fast : Option ℕ) : Type 0 where
@@ -260,7 +261,7 @@ module _ (drive : Drive) (closed : List Bool) where
         moved_here = moved-is (cells_at first n count) car.cell (vehicle_of car) (nearest rear (entrance_after closed car.cell)) speed there (obstacle len) (rw size speed_is)
 
         gap_bound : speed ≤ gap_to (nearest rear (entrance_after closed car.cell)) car.cell count (drive.is_open_to (vehicle_of car))
-        gap_bound = subst (λ s. s ≤ gap_to (nearest rear (entrance_after closed car.cell)) car.cell count (drive.is_open_to (vehicle_of car))) (sym speed_is) (speed-within drive.limit _ (drive.dawdles car.number) car.speed)
+        gap_bound = subst (λ s. s ≤ gap_to (nearest rear (entrance_after closed car.cell)) car.cell count (drive.is_open_to (vehicle_of car))) (sym speed_is) (speed_after-le drive.limit _ (drive.dawdles car.number) car.speed)
 
         behind_ahead : (a : ℕ) → ahead ≡ Some a → place < a
         behind_ahead a e = elim (snoc_cases w.was) as (λ _. place < a) [

@@ -1,7 +1,7 @@
 -- What detectors note while the vehicles are moved from the end of the lane to its begin.
-use Rattle.std.proofs.Common.{◌≡◌, ℕ, zero, suc, ◌+◌, ◌-◌, ◌*◌, ◌<◌, ◌≤◌, Bool, true, false, List, length, map, get_or, Option, Some, None, refl, sym, ap, subst, ◌∙◌, inl, inr, arith}
+use Rattle.std.proofs.Common.{◌≡◌, ℕ, zero, suc, ◌+◌, ◌-◌, ◌*◌, ◌<◌, ◌≤◌, Bool, true, false, List, length, map, get_or, Option, Some, None, refl, sym, ap, ◌∙◌, inl, inr, arith}
 use Rattle.std.specs.Prelude.{nat_lt, ◌&&◌, sum_by, if◌then◌else◌}
-use Rattle.std.specs.Option.{option_map, option_map_or}
+use Rattle.std.specs.Option.{option_map_or}
 use Rattle.std.specs.List.{All, range_with_len}
 use Rattle.std.proofs.lemmas.Bool.{cases_lt, lt-ltb, le-ltb, le-leb, lt-leb}
 use Rattle.std.proofs.lemmas.List.{length-map, get_or-map, ext_get_or}
@@ -10,10 +10,11 @@ use Rattle.std.proofs.lemmas.List.Sums.{sum_by-cons}
 use Rattle.std.proofs.Math.Path.{fun_ext}
 use Rattle.street_base.specs.Vehicle.{Vehicle}
 use Rattle.street_base.specs.Lane.{Cells, vehicle_at}
-use Rattle.street_base.specs.Motion.{Drive, speed_after, motion_gap, driven_on, moved}
+use Rattle.street_base.specs.Motion.{Drive, moved}
 use Rattle.street_rule.specs.declared.watch.Watch.{Watch}
 use Rattle.street_base.specs.Detector.{of_passing, triple}
 use Rattle.street_rule.specs.Watch.{watched, noted, HasRoom, IsReady}
+use Rattle.street_base.proofs.DrivingLemmas.{moves-within_limit}
 
 module _ (drive : Drive) (old : Cells) (closed : List Bool) where
   -- the vehicles of the cells from low up to c that went past c
@@ -108,21 +109,6 @@ module _ (drive : Drive) (old : Cells) (closed : List Bool) where
     ]
   ]
 
-  -- so many at most
-  slow-after : (limit gap : ℕ) (slow : Bool) (speed : ℕ) → speed_after limit gap slow speed ≤ limit
-  slow-after limit gap true speed = omega arith
-  slow-after limit gap false speed = omega arith
-
-  moved-of : (x : ℕ) (o : Option Vehicle) (v : Vehicle) → option_map (driven_on drive old closed x) o ≡ Some v → v.speed ≤ drive.limit
-  moved-of x None v is = absurd (cc)
-  moved-of x (Some u) v is =
-      let e : driven_on drive old closed x u ≡ v = cc in
-      subst (λ (s : Vehicle). s.speed ≤ drive.limit) e (slow-after drive.limit (motion_gap drive old closed x u) (drive.dawdles u.number) u.speed)
-
-  moved-slow : (x : ℕ) (v : Vehicle) → moved drive old closed x ≡ Some v → v.speed ≤ drive.limit
-  unfolding moved
-  moved-slow x v is = moved-of x (vehicle_at old x) v is
-
   passes-most : (f : Vehicle → ℕ) (most c x : ℕ) (o : Option Vehicle) → ((v : Vehicle) → o ≡ Some v → f v ≤ most) → option_map_or (λ v. if nat_lt c (x + v.speed) then f v else 0) o 0 ≤ most
   passes-most f most c x None each = omega arith
   passes-most f most c x (Some v) each = elim (nat_lt c (x + v.speed)) as (λ b. (if b then f v else 0) ≤ most) [ true ↦ each v refl | false ↦ omega arith ]
@@ -143,7 +129,7 @@ module _ (drive : Drive) (old : Cells) (closed : List Bool) where
       let d = ready.speeds in
       let n : w.cell + 1 - low ≤ 1000000 = omega arith in
       let p : passing_from (λ v. 1) low w.cell ≤ 1 * (w.cell + 1 - low) = from-most (λ v. 1) 1 (λ x v is. omega arith) w.cell (w.cell + 1 - low) low in
-      let q : passing_from (λ v. v.speed) low w.cell ≤ 255 * (w.cell + 1 - low) = from-most (λ v. v.speed) 255 (λ x v is. let s = moved-slow x v is in omega arith) w.cell (w.cell + 1 - low) low in
+      let q : passing_from (λ v. v.speed) low w.cell ≤ 255 * (w.cell + 1 - low) = from-most (λ v. v.speed) 255 (λ x v is. let s = moves-within_limit drive old closed x v is in omega arith) w.cell (w.cell + 1 - low) low in
       record { passes = omega (arith, p, n); speeds = omega (arith, q, n) }
 
   -- all cells done: what the detector's triple says
