@@ -1,0 +1,119 @@
+//! What a driver sees on a lane's list: the obstacle ahead, who is next behind, and the key beside a cell.
+//!
+//! Source: Nagel and Schreckenberg 1992 ahead, Rickert, Nagel, Schreckenberg and Latour 1996 beside and behind; closed cells
+//! are this profile.
+ghost use Rattle.std.specs.Option.{option_map};
+ghost use Rattle.std.specs.Prelude.{◌≡◌, ℕ, ◌-◌, ◌<◌, false, [], length};
+ghost use Rattle.street_yard.specs.Yard.{IsOnList};
+ghost use Rattle.street_yard.specs.Listed.{cell_at, rear_at};
+ghost use Rattle.street_gap.specs.Closed.{IsWithin, closed_marks};
+ghost use Rattle.street_gap.specs.Sight.{lesser, obstacle_by, HasCar, IsNextBehind, IsUpTo, IsPosition};
+
+use crate::closures::Closures;
+use street_base::CellNo;
+use street_yard::{Key, ListId, Yard};
+
+/// The cell of a key's car, where there is a key.
+pub(crate) fn cell_of(yard: &Yard, key: Option<Key>) -> Option<CellNo>
+    requires { HasCar yard.now (option_map (λ k. k.0) key) }
+    ensures { result ≡ option_map (cell_at yard.now) (option_map (λ k. k.0) key) }
+{
+    match key {
+        Some(key) => Some(yard.cell(key)),
+        None => None,
+    }
+}
+
+/// The last cell that a key's car covers, where there is a key.
+pub(crate) fn rear_of(yard: &Yard, key: Option<Key>) -> Option<CellNo>
+    requires { HasCar yard.now (option_map (λ k. k.0) key) }
+    ensures { result ≡ option_map (rear_at yard.now) (option_map (λ k. k.0) key) }
+{
+    match key {
+        Some(key) => Some(yard.rear(key)),
+        None => None,
+    }
+}
+
+/// The key behind `ahead` on the list, or the first one.
+pub(crate) fn next_behind(yard: &Yard, list: ListId, ahead: Option<Key>) -> Option<Key>
+    requires list { list.0 < length yard.now.lists }
+    requires ahead { IsOnList yard.now list.0 (option_map (λ k. k.0) ahead) }
+    ensures { IsNextBehind yard.now list.0 (option_map (λ k. k.0) ahead) (option_map (λ k. k.0) result) }
+{
+    match ahead {
+        Some(key) => yard.behind(key),
+        None => yard.list_front(list),
+    }
+}
+
+/// The last key of the list whose vehicle is above the cell, sought from such a key on. The list stands for a lane.
+pub fn last_above(yard: &Yard, list: ListId, from: Option<Key>, cell: CellNo) -> Option<Key>
+    requires list { list.0 < length yard.now.lists }
+    requires from { IsUpTo yard.now list.0 cell (option_map (λ k. k.0) from) }
+    ensures { IsPosition yard.now list.0 cell (option_map (λ k. k.0) result) }
+{
+    yard.whole();
+    let mut above = from;
+    let mut cursor = next_behind(yard, list, above);
+    while let Some(key) = cursor {
+        let here = yard.cell(key);
+        if here <= cell {
+            return above;
+        }
+        above = cursor;
+        cursor = yard.behind(key);
+    }
+    above
+}
+
+/// The lesser, where both are there.
+fn lesser(vehicle: Option<CellNo>, entrance: Option<CellNo>) -> Option<CellNo>
+    ensures { result ≡ lesser vehicle entrance }
+{
+    match (vehicle, entrance) {
+        (Some(vehicle), Some(entrance)) => Some(vehicle.min(entrance)),
+        (Some(vehicle), None) => Some(vehicle),
+        (None, entrance) => entrance,
+    }
+}
+
+/// The obstacle ahead of a cell: the rear of the vehicle ahead, or the first entrance above the cell where that comes before
+/// it. Whether some cell is closed is told, as a walk along a lane keeps it at hand: entrances are looked up only then. Each
+/// vehicle asks in each step, so this stands in the walks themselves.
+#[inline(always)]
+pub fn obstacle_ahead(
+    closures: &Closures,
+    has_closed: bool,
+    ahead: Option<CellNo>,
+    cell: CellNo,
+) -> Option<CellNo>
+    requires { has_closed ≡ false → closures.now ≡ [] }
+    ensures { (count : ℕ) → IsWithin closures.now count → result ≡ obstacle_by (closed_marks closures.now count) ahead cell }
+{
+    if has_closed {
+        lesser(ahead, closures.entrance_after(cell))
+    } else {
+        ahead
+    }
+}
+
+/// How many cells lie between a cell and an obstacle above it, where there is one; 0 where it is not above.
+pub fn cells_up_to(obstacle: Option<CellNo>, cell: CellNo) -> Option<CellNo>
+    ensures { result ≡ option_map (λ y. y - cell - 1) obstacle }
+{
+    match obstacle {
+        Some(obstacle) => Some(obstacle.saturating_sub(cell).saturating_sub(1)),
+        None => None,
+    }
+}
+
+/// How many cells lie between a cell and a vehicle below it, where there is one; 0 where it is not below.
+pub(crate) fn cells_down_to(below: Option<CellNo>, cell: CellNo) -> Option<CellNo>
+    ensures { result ≡ option_map (λ y. cell - y - 1) below }
+{
+    match below {
+        Some(below) => Some(cell.saturating_sub(below).saturating_sub(1)),
+        None => None,
+    }
+}
