@@ -1,5 +1,5 @@
 -- What a driver decides, from what the code has looked up.
-use Rattle.std.proofs.Common.{◌≡◌, ℕ, zero, suc, ◌+◌, ◌-◌, ◌<◌, ◌≤◌, Bool, List, [], ◌∷◌, ◌++◌, length, IsSome, Option, Some, None, refl, sym, ap, subst, ◌∙◌, arith}
+use Rattle.std.proofs.Common.{◌≡◌, ℕ, zero, suc, ◌+◌, ◌-◌, ◌<◌, ◌≤◌, Bool, List, [], ◌∷◌, ◌++◌, IsSome, Option, Some, None, refl, sym, ap, subst, ◌∙◌, arith}
 use Rattle.std.specs.Prelude.{MatchOption, ◌&&◌, not}
 use Rattle.std.specs.Option.{option_map}
 use Rattle.std.specs.List.{list_all, range_with_len}
@@ -7,25 +7,19 @@ use Rattle.street_base.specs.declared.car.Car.{Car}
 use Rattle.street_base.specs.Vehicle.{Vehicle, vehicle_of, next_link}
 use Rattle.street_base.specs.Lane.{Track, is_closed}
 use Rattle.street_base.specs.LaneChange.{Changing}
-use Rattle.street_yard.specs.Yard.{YardEntry, Yard, entry_at, car_of, first_or, last_or, IsWhole}
+use Rattle.street_yard.specs.Yard.{YardEntry, Yard, entry_at, car_of, first_or, IsWhole}
 use Rattle.street_yard.specs.Listed.{cell_at, rear_at, vehicle_with, IsFalling}
 use Rattle.street_yard.proofs.YardLemmas.{cell_is}
 use Rattle.street_yard.proofs.FallingLists.{falling-split}
 use Rattle.street_gap.specs.Closed.{is_in, closed_marks, entrance_after, are_open, IsWithin}
 use Rattle.street_gap.specs.declared.closures.Stretch.{Stretch}
-use Rattle.street_gap.specs.Sight.{lesser}
-use Rattle.street_gap.proofs.Entrances.{entrance-empty}
+use Rattle.street_gap.specs.Sight.{lesser, IsPosition}
 use Rattle.street_gap.proofs.Marks.{closed_marks-length, closed_marks-at}
 use Rattle.street_rule.specs.Road.{RoadLane, IsRoadLane, track_of}
-use Rattle.street_rule.specs.Positions.{IsUpTo, IsPosition, IsNext}
 use Rattle.street_rule.specs.Sight.{gap_between, gap_up, has_room, has_room_between, wishes_with, decision}
 use Rattle.street_rule.proofs.ChangeSights.{room-is}
 
--- a position is one from which on to search
-pub position-up_to : (y : Yard) (n cell : ℕ) (position : Option ℕ) → IsPosition y n cell position → IsUpTo y n cell position
-position-up_to y n cell position p = record { up = p.up; down = p.down; split = p.split; at_position = p.at_position; above = p.above }
-
--- the vehicles below the position fall from the cell on
+-- the vehicles below the last above fall from the cell on
 under : (y : Yard) (count cell : ℕ) (up down : List ℕ) → IsFalling (cell_at y) count (up ++ down) → MatchOption (first_or down None) (Unit {0}) (λ k. cell_at y k ≤ cell) → IsFalling (cell_at y) (cell + 1) down
 under y count cell up [] f b = tt
 under y count cell up (d ∷ down) f b = (let h : cell_at y d ≤ cell = b in let r = falling-split (cell_at y) count up d down f in ((let g : cell_at y d < cell + 1 = omega arith in g), r.2))
@@ -35,25 +29,13 @@ open-marks : (closed : List Stretch) (count low n : ℕ) → IsWithin closed cou
 open-marks closed count low zero within = refl
 open-marks closed count low (suc n) within = rw (closed_marks-at closed count low within, open-marks closed count (low + 1) n within) refl
 
--- whether there is room beside cells, by the rear of the position there and the cell of the key behind it
-pub room-beside : (y : Yard) (count : ℕ) (lane : RoadLane) (cell rear speed : ℕ) (position below : Option ℕ) → IsWhole y → IsRoadLane y count lane → IsPosition y lane.list cell position → IsNext y lane.list position below → rear ≤ cell
-    → (above_rear below_cell : Option ℕ) → above_rear ≡ option_map (rear_at y) position → below_cell ≡ option_map (cell_at y) below
-    → has_room_between (closed_marks lane.closed count) (are_open lane.closed rear cell) above_rear below_cell cell rear speed ≡ has_room (track_of y count lane) cell rear speed
-room-beside y count lane cell rear speed position below whole ok p next low above_rear below_cell above_is below_is =
-    let a : above_rear ≡ option_map (rear_at y) (last_or p.up None) = above_is ∙ ap (option_map (rear_at y)) p.at_position in
-    let b : below_cell ≡ option_map (cell_at y) (first_or p.down None) = below_is ∙ ap (option_map (cell_at y)) (next p.up p.down p.split p.at_position) in
-    ap (λ o. has_room_between (closed_marks lane.closed count) (are_open lane.closed rear cell) o below_cell cell rear speed) a
-    ∙ ap (λ o. has_room_between (closed_marks lane.closed count) (are_open lane.closed rear cell) (option_map (rear_at y) (last_or p.up None)) o cell rear speed) b
+-- whether there is room beside cells, by the last key above the front's cell there and the key behind it
+pub room-beside : (y : Yard) (count : ℕ) (lane : RoadLane) (cell rear speed : ℕ) (above : Option ℕ) → IsWhole y → IsRoadLane y count lane → (p : IsPosition y lane.list cell above) → rear ≤ cell
+    → has_room_between (closed_marks lane.closed count) (are_open lane.closed rear cell) (option_map (rear_at y) above) (option_map (cell_at y) (first_or p.down None)) cell rear speed ≡ has_room (track_of y count lane) cell rear speed
+room-beside y count lane cell rear speed above whole ok p low =
+    ap (λ o. has_room_between (closed_marks lane.closed count) (are_open lane.closed rear cell) (option_map (rear_at y) o) (option_map (cell_at y) (first_or p.down None)) cell rear speed) p.at_position
     ∙ room-is y lane.list count whole ok.stands p.up p.down p.split cell p.above (under y count cell p.up p.down (subst (IsFalling (cell_at y) count) p.split ok.stands.falls) p.below)
     (closed_marks lane.closed count) (closed_marks-length lane.closed count) rear speed low (are_open lane.closed rear cell) (open-marks lane.closed count rear (cell + 1 - rear) ok.within)
-
--- where no cell is closed, only the vehicle ahead counts
-pub obstacle-open : (count : ℕ) (closed : List Stretch) (ahead : Option ℕ) (cell : ℕ) → closed ≡ [] → IsWithin closed count → ahead ≡ lesser ahead (entrance_after (closed_marks closed count) cell)
-obstacle-open count closed ahead cell none within = sym (ap (lesser ahead) (entrance-empty closed cell count (ap length none) within) ∙ lesser-none ahead)
-  where
-    lesser-none : (o : Option ℕ) → lesser o None ≡ o
-    lesser-none None = refl
-    lesser-none (Some a) = refl
 
 -- the gap up to the obstacle ahead, and the room beside, on a lane of the road
 pub gap-by : (count : ℕ) (lane seen : RoadLane) (ahead obstacle : Option ℕ) (cell : ℕ) → seen ≡ lane → IsWithin lane.closed count

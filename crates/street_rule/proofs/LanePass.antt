@@ -13,8 +13,7 @@ use Rattle.street_base.proofs.LaneChangeLemmas.{changes-beside, changed_cells-ap
 use Rattle.street_base.specs.Apart.{AreDisjoint}
 use Rattle.street_base.specs.LaneChange.{Changing, changes, settled, changed_cells}
 use Rattle.street_yard.specs.Listed.{cell_at, vehicle_with, key_at, seen_at, cells_at, IsFalling, IsLane}
-use Rattle.street_rule.specs.Positions.{IsFallen}
-use Rattle.street_rule.specs.Relinked.{is_marked, is_unmarked, put_all, IsOnEither, Relinks}
+use Rattle.street_rule.specs.Relinked.{is_marked, is_unmarked, put_all, IsOnEither, Relinks, IsFallen}
 use Rattle.street_rule.specs.Marks.{Marks}
 use Rattle.street_rule.proofs.ChangeSights.{track}
 use Rattle.street_yard.proofs.YardLemmas.{cell_same}

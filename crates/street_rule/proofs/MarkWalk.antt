@@ -12,12 +12,12 @@ use Rattle.street_yard.specs.Yard.{YardEntry, Yard, list_at, entry_at, car_of, l
 use Rattle.street_yard.specs.Listed.{cell_at, rear_at, vehicle_with, IsFalling, IsLane, AllAbove}
 use Rattle.street_yard.proofs.Keys.{last_or-push, has_or_away, has-away, has-later}
 use Rattle.street_yard.proofs.YardLemmas.{entry-kept_set, entry-kept_set_other, field-kept_set, IsWhole-kept_set, list_on-mark_set, left, left-is, head_is, no_head, AllAbove-same, AllAbove-lower, cell_same, on_has_entry}
-use Rattle.street_rule.specs.Positions.{IsUpTo}
 use Rattle.street_rule.specs.Marks.{Marks}
 use Rattle.street_rule.specs.Relinked.{HasNoMarks}
 use Rattle.street_rule.specs.Sight.{decision}
 use Rattle.street_yard.proofs.FallingLists.{cells-agree, IsLane-agree}
 use Rattle.street_rule.proofs.ChangeSights.{track, decides}
+use Rattle.street_gap.specs.Sight.{IsUpTo}
 
 as_track : Cells → List Bool → Track
 as_track cells closed = record { cells = cells; closed = closed }

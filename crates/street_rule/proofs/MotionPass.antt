@@ -11,7 +11,7 @@ use Rattle.street_base.specs.Lane.{Cells, vehicle_at, obstacle_ahead}
 use Rattle.street_base.specs.Motion.{Drive, speed_after, motion_gap, moved, motion, leaver}
 use Rattle.street_yard.specs.Listed.{cell_at, rear_at, vehicle_with, key_at, cells_at, IsFalling, IsLane, AllAbove}
 use Rattle.street_gap.specs.Closed.{entrance_after}
-use Rattle.street_rule.specs.Course.{nearest, gap_to}
+use Rattle.street_rule.specs.Course.{gap_to}
 use Rattle.street_rule.specs.Pass.{Drives, Leaves, MovesList, left_lists, stopped}
 use Rattle.street_yard.proofs.YardLemmas.{left, left-is, head_is, no_head, cell_is}
 use Rattle.street_yard.proofs.FallingLists.{falling-agree, found, found-agree, key_at-drop, key_at-gone, falling-split, falling-wider, key_at-split, rear-under, cells-length, cells-read}
@@ -19,13 +19,13 @@ use Rattle.street_base.proofs.MotionLemmas.{IsPartMoved, leaver_from, part_moved
 use Rattle.street_rule.specs.declared.watch.Watch.{Watch}
 use Rattle.street_rule.specs.Watch.{watched, noted}
 use Rattle.street_rule.proofs.WatchLemmas.{watched_from, watched-skip, watched-noted, watched-all}
-use Rattle.street_rule.proofs.Sights.{obstacle-is}
-use Rattle.street_gap.proofs.Sights.{clear-of-key}
+use Rattle.street_gap.proofs.Sights.{clear-of-key, obstacle-is}
 use Rattle.street_base.specs.Apart.{AreDisjoint}
 use Rattle.street_base.proofs.MotionApartLemmas.{keeps_apart}
 use Rattle.std.specs.Prelude.{MatchOption}
 use Rattle.street_rule.proofs.Steps.{AllFrom, from-lower, from-push, from-same, falling-join, low_of, nobody-between, part_moved-skip, gap-within}
 use Rattle.street_base.proofs.MotionOrderLemmas.{speed_after-le}
+use Rattle.street_gap.specs.Sight.{lesser}
 
 module _ (drive : Drive) (closed : List Bool) where
   pub record IsPass (first now : Yard) (n count : ℕ) (ahead rear cursor away fast : Option ℕ) : Type 0 where
@@ -173,12 +173,12 @@ module _ (drive : Drive) (closed : List Bool) where
       clear : MatchOption (last_or w.was None) (Unit {0}) (λ k. car.cell < rear_at first k)
       clear = subst (λ c. MatchOption (last_or w.was None) (Unit {0}) (λ k. c < rear_at first k)) x_is (clear-of-key first n count key w.was tail.0 w.whole_first lane before)
 
-      obstacle : length closed ≡ count → obstacle_ahead (cells_at first n count) closed car.cell ≡ nearest rear (entrance_after closed car.cell)
+      obstacle : length closed ≡ count → obstacle_ahead (cells_at first n count) closed car.cell ≡ lesser rear (entrance_after closed car.cell)
       obstacle len =
           let above : AllAbove (cell_at first) car.cell w.was = subst (λ c. AllAbove (cell_at first) c w.was) x_is parts.0 in
           let below : IsFalling (cell_at first) (car.cell + 1) (key ∷ tail.0) = ((let e = x_is in let h : cell_at first key < car.cell + 1 = omega arith in h), parts.2) in
           obstacle-is first n count w.whole_first lane w.was (key ∷ tail.0) before car.cell above clear below closed len
-          ∙ ap (λ o. nearest o (entrance_after closed car.cell)) (sym w.at_rear)
+          ∙ ap (λ o. lesser o (entrance_after closed car.cell)) (sym w.at_rear)
 
       pub low-above : car.cell < low_of ahead count
       low-above = at-low w.was refl
@@ -247,7 +247,7 @@ module _ (drive : Drive) (closed : List Bool) where
           ]
 
       module _ (speed place : ℕ) (u : Yard) (d : Drives y u key speed place) (place_is : place ≡ car.cell + speed) (len : length closed ≡ count) (next : Option ℕ) (behind : IsBehind y key next)
-          (speed_is : speed ≡ speed_after drive.limit (gap_to (nearest rear (entrance_after closed car.cell)) car.cell count (drive.is_open_to (vehicle_of car))) (drive.dawdles car.number) car.speed) where
+          (speed_is : speed ≡ speed_after drive.limit (gap_to (lesser rear (entrance_after closed car.cell)) car.cell count (drive.is_open_to (vehicle_of car))) (drive.dawdles car.number) car.speed) where
         driven : car_of u key ≡ Some (record car { speed = speed; cell = place })
         driven = d.driven ∙ ap (option_map (λ (c : Car). record c { speed = speed; cell = place })) is
 
@@ -258,10 +258,10 @@ module _ (drive : Drive) (closed : List Bool) where
         cars_u k ne = ap (option_map (λ (e : YardEntry). e.car)) (d.others k ne)
 
         moved_here : moved drive (cells_at first n count) closed car.cell ≡ Some (with_speed (vehicle_of car) speed)
-        moved_here = moved-is (cells_at first n count) car.cell (vehicle_of car) (nearest rear (entrance_after closed car.cell)) speed there (obstacle len) (rw size speed_is)
+        moved_here = moved-is (cells_at first n count) car.cell (vehicle_of car) (lesser rear (entrance_after closed car.cell)) speed there (obstacle len) (rw size speed_is)
 
-        gap_bound : speed ≤ gap_to (nearest rear (entrance_after closed car.cell)) car.cell count (drive.is_open_to (vehicle_of car))
-        gap_bound = subst (λ s. s ≤ gap_to (nearest rear (entrance_after closed car.cell)) car.cell count (drive.is_open_to (vehicle_of car))) (sym speed_is) (speed_after-le drive.limit _ (drive.dawdles car.number) car.speed)
+        gap_bound : speed ≤ gap_to (lesser rear (entrance_after closed car.cell)) car.cell count (drive.is_open_to (vehicle_of car))
+        gap_bound = subst (λ s. s ≤ gap_to (lesser rear (entrance_after closed car.cell)) car.cell count (drive.is_open_to (vehicle_of car))) (sym speed_is) (speed_after-le drive.limit _ (drive.dawdles car.number) car.speed)
 
         behind_ahead : (a : ℕ) → ahead ≡ Some a → place < a
         behind_ahead a e = elim (snoc_cases w.was) as (λ _. place < a) [
@@ -272,7 +272,7 @@ module _ (drive : Drive) (closed : List Bool) where
               let is_rear : rear ≡ Some r = w.at_rear ∙ ap (option_map (rear_at first)) last in
               let front : ◌≡◌ {A = Option ℕ} (Some (cell_at first s.1)) (Some a) = sym (w.at_ahead ∙ ap (option_map (cell_at first)) last) ∙ e in
               let at : cell_at first s.1 ≡ a = cc in
-              let g : speed ≤ gap_to (nearest (Some r) (entrance_after closed car.cell)) car.cell count (drive.is_open_to (vehicle_of car)) = subst (λ o. speed ≤ gap_to (nearest o (entrance_after closed car.cell)) car.cell count (drive.is_open_to (vehicle_of car))) is_rear gap_bound in
+              let g : speed ≤ gap_to (lesser (Some r) (entrance_after closed car.cell)) car.cell count (drive.is_open_to (vehicle_of car)) = subst (λ o. speed ≤ gap_to (lesser o (entrance_after closed car.cell)) car.cell count (drive.is_open_to (vehicle_of car))) is_rear gap_bound in
               let b = gap-within r (entrance_after closed car.cell) car.cell count (drive.is_open_to (vehicle_of car)) in
               let l : car.cell < r = subst (λ o. MatchOption o (Unit {0}) (λ k. car.cell < rear_at first k)) last clear in
               let under = rear-under first s.1 in

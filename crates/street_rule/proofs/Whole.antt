@@ -10,9 +10,8 @@ use Rattle.street_yard.specs.Listed.{IsLane}
 use Rattle.street_gap.specs.Closed.{closed_marks}
 use Rattle.street_rule.specs.Road.{RoadLane, Road, no_lane, lane_of, length_of, track_of, lists_of, IsRoad}
 use Rattle.street_rule.specs.Sight.{changing_of}
-use Rattle.street_rule.specs.Positions.{IsFallen}
 use Rattle.street_rule.specs.Marks.{Marks}
-use Rattle.street_rule.specs.Relinked.{HasNoMarks, Relinks}
+use Rattle.street_rule.specs.Relinked.{HasNoMarks, Relinks, IsFallen}
 use Rattle.street_rule.specs.Changed.{Changes, KeepsRest}
 use Rattle.street_rule.proofs.Roads.{IsRoad-by, two-apart, two-changes, two-keeps}
 use Rattle.street_rule.proofs.MarkWalk.{IsMarking, IsMarking-start}

@@ -1,10 +1,9 @@
 //! Moves of marked vehicles from one list to another.
 ghost use Rattle.std.specs.Prelude.{◌≡◌, ◌≢◌, ◌<◌, length, Some, option_map};
 ghost use Rattle.street_yard.specs.Yard.{list_on, IsOnList};
-ghost use Rattle.street_rule.specs.Positions.{IsFallen};
-ghost use Rattle.street_rule.specs.Relinked.{Carries, Relinks};
+ghost use Rattle.street_rule.specs.Relinked.{IsFallen, Carries, Relinks};
 
-use crate::positions::last_above;
+use street_gap::last_above;
 use street_yard::{Key, ListId, Yard};
 
 /// The key goes to its position on the other list, without a mark.

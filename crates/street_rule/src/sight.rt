@@ -6,17 +6,15 @@ ghost use Rattle.street_base.specs.LaneChange.{Changing};
 ghost use Rattle.street_base.specs.Vehicle.{Vehicle};
 ghost use Rattle.street_yard.specs.Yard.{list_on};
 ghost use Rattle.street_yard.specs.Listed.{cell_at, vehicle_with};
-ghost use Rattle.street_gap.specs.Closed.{IsWithin, closed_marks, entrance_after, are_open};
-ghost use Rattle.street_gap.specs.Sight.{lesser};
+ghost use Rattle.street_gap.specs.Closed.{closed_marks};
+ghost use Rattle.street_gap.specs.Sight.{IsUpTo, IsPosition};
 ghost use Rattle.street_rule.specs.Road.{length_of, lane_of, track_of, lane_seen, IsRoadLane, IsRoad};
-ghost use Rattle.street_rule.specs.Positions.{IsUpTo, IsPosition};
-ghost use Rattle.street_rule.specs.Sight.{odds_of, changing_of, gap_between, gap_up, gap_down, wishes_with, has_room, has_room_between, decision};
+ghost use Rattle.street_rule.specs.Sight.{odds_of, changing_of, gap_between, gap_up, wishes_with, has_room, decision};
 
 use crate::Dice;
-use crate::positions::{cell_of, last_above, next, rear_of};
 use crate::road::{Road, RoadLane};
 use street_base::{CellNo, LaneNo, LinkIx, Speed, Step};
-use street_gap::Closures;
+use street_gap::{cells_up_to, gap_back, gap_beside, last_above, obstacle_ahead};
 use street_yard::{Key, Yard};
 
 /// The gap where nothing is in sight.
@@ -24,44 +22,6 @@ const FAR: CellNo = 16;
 
 /// The gap behind must be longer than this.
 const CLOSE_BEHIND: CellNo = 5;
-
-/// The lesser, where both are there.
-fn lesser(vehicle: Option<CellNo>, entrance: Option<CellNo>) -> Option<CellNo>
-    ensures { result ≡ lesser vehicle entrance }
-{
-    match (vehicle, entrance) {
-        (Some(vehicle), Some(entrance)) => Some(vehicle.min(entrance)),
-        (Some(vehicle), None) => Some(vehicle),
-        (None, entrance) => entrance,
-    }
-}
-
-/// The gap from a cell up to an obstacle, or 16.
-fn gap_to(obstacle: Option<CellNo>, cell: CellNo) -> CellNo
-    ensures { result ≡ gap_between obstacle cell }
-{
-    match obstacle {
-        Some(obstacle) => obstacle.saturating_sub(cell).saturating_sub(1),
-        None => FAR,
-    }
-}
-
-/// The gap from a cell up to the vehicle ahead or to an entrance, or 16.
-fn gap_ahead(closures: &Closures, ahead: Option<CellNo>, cell: CellNo) -> CellNo
-    ensures { (count : ℕ) → IsWithin closures.now count → result ≡ gap_up (closed_marks closures.now count) ahead cell }
-{
-    gap_to(lesser(ahead, closures.entrance_after(cell)), cell)
-}
-
-/// The gap from a cell down to the vehicle behind, or 16.
-fn gap_behind(behind: Option<CellNo>, cell: CellNo) -> CellNo
-    ensures { result ≡ gap_down behind cell }
-{
-    match behind {
-        Some(behind) => cell.saturating_sub(behind).saturating_sub(1),
-        None => FAR,
-    }
-}
 
 /// Whether a vehicle with this gap ahead wants the other lane: as it is slow, or in the turn zone for its next link.
 fn wishes(
@@ -126,49 +86,26 @@ fn may_wish(
     is_slow(obstacle, cell, speed) | (next.is_some() & (zone <= cell))
 }
 
-/// Whether a vehicle fits beside, by the rear of the vehicle above the cell beside its front, and the cell of the one at it
-/// or below. Whoever covers a cell beside leaves no gap, and is not asked for.
+/// Whether there is room on another lane beside the cells from a front to a rear. `above` is the last key there whose vehicle is
+/// above the front's cell. Whoever covers a cell beside leaves no gap, and is not asked for.
 fn fits(
-    closures: &Closures,
-    above: Option<CellNo>,
-    below: Option<CellNo>,
+    yard: &Yard,
+    other: RoadLane<'_>,
+    above: Option<Key>,
     cell: CellNo,
     rear: CellNo,
     speed: Speed,
 ) -> bool
-    requires { rear ≤ cell }
-    ensures { (count : ℕ) → IsWithin closures.now count → result ≡ has_room_between (closed_marks closures.now count) (are_open closures.now rear cell) above below cell rear speed }
-{
-    closures.is_open(rear, cell)
-        && CellNo::from(speed) + 1 < gap_ahead(closures, above, cell)
-        && CLOSE_BEHIND < gap_behind(below, rear)
-}
-
-/// Looks for room on another lane beside the cells from a front to a rear: the last key there whose vehicle is above the
-/// front's cell, sought from such a key on, and whether there is room.
-fn look_beside(
-    yard: &Yard,
-    other: RoadLane<'_>,
-    from: Option<Key>,
-    cell: CellNo,
-    rear: CellNo,
-    speed: Speed,
-) -> (Option<Key>, bool)
-    requires from { IsUpTo yard.now other.list.0 cell (option_map (λ k. k.0) from) }
+    requires above { IsPosition yard.now other.list.0 cell (option_map (λ k. k.0) above) }
     requires listed { other.list.0 < length yard.now.lists }
     requires rear { rear ≤ cell }
-    ensures position { IsPosition yard.now other.entry.list.0 cell (option_map (λ k. k.0) result.0) }
-    ensures room { (count : ℕ) → IsRoadLane yard.now count (lane_seen other.entry) → result.1 ≡ has_room (track_of yard.now count (lane_seen other.entry)) cell rear speed }
+    ensures { (count : ℕ) → IsRoadLane yard.now count (lane_seen other.entry) → result ≡ has_room (track_of yard.now count (lane_seen other.entry)) cell rear speed }
 {
     yard.whole();
-    let above = last_above(yard, other.list, from, cell);
-    let below = next(yard, other.list, above);
-    let above_rear = rear_of(yard, other.list, above);
-    let below_cell = cell_of(yard, other.list, below);
-    (
-        above,
-        fits(other.closures, above_rear, below_cell, cell, rear, speed),
-    )
+    let RoadLane { list, closures } = other;
+    closures.is_open(rear, cell)
+        && CellNo::from(speed) + 1 < gap_beside(yard, closures, list, above, cell).unwrap_or(FAR)
+        && CLOSE_BEHIND < gap_back(yard, list, above, rear).unwrap_or(FAR)
 }
 
 /// What a driver decides, and where they have looked.
@@ -190,18 +127,6 @@ pub(crate) struct Outlook<'a> {
     pub(crate) has_closed: bool,
     /// The first cell of the turn zone.
     pub(crate) zone: CellNo,
-}
-
-/// The vehicle or the entrance ahead on the own lane. Its closed cells are looked up only where there are some.
-fn own_obstacle(outlook: Outlook<'_>, ahead: Option<CellNo>, cell: CellNo) -> Option<CellNo>
-    requires { outlook.has_closed ≡ false → outlook.own.closures.now ≡ [] }
-    ensures { (count : ℕ) → IsWithin outlook.entry.own.closures.now count → result ≡ lesser ahead (entrance_after (closed_marks outlook.entry.own.closures.now count) cell) }
-{
-    if outlook.has_closed {
-        lesser(ahead, outlook.own.closures.entrance_after(cell))
-    } else {
-        ahead
-    }
 }
 
 /// Whether the vehicle of a key, with this gap ahead, goes to the other lane. `above` is a key of the other lane whose vehicle
@@ -231,8 +156,9 @@ fn decide_beside(
     let cell = yard.cell(key);
     let speed = yard.speed(key);
     let rear = yard.rear(key);
-    let (above, has_room) = look_beside(yard, road.lane(1 - lane), above, cell, rear, speed);
-    if !has_room {
+    let other = road.lane(1 - lane);
+    let above = last_above(yard, other.list, above, cell);
+    if !fits(yard, other, above, cell, rear, speed) {
         return Decision { above, goes: false };
     }
     if !wishes(road, lane, gap, cell, speed, yard.next_link(key)) {
@@ -270,10 +196,10 @@ pub(crate) fn decide(
 {
     let cell = yard.cell(key);
     let speed = yard.speed(key);
-    let obstacle = own_obstacle(outlook, ahead, cell);
+    let obstacle = obstacle_ahead(outlook.own.closures, outlook.has_closed, ahead, cell);
     if !may_wish(outlook.zone, obstacle, cell, speed, yard.next_link(key)) {
         return Decision { above, goes: false };
     }
-    let gap = gap_to(obstacle, cell);
+    let gap = cells_up_to(obstacle, cell).unwrap_or(FAR);
     decide_beside(yard, road, outlook.lane, key, gap, above, step, dice)
 }

@@ -3,16 +3,16 @@ use Rattle.std.specs.Prelude.{◌||◌}
 use Rattle.std.specs.Option.{option_map, unwrap_or}
 use Rattle.street_base.specs.LaneChange.{changes}
 use Rattle.street_yard.specs.Yard.{list_on}
-use Rattle.street_yard.proofs.YardLemmas.{left, on_has_entry, list_on-mark_set, cell_reads}
+use Rattle.street_yard.proofs.YardLemmas.{left, on_has_entry, list_on-mark_set}
 use Rattle.street_gap.specs.Closed.{closed_marks}
 use Rattle.street_gap.proofs.Marks.{closed_marks-length}
 use Rattle.street_rule.specs.Road.{no_lane, lane_of, length_of, track_of}
 use Rattle.street_rule.specs.Sight.{changing_of}
-use Rattle.street_rule.proofs.PositionSearch.{named}
 use Rattle.street_rule.proofs.Roads.{IsRoad-by}
 use Rattle.street_rule.proofs.Whole.{IsMarking-road}
 use Rattle.street_rule.proofs.MarkWalk.{IsMarking, IsMarking-lane, IsMarking-on, IsMarking-up_to, IsMarking-vehicle, IsMarking-step, decided}
 use Rattle.street_rule.proofs.pass.mark_from.Goals as goal
+use Rattle.street_gap.proofs.Sights.{named}
 
 pub loop-cursor-init : goal.loop-cursor-init
 loop-cursor-init c = (

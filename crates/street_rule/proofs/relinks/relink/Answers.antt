@@ -1,9 +1,9 @@
 use Rattle.std.proofs.Common.{Some, ◌<◌, refl, ap}
 use Rattle.std.specs.Option.{option_map}
 use Rattle.street_yard.proofs.YardLemmas.{left, on_has_entry, cell_reads}
-use Rattle.street_rule.proofs.PositionSearch.{last_on, named}
 use Rattle.street_rule.proofs.RelinkWalk.{IsRelink, IsRelink-start, IsRelink-on, IsRelink-up_to, IsRelink-stay, IsRelink-go}
 use Rattle.street_rule.proofs.relinks.relink.Goals as goal
+use Rattle.street_gap.proofs.Sights.{last_on, named}
 
 pub loop-cursor-init : goal.loop-cursor-init
 loop-cursor-init c = IsRelink-start c.args.yard.now c.args.from.0 c.args.to.0 (option_map named c.list_front-cursor.result) c.list_front-cursor.ensures.whole c.requires.falls c.list_front-cursor.ensures.front
