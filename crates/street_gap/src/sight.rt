@@ -79,7 +79,9 @@ fn lesser(vehicle: Option<CellNo>, entrance: Option<CellNo>) -> Option<CellNo>
 }
 
 /// The obstacle ahead of a cell: the rear of the vehicle ahead, or the first entrance above the cell where that comes before
-/// it. Whether some cell is closed is told, as a walk along a lane keeps it at hand: entrances are looked up only then.
+/// it. Whether some cell is closed is told, as a walk along a lane keeps it at hand: entrances are looked up only then. Each
+/// vehicle asks in each step, so this stands in the walks themselves.
+#[inline(always)]
 pub fn obstacle_ahead(
     closures: &Closures,
     has_closed: bool,
