@@ -11,7 +11,7 @@ pub enum SplitFault {
     /// The pass owns one session number alone.
     #[error("the pass owns one session alone")]
     Single,
-    /// Memory was wanting. So far a split takes none, and this is never told.
+    /// Out of memory. So far a split takes none, and this is never told.
     #[error("out of memory")]
     Starved,
 }

@@ -77,7 +77,7 @@ impl Streets {
     /// The streets of a network with no vehicle, for so many workers, 1 to 64.
     ///
     /// # Errors
-    /// The network's first fault, or want of memory.
+    /// The network's first fault, or lack of memory.
     pub fn load(alloc: Global, net: &NetSpec, workers: usize) -> Result<Streets, NetFault>
         requires some { 1 ≤ workers }
         requires few { workers ≤ 64 }

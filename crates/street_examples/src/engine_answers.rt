@@ -16,7 +16,7 @@ use street_line::{Counted, EngineSession, run_engine};
 ///
 /// # Errors
 ///
-/// An error where the lines were not served to their end, for want of memory.
+/// An error where the lines were not served to their end, for lack of memory.
 pub fn answers<R: Threads + Sync>(
     rt: &R,
     alloc: Global,

@@ -163,7 +163,7 @@ impl Stretches {
     /// Closes the cells from the first to the last; cells that are closed stay so.
     ///
     /// # Errors
-    /// Memory was wanting, and nothing changed. It is asked for only where neither these cells nor the two beside them are
+    /// Out of memory, and nothing changed. It is asked for only where neither these cells nor the two beside them are
     /// closed.
     pub(crate) fn close(&mut self, first: CellNo, last: CellNo) -> Result<(), Starved>
         requires { first ≤ last }
@@ -190,7 +190,7 @@ impl Stretches {
     /// Opens the cells from the first to the last; cells that are open stay so.
     ///
     /// # Errors
-    /// Memory was wanting, and nothing changed. It is asked for only where these cells and the two beside them are closed,
+    /// Out of memory, and nothing changed. It is asked for only where these cells and the two beside them are closed,
     /// so that a stretch is split.
     pub(crate) fn reopen(&mut self, first: CellNo, last: CellNo) -> Result<(), Starved>
         requires { first ≤ last }

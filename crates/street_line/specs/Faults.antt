@@ -16,7 +16,7 @@ use Rattle.street_stream.specs.declared.tally.Tally.{Tally}
 use Rattle.street_line.specs.declared.service.Served.{Served}
 use Rattle.street_line.specs.Runs.{is_call, has_reply, said, Goes, IsTally}
 
--- a line ends a run only where memory was wanting to read it
+-- a line ends a run only where memory ran out to read it
 abbrev pub kind_of : Cause NoMemory → FaultKind
 kind_of (Run kind) = kind
 kind_of (Line stop) = Starved
@@ -33,7 +33,7 @@ pub record Breaks {S : Type 0} (serves : S → Command → Served → S → Type
   -- what is written of it
   pub within : tally.bytes ≤ length out
   pub written : Appends before after (take tally.bytes out)
-  -- a line that memory was wanting for was taken up, but not served
+  -- a line for which memory ran out was taken up, but not served
   pub lines : CountsLines kind tally done
   pub calls : tally.calls ≡ count_by (λ l. is_call (said l)) done
   pub replies : CountsReplies tally out (count_by (λ l. has_reply (said l)) done)

@@ -11,7 +11,7 @@ use Rattle.street_line.specs.Runs.{Goes}
 use Rattle.street_line.specs.Sessions.{DeskServes}
 use Rattle.street_line.specs.declared.script.Script.{Script}
 
--- a write to memory fails for want of memory alone
+-- a write to memory fails for lack of memory alone
 abbrev pub in_memory : FaultKind → FaultKind
 in_memory Read = Read
 in_memory Write = Starved

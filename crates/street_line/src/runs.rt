@@ -18,7 +18,7 @@ use street_text::LONGEST_LINE;
 /// The most calls of `read` in one run.
 const MOST_READS: u32 = 1_000_000_000;
 
-/// Why the lines were not served to their end: one ends the run only where memory was wanting.
+/// Why the lines were not served to their end: one ends the run only where memory ran out.
 fn kind_of(cause: Cause<Starved>) -> FaultKind
     ensures { result ≡ kind_of cause }
 {
@@ -71,7 +71,7 @@ fn serve_all<S: Service, R: Read, W: Write>(
 /// # Errors
 ///
 /// `Read` where a read failed; `Write` where a write or a flush failed, or a write took no bytes; `Starved` where memory
-/// was wanting in reading a line or in printing its reply; `Endless` after so many reads. After a fault no more is read or
+/// ran out in reading a line or in printing its reply; `Endless` after so many reads. After a fault no more is read or
 /// served; what was served and written till then is `Breaks` of `specs/Faults`.
 pub fn run_lines_within<S: Service, R: Read, W: Write>(
     alloc: Global,

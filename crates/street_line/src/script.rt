@@ -72,7 +72,7 @@ impl<'a, R: Threads + Wait + Sync> Script<'a, R> {
     }
 }
 
-/// The replies to the lines of a text, served as `run_session` does, and what ended them before the text did: want of memory
+/// The replies to the lines of a text, served as `run_session` does, and what ended them before the text did: lack of memory
 /// to keep them is told as that, and never as a failed write.
 pub fn answer_all<R: Threads + Wait + Sync, D: Read + Drop>(
     alloc: Global,
@@ -90,7 +90,7 @@ pub fn answer_all<R: Threads + Wait + Sync, D: Read + Drop>(
     }
 }
 
-/// Replies go to memory, where a write fails for want of memory alone.
+/// Replies go to memory, where a write fails for lack of memory alone.
 fn in_memory(kind: FaultKind) -> FaultKind
     ensures { result ≡ memory_kind kind }
 {

@@ -114,7 +114,7 @@ impl Meter {
     /// `LAST_CLOCK`.
     ///
     /// # Errors
-    /// Memory for the rows was wanting.
+    /// Out of memory for the rows.
     pub fn new(alloc: Global, place: MeterSite, period: u32, start: Step) -> Result<Meter, Starved>
         requires some { 1 ≤ period }
         requires short { period ≤ 100000 }
@@ -154,7 +154,7 @@ impl Meter {
     /// The running row, and the rows of the last 32 full periods.
     ///
     /// # Errors
-    /// Memory for the rows was wanting.
+    /// Out of memory for the rows.
     pub fn rows(&self, alloc: Global) -> Result<Rows, Starved>
         ensures { IfOk result (λ r. (triples : List Triple) → Stands self.now triples → IsRead r.full r.running (detector_of self.now triples)) }
     {

@@ -11,7 +11,7 @@ use Rattle.street_net.specs.declared.faults.NetFault.TheVariants.{Bad as BadLoad
 use Rattle.street_net.specs.declared.faults.PlanFault.{PlanFault}
 use Rattle.street_net.specs.declared.faults.PlanFault.TheVariants.{Bad as BadPlan, Lane, Starved as StarvedPlan}
 
--- where a load is refused, this is its first fault; where memory was wanting nothing is told
+-- where a load is refused, this is its first fault; where memory ran out nothing is told
 abbrev pub TellsFault : Option Fault → NetFault → Type 0
 TellsFault first (BadLoad part at) = first ≡ Some (record { part = part; at = at })
 TellsFault first StarvedLoad = Unit {0}
@@ -30,7 +30,7 @@ lane_refusal net plan lane = if nat_le (entry_lanes net plan lane) lane then Som
 abbrev pub plan_refusal : NetSpec → List ℕ → ℕ → Option PlanFault
 plan_refusal net plan lane = option_map_or (λ at. Some (BadPlan at)) (plan_fault net plan) (lane_refusal net plan lane)
 
--- a plan without such a reason is refused only for want of memory, and any other for its reason
+-- a plan without such a reason is refused only for lack of memory, and any other for its reason
 abbrev pub TellsRefusal : Option PlanFault → PlanFault → Type 0
 TellsRefusal reason StarvedPlan = reason ≡ None
 TellsRefusal reason (BadPlan at) = reason ≡ Some (BadPlan at)

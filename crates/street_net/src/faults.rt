@@ -17,7 +17,7 @@ pub enum NetFault {
         /// The position in it.
         at: u64,
     },
-    /// Memory was wanting.
+    /// Out of memory.
     #[error("out of memory")]
     Starved,
 }
@@ -34,7 +34,7 @@ pub enum PlanFault {
     /// The first link has no such lane.
     #[error("the first link has no such lane")]
     Lane,
-    /// Memory was wanting.
+    /// Out of memory.
     #[error("out of memory")]
     Starved,
 }

@@ -74,7 +74,7 @@ shown place next (phase ∷ phases) time = if nat_lt time phase.duration then li
 abbrev pub node_id : NetSpec → ℕ → ℕ
 node_id net node = (slice_index_or net.nodes node (record { id = 0; residence = 0; capacity = 0 })).id
 
--- what a refused plan tells: its first fault; want of memory only where there is none
+-- what a refused plan tells: its first fault; lack of memory only where there is none
 abbrev pub TellsSignalFault : Option ℕ → SignalFault → Type 0
 TellsSignalFault first (Bad at) = first ≡ Some at
 TellsSignalFault first Starved = first ≡ None

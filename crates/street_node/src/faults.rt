@@ -12,7 +12,7 @@ pub enum SignalFault {
         /// The position.
         at: u64,
     },
-    /// Memory was wanting.
+    /// Out of memory.
     #[error("out of memory")]
     Starved,
 }

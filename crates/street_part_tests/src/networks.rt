@@ -247,7 +247,7 @@ enum Answer {
     Bad(u64),
     /// The first link has no such lane.
     NoLane,
-    /// Memory was wanting.
+    /// Out of memory.
     Starved,
 }
 

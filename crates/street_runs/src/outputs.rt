@@ -76,7 +76,7 @@ pub fn open_file<'a, R: Files<File = File>>(rt: &R, name: &'a str) -> Result<Fil
     File::open(rt, name).map_err(|error| of_file(&error, Fault::Read(name)))
 }
 
-/// The fault of a file that could not be opened, which want of memory may be the reason of.
+/// The fault of a file that could not be opened, perhaps because memory ran out.
 fn of_file<'a>(error: &io::Error, otherwise: Fault<'a>) -> Fault<'a> {
     match error.kind() {
         io::ErrorKind::OutOfMemory => Fault::OutOfMemory,

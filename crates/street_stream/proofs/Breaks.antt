@@ -144,7 +144,7 @@ module _ {S Stop : Type 0} (takes : S → List ℕ → Effect → S → Type 0) 
       let after = lines_after seen more in
       line_breaks takes stops ⊥ start before (seen ++ 10 ∷ more) (cut seen).0 (cut seen).1 after.0 h.0 s t w v p.tally counted cause after.1 (next_inside seen more) h.1 h.2 h.4 (ends (cut seen).1 h.3)
 
-  -- memory was wanting for a byte of a line
+  -- memory ran out for a byte of a line
   pub byte_breaks : (s : S) (w : Option (List ℕ)) (p : Progress) (b : ℕ) (tally : Tally) → tally ≡ p.tally → FeedBreaks takes stops longest s w p (b ∷ []) s w (Run Starved) tally
   byte_breaks s w p b tally same = λ start before seen h more.
       let later = lines_more seen (b ∷ more) in

@@ -11,7 +11,7 @@ use Rattle.street_stream.specs.declared.tally.Tally.{Tally}
 
 -- ---- causes
 
--- where nothing is read: memory was wanting, a write or a flush failed, or a write took no byte
+-- where nothing is read: memory ran out, a write or a flush failed, or a write took no byte
 abbrev pub IsCausedByWriting : {W : Type 0} → FaultKind → Counted W → Type 0
 IsCausedByWriting Write writer = HasFailed writer
 IsCausedByWriting Starved writer = ⊤
@@ -46,7 +46,7 @@ IsAtRead Starved = ⊥
 
 -- ---- counts
 
--- the lines that were done are counted, and one more where memory was wanting for it
+-- the lines that were done are counted, and one more where memory ran out for it
 abbrev pub CountsLines : FaultKind → Tally → List (List ℕ) → Type 0
 CountsLines kind tally done = (tally.lines ≡ length done) ⊎ ((kind ≡ Starved) × (tally.lines ≡ length done + 1))
 

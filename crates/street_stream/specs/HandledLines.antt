@@ -30,7 +30,7 @@ text_in (Some out) = out
 abbrev pub has_reply : Effect → Bool
 has_reply e = has_text e.reply
 
--- the text is that of the reply, or memory was wanting for a reply of some bytes
+-- the text is that of the reply, or memory ran out for a reply of some bytes
 abbrev pub GivesText : Result (Option (Vec ℕ Global)) Starved → Option (List ℕ) → Type 0
 GivesText (Ok None) reply = reply ≡ None
 GivesText (Ok (Some text)) reply = reply ≡ Some text.items

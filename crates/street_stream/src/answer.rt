@@ -13,14 +13,14 @@ use street_base::Starved;
 pub struct Answer {
     /// Whether it was a call, which the tally counts.
     pub is_call: bool,
-    /// The text of its reply with LF, or none where it gets no reply; or memory was wanting for the text.
+    /// The text of its reply with LF, or none where it gets no reply; or memory ran out for the text.
     pub reply: Result<Option<Vec<u8>>, Starved>,
 }
 
 /// Why a run of lines ended before its text did.
 #[derive(Drop)]
 pub enum Cause<S> {
-    /// A read or a write failed, memory was wanting, or the reads ran out.
+    /// A read or a write failed, memory ran out, or the reads ran out.
     Run(FaultKind),
     /// A line ended it.
     Line(S),

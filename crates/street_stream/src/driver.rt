@@ -233,7 +233,7 @@ fn drive_all<H: LineHandler, R: Read, W: Write>(
 /// # Errors
 ///
 /// `Line` where a line ended the run. `Run` with `Read` where a read failed; `Write` where a write or a flush failed, or a
-/// write took no bytes; `Starved` where memory was wanting to keep a line or for the text of a reply; `Endless` after so many
+/// write took no bytes; `Starved` where memory ran out to keep a line or for the text of a reply; `Endless` after so many
 /// reads. After either no more is read or handled; what was done till then is `Broke` of `specs/HandledLines`.
 pub fn drive_lines<H: LineHandler, R: Read, W: Write>(
     alloc: Global,

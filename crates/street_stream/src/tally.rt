@@ -27,7 +27,7 @@ pub enum FaultKind {
     Read,
     /// A write failed, or took no bytes.
     Write,
-    /// Memory was wanting in reading a line or in printing its reply.
+    /// Out of memory in reading a line or in printing its reply.
     Starved,
     /// 1,000,000,000 reads did not come to the end.
     Endless,

@@ -64,7 +64,7 @@ pub record Breaks (start : State) (before : Option (List ℕ)) (text : List ℕ)
   pub rest : List (List ℕ)
   pub first_lines : lines_of text ≡ done ++ rest
   pub broken : BreaksAfter start before done rest view after tally
-  -- a line that memory was wanting for was taken up, but not done
+  -- a line for which memory ran out was taken up, but not done
   pub lines : CountsLines kind tally done
   pub whole : IsAtRead kind → (done ≡ (cut text).0) × (tally.replies ≡ tally.calls)
 

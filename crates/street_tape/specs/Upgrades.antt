@@ -48,7 +48,7 @@ pub record Cuts (at_end : Type 0) (before : Option (List ℕ)) (text : List ℕ)
   pub says : calls_in done ≡ Some entries
   pub written : IsPrefix before 0 (tape_text entries) after tally.bytes
   pub whole : (tally.bytes ≡ 0) ⊎ (at_end × (tape_reading text ≡ Some entries))
-  -- a line that memory was wanting for was taken up, but not kept
+  -- a line for which memory ran out was taken up, but not kept
   pub lines : CountsLines kind tally done
   pub calls : tally.calls ≡ length entries
   pub replies : tally.replies ≡ 0

@@ -17,7 +17,7 @@ use street_text::{LineFault, command_of};
 /// The most bytes that a line of a tape may have, its LF not counted.
 pub const LONGEST_TAPE_LINE: usize = 2_097_152;
 
-/// The fault of a text that was not read: only want of memory says nothing of the text.
+/// The fault of a text that was not read: only lack of memory says nothing of the text.
 fn fault_of(error: &Error) -> LineFault
     ensures { ((result ≡ LineFault.Starved) × IsMemory error.now)
         ⊎ ((result ≡ LineFault.NotJson) × ¬ IsMemory error.now) }

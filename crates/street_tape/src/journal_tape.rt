@@ -43,7 +43,7 @@ fn write_line<W: Write>(
 ///
 /// # Errors
 ///
-/// `Write` where a write or a flush failed, or a write took no bytes; `Starved` where memory was wanting for the first line.
+/// `Write` where a write or a flush failed, or a write took no bytes; `Starved` where memory ran out for the first line.
 pub fn write_lines<W: Write>(
     alloc: Global,
     calls: u64,
@@ -111,7 +111,7 @@ fn fault_after(kind: FaultKind, bytes: u128) -> RunFault
 ///
 /// # Errors
 ///
-/// `Write` where a write or a flush failed, or a write took no bytes; `Starved` where memory was wanting for a line. Of the
+/// `Write` where a write or a flush failed, or a write took no bytes; `Starved` where memory ran out for a line. Of the
 /// tape the first `tally.bytes` bytes are then written; the other numbers of the tally are 0.
 pub fn write_tape<W: Write>(
     alloc: Global,

@@ -164,7 +164,7 @@ pub fn replay_within<R: Threads + Sync, D: Read, W: Write>(
 /// does not say how many calls follow: nothing was applied or written. `BadEntry` at the first further line that is blank, too
 /// long or no call, says a number of steps that the machine would not make there as a part of its advance, comes after all
 /// calls, or is missing: the calls before it are applied, and their replies written. `Run` where a read failed, a write or a
-/// flush failed or a write took no bytes, memory was wanting, or after 1,000,000,000 reads: the first `tally.calls` calls are
+/// flush failed or a write took no bytes, memory ran out, or after 1,000,000,000 reads: the first `tally.calls` calls are
 /// applied, and of an advance after them perhaps the first steps, and of their replies the first `tally.bytes` bytes are
 /// written.
 pub fn replay<R: Threads + Sync, D: Read, W: Write>(

@@ -20,7 +20,7 @@ pub enum Stop {
     NotTape,
     /// A further line is no call, or all calls that the first line tells stand before it.
     BadEntry,
-    /// Memory was wanting.
+    /// Out of memory.
     Starved,
 }
 

@@ -4,7 +4,7 @@ use Rattle.std.specs.Prelude.{ℕ, List, Option, Some, None, codes}
 use Rattle.street_text.specs.declared.fault.LineFault.{LineFault}
 use Rattle.street_text.specs.declared.fault.LineFault.TheVariants.{LineTooLong, NotJson, BadCommand, Starved}
 
--- the number that a reply line tells a fault by; want of memory ends a run, and has none
+-- the number that a reply line tells a fault by; lack of memory ends a run, and has none
 abbrev pub number_of : LineFault → Option ℕ
 number_of LineTooLong = Some 22
 number_of NotJson = Some 20

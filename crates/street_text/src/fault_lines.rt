@@ -8,11 +8,11 @@ use crate::{LineFault, error_text};
 use std::alloc::Global;
 use street_base::Starved;
 
-/// The line that answers a faulty line. Want of memory has none: it is answered by itself.
+/// The line that answers a faulty line. Lack of memory has none: it is answered by itself.
 ///
 /// # Errors
 ///
-/// `Starved` where there was no memory for it, and for want of memory in reading.
+/// `Starved` where there was no memory for it, and for lack of memory in reading.
 pub fn fault_text(alloc: Global, fault: LineFault) -> Result<Vec<u8>, Starved>
     ensures { IfOk result (λ text. fault_line fault ≡ Some text.items) }
 {

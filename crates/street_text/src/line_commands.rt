@@ -242,7 +242,7 @@ pub fn command_of(alloc: Global, value: &Value, sized: bool) -> Result<Command, 
     named(alloc, name, value, sized)
 }
 
-/// The fault of a text that was not read: only want of memory says nothing of the text.
+/// The fault of a text that was not read: only lack of memory says nothing of the text.
 fn fault_of(error: &Error) -> LineFault
     ensures { ((result ≡ LineFault.Starved) × IsMemory error.now)
         ⊎ ((result ≡ LineFault.NotJson) × ¬ IsMemory error.now) }
