@@ -43,7 +43,9 @@ fn mark_from(
     requires road { IsRoad yard.old road.now }
     requires dice { dice.old ≡ odds_of road.now.network }
     requires front { Some front.0 ≡ first_or (list_at yard.old (lane_of road.now lane).list) None }
-    ensures marks { Marks yard.old yard.new (lane_of road.now lane).list (changes (changing_of road.now step) lane (track_of yard.old (length_of road.now) (lane_of road.now lane)) (track_of yard.old (length_of road.now) (lane_of road.now (1 - lane)))) }
+    ensures marks { Marks yard.old yard.new (lane_of road.now lane).list
+        (changes (changing_of road.now step) lane (track_of yard.old (length_of road.now) (lane_of road.now lane))
+        (track_of yard.old (length_of road.now) (lane_of road.now (1 - lane)))) }
     ensures none { result ≡ false → HasNoMarks yard.new (lane_of road.now lane).list }
     ensures dice { dice.new ≡ dice.old }
 {
@@ -54,13 +56,14 @@ fn mark_from(
         own,
         has_closed: !own.closures.is_empty(),
         zone: zone_begin(road),
+        step,
     };
     let mut goes = false;
     let mut above = None;
     let mut ahead = None;
     let mut cursor = Some(front);
     while let Some(key) = cursor {
-        let decision = decide(yard, road, outlook, key, ahead, above, step, dice);
+        let decision = decide(yard, road, outlook, key, ahead, above, dice);
         above = decision.above;
         ahead = Some(yard.rear(key));
         goes |= decision.goes;
@@ -77,7 +80,9 @@ fn mark_pass(yard: &mut Yard, road: &Road<'_>, lane: LaneNo, step: Step, dice: &
     requires lane { lane ≤ 1 }
     requires road { IsRoad yard.old road.now }
     requires dice { dice.old ≡ odds_of road.now.network }
-    ensures marks { Marks yard.old yard.new (lane_of road.now lane).list (changes (changing_of road.now step) lane (track_of yard.old (length_of road.now) (lane_of road.now lane)) (track_of yard.old (length_of road.now) (lane_of road.now (1 - lane)))) }
+    ensures marks { Marks yard.old yard.new (lane_of road.now lane).list
+        (changes (changing_of road.now step) lane (track_of yard.old (length_of road.now) (lane_of road.now lane))
+        (track_of yard.old (length_of road.now) (lane_of road.now (1 - lane)))) }
     ensures none { result ≡ false → HasNoMarks yard.new (lane_of road.now lane).list }
     ensures dice { dice.new ≡ dice.old }
 {

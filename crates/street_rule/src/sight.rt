@@ -81,7 +81,8 @@ fn may_wish(
     speed: Speed,
     next: Option<LinkIx>,
 ) -> bool
-    ensures { (changing : Changing) (lane count : ℕ) → zone ≡ count - changing.zone → result ≡ false → wishes_with changing lane count (gap_between obstacle cell) cell speed next ≡ false }
+    ensures { (changing : Changing) (lane count : ℕ) → zone ≡ count - changing.zone → result ≡ false
+        → wishes_with changing lane count (gap_between obstacle cell) cell speed next ≡ false }
 {
     is_slow(obstacle, cell, speed) | (next.is_some() & (zone <= cell))
 }
@@ -99,7 +100,8 @@ fn fits(
     requires above { IsPosition yard.now other.list.0 cell (option_map (λ k. k.0) above) }
     requires listed { other.list.0 < length yard.now.lists }
     requires rear { rear ≤ cell }
-    ensures { (count : ℕ) → IsRoadLane yard.now count (lane_seen other.entry) → result ≡ has_room (track_of yard.now count (lane_seen other.entry)) cell rear speed }
+    ensures { (count : ℕ) → IsRoadLane yard.now count (lane_seen other.entry)
+        → result ≡ has_room (track_of yard.now count (lane_seen other.entry)) cell rear speed }
 {
     yard.whole();
     let RoadLane { list, closures } = other;
@@ -127,6 +129,8 @@ pub(crate) struct Outlook<'a> {
     pub(crate) has_closed: bool,
     /// The first cell of the turn zone.
     pub(crate) zone: CellNo,
+    /// The step that their draws are of.
+    pub(crate) step: Step,
 }
 
 /// Whether the vehicle of a key, with this gap ahead, goes to the other lane. `above` is a key of the other lane whose vehicle
@@ -136,35 +140,37 @@ pub(crate) struct Outlook<'a> {
 fn decide_beside(
     yard: &Yard,
     road: &Road<'_>,
-    lane: LaneNo,
+    outlook: &Outlook<'_>,
     key: Key,
     gap: CellNo,
     above: Option<Key>,
-    step: Step,
     dice: &mut Dice,
 ) -> Decision
     requires lanes { length road.now.lanes ≡ 2 }
-    requires lane { lane ≤ 1 }
+    requires lane { outlook.now.lane ≤ 1 }
     requires road { IsRoad yard.now road.now }
     requires dice { dice.old ≡ odds_of road.now.network }
-    requires key { list_on yard.now key.0 ≡ Some (lane_of road.now lane).list }
-    requires above { IsUpTo yard.now (lane_of road.now (1 - lane)).list (cell_at yard.now key.0) (option_map (λ k. k.0) above) }
-    ensures above { IsUpTo yard.now (lane_of road.now (1 - lane)).list (cell_at yard.now key.0) (option_map (λ k. k.0) result.above) }
-    ensures goes { (v : Vehicle) (closed : List Bool) (ahead : Option ℕ) → vehicle_with yard.now key.0 ≡ Some v → gap ≡ gap_up closed ahead (cell_at yard.now key.0) → result.goes ≡ decision (changing_of road.now step) lane (length_of road.now) closed ahead (track_of yard.now (length_of road.now) (lane_of road.now (1 - lane))) (cell_at yard.now key.0) v }
+    requires key { list_on yard.now key.0 ≡ Some (lane_of road.now outlook.now.lane).list }
+    requires above { IsUpTo yard.now (lane_of road.now (1 - outlook.now.lane)).list (cell_at yard.now key.0) (option_map (λ k. k.0) above) }
+    ensures above { IsUpTo yard.now (lane_of road.now (1 - outlook.now.lane)).list (cell_at yard.now key.0) (option_map (λ k. k.0) result.above) }
+    ensures goes { (v : Vehicle) (closed : List Bool) (ahead : Option ℕ) → vehicle_with yard.now key.0 ≡ Some v
+        → gap ≡ gap_up closed ahead (cell_at yard.now key.0)
+        → result.goes ≡ decision (changing_of road.now outlook.now.step) outlook.now.lane (length_of road.now) closed ahead
+        (track_of yard.now (length_of road.now) (lane_of road.now (1 - outlook.now.lane))) (cell_at yard.now key.0) v }
     ensures dice { dice.new ≡ dice.old }
 {
     let cell = yard.cell(key);
     let speed = yard.speed(key);
     let rear = yard.rear(key);
-    let other = road.lane(1 - lane);
+    let other = road.lane(1 - outlook.lane);
     let above = last_above(yard, other.list, above, cell);
     if !fits(yard, other, above, cell, rear, speed) {
         return Decision { above, goes: false };
     }
-    if !wishes(road, lane, gap, cell, speed, yard.next_link(key)) {
+    if !wishes(road, outlook.lane, gap, cell, speed, yard.next_link(key)) {
         return Decision { above, goes: false };
     }
-    let goes = dice.may_change(key.index(), step, yard.number(key));
+    let goes = dice.may_change(key.index(), outlook.step, yard.number(key));
     Decision { above, goes }
 }
 
@@ -178,7 +184,6 @@ pub(crate) fn decide(
     key: Key,
     ahead: Option<CellNo>,
     above: Option<Key>,
-    step: Step,
     dice: &mut Dice,
 ) -> Decision
     requires lanes { length road.now.lanes ≡ 2 }
@@ -191,7 +196,10 @@ pub(crate) fn decide(
     requires key { list_on yard.now key.0 ≡ Some (lane_of road.now outlook.lane).list }
     requires above { IsUpTo yard.now (lane_of road.now (1 - outlook.lane)).list (cell_at yard.now key.0) (option_map (λ k. k.0) above) }
     ensures above { IsUpTo yard.now (lane_of road.now (1 - outlook.entry.lane)).list (cell_at yard.now key.0) (option_map (λ k. k.0) result.above) }
-    ensures goes { (v : Vehicle) → vehicle_with yard.now key.0 ≡ Some v → result.goes ≡ decision (changing_of road.now step) outlook.entry.lane (length_of road.now) (closed_marks (lane_of road.now outlook.entry.lane).closed (length_of road.now)) ahead (track_of yard.now (length_of road.now) (lane_of road.now (1 - outlook.entry.lane))) (cell_at yard.now key.0) v }
+    ensures goes { (v : Vehicle) → vehicle_with yard.now key.0 ≡ Some v
+        → result.goes ≡ decision (changing_of road.now outlook.entry.step) outlook.entry.lane (length_of road.now)
+        (closed_marks (lane_of road.now outlook.entry.lane).closed (length_of road.now)) ahead
+        (track_of yard.now (length_of road.now) (lane_of road.now (1 - outlook.entry.lane))) (cell_at yard.now key.0) v }
     ensures dice { dice.new ≡ dice.old }
 {
     let cell = yard.cell(key);
@@ -201,5 +209,5 @@ pub(crate) fn decide(
         return Decision { above, goes: false };
     }
     let gap = cells_up_to(obstacle, cell).unwrap_or(FAR);
-    decide_beside(yard, road, outlook.lane, key, gap, above, step, dice)
+    decide_beside(yard, road, &outlook, key, gap, above, dice)
 }
