@@ -1,16 +1,16 @@
 -- The hand-overs of all tiles together are the entries of the machine.
 use Rattle.std.proofs.Common.{◌≡◌, Bool, true, false, List, [], ◌∷◌, ◌++◌, map, refl, sym, ◌∙◌, ap, arith, inl, inr}
-use Rattle.std.specs.Prelude.{Option, Some, None, find, filter, filter_map, option_to_list, option_map, option_and_then, if◌then◌else◌, nat_le}
+use Rattle.std.specs.Prelude.{Option, Some, None, filter, filter_map, option_to_list, option_map, option_and_then, if◌then◌else◌, nat_le}
 use Rattle.std.specs.Option.{option_map_or}
 use Rattle.std.specs.List.{list_any, cons_option}
-use Rattle.std.proofs.lemmas.Bool.{cases_Bool, cond-true, cond-false, both_ways, or_right}
+use Rattle.std.proofs.lemmas.Bool.{cases_Bool, cond-true, cond-false, both_ways}
 use Rattle.street_base.specs.Lane.{is_free}
 use Rattle.street_base.specs.Network.{Place, is_place, link_at, places}
 use Rattle.street_base.specs.Vehicle.{Vehicle}
 use Rattle.street_base.specs.State.{Traffic, Queued, lane_at}
 use Rattle.street_base.specs.Census.{one_if}
 use Rattle.street_base.specs.Release.{front, exit_lane, may_give, giver, entering, on_next_link}
-use Rattle.street_base.proofs.ReleaseLemmas.{is_place-same, is_place-refl, is_place-swap}
+use Rattle.street_base.proofs.ReleaseLemmas.{is_place-same, is_place-refl, is_place-swap, find-among}
 use Rattle.street_tile.specs.Halves.{Transfer, takes, entry_on, crossing, entries_to}
 use Rattle.street_tile.specs.Walks.{times}
 use Rattle.street_tile.proofs.Walks.{times-cons, chosen-leads}
@@ -54,13 +54,6 @@ module _ (h : Place → List Vehicle) (q : Place) (others : (p : Place) → is_p
   pub none-gathered : ((p : Place) → h p ≡ []) → (ps : List Place) → gathered ps ≡ []
   none-gathered none [] = refl
   none-gathered none (p ∷ ps) = rw (none p, none-gathered none ps) refl
-
-find-among : (test : Place → Bool) (xs : List Place) (x : Place) → find test xs ≡ Some x → list_any (is_place x) xs ≡ true
-find-among test [] x e = cc
-find-among test (y ∷ xs) x e = elim (cases_Bool (test y)) as (λ _. list_any (is_place x) (y ∷ xs) ≡ true) [
-  | inl t ↦ (let h : Some y ≡ Some x = sym (cond-true _ _ _ t) ∙ e in let same : y ≡ x = cc in rw (same, is_place-refl x) refl)
-  | inr f ↦ or_right (is_place x y) _ (find-among test xs x (sym (cond-false _ _ _ f) ∙ e))
-]
 
 -- of an entry, who enters this lane
 abbrev pub enters : Place → Option Transfer → List Vehicle

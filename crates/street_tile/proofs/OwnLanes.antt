@@ -1,10 +1,9 @@
 -- Which lanes are a tile's: each is the network's, and all buffers that lead to one lane are one tile's.
-use Rattle.std.proofs.Common.{◌≡◌, ℕ, zero, suc, ◌+◌, ◌<◌, ◌≤◌, Bool, true, false, List, [], ◌∷◌, map, length, refl, sym, ◌∙◌, ap, subst, arith, inl, inr}
-use Rattle.std.specs.Prelude.{flat_map, Option, Some, None, slice_get, find, filter, ◌&&◌, ◌||◌, option_map, option_and_then, nat_le, nat_lt, if◌then◌else◌}
+use Rattle.std.proofs.Common.{◌≡◌, ℕ, zero, suc, ◌≤◌, Bool, true, false, List, [], ◌∷◌, map, length, refl, sym, ◌∙◌, ap, arith, inl, inr}
+use Rattle.std.specs.Prelude.{Option, Some, None, slice_get, find, filter, ◌&&◌, ◌||◌, option_map, option_and_then, nat_le, nat_lt, if◌then◌else◌}
 use Rattle.std.specs.Option.{option_map_or}
 use Rattle.std.specs.List.{list_any, range_with_len}
 use Rattle.std.proofs.lemmas.Bool.{cases_Bool, both_ways, or_cases, or_left, or_right, false_from_ne_true}
-use Rattle.std.proofs.lemmas.List.Folds.{list_any-append}
 use Rattle.street_base.specs.declared.net.NetSpec.{NetSpec}
 use Rattle.street_base.specs.declared.net.TurnSpec.{TurnSpec}
 use Rattle.street_base.specs.Network.{Place, is_place, link_at, node_of, turn, places}
@@ -18,6 +17,7 @@ use Rattle.street_lanes.specs.Lanes.{IsLane, AllLanes}
 use Rattle.street_tile.specs.Tiles.{IsRoads, is_own, own_places}
 use Rattle.street_tile.specs.Walks.{times, AtMostOnce, IsWalk}
 use Rattle.street_tile.proofs.Walks.{times-cons}
+use Rattle.street_base.proofs.FormLemmas.{places-inside}
 
 -- ---- a filter
 
@@ -80,24 +80,6 @@ any-filter q own (p ∷ ps) e = elim (cases_Bool (own p)) as (λ _. list_any (is
 -- the lanes of a link
 abbrev pub row_of : NetSpec → ℕ → List Place
 row_of net i = map (λ k. record { link = i; lane = k }) (range_with_len 0 (link_at net i).lanes)
-
-row-inside : (q : Place) (i a n : ℕ) → list_any (is_place q) (map (λ k. record { link = i; lane = k }) (range_with_len a n)) ≡ true → (q.link ≡ i) × (q.lane < a + n)
-row-inside q i a zero e = cc
-row-inside q i a (suc n) e = elim (or_cases (is_place q (record { link = i; lane = a })) (list_any (is_place q) (map (λ k. record { link = i; lane = k }) (range_with_len (a + 1) n))) e) as (λ _. (q.link ≡ i) × (q.lane < a + suc n)) [
-  | inl here ↦ (let same = is_place-same q (record { link = i; lane = a }) here in (ap (λ (p : Place). p.link) same, (let lane : q.lane ≡ a = ap (λ (p : Place). p.lane) same in omega arith)))
-  | inr on ↦ (let rest = row-inside q i (a + 1) n on in let le = rest.1 in (rest.0, omega arith))
-]
-
-places-inside : (net : NetSpec) (q : Place) (a n : ℕ) → list_any (is_place q) (flat_map (row_of net) (range_with_len a n)) ≡ true → (q.link < a + n) × (q.lane < (link_at net q.link).lanes)
-places-inside net q a zero e = cc
-places-inside net q a (suc n) e = elim (or_cases (list_any (is_place q) (row_of net a)) (list_any (is_place q) (flat_map (row_of net) (range_with_len (a + 1) n))) (sym (list_any-append (is_place q) (row_of net a) (flat_map (row_of net) (range_with_len (a + 1) n))) ∙ e)) as (λ _. (q.link < a + suc n) × (q.lane < (link_at net q.link).lanes)) [
-  | inl here ↦ (
-      let row = row-inside q a 0 (link_at net a).lanes here in
-      let link : q.link ≡ a = row.0 in
-      let lane : q.lane < 0 + (link_at net a).lanes = row.1 in
-      (omega arith, subst (λ j. q.lane < (link_at net j).lanes) (sym link) (omega arith)))
-  | inr on ↦ (let rest = places-inside net q (a + 1) n on in let le = rest.0 in (omega arith, rest.1))
-]
 
 pub lane-of : (net : NetSpec) (p : Place) → list_any (is_place p) (places net) ≡ true → IsLane net p
 lane-of net p among = let inside = places-inside net p 0 (length net.links) among in let a = inside.0 in (omega arith, inside.1)
