@@ -4,6 +4,7 @@
     bench/costs.py ./test                     runs the gate and watches it
     bench/costs.py rt ci NAME..               runs and watches a part of it
     bench/costs.py --beside PID --log FILE    watches a gate, or a part, that runs and whose output goes to FILE
+    bench/costs.py --log FILE                 writes the table once more: FILE has the output of a gate that passed
 
 `rt ci` proves and tries nothing again that an earlier run on this machine passed and that has not changed since. What each watched run
 proved and tried is noted in out/costs.json; where the gate takes something from an earlier run, its figure is that run's, which the
@@ -308,28 +309,12 @@ def beside(pid, log):
     return Path(log).read_text(errors="replace"), watch
 
 
-def main():
-    parser = argparse.ArgumentParser(description=__doc__, formatter_class=argparse.RawDescriptionHelpFormatter)
-    parser.add_argument("--beside", type=int, metavar="PID")
-    parser.add_argument("--log", metavar="FILE")
-    parser.add_argument("--gaps", action="store_true")
-    parser.add_argument("command", nargs=argparse.REMAINDER)
-    words = parser.parse_args()
-    if bool(words.command) == bool(words.beside) or bool(words.beside) != bool(words.log):
-        parser.error("give a command, or --beside and --log")
-    signal.signal(signal.SIGTERM, signal.default_int_handler)
-    sums, notes = {crate: sum_of(crate) for crate in listed()}, TOP / "out/costs.json"
-    name = " ".join(words.command) if words.command else " ".join(named(words.beside))
+def watched(words):
+    """What a run has printed, which is watched, and what is noted of it."""
+    sums = {crate: sum_of(crate) for crate in listed()}
+    name = " ".join(words.command or named(words.beside))
     output, watch = beside(words.beside, words.log) if words.beside else run_gate(words.command)
-    run = noted(name, output, watch, sums)
-    runs = [*(json.loads(notes.read_text()) if notes.exists() else []), *([run] if run["parts"] else [])]
-    notes.parent.mkdir(exist_ok=True)
-    notes.write_text(json.dumps(runs, indent=1) + "\n")
-    print(f"costs: {len(run['parts'])} parts of this run are noted in {notes}", file=sys.stderr)
-    if not PASSED.search(output):
-        print("costs: this was not the gate, or it has not passed; docs/COSTS.md stays", file=sys.stderr)
-        return 1
-    return 0 if write(runs, words.gaps) else 1
+    return output, noted(name, output, watch, sums)
 
 
 def named(pid):
@@ -337,6 +322,32 @@ def named(pid):
     words = Path(f"/proc/{pid}/cmdline").read_text(errors="replace").rstrip("\0").split("\0")
     at = 1 if Path(words[0]).name.startswith("python") and len(words) > 1 else 0
     return [Path(words[at]).name, *words[at + 1 :]]
+
+
+def main():
+    parser = argparse.ArgumentParser(description=__doc__, formatter_class=argparse.RawDescriptionHelpFormatter)
+    parser.add_argument("--beside", type=int, metavar="PID")
+    parser.add_argument("--log", metavar="FILE")
+    parser.add_argument("--gaps", action="store_true")
+    parser.add_argument("command", nargs=argparse.REMAINDER)
+    words = parser.parse_args()
+    if bool(words.command) == bool(words.log) or words.beside and not words.log:
+        parser.error("give a command, or --log, with or without --beside")
+    signal.signal(signal.SIGTERM, signal.default_int_handler)
+    notes = TOP / "out/costs.json"
+    runs = json.loads(notes.read_text()) if notes.exists() else []
+    if words.command or words.beside:
+        output, run = watched(words)
+        runs += [run] if run["parts"] else []
+        notes.parent.mkdir(exist_ok=True)
+        notes.write_text(json.dumps(runs, indent=1) + "\n")
+        print(f"costs: {len(run['parts'])} parts of this run are noted in {notes}", file=sys.stderr)
+    else:
+        output = Path(words.log).read_text(errors="replace")
+    if not PASSED.search(output):
+        print("costs: this was not the gate, or it has not passed; docs/COSTS.md stays", file=sys.stderr)
+        return 1
+    return 0 if write(runs, words.gaps) else 1
 
 
 if __name__ == "__main__":

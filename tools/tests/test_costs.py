@@ -158,6 +158,10 @@ class Costs(Case):
                 gate.wait()
                 self.assertEqual(costs.wait(timeout=60), 0)
         self.assertEqual(self.row("street_base")[2:5], ["43", "7", "2"])
+        (self.top / "docs/COSTS.md").unlink()
+        subprocess.run([sys.executable, "bench/costs.py", "--log", log], cwd=self.top, check=True)
+        self.assertEqual(self.row("street_base")[2:5], ["43", "7", "2"])
+        self.assertEqual(len(self.notes()), 1)
 
 
 if __name__ == "__main__":
