@@ -1,7 +1,7 @@
 -- Motion on one lane of a tile.
 -- Source: this profile.
 use Rattle.std.specs.Prelude.{◌≡◌, ◌⊎◌, ℕ, ◌+◌, ◌<◌, ◌≤◌, nat_lt, List, [], ◌∷◌, ◌++◌, length, map, Bool, true, false, ◌&&◌, Option, Some, if◌then◌else◌}
-use Rattle.std.specs.Option.{option_map_or, option_to_list, option_copied}
+use Rattle.std.specs.Option.{option_map_or, option_to_list}
 use Rattle.street_base.specs.declared.car.Car.{Car}
 use Rattle.street_base.specs.declared.net.NetSpec.{NetSpec}
 use Rattle.street_base.specs.Limits.{last_clock}
@@ -96,7 +96,7 @@ pub record MovesLane (net : NetSpec) (signal : Option SignalPlan) (step : ℕ) (
 -- what motion does to the lists of a leg's lane
 abbrev pub MovesLeg : Leg → Yard → Yard → Option ℕ → List Watch → List Watch → Type 0
 MovesLeg leg old new told before after =
-    MovesLane leg.net.now (option_copied leg.plan) leg.clock (place_of leg.at) leg.closures.now leg.lane old new told before after
+    MovesLane leg.net.now leg.signal.now leg.clock (place_of leg.at) leg.closures.now leg.lane old new told before after
 
 -- of whatever traffic of the step lane n stands for its lane, P holds
 abbrev pub WhereStands : NetSpec → Option SignalPlan → ℕ → ℕ → Lanes → (Traffic → Type 0) → Type 0

@@ -1,7 +1,6 @@
 //! The detectors of a lane, which has some or none.
 ghost use Rattle.std.specs.Prelude.{◌≡◌, ◌<◌, ◌≤◌, length, List, [], map, option_map, slice_get, IfOk, OnOk, OnErr};
 ghost use Rattle.std.specs.List.{All};
-ghost use Rattle.std.specs.Option.{option_copied};
 ghost use Rattle.street_base.specs.Limits.{last_clock};
 ghost use Rattle.street_base.specs.Shown.{shown_rows};
 ghost use Rattle.street_base.specs.State.{LaneState, Detector};
@@ -18,7 +17,7 @@ use std::alloc::Global;
 use std::marker::Model;
 use street_base::{CarNo, CellNo, Reply, Starved, Step};
 use street_net::{LaneId, Network};
-use street_node::SignalPlan;
+use street_node::Signal;
 
 /// The detectors of a lane.
 pub struct Detectors {
@@ -69,17 +68,17 @@ impl Detectors {
         net: &Network,
         lane: usize,
         clock: Step,
-        plan: Option<&SignalPlan>,
+        signal: &Signal<'_>,
     ) -> Option<CarNo>
         requires lane { lane < length own.old.lanes }
         requires of { IsOf net.now own.old }
         requires size { self.old.size ≡ length (lane_of own.old lane).track.cells }
-        ensures drives { DrivesAt net.now (option_copied plan.entry) clock lane own.old own.new result (map cleared self.old.meters) self.new.watches }
+        ensures drives { DrivesAt net.now signal.now clock lane own.old own.new result (map cleared self.old.meters) self.new.watches }
         ensures meters { self.new ≡ record self.old { watches = self.new.watches } }
     {
         match &mut self.kind {
-            Kind::Bare(_) => own.drive(net, lane, clock, plan, &mut []),
-            Kind::Watched(meters) => meters.drive(own, net, lane, clock, plan),
+            Kind::Bare(_) => own.drive(net, lane, clock, signal, &mut []),
+            Kind::Watched(meters) => meters.drive(own, net, lane, clock, signal),
         }
     }
 

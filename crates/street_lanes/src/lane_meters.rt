@@ -3,7 +3,6 @@
 //! Source: detectors are this profile.
 ghost use Rattle.std.specs.Prelude.{◌≡◌, ◌<◌, ◌≤◌, length, List, [], map, option_map, slice_get, IfOk, OnOk, OnErr};
 ghost use Rattle.std.specs.List.{All};
-ghost use Rattle.std.specs.Option.{option_copied};
 ghost use Rattle.street_base.specs.Limits.{last_clock};
 ghost use Rattle.street_base.specs.Shown.{shown_rows};
 ghost use Rattle.street_base.specs.State.{LaneState, Detector};
@@ -20,7 +19,7 @@ use std::marker::Model;
 use street_base::{CarNo, CellNo, Reply, Starved, Step};
 use street_meter::{Meter, MeterSite};
 use street_net::{LaneId, Network};
-use street_node::SignalPlan;
+use street_node::Signal;
 use street_rule::Watch;
 
 /// The meters of a lane, and their watches.
@@ -109,16 +108,16 @@ impl LaneMeters {
         net: &Network,
         lane: usize,
         clock: Step,
-        plan: Option<&SignalPlan>,
+        signal: &Signal<'_>,
     ) -> Option<CarNo>
         requires lane { lane < length own.old.lanes }
         requires of { IsOf net.now own.old }
         requires size { self.old.size ≡ length (lane_of own.old lane).track.cells }
-        ensures drives { DrivesAt net.now (option_copied plan.entry) clock lane own.old own.new result (map cleared self.old.meters) self.new.watches }
+        ensures drives { DrivesAt net.now signal.now clock lane own.old own.new result (map cleared self.old.meters) self.new.watches }
         ensures meters { self.new ≡ record self.old { watches = self.new.watches } }
     {
         clear(&mut self.watches, &self.meters);
-        own.drive(net, lane, clock, plan, &mut self.watches)
+        own.drive(net, lane, clock, signal, &mut self.watches)
     }
 
     /// At the end of the step each meter notes what its watch saw of the motion, and whether its cell is covered. Takes no

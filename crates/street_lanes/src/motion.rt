@@ -3,7 +3,6 @@
 //! Source: Nagel and Schreckenberg 1992; exits, buffers and detectors are this profile.
 ghost use Rattle.std.specs.Prelude.{◌≡◌, ◌^◌, ◌<◌, ◌≤◌, length, Some, IsSome};
 ghost use Rattle.std.specs.List.{All};
-ghost use Rattle.std.specs.Option.{option_copied};
 ghost use Rattle.street_base.specs.declared.car.Car.{Car as CarOf};
 ghost use Rattle.street_base.specs.Limits.{most_residence};
 ghost use Rattle.street_base.specs.Network.{end_node};
@@ -23,7 +22,7 @@ use crate::lists::{buffer_list, cells_list};
 use street_base::{CarNo, CellNo, LinkIx, NodeSpec, Step, Turn};
 use street_gap::Closures;
 use street_net::{LaneId, Network};
-use street_node::SignalPlan;
+use street_node::Signal;
 use street_rule::{Dice, Road, RoadLane, Watch, motion_pass};
 use street_yard::{Key, ListId, Yard};
 
@@ -36,8 +35,8 @@ pub(crate) struct Leg<'a> {
     /// Its number among the lanes of the tile.
     pub(crate) lane: usize,
     pub(crate) closures: &'a Closures,
-    /// The plan of the node that it runs to, if that has one.
-    pub(crate) plan: Option<&'a SignalPlan>,
+    /// The signal of the node that it runs to.
+    pub(crate) signal: &'a Signal<'a>,
     pub(crate) clock: Step,
 }
 
@@ -55,7 +54,7 @@ fn end_node(net: &Network, link: LinkIx) -> NodeSpec
 /// where there are signals most who wait at an end have red.
 fn exit_is_open(leg: &Leg<'_>, buffered: usize, next: Option<LinkIx>) -> bool
     requires { leg.now.at.link < length leg.now.net.now.links }
-    ensures { result ≡ opens_to leg.now.net.now (option_copied leg.now.plan) leg.now.clock (place_of leg.now.at) buffered next }
+    ensures { result ≡ opens_to leg.now.net.now leg.now.signal.now leg.now.clock (place_of leg.now.at) buffered next }
 {
     let Some(next) = next else {
         return true;
@@ -69,9 +68,9 @@ fn exit_is_open(leg: &Leg<'_>, buffered: usize, next: Option<LinkIx>) -> bool
 
 /// Whether the signals show green to those who go on to a link; without a plan they always do.
 fn is_shown_green(leg: &Leg<'_>, next: LinkIx) -> bool
-    ensures { result ≡ is_green (option_copied leg.now.plan) (place_of leg.now.at) next leg.now.clock }
+    ensures { result ≡ is_green leg.now.signal.now (place_of leg.now.at) next leg.now.clock }
 {
-    let Some(plan) = leg.plan else {
+    let Some(plan) = leg.signal.plan() else {
         return true;
     };
     // Signals do not ask to which lane of the next link a turn leads.
@@ -93,7 +92,7 @@ fn exit_for(yard: &Yard, road: &Road<'_>, leg: &Leg<'_>, buffer: ListId, front: 
     requires list { buffer.0 < length yard.now.lists }
     requires front { IsSome (entry_at yard.now front.0) }
     ensures { (car : CarOf) → car_of yard.now front.0 ≡ Some car
-        → IsToldExit leg.now.net.now (option_copied leg.now.plan) leg.now.clock (place_of leg.now.at) (length (list_at yard.now buffer.0)) car result }
+        → IsToldExit leg.now.net.now leg.now.signal.now leg.now.clock (place_of leg.now.at) (length (list_at yard.now buffer.0)) car result }
 {
     let _faultless = leg.net.spec();
     let _within = road.link();
@@ -155,27 +154,48 @@ impl Lanes {
     /// has arrived: its number is answered, and there is room for one more. Any other comes last into the lane's buffer, from
     /// where it may go on after the residence of the node. Takes no memory.
     ///
-    /// `plan` is the signal plan of the node that the lane runs to, if it has one. `watches` are those of the lane's
-    /// detectors.
+    /// `signal` is that of the node that the lane runs to; its plan is looked up where the front vehicle asks. `watches` are
+    /// those of the lane's detectors.
     pub fn drive(
         &mut self,
         net: &Network,
         lane: usize,
         clock: Step,
-        plan: Option<&SignalPlan>,
+        signal: &Signal<'_>,
         watches: &mut [Watch],
     ) -> Option<CarNo>
         requires lane { lane < length self.old.lanes }
         requires of { IsOf net.now self.old }
         requires watches { All (IsReady (length (lane_of self.old lane).track.cells)) watches.old }
-        ensures { DrivesAt net.now (option_copied plan.entry) clock lane self.old self.new result watches.old watches.new }
+        ensures { DrivesAt net.now signal.now clock lane self.old self.new result watches.old watches.new }
+    {
+        if self.yard.list_front(cells_list(lane)).is_none() {
+            return None;
+        }
+        self.drive_cells(net, lane, clock, signal, watches)
+    }
+
+    /// The same. It stands apart from the look at the lane's list, so that a lane without vehicles costs no call.
+    #[inline(never)]
+    fn drive_cells(
+        &mut self,
+        net: &Network,
+        lane: usize,
+        clock: Step,
+        signal: &Signal<'_>,
+        watches: &mut [Watch],
+    ) -> Option<CarNo>
+        requires lane { lane < length self.old.lanes }
+        requires of { IsOf net.now self.old }
+        requires watches { All (IsReady (length (lane_of self.old lane).track.cells)) watches.old }
+        ensures { DrivesAt net.now signal.now clock lane self.old self.new result watches.old watches.new }
     {
         let leg = Leg {
             net,
             at: self.extents[lane].at,
             lane,
             closures: &self.closures[lane],
-            plan,
+            signal,
             clock,
         };
         drive(&mut self.yard, &mut self.dice, &leg, watches)

@@ -13,8 +13,10 @@ mod faults;
 mod phase;
 mod plan;
 mod release;
+mod signal;
 
 pub use buffers::Buffers;
 pub use faults::SignalFault;
 pub use plan::SignalPlan;
 pub use release::Released;
+pub use signal::Signal;

@@ -1,11 +1,9 @@
 //! One call of a tape, applied as it went at the desk.
 //!
 //! Source: this profile.
-ghost use Rattle.std.specs.Prelude.{◌≡◌, ℕ, Option, IfOk, IfErr, MatchBool, None, nat_le, ◌&&◌, ◌+◌};
+ghost use Rattle.std.specs.Prelude.{◌≡◌, ℕ, Option, IfOk, IfErr};
 ghost use Rattle.street_base.specs.declared.command.Command.TheVariants.{Advance};
 ghost use Rattle.street_base.specs.declared.reply.Outcome.TheVariants.{Whole, Short};
-ghost use Rattle.street_base.specs.Limits.{last_clock, most_steps};
-ghost use Rattle.street_base.specs.Machine.{refusal};
 ghost use Rattle.street_base.specs.Outcomes.{reply_to, state_after};
 ghost use Rattle.street_base.specs.State.{State};
 ghost use Rattle.street_engine.specs.Refines.{StandsFor};
@@ -14,37 +12,9 @@ ghost use Rattle.street_tape.specs.Replies.{IsReplayable, clock_in};
 
 use crate::Stop;
 use std::thread::Threads;
-use street_base::{Command, LAST_CLOCK, Outcome, Reply};
+use street_base::{Command, Outcome, Reply};
 use street_desk::Entry;
 use street_engine::{Engine, Gate};
-
-/// The most steps of one advance.
-const MOST_STEPS: u64 = 10_000;
-
-/// Whether so many steps are no more than those of one advance, and lead from the clock no further than the last.
-fn is_within(clock: u64, steps: u64) -> bool
-    ensures { result ≡ (nat_le steps most_steps && nat_le (clock + steps) last_clock) }
-{
-    let last = u64::from(LAST_CLOCK);
-    steps <= MOST_STEPS && clock <= last && clock + steps <= last
-}
-
-/// Whether the machine would not refuse an advance of so many steps. An advance of 0 steps tells the clock, and changes
-/// nothing.
-fn may_advance<R: Threads + Sync, G: Gate + Sync + Drop>(
-    rt: &R,
-    engine: &mut Engine<G>,
-    steps: u64,
-) -> bool
-    ensures { (old : State) → StandsFor engine.old old → StandsFor engine.new old
-        × MatchBool result (refusal old (Advance steps) ≡ None) (refusal old (Advance steps) ≡ None → ⊥) }
-{
-    let (reply, _) = engine.apply(rt, &Command::Advance { steps: 0 });
-    match reply {
-        Reply::Clock { clock } => is_within(clock, steps),
-        _ => false,
-    }
-}
 
 /// A call that was done whole.
 fn call_whole<R: Threads + Sync, G: Gate + Sync + Drop>(
@@ -108,7 +78,7 @@ fn call_short<R: Threads + Sync, G: Gate + Sync + Drop>(
     if made == 0 || made >= *steps {
         return Err(Stop::BadEntry);
     }
-    if !may_advance(rt, engine, *steps) {
+    if engine.advance_refusal(*steps).is_some() {
         return Err(Stop::BadEntry);
     }
     match advance_whole(rt, engine, made)? {

@@ -23,7 +23,7 @@ use Rattle.street_lanes.specs.Motion.{cells_on}
 use Rattle.street_meter.specs.Meter.{Meter, Stands, detector_of, next_step}
 use Rattle.street_rule.specs.declared.watch.Watch.{Watch}
 use Rattle.street_lanes.specs.Detectors.{Detectors, cleared, watch_of, triple_of, GoesOn, Notes, AllGoOn, AllNote, MeterStands, MetersStandFor}
-use Rattle.street_tile.specs.Tiles.{Part, AreBare, AreDue, sizes_of}
+use Rattle.street_tile.specs.Tiles.{Part, IsBare, AreBare, AreDue, sizes_of}
 use Rattle.street_tile.specs.TileDetectors.{no_detectors, detectors_at, bare, KeepMeters, HaveNoted, detectors_on, MetersStand}
 use Rattle.street_tile.proofs.SameLanes.{even-of}
 use Rattle.street_tile.proofs.OwnLanes.{filter-holds}
@@ -65,46 +65,42 @@ pub bare-sizes : (net : NetSpec) (own : List LaneId) → sizes_of (map (bare net
 bare-sizes net [] = refl
 bare-sizes net (at ∷ own) = ap (λ (ns : List ℕ). cells_on net (place_of at) ∷ ns) (bare-sizes net own)
 
-bare-none : (net : NetSpec) (own : List LaneId) (k : ℕ) → (detectors_at (map (bare net) own) k).meters ≡ []
-bare-none net [] k = refl
-bare-none net (at ∷ own) zero = refl
+bare-none : (net : NetSpec) (own : List LaneId) (k : ℕ) → IsBare (detectors_at (map (bare net) own) k)
+bare-none net [] k = (refl, refl)
+bare-none net (at ∷ own) zero = (refl, refl)
 bare-none net (at ∷ own) (suc k) = bare-none net own k
 
 pub bare-due : (net : NetSpec) (own : List LaneId) (clock : ℕ) → AreDue clock (map (bare net) own)
 bare-due net own clock k d h =
-    let none : (get_or (map (bare net) own) k d).meters ≡ [] = ap (λ (g : Detectors). g.meters) (get_or_default (map (bare net) own) k d no_detectors h) ∙ bare-none net own k in
+    let none : (get_or (map (bare net) own) k d).meters ≡ [] = ap (λ (g : Detectors). g.meters) (get_or_default (map (bare net) own) k d no_detectors h) ∙ (bare-none net own k).0 in
     subst (All (λ x. next_step x ≡ clock)) (sym none) (λ j x l. absurd (omega arith))
 
 pub bare-stand : (net : NetSpec) (ps : List Place) (own : List LaneId) (detectors : List Detectors) → detectors ≡ map (bare net) own → (k : ℕ) (p : Place) → slice_get ps k ≡ Some p → MetersStandFor (detectors_at detectors k).meters (detectors_on p (loaded net).detectors)
 unfolding loaded
-bare-stand net ps own detectors is k p at = subst (λ (ms : List Meter). MetersStandFor ms []) (sym (ap (λ gs. (detectors_at gs k).meters) is ∙ bare-none net own k)) (record { even = refl; each = λ j y d h. absurd (omega arith) })
+bare-stand net ps own detectors is k p at = subst (λ (ms : List Meter). MetersStandFor ms []) (sym (ap (λ gs. (detectors_at gs k).meters) is ∙ (bare-none net own k).0)) (record { even = refl; each = λ j y d h. absurd (omega arith) })
 
 -- none of the lanes has a detector
 pub bare-all : (net : NetSpec) (own : List LaneId) → AreBare (map (bare net) own)
-bare-all net own k d h = ap (λ (g : Detectors). g.meters) (get_or_default (map (bare net) own) k d no_detectors h) ∙ bare-none net own k
+bare-all net own k d h = subst IsBare (sym (get_or_default (map (bare net) own) k d no_detectors h)) (bare-none net own k)
 
 -- so there is nothing to note
 pub bare-noted : (own : Lanes) (detectors : List Detectors) → AreBare detectors → HaveNoted own detectors detectors
 bare-noted own detectors bare = record {
   even = refl;
   each = λ k. refl;
-  go = λ k h. record { even = refl; each = λ j x l. absurd (let none = ap length (bare k no_detectors h) in omega arith) };
-  note = λ k s h stands j x w l. absurd (let none = ap length (bare k no_detectors h) in omega arith);
+  go = λ k h. record { even = refl; each = λ j x l. absurd (let none = ap length (bare k no_detectors h).0 in omega arith) };
+  note = λ k s h stands j x w l. absurd (let none = ap length (bare k no_detectors h).0 in omega arith);
 }
 
--- motion places no detector
-pub keep-bare : (olds news : List Detectors) → KeepMeters olds news → AreBare olds → AreBare news
-keep-bare olds news keep bare k d h =
-    let even = keep.even in
-    ap (λ (g : Detectors). g.meters) (get_or_default news k d no_detectors h ∙ keep.each k) ∙ bare k no_detectors (omega arith)
-
--- nor does noting a step
+-- noting a step places no detector
 pub noted-bare : (own : Lanes) (olds news : List Detectors) → HaveNoted own olds news → AreBare olds → AreBare news
 noted-bare own olds news noted bare k d h =
     let even = noted.even in
     let go = (noted.go k (omega arith)).even in
-    let none = ap length (bare k no_detectors (omega arith)) in
-    ap (λ (g : Detectors). g.meters) (get_or_default news k d no_detectors h) ∙ nil_from_length (detectors_at news k).meters (omega arith)
+    let was = bare k no_detectors (omega arith) in
+    let none = ap length was.0 in
+    let is = get_or_default news k d no_detectors h in
+    (ap (λ (g : Detectors). g.meters) is ∙ nil_from_length (detectors_at news k).meters (omega arith), ap (λ (g : Detectors). g.watches) (is ∙ noted.each k) ∙ was.1)
 
 -- ---- motion, lane after lane
 

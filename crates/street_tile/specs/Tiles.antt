@@ -125,9 +125,13 @@ pub record AreNumbers (links : ℕ) (ps : List Place) (numbers : List ℕ) : Typ
 abbrev pub AreDue : ℕ → List Detectors → Type 0
 AreDue clock detectors = All (λ g. All (λ x. next_step x ≡ clock) g.meters) detectors
 
+-- a lane has no detector
+abbrev pub IsBare : Detectors → Type 0
+IsBare g = (g.meters ≡ []) × (g.watches ≡ [])
+
 -- none of these lanes has a detector
 abbrev pub AreBare : List Detectors → Type 0
-AreBare detectors = All (λ g. g.meters ≡ []) detectors
+AreBare detectors = All IsBare detectors
 
 -- nobody is on the way to a tile
 abbrev pub nobody : Part → List (Option Vehicle)

@@ -1,7 +1,7 @@
 //! Lane changes and motion on a tile's own lanes.
 //!
 //! Source: the order of the phases is this profile.
-ghost use Rattle.std.specs.Prelude.{◌≡◌, ℕ, ◌+◌, ◌*◌, ◌<◌, ◌≤◌, length, map, ◌++◌, filter_map, true, IsTrue, ◌↔◌, vec_len, vec_capacity, slice_get, Some};
+ghost use Rattle.std.specs.Prelude.{◌≡◌, ℕ, ◌+◌, ◌*◌, ◌<◌, ◌≤◌, length, map, ◌++◌, filter_map, true, false, IsTrue, ◌↔◌, vec_len, vec_capacity, slice_get, Some};
 ghost use Rattle.street_base.specs.Limits.{last_clock};
 ghost use Rattle.street_base.specs.Network.{Place, link_at};
 ghost use Rattle.street_base.specs.Lane.{is_free};
@@ -12,7 +12,7 @@ ghost use Rattle.street_lanes.specs.Lanes.{Same, Others, IsOf, lane_of, place_at
 ghost use Rattle.street_lanes.specs.Whole.{IsOn, LanesStand};
 ghost use Rattle.street_lanes.specs.Motion.{cells_on};
 ghost use Rattle.street_lanes.specs.Detectors.{watch_of};
-ghost use Rattle.street_tile.specs.Tiles.{IsRoads, ArePairs, mouth, sizes_of};
+ghost use Rattle.street_tile.specs.Tiles.{IsRoads, ArePairs, IsBare, AreBare, mouth, sizes_of};
 ghost use Rattle.street_tile.specs.Motion.{IsOfStep, HasPlanFor};
 ghost use Rattle.street_tile.specs.TileDetectors.{KeepMeters, HaveWatched};
 
@@ -20,7 +20,7 @@ use crate::view::slot;
 use street_base::{CarNo, Step};
 use street_lanes::{Detectors, Lanes};
 use street_net::Network;
-use street_node::SignalPlan;
+use street_node::{Signal, SignalPlan};
 
 /// Whether lane `n` of these is lane 0 of a link of two lanes; lane `n + 1` is then the link's other lane.
 fn begins_pair(own: &Lanes, net: &Network, n: usize) -> bool
@@ -54,6 +54,8 @@ pub(crate) fn change_lanes(own: &mut Lanes, net: &Network, clock: Step)
 pub(crate) struct MotionStep<'a> {
     pub(crate) net: &'a Network,
     pub(crate) clock: Step,
+    /// Whether a detector was ever placed in the tile. While none was, none is looked at.
+    pub(crate) has_meters: bool,
     /// The first of the tile's nodes.
     pub(crate) low: usize,
     /// The signal plans of the tile's nodes, from `low` on.
@@ -72,6 +74,7 @@ fn drive_lane(
     requires in_time { step.now.clock ≤ last_clock }
     requires node { HasPlanFor step.now (place_at own.old n) }
     requires size { detectors.old.size ≡ length (lane_of own.old n).track.cells }
+    requires bare { step.now.has_meters ≡ false → IsBare detectors.old }
     ensures same { Same own.old own.new }
     ensures stands { (m : Traffic) → IsOfStep step.now m
         → LaneStands (lane_of own.old n) (lane_at m (place_at own.old n))
@@ -82,13 +85,18 @@ fn drive_lane(
     ensures others { Others n own.old own.new }
     ensures room { own.old.room ≤ own.new.room }
     ensures meters { detectors.new ≡ record detectors.old { watches = detectors.new.watches } }
+    ensures bare { step.now.has_meters ≡ false → detectors.new ≡ detectors.old }
     ensures watched { (m : Traffic) → IsOfStep step.now m
         → LaneStands (lane_of own.old n) (lane_at m (place_at own.old n))
         → detectors.new.watches ≡ map (watch_of m (place_at own.old n)) detectors.old.meters }
 {
     let node = step.net.end_of(own.at(n).link);
-    let plan = step.signals[node.position() - step.low].as_ref();
-    detectors.drive(own, step.net, n, step.clock, plan)
+    let signal = Signal::new(step.signals, node.position() - step.low);
+    if step.has_meters {
+        detectors.drive(own, step.net, n, step.clock, &signal)
+    } else {
+        own.drive(step.net, n, step.clock, &signal, &mut [])
+    }
 }
 
 /// Motion on each of these lanes, which their detectors watch. The numbers of those who arrived are added to `arrived`, and
@@ -104,6 +112,7 @@ pub(crate) fn drive_lanes(
     requires in_time { step.now.clock ≤ last_clock }
     requires nodes { (n : ℕ) → n < length own.old.places → HasPlanFor step.now (place_at own.old n) }
     requires sized { sizes_of detectors.old ≡ map (cells_on step.now.net.now) own.old.places }
+    requires bare { step.now.has_meters ≡ false → AreBare detectors.old }
     requires room { vec_len arrived.old + length own.old.places ≤ vec_capacity arrived.old }
     requires roads { IsRoads step.now.net.now }
     requires wide { length mouths.old ≡ 2 * length step.now.net.now.links }
@@ -116,6 +125,7 @@ pub(crate) fn drive_lanes(
         → arrived.new.items ≡ arrived.old.items ++ filter_map (λ p. arrival (leaver_of m p)) own.old.places }
     ensures capacity { vec_capacity arrived.old ≤ vec_capacity arrived.new }
     ensures meters { KeepMeters detectors.old detectors.new }
+    ensures bare { step.now.has_meters ≡ false → detectors.new ≡ detectors.old }
     ensures watched { (m : Traffic) → IsOfStep step.now m
         → LanesStand own.old.places own.old.lanes m → HaveWatched m own.old.places detectors.new }
     ensures shown { (m : Traffic) → LanesStand own.new.places own.new.lanes m → (j : ℕ)

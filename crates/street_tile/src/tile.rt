@@ -95,6 +95,7 @@ impl Tile {
         let step = MotionStep {
             net,
             clock: self.clock,
+            has_meters: self.has_meters,
             low: self.low,
             signals: &self.signals,
         };

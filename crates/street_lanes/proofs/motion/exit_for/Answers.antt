@@ -1,6 +1,6 @@
 use Rattle.std.proofs.Common.{◌≡◌, ℕ, ◌<◌, length, sym, ap, ◌∙◌, subst, inl, inr, arith}
 use Rattle.std.specs.Prelude.{Option, Some}
-use Rattle.std.specs.Option.{option_copied, option_map}
+use Rattle.std.specs.Option.{option_map}
 use Rattle.street_base.specs.declared.car.Car.{Car as CarOf}
 use Rattle.street_base.specs.declared.net.NetSpec.{NetSpec}
 use Rattle.street_base.specs.Vehicle.{vehicle_of, next_link}
@@ -28,5 +28,5 @@ returns-then-reach-length c = λ car is.
 pub returns : goal.returns
 returns c = λ car is.
     let leg = c.args.leg.now in
-    inr (c.exit_is_open.ensures ∙ ap (opens_to leg.net.now (option_copied leg.plan) leg.clock (place_of leg.at) c.list_len.result) (next-of car c.args.yard.now c.args.front.0 _ is c.next_link.ensures)
-    ∙ ap (λ n. opens_to leg.net.now (option_copied leg.plan) leg.clock (place_of leg.at) n (next_link (vehicle_of car))) c.list_len.ensures)
+    inr (c.exit_is_open.ensures ∙ ap (opens_to leg.net.now leg.signal.now leg.clock (place_of leg.at) c.list_len.result) (next-of car c.args.yard.now c.args.front.0 _ is c.next_link.ensures)
+    ∙ ap (λ n. opens_to leg.net.now leg.signal.now leg.clock (place_of leg.at) n (next_link (vehicle_of car))) c.list_len.ensures)

@@ -1,6 +1,6 @@
-use Rattle.std.proofs.Common.{◌≡◌, ◌+◌, ◌*◌, ◌<◌, length, map, get_or, arith, refl, sym, ap, subst, ◌∙◌}
+use Rattle.std.proofs.Common.{◌≡◌, ◌+◌, ◌*◌, ◌<◌, length, map, set, get_or, arith, refl, sym, ap, subst, ◌∙◌}
 use Rattle.std.specs.Prelude.{Some, None}
-use Rattle.std.proofs.lemmas.List.{append-nil, length-set}
+use Rattle.std.proofs.lemmas.List.{append-nil, length-set, set-get_or}
 use Rattle.std.proofs.lemmas.Option.{slice_get_within}
 use Rattle.street_base.specs.Network.{Place}
 use Rattle.street_base.specs.State.{Traffic, lane_at}
@@ -11,7 +11,7 @@ use Rattle.street_lanes.specs.Lanes.{lane_of, place_at}
 use Rattle.street_lanes.specs.Whole.{LanesStand}
 use Rattle.street_lanes.specs.Motion.{cells_on}
 use Rattle.street_lanes.specs.Detectors.{watch_of}
-use Rattle.street_tile.specs.Tiles.{slot_of}
+use Rattle.street_tile.specs.Tiles.{AreBare, slot_of}
 use Rattle.street_tile.specs.Motion.{IsOfStep}
 use Rattle.street_tile.proofs.SameLanes.{same-then, same-long, of-same, even-of, lanes-here, lanes-next, lanes-all, place-is}
 use Rattle.street_tile.proofs.TileMotion.{lane_at-driven, arrivals-more, arrivals-all}
@@ -93,10 +93,14 @@ loop-n-preserved c = record {
       (shown-after c.args.step.now.net.now roads c.args.own.now.places there c.args.mouths.now c.loop-n.own c.drive_lane.new.own c.loop-n.n c.loop-n.mouths p c.is_open.result before (place-is c.args.own.now c.loop-n.n (omega arith)) c.drive_lane.ensures.others c.is_open.ensures
       (length-set c.loop-n.mouths (slot_of p) c.is_open.result ∙ before.wide));
   detectors = keep-next c.args.detectors.now c.loop-n.detectors c.loop-n.invariant.detectors c.loop-n.n (there c) c.drive_lane.new.detectors c.index-detectors-n.result c.drive_lane.ensures.meters;
+  bare = λ none. ap (set c.loop-n.detectors c.loop-n.n) (c.drive_lane.ensures.bare none) ∙ set-get_or c.loop-n.detectors c.loop-n.n c.index-detectors-n.result ∙ c.loop-n.invariant.bare none;
   watched = λ m of stand.
       watched-next c.args.detectors.now c.loop-n.detectors c.loop-n.invariant.detectors c.loop-n.n (there c) c.drive_lane.new.detectors c.index-detectors-n.result c.drive_lane.ensures.meters m c.args.own.now.places
       (c.loop-n.invariant.watched m of stand) (place_at c.args.own.now c.loop-n.n) (place-is c.args.own.now c.loop-n.n (within c m of stand)) (saw c m of stand);
 }
+
+pub drive_lane-requires-clause-bare : goal.drive_lane-requires-clause-bare
+drive_lane-requires-clause-bare c = λ none. subst AreBare (sym (c.loop-n.invariant.bare none)) (c.requires.bare none) c.loop-n.n c.index-detectors-n.result (let e = c.loop-n.invariant.detectors.even in let long = detectors-even c.args.step.now.net.now c.args.own.now c.requires.of c.args.detectors.now c.requires.sized in omega arith)
 
 pub slot-requires : goal.slot-requires
 slot-requires c = subst (λ (p : Place). slot_of p < 65536) (sym (c.at-at.ensures ∙ rw c.loop-n.invariant.same.places refl)) (slot-inside c.args.step.now.net.now c.requires.roads c.args.own.now c.requires.of.own c.loop-n.n (omega arith)).0

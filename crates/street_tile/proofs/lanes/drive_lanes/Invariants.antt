@@ -1,5 +1,5 @@
 use Rattle.std.proofs.Common.{◌≡◌, ℕ, ◌+◌, ◌-◌, ◌<◌, ◌≤◌, length, map, take, vec_len, vec_capacity}
-use Rattle.std.specs.Prelude.{◌++◌, Some, filter_map, slice_get}
+use Rattle.std.specs.Prelude.{◌++◌, Some, false, filter_map, slice_get}
 use Rattle.street_base.specs.Network.{Place}
 use Rattle.street_base.specs.State.{Traffic}
 use Rattle.street_base.specs.Step.{driven_lane, arrival, leaver_of}
@@ -23,5 +23,6 @@ invariant-loop-n l = record {
   arrived : (m : Traffic) → IsOfStep l.step m → LanesStand l.fn.own.places l.fn.own.lanes m → l.arrived.items ≡ l.fn.arrived.items ++ filter_map (λ p. arrival (leaver_of m p)) (take l.n l.fn.own.places);
   shown : (roads : IsRoads l.step.net.now) (there : AllLanes l.step.net.now l.fn.own.places) → IsShown l.step.net.now roads l.fn.own.places there (IsFreeIn l.fn.own.places l.own l.n) l.fn.mouths l.n l.mouths;
   detectors : KeepMeters l.fn.detectors l.detectors;
+  bare : l.step.has_meters ≡ false → l.detectors ≡ l.fn.detectors;
   watched : (m : Traffic) → IsOfStep l.step m → LanesStand l.fn.own.places l.fn.own.lanes m → (k : ℕ) (p : Place) → k < l.n → slice_get l.fn.own.places k ≡ Some p → (detectors_at l.detectors k).watches ≡ map (watch_of m p) (detectors_at l.detectors k).meters;
 }

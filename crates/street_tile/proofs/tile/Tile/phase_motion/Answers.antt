@@ -9,7 +9,7 @@ use Rattle.street_tile.specs.Tiles.{Part, IsTileOf, AreBare, AreDue, ShowSignals
 use Rattle.street_tile.specs.TileDetectors.{KeepMeters, HaveWatched}
 use Rattle.street_tile.specs.Phases.{MotionPhase}
 use Rattle.street_tile.proofs.SameTile.{at-view}
-use Rattle.street_tile.proofs.MetersStand.{keep-bare, keep-due}
+use Rattle.street_tile.proofs.MetersStand.{keep-due}
 use Rattle.street_tile.proofs.Phases.{tile-owns, moves-of}
 use Rattle.street_tile.proofs.tile.Tile.phase_motion.Goals as goal
 
@@ -27,6 +27,9 @@ drive_lanes-requires-clause-sized c =
     let x : Part = seen s in
     let tile : IsTileOf c.args.net.now x = subst (IsTileOf c.args.net.now) (sym c.self.view_is) c.requires.tile in
     ap sizes_of c.deref_mut.ensures.value ∙ tile.sized
+
+pub drive_lanes-requires-clause-bare : goal.drive_lanes-requires-clause-bare
+drive_lanes-requires-clause-bare c = λ none. subst AreBare (sym c.deref_mut.ensures.value) (c.self.invariant.noted.bare none)
 
 pub drive_lanes-requires-clause-wide : goal.drive_lanes-requires-clause-wide
 drive_lanes-requires-clause-wide c =
@@ -53,7 +56,7 @@ invariant_of-self c =
         arrived = (let le = inv.wide.arrived in let cap = c.drive_lanes.ensures.capacity in rw places (omega arith));
       };
       noted = record {
-        bare = λ none. subst AreBare (sym items) (keep-bare s.detectors.items c.drive_lanes.new.detectors keep (inv.noted.bare none));
+        bare = λ none. subst AreBare (sym (items ∙ c.drive_lanes.ensures.bare none ∙ c.deref_mut.ensures.value)) (inv.noted.bare none);
         due = subst (AreDue s.clock) (sym items) (keep-due s.clock s.detectors.items c.drive_lanes.new.detectors keep inv.noted.due);
       };
     }
