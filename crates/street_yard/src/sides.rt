@@ -1,5 +1,5 @@
 //! The fronts and the backs of lists.
-ghost use Rattle.std.specs.Prelude.{◌≡◌, ◌<◌, length, replicate, IfOk, slice_index_or, slice_set};
+ghost use Rattle.std.specs.Prelude.{◌≡◌, ◌^◌, ◌<◌, length, map, replicate, IfOk, slice_index_or, slice_set};
 
 use crate::hot::Neighbour;
 use std::alloc::{AllocError, Global};
@@ -25,29 +25,33 @@ struct Rest {
 pub(crate) struct Listed {
     fronts: Vec<Neighbour>,
     rests: Vec<Rest>,
+    // How many keys are on the lists whose number leaves this remainder by 3.
+    totals: [u64; 3],
 }
 
 impl Model for Listed {
-    ghost use Rattle.std.specs.Prelude.{◌≡◌, List, length};
+    ghost use Rattle.std.specs.Prelude.{List};
     ghost use Rattle.street_yard.specs.declared.sides.Sides.{Sides as Both};
 
     ghost Value = { List Both };
 
-    ghost use Rattle.street_yard.specs.Tables.{joined};
+    ghost use Rattle.street_yard.specs.Tables.{joined, AreListed};
 
     ghost view = { λ l. joined l.fronts.items l.rests.items };
 
-    ghost invariant = { λ l. length l.fronts.items ≡ length l.rests.items };
+    ghost invariant = { λ l. AreListed l.fronts.items l.rests.items l.totals };
 }
 
 impl Listed {
     ghost use Rattle.street_yard.specs.Thread.{no_sides};
+    ghost use Rattle.street_yard.specs.Yard.{thirds};
 
     /// So many lists without keys.
     ///
     /// # Errors
     /// Memory was refused.
     pub(crate) fn new(alloc: Global, lists: usize) -> Result<Self, AllocError>
+        requires { lists < 2 ^ 32 }
         ensures { IfOk result (λ l. l ≡ replicate lists no_sides) }
     {
         let nobody = Rest {
@@ -56,7 +60,11 @@ impl Listed {
         };
         let fronts = vec![in alloc; Neighbour::nobody(); lists]?;
         let rests = vec![in alloc; nobody; lists]?;
-        Ok(Listed { fronts, rests })
+        Ok(Listed {
+            fronts,
+            rests,
+            totals: [0; 3],
+        })
     }
 
     /// The first key of a list.
@@ -86,6 +94,13 @@ impl Listed {
         self.rests[list].count
     }
 
+    /// How many keys are on lists 0, 3, 6 and so on, on lists 1, 4, 7 .., and on lists 2, 5, 8 ..
+    pub(crate) fn totals(&self) -> [u64; 3]
+        ensures { result ≡ thirds (map (λ e. e.count) self.now) }
+    {
+        self.totals
+    }
+
     /// The front and the back of a list.
     #[inline]
     pub(crate) fn get(&self, list: usize) -> Sides
@@ -106,6 +121,9 @@ impl Listed {
         requires { list < length self.old }
         ensures { self.new ≡ slice_set self.old list sides }
     {
+        let class = list % 3;
+        let others = self.totals[class] - u64::from(self.rests[list].count);
+        self.totals[class] = others + u64::from(sides.count);
         self.fronts[list] = sides.front;
         self.rests[list] = Rest {
             back: sides.back,
