@@ -13,7 +13,12 @@ use Rattle.street_base.specs.State.{Traffic, lane_at}
 use Rattle.street_base.specs.Step.{driven, driven_lane, arrival, leaver_of, plan_at}
 use Rattle.street_lanes.specs.Lanes.{IsLane}
 use Rattle.street_lanes.specs.Whole.{IsOn}
-use Rattle.street_lanes.specs.Motion.{PlanStands}
+use Rattle.street_base.specs.Limits.{last_clock}
+use Rattle.street_net.specs.declared.lanes.LaneId.{LaneId}
+use Rattle.street_net.specs.Tables.{place_of}
+use Rattle.street_lanes.specs.Motion.{PlanStands, IsStepOf}
+use Rattle.street_tile.specs.declared.lanes.MotionStep.{MotionStep}
+use Rattle.street_tile.specs.Motion.{IsOfStep, HasPlanFor}
 use Rattle.street_tile.specs.Tiles.{ShowSignals, is_own}
 use Rattle.street_tile.proofs.Each.{lane_at-each}
 
@@ -58,3 +63,16 @@ plan-shown net m on low signals p node is own shows plan d e =
     let below = inside.1 in
     let kept : plan ≡ get_or signals (node - low) None = e ∙ get_or_default signals (node - low) d None (omega arith) in
     rw (kept, plan-of_node net m on p.link node is) (shows node above below)
+
+-- traffic of the step is traffic of this lane's step, with the plan of the node to which the lane runs
+pub of-lane : (step : MotionStep) (m : Traffic) → IsOfStep step m → step.clock ≤ last_clock → (p : Place) → HasPlanFor step p → (at : LaneId) → place_of at ≡ p → (node : ℕ) → node_of step.net.now (link_at step.net.now at.link).to ≡ Some node
+    → (position : ℕ) → position ≡ node → (plan : Option SignalPlan) → plan ≡ get_or step.signals.now (position - step.low) None → IsStepOf step.net.now plan step.clock p m
+of-lane step m of in_time p own at at_is node node_is position position_is plan plan_is =
+    let link : at.link ≡ p.link = ap (λ (q : Place). q.link) at_is in
+    let is : node_of step.net.now (link_at step.net.now p.link).to ≡ Some node = rw (← link) node_is in
+    record {
+      network = of.on.network;
+      clock = of.in_time;
+      in_time = in_time;
+      plan = plan-shown step.net.now m of.on.network step.low step.signals.now p node is own of.signals plan None (plan_is ∙ ap (λ (k : ℕ). get_or step.signals.now (k - step.low) None) position_is);
+    }
