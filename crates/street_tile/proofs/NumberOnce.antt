@@ -1,11 +1,10 @@
 -- A number that stands on the own lanes at most once: where it is, and the lanes without it.
-use Rattle.std.proofs.Common.{◌≡◌, ℕ, zero, suc, ◌+◌, ◌-◌, ◌<◌, ◌≤◌, List, [], ◌∷◌, length, take, get_or, refl, sym, ◌∙◌, ap, subst, arith, inl, inr, true, Option, Some, None}
+use Rattle.std.proofs.Common.{◌≡◌, ℕ, zero, suc, ◌+◌, ◌-◌, ◌<◌, ◌≤◌, List, [], ◌∷◌, length, get_or, refl, sym, ◌∙◌, ap, subst, arith, inl, inr, true, Option, Some, None}
 use Rattle.std.specs.Prelude.{slice_get, IfSome}
 use Rattle.std.specs.Option.{option_to_list}
 use Rattle.std.specs.List.{sum_by, list_any}
 use Rattle.std.proofs.lemmas.Bool.{cases_eq}
-use Rattle.std.proofs.lemmas.List.{take_more}
-use Rattle.std.proofs.lemmas.List.Sums.{sum_by-cons, sum_by-append}
+use Rattle.std.proofs.lemmas.List.Sums.{sum_by-cons}
 use Rattle.std.proofs.lemmas.Option.{slice_get_within, get_or_from_slice_get}
 use Rattle.street_base.specs.declared.car.Car.{Car}
 use Rattle.street_base.specs.declared.net.NetSpec.{NetSpec}
@@ -18,11 +17,11 @@ use Rattle.street_base.proofs.PlaceLemmas.{places-listed}
 use Rattle.street_base.proofs.PlaceOnceLemmas.{places-once}
 use Rattle.street_lanes.specs.Views.{LaneView, LaneStands}
 use Rattle.street_lanes.specs.Lanes.{Lanes, IsLane, AllLanes, GoesIf, lane_of, place_at, no_place}
-use Rattle.street_lanes.specs.Whole.{IsOn, LanesStand}
+use Rattle.street_lanes.specs.Whole.{IsOn}
 use Rattle.street_lanes.specs.Motion.{PlanStands}
 use Rattle.street_lanes.proofs.Without.{all-stay, cells-stay}
 use Rattle.street_tile.specs.Tiles.{Part, IsTileOf, StandsFor, is_own}
-use Rattle.street_tile.specs.Commands.{without, DoesIf, HaveAtMostOne, over}
+use Rattle.street_tile.specs.Commands.{without, DoesIf, HaveAtMostOne}
 use Rattle.street_tile.proofs.Each.{lane_at-each}
 use Rattle.street_tile.proofs.SameLanes.{place-is, stands-at, even-of}
 use Rattle.street_tile.proofs.OwnLanes.{own-lanes}
@@ -141,16 +140,3 @@ module _ (number : ℕ) where
 
       pub none-had : r ≡ None → (m : Traffic) → IsOn net m → StandsFor x m → HaveAtMostOne x.own.places m number → in_lane number (lane_at m (place_at x.own n)) ≡ 0
       none-had none m on s few = sym (gone-is (length (option_to_list r)) found m s few) ∙ ap (λ (o : Option Car). length (option_to_list o)) none
-
--- ---- counts, one lane after another
-
-module _ (f : LaneState → ℕ) (m : Traffic) (x : Lanes) (n : ℕ) (all own : ℕ) where
-  -- with the count of lane n
-  pub over-more : n < length x.places → n < length x.lanes → LanesStand x.places x.lanes m → ((s : LaneState) → LaneStands (lane_of x n) s → own ≡ f s) → all ≡ over (take n x.places) f m → all + own ≡ over (take (n + 1) x.places) f m
-  over-more h l stand count before =
-      let g : Place → ℕ = λ p. f (lane_at m p) in
-      let here = count (lane_at m (place_at x n)) (stands-at m x stand n h l) in
-      let more : over (take (n + 1) x.places) f m ≡ over (take n x.places) f m + sum_by g (place_at x n ∷ []) = ap (sum_by g) (take_more x.places n no_place h) ∙ sum_by-append g (take n x.places) (place_at x n ∷ []) in
-      let one = sum_by-cons g (place_at x n) [] in
-      let none : sum_by g [] ≡ 0 = refl in
-      omega arith

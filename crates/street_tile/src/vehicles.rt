@@ -136,23 +136,17 @@ impl Tile {
         Ok(None)
     }
 
-    /// How many vehicles are on the own lanes; looks at counts that are kept for each lane.
+    /// How many vehicles are on the own lanes; looks at no lane.
     pub fn sizes(&self) -> TileSizes
         ensures cells { (m : Traffic) → StandsFor self.now m → result.cells ≡ over self.now.own.places (λ lane. count_by is_some lane.track.cells) m }
         ensures buffers { (m : Traffic) → StandsFor self.now m → result.buffers ≡ over self.now.own.places (λ lane. length lane.queue) m }
         ensures waiting { (m : Traffic) → StandsFor self.now m → result.waiting ≡ over self.now.own.places (λ lane. length lane.waiting) m }
     {
-        let mut all = TileSizes {
-            cells: 0,
-            buffers: 0,
-            waiting: 0,
-        };
-        for n in 0..self.own.len() {
-            let own = self.own.sizes(n);
-            all.cells += own.cells as u64;
-            all.buffers += own.buffer as u64;
-            all.waiting += own.waiting as u64;
+        let own = self.own.totals();
+        TileSizes {
+            cells: own.cells,
+            buffers: own.buffers,
+            waiting: own.waiting,
         }
-        all
     }
 }
