@@ -1,6 +1,7 @@
 -- What became of a script.
 -- Source: this profile.
 use Rattle.std.specs.Prelude.{◌≡◌, ℕ, List, [], Option, Some, None}
+use Rattle.std.specs.Io.KnownBytes.{Consumes, IsAtEnd}
 use Rattle.street_desk.specs.Passes.{PassView}
 use Rattle.street_stream.specs.Lines.{lines_of}
 use Rattle.street_stream.specs.declared.tally.FaultKind.{FaultKind}
@@ -23,6 +24,14 @@ abbrev pub ScriptServed : PassView → List ℕ → List ℕ → Option FaultKin
 ScriptServed old text replies None new = Goes DeskServes old (lines_of text) replies new
 ScriptServed old text replies (Some fault) new = (kind : FaultKind) × (tally : Tally)
     × (fault ≡ in_memory kind) × Breaks DeskServes old (Some []) text new (Some replies) kind tally
+
+-- so of the text that was read: all of it, where no fault ended it
+pub record ReaderServed (old : PassView) (unread : Option (List ℕ)) (replies : List ℕ) (fault : Option FaultKind) (new : PassView) : Type 0 where
+  pub text : List ℕ
+  pub left : Option (List ℕ)
+  pub read : Consumes unread left text
+  pub at_end : fault ≡ None → IsAtEnd left
+  pub served : ScriptServed old text replies fault new
 
 -- a file that was opened was served, whatever text it gave; without one nothing changed
 abbrev pub IsRunFrom : {F R : Type 0} → Option F → Script R → Script R → Type 0

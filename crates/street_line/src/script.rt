@@ -5,7 +5,7 @@ ghost use Rattle.std.specs.Prelude.{◌≡◌, ◌↔◌, ◌⊎◌, ◌<◌, �
 ghost use Rattle.street_desk.specs.Passes.{DeskView};
 ghost use Rattle.street_stream.specs.declared.tally.FaultKind.TheVariants as kinds;
 ghost use Rattle.street_line.specs.declared.script.Script.{Script};
-ghost use Rattle.street_line.specs.Scripts.{IsRun, ScriptServed, in_memory as memory_kind};
+ghost use Rattle.street_line.specs.Scripts.{IsRun, ReaderServed, in_memory as memory_kind};
 
 use crate::session::DeskSession;
 use crate::sessions::run_session;
@@ -72,15 +72,15 @@ impl<'a, R: Threads + Wait + Sync> Script<'a, R> {
     }
 }
 
-/// The replies to the lines of a text, served as `run_session` does, and what ended them before the text did: lack of memory
-/// to keep them is told as that, and never as a failed write.
+/// The replies to the lines that a reader gives, served as `run_session` does, and what ended them before the reader did: lack
+/// of memory to keep them is told as that, and never as a failed write.
 pub fn answer_all<R: Threads + Wait + Sync, D: Read + Drop>(
     alloc: Global,
     session: &mut DeskSession<'_, R>,
     reader: D,
 ) -> (Vec<u8>, Option<FaultKind>)
     ensures desk { session.new.desk ≡ session.old.desk }
-    ensures served { (text : List ℕ) × ScriptServed session.old text result.0.items result.1 session.new }
+    ensures served { ReaderServed session.old (D.remaining reader) result.0.items result.1 session.new }
 {
     let mut reader = Counted::new(reader);
     let mut writer = Counted::new(Vec::new(alloc));
