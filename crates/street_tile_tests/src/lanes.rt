@@ -6,7 +6,7 @@ use std::alloc::{AllocError, Global};
 use std::process::Abort;
 use std::test::Fail;
 use street_base::{Car, CarNo, LinkIx, LinkSpec, Listing, NetSpec, NodeSpec, Plan, Size, Step};
-use street_lanes::{LaneSizes, Lanes};
+use street_lanes::{LaneSizes, LaneTotals, Lanes};
 use street_net::{LaneId, Network};
 
 /// The link, from a node to itself, of five cells.
@@ -86,7 +86,7 @@ fn car(alloc: Global, number: CarNo, depart: Step) -> Result<Car, AllocError>
     })
 }
 
-/// So many are in its cells, in its buffer, and wait.
+/// So many are in its cells, in its buffer, and wait; and so of all lanes, since it is the only one.
 fn counts(rt: &impl Abort, lanes: &Lanes, cells: usize, buffer: usize, waiting: usize) {
     assert!(rt; lanes.len() == 1);
     let expected = LaneSizes {
@@ -95,6 +95,12 @@ fn counts(rt: &impl Abort, lanes: &Lanes, cells: usize, buffer: usize, waiting: 
         waiting,
     };
     assert_eq!(rt; lanes.sizes(0), expected);
+    let all = LaneTotals {
+        cells: cells as u64,
+        buffers: buffer as u64,
+        waiting: waiting as u64,
+    };
+    assert_eq!(rt; lanes.totals(), all);
 }
 
 /// A car with this number waits from now on.
