@@ -354,8 +354,8 @@ impl Streets {
     }
 
     /// How many threads the next step takes, after so many others of the same advance that took so many: one for each tile
-    /// where the gate lets the workers share it, else the caller's alone. The gate is asked once in 16 steps, since the count
-    /// looks at each lane.
+    /// where the gate lets the workers share it, else the caller's alone. The gate is asked once in 16 steps, in which traffic
+    /// changes little.
     fn threads<G: Gate>(&self, gate: &G, done: u64, before: usize) -> usize
         requires { 0 < before }
         ensures { 0 < result }
