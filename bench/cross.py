@@ -18,8 +18,8 @@ from statistics import fmean
 TOP = Path(__file__).resolve().parents[1]
 sys.path[:0] = [str(TOP / "tools"), str(TOP / "tools/tests")]
 from crosses import LAST, a_green, cases, demand  # noqa: E402
-from streetsim.compare import read_tripinfo, trips_of  # noqa: E402
-from streetsim.folder import read_folder  # noqa: E402
+from streetsim.run.compare import read_tripinfo, trips_of  # noqa: E402
+from streetsim.run.folder import read_folder  # noqa: E402
 
 
 def run(words, folder):

@@ -17,7 +17,8 @@ from pathlib import Path
 TOP = Path(__file__).resolve().parents[1]
 sys.path.insert(0, str(TOP / "tools"))
 
-from streetsim import importing, running  # noqa: E402
+from streetsim.run import running  # noqa: E402
+from streetsim.sumo import importing  # noqa: E402
 
 SIDE = 30
 # Vehicles of each hour, of 1,000.

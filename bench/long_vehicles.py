@@ -19,8 +19,8 @@ from statistics import fmean
 
 TOP = Path(__file__).resolve().parents[1]
 sys.path.insert(0, str(TOP / "tools"))
-from streetsim.compare import counts_of, geh, read_edgedata, read_tripinfo, trips_of  # noqa: E402
-from streetsim.folder import read_folder  # noqa: E402
+from streetsim.run.compare import counts_of, geh, read_edgedata, read_tripinfo, trips_of  # noqa: E402
+from streetsim.run.folder import read_folder  # noqa: E402
 
 PLAIN, LIT = "priority", "traffic_light"
 NODES = ("a", -800, 0, PLAIN), ("b", 0, 0, LIT), ("c", 400, 0, PLAIN), ("d", 0, -400, PLAIN), ("e", 0, 400, PLAIN)

@@ -15,9 +15,9 @@ from pathlib import Path
 sys.path.insert(0, str(Path(__file__).resolve().parents[1] / "tools"))
 from streetsim.client import Client  # noqa: E402
 from streetsim.files import Fault  # noqa: E402
-from streetsim.importing import convert  # noqa: E402
-from streetsim.network import Options  # noqa: E402
-from streetsim.report import Report  # noqa: E402
+from streetsim.sumo.importing import convert  # noqa: E402
+from streetsim.sumo.network import Options  # noqa: E402
+from streetsim.sumo.report import Report  # noqa: E402
 
 
 def timed(times, call):

@@ -49,7 +49,7 @@ def stem_of(project):
 
 def sources():
     """The package's files by their paths."""
-    paths = sorted(path for path in (TOP / "streetsim").rglob("*") if path.suffix in (".py", ".html"))
+    paths = sorted(path for path in (TOP / "streetsim").rglob("*") if path.suffix in (".py", ".html", ".js"))
     return {path.relative_to(TOP).as_posix(): path.read_bytes() for path in paths}
 
 

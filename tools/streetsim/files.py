@@ -4,12 +4,12 @@ import gzip
 import json
 import math
 import os
-import shutil
 import signal
 import sys
-import tempfile
 import xml.etree.ElementTree as ElementTree
 import zlib
+
+from .halves import half_file, half_folder, is_half
 
 
 class Fault(Exception):
@@ -64,14 +64,14 @@ def reading(path):
 
 def elements(path, roots):
     """The children of the root of an XML file, each whole, one after another; the root must have one of the given
-    names."""
+    names, where any are given."""
     with reading(path), gzip.open(path) if str(path).endswith(".gz") else open(path, "rb") as file:
         depth = 0
         for event, element in ElementTree.iterparse(file, ("start", "end")):
             depth += 1 if event == "start" else -1
             if event == "start" and depth == 1:
                 root = element
-                if root.tag not in roots:
+                if roots and root.tag not in roots:
                     raise Fault(f"{path}: the root is <{root.tag}>, expected <{'> or <'.join(roots)}>")
             elif event == "end" and depth == 1:
                 yield element
@@ -159,19 +159,15 @@ def refuse_equal(outputs, inputs=()):
 @contextlib.contextmanager
 def whole_path(path):
     """A path to write to, whose file takes the place of an output when all is written; after a fault nothing is left."""
-    folder, name = os.path.split(place_of(path))
-    stem, dot, end = name.partition(".")
-    half = os.path.join(folder, f".{stem}.{os.getpid()}.half{dot}{end}")
+    place = place_of(path)
     try:
-        yield half
-        os.replace(half, os.path.join(folder, name))
+        with half_file(place) as half:
+            yield half
+            os.replace(half, place)
     except OSError as fault:
-        if fault.filename not in (None, half):
+        if fault.filename and not is_half(fault.filename):
             raise
         raise Fault(f"{path}: {fault.strerror or fault}") from None
-    finally:
-        with contextlib.suppress(OSError):
-            os.remove(half)
 
 
 @contextlib.contextmanager
@@ -188,20 +184,17 @@ def whole_folder(path, last):
     A file of the name `last` is away while the others take their places, so that a folder without it is not whole.
     """
     made = not os.path.isdir(path)
-    half = None
     try:
         os.makedirs(path, exist_ok=True)
-        half = tempfile.mkdtemp(prefix=".half-", dir=path)
-        yield half
-        with uninterrupted():
-            move_files(half, path, last)
+        with half_folder(path) as half:
+            yield half
+            with uninterrupted():
+                move_files(half, path, last)
         made = False
     except OSError as fault:
-        named = fault.filename if fault.filename and ".half-" not in str(fault.filename) else path
+        named = fault.filename if fault.filename and not is_half(fault.filename) else path
         raise Fault(f"{named}: {fault.strerror or fault}") from None
     finally:
-        if half:
-            shutil.rmtree(half, ignore_errors=True)
         if made:
             with contextlib.suppress(OSError):
                 os.rmdir(path)
@@ -243,12 +236,34 @@ def run_tool(main):
     """Runs a tool's main function: a Fault is told in a line, with status 2."""
     for number in (signal.SIGTERM, signal.SIGHUP):
         signal.signal(number, end_by_signal)
+    sys.exit(status_of(main))
+
+
+def status_of(main):
+    """What a tool's main function gives, or the status of what went wrong, which is told."""
     try:
-        sys.exit(main(sys.argv[1:]))
+        try:
+            return main(sys.argv[1:])
+        finally:
+            sys.stdout.flush()
     except Fault as fault:
-        print(f"{os.path.basename(sys.argv[0])}: {fault}", file=sys.stderr)
-        sys.exit(2)
+        tell_fault(fault)
+        return 2
     except BrokenPipeError:
-        sys.exit(1)
+        drop_output()
+        return 1
+    except OSError as fault:
+        drop_output()
+        tell_fault(f"{fault.filename or 'standard output'}: {fault.strerror or fault}")
+        return 2
     except KeyboardInterrupt:
-        sys.exit(130)
+        return 130
+
+
+def tell_fault(text):
+    print(f"{os.path.basename(sys.argv[0])}: {text}", file=sys.stderr)
+
+
+def drop_output():
+    """Sends what standard output still holds nowhere, so that it is not tried again at the end."""
+    os.dup2(os.open(os.devnull, os.O_WRONLY), sys.stdout.fileno())

@@ -3,11 +3,12 @@ from heapq import heappop, heappush
 
 from . import limits
 from .client import Client
-from .mapping import read_map
-from .report import Report
-from .runs import read_run
-from .sumo_net import Program
-from .sumo_signals import signal
+from .run.mapping import read_map
+from .run.runs import read_run
+from .run.works import why_parallel, with_works
+from .sumo.net import Program
+from .sumo.report import Report
+from .sumo.signals import signal
 
 NOWHERE = -1073741824.0  # TraCI's value for a place that is not known
 ADVICE = {
@@ -42,10 +43,11 @@ class Part:
 
 
 class Scenario:
-    """A running simulation of a run file and its map: its network, signals and vehicles are loaded at once."""
+    """A running simulation of a run file and its map: its network, signals and vehicles are loaded at once. Edges or lanes
+    that are to be closed later are told as joint, where they are not yet so in the import."""
 
-    def __init__(self, run, mapping, program=None, workers=1):
-        self.map, source = read_map(mapping), read_run(run)
+    def __init__(self, run, mapping, program=None, workers=1, joint=()):
+        source, self.map, _ = with_works(read_run(run), read_map(mapping), mapping, (), joint)
         self.client = Client(program, workers)
         self.clock = source.start()
         self.cars, self.plans, self.sizes = {}, {}, {}  # by name: number, links, cells
@@ -112,11 +114,20 @@ class Scenario:
         return self.map.links[self.lane_of[name][0]].cells_between(begin, end)
 
     def close(self, lane, begin=0.0, end=float(10**7)):
-        """Closes a lane from one place to another, in metres: road works."""
-        self.client.close_lane(*self.lane_of[lane], *self.cells(lane, begin, end))
+        """Closes a lane from one place to another, in metres: road works. ValueError beyond the lane, and where vehicles
+        could not change to the lane beside it."""
+        if why := why_parallel(self.map, lane):
+            raise ValueError(f"{why}: Scenario(.., joint=[{lane!r}])")
+        self.client.close_lane(*self.lane_of[lane], *self.works_cells(lane, begin, end))
 
     def reopen(self, lane, begin=0.0, end=float(10**7)):
-        self.client.reopen_lane(*self.lane_of[lane], *self.cells(lane, begin, end))
+        self.client.reopen_lane(*self.lane_of[lane], *self.works_cells(lane, begin, end))
+
+    def works_cells(self, lane, begin, end):
+        link = self.map.links[self.lane_of[lane][0]]
+        if begin >= link.metres:
+            raise ValueError(f"lane {lane!r} ends at {link.metres:g} m, before {begin:g} m")
+        return link.closed_between(begin, end)
 
 
 class Simulation(Part):

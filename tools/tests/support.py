@@ -1,5 +1,6 @@
 """What the tests share: the simulator to test with, small SUMO networks, running a tool."""
 import os
+import shutil
 import subprocess
 import sys
 import tempfile
@@ -11,39 +12,19 @@ DATA = Path(__file__).resolve().parent / "data"
 SCENARIOS = Path("/usr/share/sumo/tools/sumolib/scenario/scenarios/RealWorld")
 sys.path.insert(0, str(TOOLS))
 
-from streetsim.client import Client  # noqa: E402
-
 BUILT = TOOLS.parent / "crates/street_sim/out/street_sim"
 PROGRAM = os.environ.get("STREETSIM_PROGRAM") or (str(BUILT) if BUILT.exists() else None)
+needs_simulator = unittest.skipIf(PROGRAM is None, "no simulator: build streetsim, or set STREETSIM_PROGRAM")
 
 
-def why_not():
-    """Why tests that run a simulation are skipped, or none."""
-    if PROGRAM is None:
-        return "no simulator: build streetsim, or set STREETSIM_PROGRAM"
-    load = {"nodes": [[0, 1, 1], [1, 1, 1]], "links": [[0, 0, 1, 2, 9, 5], [1, 1, 0, 1, 9, 5]], "turns": [[0, 0, 1, 0]]}
-    commands = [
-        {"cmd": "load", **load, "zone": 1, "dawdle": 1, "change": 1, "seed": 1},
-        {"cmd": "enter", "plan": [0, 1], "lane": 0, "depart": 0},
-        {"cmd": "signal", "node": 1, "offset": 0, "phases": [[5, []]]},
-        {"cmd": "close", "link": 0, "lane": 1, "first": 0, "last": 3},
-        {"cmd": "reopen", "link": 0, "lane": 1, "first": 0, "last": 3},
-        {"cmd": "meter", "link": 0, "lane": 0, "cell": 3, "period": 5},
-        {"cmd": "read", "meter": 0},
-        {"cmd": "lane", "link": 0, "lane": 0},
-        {"cmd": "takeout", "car": 0},
-        {"cmd": "count"},
-    ]
-    with Client(PROGRAM) as sim:
-        replies = sim.batch(commands)
-    refused = [
-        f"{command['cmd']}: {reply}" for command, reply in zip(commands, replies) if isinstance(reply, Exception)
-    ]
-    return f"the simulator refuses {refused[0]}" if refused else None
+def needs_package(name, found):
+    """Skips a test where a package of Debian's is not installed. ./test knows these packages by their list, packages.txt."""
+    return unittest.skipUnless(found, f"Debian's {name} is not installed")
 
 
-REASON = why_not()
-needs_simulator = unittest.skipIf(REASON, REASON or "")
+needs_sumo = needs_package("sumo", shutil.which("sumo"))
+needs_sumo_tools = needs_package("sumo-tools", SCENARIOS.exists())
+
 
 # One link of 10 cells into another of 10, limit 5, nobody dawdles.
 STREET = {

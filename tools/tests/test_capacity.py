@@ -3,13 +3,13 @@ import unittest
 
 from crosses import LAST, a_green, cases, demand
 from support import DATA, PROGRAM, Case, lane, needs_simulator, net
-from streetsim.compare import trips_of
-from streetsim.folder import read_folder
-from streetsim.importing import convert
-from streetsim.network import Options
-from streetsim.report import Report
-from streetsim.sumo_net import request_of
-from streetsim.yielding import gap_capacity, green_here, headway, hidden_start
+from streetsim.run.compare import trips_of
+from streetsim.run.folder import read_folder
+from streetsim.sumo.importing import convert
+from streetsim.sumo.network import Options
+from streetsim.sumo.report import Report
+from streetsim.sumo.net import request_of
+from streetsim.sumo.yielding import gap_capacity, green_here, headway, hidden_start
 
 # SUMO's vehicles a green by case and way, of the demand with seed 1; a tenth or 0.6 of a vehicle off is allowed.
 SUMO = {

@@ -102,6 +102,27 @@ class Simulator(Case):
         sim.advance()
         self.assertEqual(sim.vehicle(0), Vehicle(0, "arrived", step=4))
 
+    def test_each_command_is_done(self):
+        street = {"nodes": [[0, 1, 1], [1, 1, 1]], "links": [[0, 0, 1, 2, 9, 5], [1, 1, 0, 1, 9, 5]], "turns": [[0, 0, 1, 0]]}
+        closed = {"link": 0, "lane": 1, "first": 0, "last": 3}
+        commands = [
+            {"cmd": "load", **street, "zone": 1, "dawdle": 1, "change": 1, "seed": 1},
+            {"cmd": "enter", "plan": [0, 1], "lane": 0, "depart": 0},
+            {"cmd": "signal", "node": 1, "offset": 0, "phases": [[5, []]]},
+            {"cmd": "close", **closed},
+            {"cmd": "reopen", **closed},
+            {"cmd": "meter", "link": 0, "lane": 0, "cell": 3, "period": 5},
+            {"cmd": "read", "meter": 0},
+            {"cmd": "lane", "link": 0, "lane": 0},
+            {"cmd": "advance", "steps": 1},
+            {"cmd": "vehicle", "car": 0},
+            {"cmd": "takeout", "car": 0},
+            {"cmd": "count"},
+        ]
+        for command, reply in zip(commands, self.enterContext(Client(PROGRAM)).batch(commands)):
+            with self.subTest(command["cmd"]):
+                self.assertNotIsInstance(reply, Exception)
+
     def test_detector(self):
         sim = self.street()
         meter = sim.meter(10, 0, 3, 2)
@@ -160,8 +181,6 @@ class Simulator(Case):
         sim.takeout(car)
 
     def test_full(self):
-        if not client.most_calls(PROGRAM):
-            self.skipTest("this simulator does not count its calls")
         sim = self.enterContext(Client(PROGRAM, calls=2))
         sim.load(**STREET)
         self.assertEqual(sim.count().clock, 0)

@@ -5,9 +5,9 @@ import time
 import unittest
 
 from support import MAP, Case
-from streetsim import compare
-from streetsim.report import Slow
-from streetsim.tables import EDGES, TRIPS
+from streetsim.run import compare
+from streetsim.cli.progress import Slow
+from streetsim.run.tables import EDGES, TRIPS
 
 
 class Compare(Case):

@@ -3,9 +3,9 @@ import unittest
 
 from support import FORK, SHARED, Case
 from streetsim.files import Fault
-from streetsim.importing import convert
-from streetsim.network import Options
-from streetsim.report import Report
+from streetsim.sumo.importing import convert
+from streetsim.sumo.network import Options
+from streetsim.sumo.report import Report
 
 
 class Demand(Case):

@@ -7,6 +7,7 @@ import subprocess
 import sys
 import time
 import unittest
+from pathlib import Path
 
 from support import FORK, MAP, NUMBERED, PROGRAM, TOOLS, Case, lane, needs_simulator, net
 from streetsim.files import Fault, refuse_equal, whole_file, whole_folder, whole_path
@@ -96,22 +97,55 @@ class Folders(Case):
 class Ended(Case):
     """A run that waits for a simulator which never answers, and is then ended."""
 
-    def test_sigterm_leaves_nothing(self):
+    def begin(self, *more):
+        """The tool, once it has begun to write."""
         program = self.write("fake", f"#!{sys.executable}\nimport sys\nif '--help' not in sys.argv: sys.stdin.read()\n")
         os.chmod(program, 0o755)
         run = self.write("run.jsonl", json.dumps({"cmd": "load", **NUMBERED}) + "\n")
         words = [run, "--map", self.write("map.json", json.dumps(MAP)), "--until", "60", "--program", program]
+        running = subprocess.Popen([TOOLS / "streetsim-run", *words, *more, "--out", self.out], stderr=subprocess.PIPE)
+        self.addCleanup(running.kill)
+        while not (self.out.exists() and list(self.out.rglob("*half*"))):
+            time.sleep(0.02)
+        time.sleep(0.3)
+        return running
+
+    def setUp(self):
+        super().setUp()
+        self.out = self.folder / "out"
+
+    def test_sigterm_leaves_nothing(self):
         for more in ([], ["--seeds", "1-3"]):
             with self.subTest(more):
-                out = self.folder / "out"
-                running = subprocess.Popen([TOOLS / "streetsim-run", *words, *more, "--out", out], stderr=subprocess.PIPE)
-                while not (out.exists() and list(out.rglob("*half*"))):
-                    time.sleep(0.02)
-                time.sleep(0.3)
+                running = self.begin(*more)
                 running.send_signal(signal.SIGTERM)
                 self.assertEqual(running.communicate(timeout=20), (None, b""))
                 self.assertEqual(running.returncode, 128 + signal.SIGTERM)
-                self.assertFalse(out.exists())
+                self.assertFalse(self.out.exists())
+
+    def test_what_sigkill_left_goes_with_the_next_output(self):
+        """What a tool still writes stays."""
+        running = self.begin()
+        [half] = self.out.iterdir()
+        for killed in (False, True):
+            if killed:
+                running.send_signal(signal.SIGKILL)
+                running.communicate(timeout=20)
+            self.assertTrue(half.exists())
+            with whole_folder(self.out, "last") as folder:
+                Path(folder, "last").write_text("x")
+            self.assertEqual(half.exists(), not killed)
+        self.assertEqual([path.name for path in self.out.iterdir()], ["last"])
+
+    def test_files_that_sigkill_left(self):
+        made = f"import os, sys; sys.path.insert(0, {str(TOOLS)!r}); from streetsim.files import whole_path"
+        ended = f"with whole_path({str(self.folder / 'x.add.xml')!r}) as half:\n open(half, 'w').write('x')\n os.kill(os.getpid(), 9)"
+        subprocess.run([sys.executable, "-c", f"{made}\n{ended}"], check=False)
+        self.assertEqual(len(list(self.folder.glob(".x.*.half.add.xml"))), 1)
+        with whole_file(self.folder / "x.add.xml") as first, whole_file(self.folder / "x.xml") as second:
+            first.write("one")
+            second.write("two")
+        self.assertEqual(sorted(path.name for path in self.folder.iterdir()), ["x.add.xml", "x.xml"])
 
 
 @needs_simulator

@@ -2,12 +2,12 @@
 import json
 import unittest
 
-from support import FORK, PROGRAM, SCENARIOS, SHARED, Case, lane, needs_simulator, net
+from support import FORK, PROGRAM, SCENARIOS, SHARED, Case, lane, needs_simulator, needs_sumo_tools, net
 from streetsim.client import Client
 from streetsim.files import Fault
-from streetsim.importing import convert, refuse_over_limits
-from streetsim.network import Options
-from streetsim.report import Report
+from streetsim.sumo.importing import convert, refuse_over_limits
+from streetsim.sumo.network import Options
+from streetsim.sumo.report import Report
 
 
 class Networks(Case):
@@ -231,7 +231,7 @@ class Tool(Case):
         )
 
 
-@unittest.skipUnless(SCENARIOS.exists(), "Debian's sumo-tools is not installed")
+@needs_sumo_tools
 @needs_simulator
 class Shipped(Case):
     def test_every_network_is_read(self):

@@ -7,11 +7,11 @@ import sys
 import unittest
 from importlib.util import find_spec
 
-from support import MAP, NUMBERED, PROGRAM, TOOLS, Case, lane, needs_simulator, net
+from support import MAP, NUMBERED, PROGRAM, TOOLS, Case, lane, needs_package, needs_simulator, net
 from streetsim.files import Fault
 from streetsim.program import BUILT, find_program
 
-COMMANDS = ("compare", "import", "play", "plot", "run", "signals", "study")
+COMMANDS = ("compare", "import", "live", "play", "plot", "report", "route", "run", "signals", "study")
 PIP = [sys.executable, "-m", "pip"] if find_spec("pip") else [shutil.which("pip")] if shutil.which("pip") else None
 
 
@@ -20,7 +20,7 @@ def environment(**values):
     return {**{name: value for name, value in os.environ.items() if name != "STREETSIM_PROGRAM"}, **values}
 
 
-@unittest.skipUnless(PIP, "pip is not installed")
+@needs_package("python3-pip", PIP)
 class Install(Case):
     def test_commands_and_package(self):
         """Without an index, so that nothing can be downloaded; nothing is left beside the sources."""

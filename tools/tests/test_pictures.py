@@ -7,16 +7,18 @@ import shutil
 import subprocess
 import unittest
 
-from support import DATA, MAP, PROGRAM, Case, needs_simulator
-from streetsim import ring, series
-from streetsim.folder import read_folder
-from streetsim.tables import COUNTS, QUEUES, TRIPS
+from support import DATA, MAP, PROGRAM, Case, needs_package, needs_simulator
+from streetsim.pictures import ring, series
+from streetsim.run.folder import read_folder
+from streetsim.run.tables import COUNTS, QUEUES, TRIPS
 
 CHROMIUM = shutil.which("chromium") or shutil.which("chromium-browser")
 DRAWS = (
     subprocess.run(["/usr/bin/python3", "-c", "import matplotlib, PIL"], capture_output=True, check=False).returncode
     == 0
 )
+needs_chromium = needs_package("chromium", CHROMIUM)
+needs_matplotlib = needs_package("python3-matplotlib", DRAWS)
 
 
 class Given(Case):
@@ -90,7 +92,7 @@ class Numbers(Given):
         self.assertEqual(series.arrival_curves(self.given), ([0, 1], [30]))
 
 
-@unittest.skipUnless(DRAWS, "Debian's python3-matplotlib is not installed")
+@needs_matplotlib
 class Pictures(Given):
     def test_each_is_drawn(self):
         for kind, *words in (
@@ -148,7 +150,7 @@ class Player(Given):
     def test_nothing_from_outside(self):
         self.assertFalse(re.search(r"https?:|src=|@import|<link", self.page().read_text()))
 
-    @unittest.skipUnless(CHROMIUM, "Debian's chromium is not installed")
+    @needs_chromium
     def test_what_a_step_shows(self):
         # At clock 3 one vehicle drives on the first link, one is in its buffer, and cells 8 and 9 are closed; the
         # signal is green. At clock 2 both drive, one of them stands.
@@ -164,7 +166,7 @@ class Player(Given):
             {"clock": 2, "time": "00:00:02", **bar, "vehicles": 2, "covered": 2, "buffered": 0, "standing": 1, "red": 0, "closed": 0},
         )
 
-    @unittest.skipUnless(CHROMIUM, "Debian's chromium is not installed")
+    @needs_chromium
     def test_streets_and_times(self):
         self.write_polls([{"clock": 3, "lanes": []}, {"clock": 45_296, "lanes": []}])
         page = self.page()
@@ -173,12 +175,24 @@ class Player(Given):
             self.assertEqual(self.shown(page, place)["street"], street)
         self.assertEqual(self.shown(page, 45_296)["time"], "12:34:56")
 
-    @unittest.skipUnless(CHROMIUM, "Debian's chromium is not installed")
+    @needs_chromium
     def test_signals(self):
         """Red from 5 to 14 of each 20 steps; the other link ends at no signal."""
         self.write_polls({"clock": clock, "lanes": []} for clock in (4, 5, 14, 15, 25))
         page = self.page()
         self.assertEqual([self.shown(page, clock)["red"] for clock in (4, 5, 14, 15, 25)], [0, 1, 1, 0, 1])
+
+    @needs_chromium
+    def test_a_resize_keeps_zoom_and_place(self):
+        """Street b in the middle, 2.7 times as near: 10 m are then 121 pixels, and 20 m more than 200."""
+        page = self.page()
+        place = "canvas.getBoundingClientRect()"
+        mouse = f"new PointerEvent('pointermove', {{clientX: canvas.width / 2, clientY: {place}.top + canvas.height / 2}})"
+        zoom = "canvas.dispatchEvent(new WheelEvent('wheel', {deltaY: -500, cancelable: true}))"
+        script = f"setTimeout(() => {{ {zoom}; dispatchEvent(new Event('resize')); canvas.dispatchEvent({mouse}); }}, 1000)"
+        page.write_text(page.read_text().replace("</html>", f"<script>{script}</script></html>"))
+        told = self.shown(page, "3,130,0")
+        self.assertEqual((told["scale"], told["street"]), ("10 m", "b"))
 
     def shown(self, page, step):
         words = [
@@ -198,7 +212,7 @@ class Player(Given):
 
 @needs_simulator
 class Whole(Case):
-    @unittest.skipUnless(DRAWS, "Debian's python3-matplotlib is not installed")
+    @needs_matplotlib
     def test_a_run_is_drawn_and_played(self):
         run, mapped, out = self.folder / "run.jsonl", self.folder / "map.json", self.folder / "out"
         self.tool("import", DATA / "grid.net.xml.gz", "--routes", DATA / "grid.rou.xml.gz", "-o", run, "--map", mapped)
@@ -207,6 +221,7 @@ class Whole(Case):
             "plot", "corridor", out, "--edges", "A0A1 A1A2 A2A3", "--last", 400, "-o", self.folder / "corridor.png"
         )
         self.assertEqual(self.tool("play", out, "-o", self.folder / "play.html")[0].split(",")[0], "200 steps")
+        self.assertIn(f", {(self.folder / 'play.html').stat().st_size:,} bytes\n", self.tool("play", out, "-o", self.folder / "play.html")[0])
 
 
 if __name__ == "__main__":

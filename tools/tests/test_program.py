@@ -461,6 +461,21 @@ class Limits(ProgramCase):
         self.assertEqual((status, error), (0, ""))
         self.assertEqual(told, ONE_VEHICLE.splitlines(keepends=True)[0] + '{"at":1,"error":8,"name":"BadPlan"}\n' * (calls - 1))
 
+    def test_the_largest_network_takes_no_memory_for_its_cells(self):
+        """A vehicle in each of 8,192 lanes of 1,000,000 cells: a bit for each cell would be 1 GB, in lanes with somebody alone too."""
+        links = [[link, 1, 2, 2, 1_000_000, 5] for link in range(4_096)]
+        load = {"cmd": "load", "nodes": [[1, 1, 2], [2, 1, 2]], "links": links, "turns": [], "zone": 0, "dawdle": 0, "change": 0, "seed": 0}
+        enters = [f'{{"cmd":"enter","plan":[{link}],"lane":{lane},"depart":0}}' for link in range(4_096) for lane in (0, 1)]
+        asked = ['{"cmd":"advance","steps":5}', '{"cmd":"count"}', '{"cmd":"lane","link":4095,"lane":1}']
+        told, status, error = self.limited([], "\n".join([json.dumps(load), *enters, *asked]), resource.RLIMIT_AS, 64 << 20)
+        self.assertEqual((status, error), (0, ""))
+        # Departed in step 0, and 1, 2, 3 and 4 cells on.
+        self.assertEqual(told.splitlines(), [
+            '{"links":4096,"nodes":2,"turns":0}', *(f'{{"car":{car}}}' for car in range(8_192)), '{"clock":5}',
+            '{"admitted":8192,"arrived":0,"buffers":0,"cells":8192,"clock":5,"taken":0,"waiting":0}',
+            '{"buffer":[],"cells":[[8191,10,4]],"closed":[],"waiting":[]}',
+        ])  # fmt: skip
+
     def test_a_file_that_may_not_grow_is_a_failed_write(self):
         # Python ignores SIGXFSZ, and a program that it starts so does too, as ./streetsim does.
         lines = PLANNER.read_text() + '{"cmd":"count"}\n' * 100

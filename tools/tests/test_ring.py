@@ -2,7 +2,7 @@
 import unittest
 
 from support import PROGRAM, needs_simulator
-from streetsim.ring import measure
+from streetsim.pictures.ring import measure
 
 
 @needs_simulator

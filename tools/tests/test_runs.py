@@ -8,10 +8,10 @@ import subprocess
 import unittest
 
 from support import MAP, NUMBERED, PROGRAM, RED, TOOLS, Case, lane, needs_simulator, net
-from streetsim import tables
+from streetsim.run import tables
 from streetsim.files import Fault
-from streetsim.record import Recorder, Settings, standing
-from streetsim.runs import read_run
+from streetsim.run.record import Recorder, Settings, standing
+from streetsim.run.runs import read_run
 
 
 class Runs(Case):
@@ -176,7 +176,7 @@ class Reading(Runs):
 
     def test_budget_is_checked_before_the_run(self):
         self.given()
-        from streetsim.mapping import read_map
+        from streetsim.run.mapping import read_map
 
         def asking(most, **words):
             settings = Settings(**words)

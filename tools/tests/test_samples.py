@@ -5,9 +5,9 @@ import re
 import unittest
 from collections import defaultdict
 
-from support import DATA, PROGRAM, SCENARIOS, Case, needs_simulator
-from streetsim.compare import correlation, counts_of, geh, trips_of
-from streetsim.folder import read_folder
+from support import DATA, PROGRAM, SCENARIOS, Case, needs_simulator, needs_sumo_tools
+from streetsim.run.compare import correlation, counts_of, geh, trips_of
+from streetsim.run.folder import read_folder
 
 QUARTERS = (900, 1800, 2700, 3600, 4500, 5400)
 
@@ -103,14 +103,14 @@ class Samples(Case):
         self.tool(*words)
         self.assertEqual(len(trips_of(read_folder(out))), 4500)
 
-    @unittest.skipUnless(SCENARIOS.exists(), "Debian's sumo-tools is not installed")
+    @needs_sumo_tools
     def test_acosta(self):
         folder = SCENARIOS / "acosta"
         self.compare(
             "acosta", folder / "acosta_buslanes.net.xml", folder / "acosta.rou.xml", folder / "acosta_tls.add.xml"
         )
 
-    @unittest.skipUnless(SCENARIOS.exists(), "Debian's sumo-tools is not installed")
+    @needs_sumo_tools
     def test_rilsa(self):
         folder = SCENARIOS / "RiLSA_example1"
         self.compare(
@@ -121,7 +121,7 @@ class Samples(Case):
             counts=False,
         )
 
-    @unittest.skipUnless(SCENARIOS.exists(), "Debian's sumo-tools is not installed")
+    @needs_sumo_tools
     def test_turn_lanes_keep_their_capacity(self):
         """Two junctions, each with an approach over its capacity. SUMO's mean trips (three seeds) are 215 and 463 s; with
         the lane of the left turns open to the straight stream the second is 184 s here."""

@@ -86,13 +86,13 @@ class Scenarios(Case):
         )
 
     def test_closing(self):
-        self.sim.lane.setDisallowed("a_0", ["bus"])
-        self.assertEqual(self.sim.lane_state("a_0").closed, ())
-        self.sim.lane.setDisallowed("a_0", ["passenger", "bus"])
-        self.assertEqual(self.sim.lane_state("a_0").closed, ((0, 9),))
-        self.sim.lane.setAllowed("a_0", ["all"])
-        self.sim.close("a_1", 15, 45)
-        self.assertEqual((self.sim.lane_state("a_0").closed, self.sim.lane_state("a_1").closed), ((), ((2, 5),)))
+        self.sim.lane.setDisallowed("b_0", ["bus"])
+        self.assertEqual(self.sim.lane_state("b_0").closed, ())
+        self.sim.lane.setDisallowed("b_0", ["passenger", "bus"])
+        self.assertEqual(self.sim.lane_state("b_0").closed, ((0, 9),))
+        self.sim.lane.setAllowed("b_0", ["all"])
+        self.sim.close("c_0", 15, 45)
+        self.assertEqual((self.sim.lane_state("b_0").closed, self.sim.lane_state("c_0").closed), ((), ((2, 5),)))
 
     def test_detector(self):
         self.sim.inductionloop.add("d", "a_0", 29.0, 10)  # cell 3

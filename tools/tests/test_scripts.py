@@ -42,7 +42,7 @@ class Scripts(Case):
         watch = threading.Timer(SECONDS, stop)
         watch.start()
         self.addCleanup(watch.cancel)
-        # The program opens them in an order of its own.
+        # The program opens them in the order of the words, and each opening waits for the other side: the writers wait side by side.
         with ThreadPoolExecutor(len(pipes)) as pool:
             ends = list(pool.map(lambda pipe: open(pipe, "w"), pipes))
         for end in (ends[first], ends[1 - first]):

@@ -3,7 +3,6 @@ import csv
 import json
 import os
 import pty
-import shutil
 import signal
 import subprocess
 import time
@@ -11,17 +10,17 @@ import unittest
 import xml.etree.ElementTree as ElementTree
 from collections import Counter
 
-from support import MAP, NUMBERED, PROGRAM, TOOLS, Case, lane, needs_simulator, net
+from support import MAP, NUMBERED, PROGRAM, TOOLS, Case, lane, needs_package, needs_simulator, needs_sumo, net
 from streetsim.files import Fault
-from streetsim.formulas import tree, webster_cycle
-from streetsim.light_lines import LightLines, read_plans
-from streetsim.mapping import read_map
-from streetsim.plans import Light, Timing, light_of, spread, whole
-from streetsim.runs import read_run
-from streetsim.search import Search, climb, search_plan, shift_of
-from streetsim.seeds import runs_needed, seeds_for, seeds_of, student
-from streetsim.sessions import outcome, session_of, vehicle_seconds
-from streetsim.sumo_net import Program
+from streetsim.signals.formulas import tree, webster_cycle
+from streetsim.signals.light_lines import LightLines, read_plans
+from streetsim.run.mapping import read_map
+from streetsim.signals.plans import Light, Timing, light_of, spread, whole
+from streetsim.run.runs import read_run
+from streetsim.signals.search import Search, climb, search_plan, shift_of
+from streetsim.study.seeds import runs_needed, seeds_for, seeds_of, student
+from streetsim.study.sessions import outcome, session_of, vehicle_seconds
+from streetsim.sumo.net import Program
 
 CORRIDOR = TOOLS / "examples/corridor"
 STREET = ("W", "J1", "J2", "J3", "J4", "J5", "E")
@@ -361,7 +360,8 @@ def read_until(terminal, word, seconds):
 
 
 @needs_simulator
-@unittest.skipUnless(shutil.which("sumo") and has_matplotlib(), "SUMO or Debian's matplotlib is not installed")
+@needs_sumo
+@needs_package("python3-matplotlib", has_matplotlib())
 class InSumo(Corridor):
     def test_offsets_of_the_corridor(self):
         """SUMO's own tlsCoordinator comes to 120.9 s there (139.3 s with the plan given)."""

@@ -2,14 +2,14 @@
 import unittest
 
 from support import PROGRAM, Case, lane, needs_simulator, net
-from streetsim import series
+from streetsim.pictures import series
 from streetsim.client import Client
 from streetsim.files import Fault
-from streetsim.importing import convert
-from streetsim.network import Options, Turn
-from streetsim.report import Report
-from streetsim.sumo_signals import joined, run_lengths, shown_green
-from streetsim.yielding import gap_capacity
+from streetsim.sumo.importing import convert
+from streetsim.sumo.network import Options, Turn
+from streetsim.sumo.report import Report
+from streetsim.sumo.signals import joined, run_lengths, shown_green
+from streetsim.sumo.yielding import gap_capacity
 
 
 def phases(*pairs):

@@ -7,15 +7,15 @@ from collections import Counter
 
 from support import FORK, PROGRAM, STREET, Case, needs_simulator
 import test_pictures
-from test_pictures import CHROMIUM, DRAWS, Given
+from test_pictures import Given, needs_chromium, needs_matplotlib
 from test_runs import Runs, enter
-from streetsim import series
+from streetsim.pictures import series
 from streetsim.client import BadRange, Client
 from streetsim.files import Fault
-from streetsim.importing import convert
-from streetsim.network import Options
-from streetsim.record import standing
-from streetsim.report import Report
+from streetsim.sumo.importing import convert
+from streetsim.sumo.network import Options
+from streetsim.run.record import standing
+from streetsim.sumo.report import Report
 from streetsim.scenario import Scenario
 
 
@@ -177,7 +177,7 @@ class Shown(Given):
         self.assertEqual(pieces[0], ((1, 37.5), (2, 52.5), 1, 22.5))
         self.assertEqual(list(series.bands(pieces)), [((1, 37.5), (2, 52.5), (2, 30.0), (1, 15.0))])
 
-    @unittest.skipUnless(DRAWS, "Debian's python3-matplotlib is not installed")
+    @needs_matplotlib
     def test_picture(self):
         path = self.folder / "corridor.png"
         self.tool("plot", "corridor", self.folder, "--edges", "a b", "--last", 40, "-o", path)
@@ -187,7 +187,7 @@ class Shown(Given):
 class Played(Given):
     page, shown = test_pictures.Player.page, test_pictures.Player.shown
 
-    @unittest.skipUnless(CHROMIUM, "Debian's chromium is not installed")
+    @needs_chromium
     def test_covered_cells(self):
         # Three cells and one; at clock 2 the rear of the long one is at the begin of the lane: two cells and one.
         places = ((1, 4), (2, 1))

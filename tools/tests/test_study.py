@@ -2,35 +2,22 @@
 import csv
 import os
 import shutil
-import signal
 import socket
 import subprocess
 import threading
 import time
 import unittest
+import unittest.mock
 from concurrent.futures import BrokenExecutor, Future
 from importlib.util import find_spec
-from pathlib import Path
 from statistics import fmean, stdev
 
+from clusters import DEBIAN, ClusterCase, free_port, needs_distributed
 from support import PROGRAM, TOOLS, Case, needs_simulator
 from streetsim.files import Fault
-from streetsim.machines import result_of
+from streetsim.study.machines import result_of
 
 CORRIDOR = TOOLS / "examples/corridor"
-# The tools go by Debian's Python, for which Debian's packages are.
-DEBIAN = "/usr/bin/python3"
-
-
-def has_distributed():
-    words = [DEBIAN, "-c", "import distributed"]
-    return Path(DEBIAN).exists() and subprocess.run(words, capture_output=True, check=False).returncode == 0
-
-
-def free_port():
-    with socket.socket() as one:
-        one.bind(("127.0.0.1", 0))
-        return one.getsockname()[1]
 
 
 @needs_simulator
@@ -117,31 +104,8 @@ class Tables(Studies):
         self.assertFalse((self.folder / "out").exists())
 
 
-@unittest.skipUnless(has_distributed(), "dask.distributed is not installed")
-class Cluster(Studies):
-    """A real scheduler and two real workers on this machine."""
-
-    def start(self, *words):
-        place = self.folder / "dask"
-        place.mkdir(exist_ok=True)
-        with open(place / f"{words[0]}-{time.time_ns()}.log", "w", encoding="utf-8") as log:
-            process = subprocess.Popen([DEBIAN, "-m", "distributed.cli." + words[0], *words[1:]], cwd=place, stdout=log, stderr=log)
-        self.addCleanup(process.wait)
-        self.addCleanup(process.kill)
-        return process
-
-    def cluster(self):
-        port = free_port()
-        self.start("dask_scheduler", "--host", "127.0.0.1", "--port", str(port), "--no-dashboard")
-        words = ["--host", "127.0.0.1", "--nthreads", "1", "--no-nanny", "--no-dashboard"]
-        workers = [self.start("dask_worker", f"tcp://127.0.0.1:{port}", *words, "--local-directory", str(self.folder / f"w{at}")) for at in (1, 2)]
-        self.wait_for(port)
-        return port, workers
-
-    def wait_for(self, port):
-        script = f"from distributed import Client; Client('127.0.0.1:{port}', timeout=100).wait_for_workers(2, timeout=100)"
-        subprocess.run([DEBIAN, "-c", script], check=True, capture_output=True, timeout=200)
-
+@needs_distributed
+class Cluster(ClusterCase, Studies):
     def files(self, out):
         return [(self.folder / out / name).read_bytes() for name in ("runs.csv", "differences.csv")]
 
@@ -153,7 +117,8 @@ class Cluster(Studies):
         self.assertEqual(self.files("three"), self.files("one"))
         self.assertEqual(self.files("both"), self.files("one"))
         self.assertEqual(self.found("--cluster", f"127.0.0.1:{port}"), self.found("--jobs", 1))
-        self.kill_in_the_middle(port, workers, study)
+        words = [TOOLS / "streetsim-study", *self.words(study, "--cluster", f"127.0.0.1:{port}", out="killed")]
+        self.kill_worker_during(workers[0], words)
         self.assertEqual(self.files("killed"), self.files("one"))
 
     def found(self, *words):
@@ -164,28 +129,6 @@ class Cluster(Studies):
         told, _ = self.tool("signals", *words)
         return told, files[2].read_bytes(), *(path.read_bytes() for path in sorted(files[3].iterdir()))
 
-    def kill_in_the_middle(self, port, workers, study):
-        """A study during which a worker is killed by its number, once it has run something."""
-        words = [TOOLS / "streetsim-study", *self.words(study, "--cluster", f"127.0.0.1:{port}", out="killed")]
-        with subprocess.Popen(list(map(str, words)), stdout=subprocess.PIPE, stderr=subprocess.PIPE, text=True) as tool:
-            begin = self.time_of_runs(workers[0].pid)
-            while tool.poll() is None and self.time_of_runs(workers[0].pid) < begin + 0.1:
-                time.sleep(0.05)
-            ended = tool.poll()
-            os.kill(workers[0].pid, signal.SIGKILL)
-            try:
-                told = tool.communicate(timeout=120)
-            except subprocess.TimeoutExpired:
-                tool.kill()
-                raise
-        self.assertIsNone(ended, "the study ended before its worker was killed")
-        self.assertEqual(tool.returncode, 0, told[1])
-
-    def time_of_runs(self, pid):
-        """Processor seconds of the programs that a process has run."""
-        fields = Path(f"/proc/{pid}/stat").read_text().rpartition(")")[2].split()
-        return sum(map(int, fields[13:15])) / os.sysconf("SC_CLK_TCK")
-
     def test_workers_with_another_program(self):
         port, _ = self.cluster()
         for name, change in (("lacking", "unlink"), ("other", "write")):
@@ -193,7 +136,7 @@ class Cluster(Studies):
             shutil.copy(PROGRAM, program)
             study = self.study("1-2")
             # The program changes after the tool has looked at it: what the workers have is then another one.
-            words = ["import sys; sys.path.insert(0, sys.argv[1])", "from streetsim import machines, studying"]
+            words = ["import sys; sys.path.insert(0, sys.argv[1])", "from streetsim.study import machines, studying"]
             words += ["study = studying.read_study(sys.argv[2], sys.argv[3])"]
             words += ["import os; os.unlink(sys.argv[3])" if change == "unlink" else "open(sys.argv[3], 'ab').write(b'x')"]
             words += ["with machines.machines(1, sys.argv[4], [one for one, _ in study.variants.values()]): pass"]
@@ -219,18 +162,20 @@ class Given(unittest.TestCase):
 
 
 class NoCluster(Studies):
-    def refused(self, port):
+    def refused(self, port, **variables):
         begin = time.monotonic()
-        _, said = self.tool("study", *self.words(self.study("1-2"), "--cluster", f"127.0.0.1:{port}"), status=2)
+        with unittest.mock.patch.dict(os.environ, variables):
+            _, said = self.tool("study", *self.words(self.study("1-2"), "--cluster", f"127.0.0.1:{port}"), status=2)
         self.assertEqual(len(said.splitlines()), 1, said)
         self.assertFalse((self.folder / "out").exists())
         return said, time.monotonic() - begin
 
-    @unittest.skipIf(has_distributed(), "dask.distributed is installed")
     def test_without_the_package(self):
-        self.assertIn("--cluster needs dask.distributed", self.refused(free_port())[0])
+        """A module that cannot be loaded stands before the package, if there is one."""
+        self.write("distributed.py", "raise ImportError('no module of this name')\n")
+        self.assertIn("--cluster needs dask.distributed", self.refused(free_port(), PYTHONPATH=str(self.folder))[0])
 
-    @unittest.skipUnless(has_distributed(), "dask.distributed is not installed")
+    @needs_distributed
     def test_nobody_answers(self):
         """A port where nobody listens, and one where somebody does and says nothing."""
         said, _ = self.refused(free_port())

@@ -3,23 +3,26 @@ import gzip
 import importlib.util
 import os
 import re
-import shutil
 import subprocess
 import sys
 import time
 import unittest
+from contextlib import redirect_stderr
+from io import StringIO
 from pathlib import Path
 
-from support import DATA, FORK, PROGRAM, TOOLS, Case, lane, needs_simulator, net
+from support import DATA, FORK, PROGRAM, TOOLS, Case, lane, needs_package, needs_simulator, needs_sumo, net
 import streetsim.traci as traci
-from streetsim.compare import geh
+from streetsim.scenario import TrafficLight
+from streetsim.run.compare import geh
 from streetsim.traci import constants as tc
+from streetsim.traci.options import OUTPUT, SHORT, check_option
 from streetsim.traci.session import Endless, Light
 
 SCRIPTS = TOOLS / "examples/traci"
 SUMO = Path("/usr/share/sumo")
 WAITING = ("Could not connect to TraCI server", "Retrying in")  # SUMO's traci, while sumo starts
-needs_sumo = unittest.skipUnless(shutil.which("sumo") and (SUMO / "tools/traci").exists(), "Debian's sumo and sumo-tools are not installed")
+needs_traci = needs_package("sumo-tools", (SUMO / "tools/traci").exists())
 
 LIGHT = """<tlLogic id="L" type="static" programID="day" offset="5">
 <phase duration="10" state="Gr"/><phase duration="5" state="yr"/><phase duration="15" state="rG"/></tlLogic>"""
@@ -41,7 +44,7 @@ class Started(Case):
 
     def start(self, text=SIGNALLED, routes=ROUTES, additional=AREAS):
         words = ["sumo", "-n", self.write("x.net.xml", text), "-r", self.write("x.rou.xml", routes)]
-        self.assertEqual(traci.start([*words, "-a", self.write("x.add.xml", additional), "--no-step-log"])[1], "streetsim")
+        self.assertEqual(traci.start([*words, "-a", self.write("x.add.xml", additional), "-W"])[1], "streetsim")
 
     def steps(self, count):
         for _ in range(count):
@@ -162,9 +165,62 @@ class Vehicles(Started):
         self.write("x.net.xml", SIGNALLED)
         self.write("x.rou.xml", ROUTES)
         text = '<configuration><input><net-file value="x.net.xml"/><route-files value="x.rou.xml"/></input></configuration>'
-        traci.start(["sumo", "-c", self.write("x.sumocfg", text)])
+        traci.start(["sumo", "-c", self.write("x.sumocfg", text), "-W"])
         traci.simulationStep(60)
         self.assertEqual((traci.simulation.getTime(), traci.vehicle.getIDList()), (60.0, ("later",)))
+
+    def test_configurations_and_additional_files_as_scenarios_have_them(self):
+        """Any root, paths beside the file, short names; types and lights under the root <routes>."""
+        self.write("x.net.xml", SIGNALLED)
+        self.write("x.rou.xml", ROUTES)
+        self.write("x.add.xml", '<routes><vType id="truck" length="12"/></routes>')
+        inputs = '<net value="x.net.xml"/><route-files v="x.rou.xml"/><additional-files>x.add.xml</additional-files>'
+        text = f'<c>{inputs}<tripinfo-output value="old.xml"/></c>'
+        words = ["sumo", "-c", self.write("x.sumo.cfg", text), "-W"]
+        with self.assertRaisesRegex(traci.FatalTraCIError, "--tripinfo-output old.xml: not written here; leave it out, or give"):
+            traci.start(words)
+        traci.start([*words, "--tripinfo-output", "/dev/null"])
+        traci.simulationStep(60)
+        self.assertEqual(traci.vehicle.getIDList(), ("later",))
+
+    def test_options(self):
+        """Outputs are refused by name, and so is what SUMO does not know."""
+        given = ["sumo", "-n", self.write("x.net.xml", SIGNALLED), "-r", self.write("x.rou.xml", ROUTES)]
+        for words, told in (
+            (["--summary-output", "s.xml"], "--summary-output s.xml: not written here"),
+            (["--save-state.times", "60"], "--save-state.times 60: not written here"),
+            (["--no-such-option"], "No option with the name 'no-such-option' exists."),
+            (["-Z"], "No option with the name 'Z' exists."),
+            (["--scale", "1.5"], "--scale 1.5: streetsim has nothing for it"),
+            (["--step-length", "fast"], "steps are of one second"),
+            (["--seed", "x"], "--seed: 'x' is not 0 to"),
+            (["--classes", "passenger,foo"], "--classes: SUMO has no vehicle class 'foo'"),
+            (["--start", "true", "x.xml"], "'x.xml' is no option"),
+        ):
+            with self.subTest(words), self.assertRaisesRegex(traci.FatalTraCIError, re.escape(told)):
+                traci.start([*given, *words])
+
+    def test_what_is_told_at_the_start(self):
+        skipped = '<vehicle id="bus" depart="1"><route edges="a b c"/></vehicle></routes>'
+        words = ["sumo", "-n", self.write("x.net.xml", SIGNALLED), "-r", self.write("x.rou.xml", ROUTES.replace("</routes>", skipped))]
+        words += ["--time-to-teleport", "-1", "--lateral-resolution", "0.8", "--no-step-log", "true", "--end", "90"]
+        for more, told in (([], True), (["--no-warnings"], False)):
+            with redirect_stderr(StringIO()) as said:
+                traci.start([*words, *more, "--log", str(self.folder / "log.txt"), "--classes", "passenger"])
+            traci.close()
+            text = (self.folder / "log.txt").read_text()
+            self.assertIn("warning: --lateral-resolution 0.8 has no effect here\n", text)
+            self.assertIn("skipped: 1 vehicles: ", text)
+            self.assertNotIn("teleport", text)
+            self.assertEqual(said.getvalue(), text if told else "")
+
+    def test_classes(self):
+        """Buses alone may use the left lane, so that the network has it with --classes bus."""
+        text = SIGNALLED.replace('id="a_1" index="1"', 'id="a_1" index="1" allow="bus"')
+        for classes, lanes in (("passenger", {"a_0", "b_0", "c_0"}), ("passenger,bus", {"a_0", "a_1", "b_0", "c_0"})):
+            traci.start(["sumo", "-n", self.write("x.net.xml", text), "--classes", classes, "-W"])
+            self.assertEqual(set(traci.lane.getIDList()), lanes)
+            traci.close()
 
     def test_more_calls_than_one_run_has(self):
         """A run of 40 calls is begun anew each time that they are used up, and comes to the same."""
@@ -230,6 +286,26 @@ class Lights(Started):
         self.steps(6)
         self.assertNotEqual(traci.vehicle.getRoadID("v"), "a")
 
+    def test_a_state_is_sent_as_a_whole_program_of_it(self):
+        """By setProgramLogic of Scenario, which looks at each second; in less than a millisecond, the least of many."""
+        self.start()
+        session, sent = traci._now(), []
+        send = session.client.signal
+        session.client.signal = lambda *words: (sent.append(words), send(*words))
+        for clock, state in enumerate(("rr", "Gr", "yG", "GG", "sO", "uU", "or")):
+            traci.simulationStep(3 * clock + 1)
+            traci.trafficlight.setRedYellowGreenState("L", state)
+            TrafficLight(session).setProgramLogic("L", [(600, state)], session.clock % 600)
+        for (node, phases, offset), (other, others, offset_of) in zip(sent[::2], sent[1::2], strict=True):
+            greens = [[seconds, [list(turn) for turn in green]] for seconds, green in phases]
+            self.assertEqual((node, greens, offset), (other, others, offset_of))
+        times = []
+        for state in 100 * ["GG", "rr"]:
+            begin = time.perf_counter()
+            traci.trafficlight.setRedYellowGreenState("L", state)
+            times.append(time.perf_counter() - begin)
+        self.assertLess(min(times), 0.001)
+
     def test_refused(self):
         self.start()
         phase = traci.trafficlight.Phase
@@ -253,6 +329,19 @@ class Lights(Started):
 
 class Constants(unittest.TestCase):
     @needs_sumo
+    def test_all_options_of_sumo_are_known(self):
+        for program in ("sumo", "sumo-gui"):
+            told = subprocess.run([program, "--help"], capture_output=True, text=True, check=False).stdout
+            names = set(re.findall(r"^  (?:-., )?--([\w.:-]+)", told, re.MULTILINE)) - {"help", "version"}
+            self.assertEqual(len(names) > 300, bool(told))
+            for name in names:
+                value = "1" if name in ("step-length", "scale") else "/dev/null" if OUTPUT.fullmatch(name) else "false"
+                check_option(name, value)
+            letters = re.findall(r"^  -(.), --([\w.:-]+)", told, re.MULTILINE)
+            self.assertEqual({f"-{letter}": name for letter, name in letters if name not in ("help", "version")}.items() - SHORT.items(), set())
+
+    @needs_sumo
+    @needs_traci
     def test_are_sumos(self):
         spec = importlib.util.spec_from_file_location("constants", SUMO / "tools/traci/constants.py")
         theirs = importlib.util.module_from_spec(spec)
@@ -290,10 +379,12 @@ class Scripts(Case):
         self.assertLess(self.mean_trip(), self.mean_trip("fixed"))
 
     @needs_sumo
+    @needs_traci
     def test_actuated_as_in_sumo(self):
         self.assertAlmostEqual(self.mean_trip() / self.mean_trip(sumo=True), 1, delta=0.15)
 
     @needs_sumo
+    @needs_traci
     def test_bottleneck_as_in_sumo(self):
         here, there = (self.run_script("bottleneck", sumo=sumo)[0] for sumo in (False, True))
         self.assertEqual(len(here), 4)
@@ -302,6 +393,7 @@ class Scripts(Case):
             self.assertLess(geh(4 * counts[0], 4 * counts[1]), 5, (one, other))
 
     @needs_sumo
+    @needs_traci
     def test_speeds_within_twice_sumos_time(self):
         """5,400 vehicles an hour on the grid, 900 steps; the mean speed is SUMO's within 10 %."""
         with gzip.open(DATA / "grid.rou.xml.gz", "rt", encoding="utf-8") as file:

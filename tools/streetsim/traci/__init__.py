@@ -3,29 +3,30 @@
 `start` takes the words of SUMO's command line, imports the network and its routes as streetsim-import does, and runs them with
 the program that STREETSIM_PROGRAM names. Steps are of one second. What streetsim has nothing for says what to do instead.
 """
+import sys
 import tempfile
 from contextlib import redirect_stderr
 from io import StringIO
 from pathlib import Path
 
-from .. import importing
 from ..client import ProgramEnded, Refused
-from ..files import Fault
+from ..files import Fault, whole_file
+from ..sumo import importing
 from . import constants
 from .domains import Edge, InductionLoop, Lane, LaneArea, Route, Simulation, TrafficLight, Vehicle
 from .errors import FatalTraCIError, NotHere, TraCIException
-from .session import Session, read_configuration
+from .options import IMPORTED, LOGS, options_of, warnings_of
+from .session import Session
 
 __all__ = ["FatalTraCIError", "NotHere", "TraCIException", "close", "constants", "isLoaded", "load", "simulationStep", "start"]
 
-LONG = {"-n": "net-file", "-r": "route-files", "-a": "additional-files", "-c": "configuration-file", "-b": "begin"}
-PASSED = {"seed": "--seed", "begin": "--begin"}  # of SUMO's options, those that the import has
 _running = []
 
 
 def start(cmd, port=None, numRetries=None, label="default", verbose=False, *_, **__):
-    """Starts a run, of the words of SUMO's command line: -c, or -n, -r and -a, and --seed and --begin; others have no effect.
-    Gives the version, as SUMO does."""
+    """Starts a run, of the words of SUMO's command line: -c, or -n, -r and -a, --seed and --begin, and those of
+    streetsim-import (--classes, --dawdle, --joint, ..). What the import warns of is told on standard error, and what other
+    options of SUMO's do not do here. Gives the version, as SUMO does."""
     if _running:
         raise TraCIException("a run is under way: close() it first; there is one at a time")
     options = options_of(list(cmd)[1:])
@@ -37,38 +38,29 @@ def start(cmd, port=None, numRetries=None, label="default", verbose=False, *_, *
     return getVersion()
 
 
-def options_of(words):
-    """SUMO's options, by their long names; those of a configuration file stand behind those of the words."""
-    options, at = {}, 0
-    while at < len(words):
-        name, _, value = str(words[at]).partition("=")
-        at += 1
-        if not value and at < len(words) and not str(words[at]).startswith("-"):
-            value, at = str(words[at]), at + 1
-        options[LONG.get(name, name.removeprefix("--"))] = value
-    if "configuration-file" in options:
-        try:
-            options = {**read_configuration(options["configuration-file"]), **options}
-        except Fault as fault:
-            raise FatalTraCIError(str(fault)) from None
-    if float(options.get("step-length", 1)) != 1:
-        raise FatalTraCIError(f"--step-length {options['step-length']}: steps are of one second")
-    return options
-
-
 def open_session(folder, options):
     """Imports what the options name, and starts the program."""
     names = ("route-files", "additional-files")
-    routes, additional = ([part.strip() for part in options.get(name, "").split(",") if part] for name in names)
-    if "net-file" not in options:
+    routes, additional = ([part.strip() for part in options.get(name, "").split(",") if part.strip()] for name in names)
+    if not options.get("net-file"):
         raise FatalTraCIError("no network: give -n NET or -c CONFIGURATION")
     words = [options["net-file"], *additional, "-o", f"{folder}/run.jsonl", "--map", f"{folder}/map.json"]
     words += ["--routes", *routes] if routes else []
-    for name, option in PASSED.items():
-        words += [option, str(int(float(options[name])))] if options.get(name) else []
-    with redirect_stderr(StringIO()):
+    words += [word for name in sorted(IMPORTED & options.keys()) for word in (f"--{name}", options[name])]
+    with redirect_stderr(StringIO()) as said:
         importing.main(words)
+    tell(said.getvalue(), options)
     return Session(folder, [options["net-file"], *additional])
+
+
+def tell(said, options):
+    """Tells what the import said and what options do not do here: on standard error, and in the files of --log."""
+    said = "".join(f"warning: {text}\n" for text in warnings_of(options)) + said
+    if options.get("no-warnings", "false").lower() not in ("", "true", "1", "yes", "on", "t"):
+        sys.stderr.write(said)
+    for path in {options[name] for name in LOGS if options.get(name)}:
+        with whole_file(path) as file:
+            file.write(said)
 
 
 def _now():

@@ -2,9 +2,11 @@
 from dataclasses import dataclass, field
 
 from .. import limits
+from ..run.works import why_parallel
 from ..scenario import NOWHERE
 from . import constants as tc
 from .errors import NotHere, TraCIException
+from .session import CONSTANT
 
 METRES, GAP = limits.CELL_METRES, limits.GAP_METRES
 ADVICE = {
@@ -421,6 +423,8 @@ class Lane(Stretches):
         self.check(name, self.now().lane_of)
         classes = [classes] if isinstance(classes, str) else classes
         if "all" in classes or set(self.now().map.options["classes"]) <= set(classes):
+            if why := self.kind == "Lane" and why_parallel(self.now().map, name):
+                raise TraCIException(f"{why}: traci.start([.., '--joint', {name!r}])")
             self.now().close_lane(name, "close")
 
     def setAllowed(self, name, classes):
@@ -453,7 +457,7 @@ class Edge(Lane):
 
     def setDisallowed(self, name, classes):
         for place in self.places(name):
-            Lane(self.now).setDisallowed(self.now().map.lane_name(*place), classes)
+            super().setDisallowed(self.now().map.lane_name(*place), classes)
 
     def setAllowed(self, name, classes):
         for place in self.places(name):
@@ -623,7 +627,7 @@ class TrafficLight(Domain):
         session.timers = [timer for timer in session.timers if timer[1] != name]
         ends = session.clock + max(0, round(seconds))
         session.timers.append((ends, name, (index + 1) % len(light.phases)))
-        session.set_light(name, [(600, light.phases[index][1].replace("g", "G"))], 0)
+        session.set_light(name, [(CONSTANT, light.phases[index][1].replace("g", "G"))], 0)
 
     def setRedYellowGreenState(self, name, state):
         self.now().hold(name, state)

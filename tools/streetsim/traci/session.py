@@ -1,14 +1,14 @@
 """A run under TraCI: what stands where after each step, what the lights show, and a program whose calls do not end."""
 from dataclasses import dataclass, field
-from pathlib import Path
 
 from .. import limits
 from ..client import Client, Full, Lane, Short, line_of, read_reply
 from ..files import attribute, elements, number, seconds
-from ..mapping import read_map
-from ..record import EMPTY
-from ..runs import read_run
-from ..scenario import Scenario
+from ..run.mapping import read_map
+from ..run.record import EMPTY
+from ..run.runs import read_run
+from ..scenario import Scenario, TrafficLight
+from ..sumo.yielding import GREEN, PERMISSIVE
 from .errors import FatalTraCIError, TraCIException
 
 ASKING = (b'{"cmd":"lane"', b'{"cmd":"vehicle"', b'{"cmd":"count"', b'{"cmd":"read"')
@@ -108,6 +108,7 @@ class Session(Scenario):
         self.followed = False  # whether each step is looked at
         self.timers = []  # (clock, light, index): phases that a script has set to end then
         self.lights, self.speeds = read_lights(net, self)
+        self.turns_at = {}  # by light: what turns_of gives
         self.loops = {name: Loop([], -1.0) for name, one in self.detectors.items() if one.kind == "e1"}
         for line in [self.source.load, *self.source.first]:
             self.ask(line.text.encode() + b"\n")
@@ -126,7 +127,8 @@ class Session(Scenario):
     def close_lane(self, name, command):
         """Closes a lane, or opens it again."""
         link, lane = self.lane_of[name]
-        self.ask(line_of({"cmd": command, "link": link, "lane": lane, "first": 0, "last": self.map.links[link].cells - 1}))
+        first, last = self.map.links[link].closed_between(0.0, self.map.links[link].metres)
+        self.ask(line_of({"cmd": command, "link": link, "lane": lane, "first": first, "last": last}))
 
     # Steps
 
@@ -276,10 +278,31 @@ class Session(Scenario):
         self.set_light(name, phases, light.begin)
 
     def set_light(self, name, phases, begin):
-        from ..scenario import TrafficLight
-
+        if len(phases) == 1 and phases[0][0] == CONSTANT and not set(phases[0][1]) & set(PERMISSIVE):
+            self.show_constant(name, phases[0][1], begin)
+            return
         cycle = sum(duration for duration, _ in phases)
         TrafficLight(self).setProgramLogic(name, phases, begin % cycle)
+
+    def show_constant(self, name, state, begin):
+        """Shows a state without permissive greens at each node of a light, in one phase: no second differs from another."""
+        for node, turns in self.turns_of(name):
+            green = sorted([link, lane, following] for link, lane, following, index in turns if index is None or state[index] in GREEN)
+            self.client.signal(node, [(CONSTANT, green)], round(-(begin % CONSTANT)) % CONSTANT)
+
+    def turns_of(self, name):
+        """The nodes of a light, each with its turns as (link, lane, next link, index in the light's state, or none where
+        the light does not control it)."""
+        if name not in self.turns_at:
+            nodes = [node for light, node in self.map.signals if light == name]
+            self.turns_at[name] = [(node, [*turns_to(node, name, self.map)]) for node in nodes]
+        return self.turns_at[name]
+
+
+def turns_to(node, light, mapping):
+    for turn in mapping.turns:
+        if mapping.links[turn.link].end == node:
+            yield turn.link, turn.lane, turn.next, turn.index if turn.light == light else None
 
 
 def check_state(name, state, length):
@@ -294,7 +317,7 @@ def read_lights(paths, session):
     """The lights of a network and of additional files, the last program of each, and the speeds of the lanes."""
     lights, speeds, links = {}, {}, {}
     for path in paths:
-        for element in elements(path, ["net", "additional", "add", "tlLogics"]):
+        for element in elements(path, None):
             if element.tag == "tlLogic":
                 phases = [(attribute(path, one, "duration", seconds), attribute(path, one, "state")) for one in element.iter("phase")]
                 offset = seconds(element.get("offset") or "0")
@@ -312,17 +335,3 @@ def read_lights(paths, session):
         light.states = len(light.phases[0][1])
         light.links = [links.get(name, {}).get(index) for index in range(light.states)]
     return lights, speeds
-
-
-def read_configuration(path):
-    """What a .sumocfg names: {option: value}."""
-    found = {}
-    for element in elements(path, ["configuration", "sumoConfiguration"]):
-        for one in element.iter():
-            if one.get("value") is not None:
-                found[one.tag] = one.get("value")
-    folder = Path(path).parent
-    for name in ("net-file", "route-files", "additional-files"):
-        if name in found:
-            found[name] = ",".join(str(folder / part.strip()) for part in found[name].split(","))
-    return found

@@ -1,6 +1,7 @@
 /* Loaded before a program by LD_PRELOAD: of its requests for memory those from number FIRST to number LAST, counted from 1,
-   are refused (both from the environment). How many requests it made is left in the first eight bytes of the file COUNT,
-   which has to exist and to have them: a program of Rattle's ends by _exit, so nothing could be reported at its end.
+   are refused (both from the environment). The file COUNT, which has to exist and to have sixteen bytes, is left with the
+   number of its requests and that of the blocks that it was given and has not freed, eight bytes each: a program of Rattle's
+   ends by _exit, so nothing could be reported at its end.
 
    It includes no header, so that the kit's own clang builds it (x86-64 Linux, glibc). */
 typedef unsigned long word;
@@ -18,7 +19,8 @@ extern void *mmap(void *, word, int, int, int, long);
 
 static void *(*next_malloc)(word);
 static void *(*next_realloc)(void *, word);
-static word nowhere, *requests = &nowhere, first, last, low = ~0ul, high;
+static void (*next_free)(void *);
+static word nowhere[2], *counts = nowhere, first, last, low = ~0ul, high;
 
 /* The program itself comes first: its own requests count, those that the C library makes for itself do not. */
 static int find_program(struct object *program, word size, void *unused) {
@@ -41,8 +43,8 @@ __attribute__((constructor)) static void begin(void) {
   const char *name = getenv("COUNT");
   int file = name ? open(name, 2) : -1;
   if (file >= 0) {
-    void *at = mmap(0, sizeof(word), 3, 1, file, 0);
-    if (at != (void *)-1) requests = at;
+    void *at = mmap(0, sizeof nowhere, 3, 1, file, 0);
+    if (at != (void *)-1) counts = at;
     close(file);
   }
   first = number("FIRST");
@@ -50,18 +52,36 @@ __attribute__((constructor)) static void begin(void) {
   dl_iterate_phdr(find_program, 0);
 }
 
+static int is_of_program(void *caller) { return low <= (word)caller && (word)caller < high; }
+
 static int is_refused(void *caller) {
-  if ((word)caller < low || (word)caller >= high) return 0;
-  word request = __atomic_add_fetch(requests, 1, __ATOMIC_SEQ_CST);
+  if (!is_of_program(caller)) return 0;
+  word request = __atomic_add_fetch(&counts[0], 1, __ATOMIC_SEQ_CST);
   return first <= request && request <= last;
 }
 
+/* Counts a block that the program was given. */
+static void *given(void *block, void *caller) {
+  if (block && is_of_program(caller)) __atomic_add_fetch(&counts[1], 1, __ATOMIC_SEQ_CST);
+  return block;
+}
+
 void *malloc(word size) {
+  void *caller = __builtin_return_address(0);
   if (!next_malloc) next_malloc = (void *(*)(word))dlsym((void *)-1, "malloc");
-  return is_refused(__builtin_return_address(0)) ? 0 : next_malloc(size);
+  return is_refused(caller) ? 0 : given(next_malloc(size), caller);
 }
 
 void *realloc(void *at, word size) {
+  void *caller = __builtin_return_address(0);
   if (!next_realloc) next_realloc = (void *(*)(void *, word))dlsym((void *)-1, "realloc");
-  return is_refused(__builtin_return_address(0)) ? 0 : next_realloc(at, size);
+  if (is_refused(caller)) return 0;
+  void *block = next_realloc(at, size);
+  return at ? block : given(block, caller);
+}
+
+void free(void *at) {
+  if (!next_free) next_free = (void (*)(void *))dlsym((void *)-1, "free");
+  if (at && is_of_program(__builtin_return_address(0))) __atomic_sub_fetch(&counts[1], 1, __ATOMIC_SEQ_CST);
+  next_free(at);
 }

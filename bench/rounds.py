@@ -1,0 +1,53 @@
+#!/usr/bin/python3
+"""Prints what rounds of giving way cost, and how much the seconds between their polls and their number change mean trips.
+
+Usage: bench/rounds.py PROGRAM RUN.jsonl MAP.json --until S [--seeds 1-3]
+
+Times are processor seconds of the tools and of streetsim. Without rounds a run polls as it does with them, every 600 s.
+"""
+
+import argparse
+import os
+import sys
+import tempfile
+from pathlib import Path
+from statistics import fmean
+
+TOP = Path(__file__).resolve().parents[1]
+sys.path.insert(0, str(TOP / "tools"))
+from streetsim.run import rounds, running  # noqa: E402
+from streetsim.run.folder import read_folder  # noqa: E402
+
+CASES = [(0, 10), (1, 10), (2, 10), (3, 10), (2, 20), (2, 30), (2, 60), (2, 120)]  # rounds, seconds between their polls
+
+
+def run(args, count, every):
+    """Mean trips by seed, and processor seconds a run."""
+    rounds.INTERVALS = (every,)
+    before = os.times()
+    with tempfile.TemporaryDirectory() as folder:
+        words = [args.run, "--map", args.map, "--until", str(args.until), "--every", "600", "--seeds", args.seeds, "--jobs", "1"]
+        running.main([*words, "--rounds", str(count), "--out", folder, "--program", args.program])
+        found = [read_folder(str(one)).trips() for one in sorted(Path(folder).glob("seed-*"))]
+    spent = sum(os.times()[:4]) - sum(before[:4])
+    return [fmean(float(trip["duration"]) for trip in trips if trip["duration"]) for trips in found], spent / len(found)
+
+
+def main():
+    parser = argparse.ArgumentParser(description=__doc__, formatter_class=argparse.RawTextHelpFormatter)
+    parser.add_argument("program")
+    parser.add_argument("run")
+    parser.add_argument("map")
+    parser.add_argument("--until", type=int, required=True)
+    parser.add_argument("--seeds", default="1-3")
+    args = parser.parse_args()
+    rows, usual = [], None
+    for count, every in CASES:
+        means, spent = run(args, count, every)
+        usual = usual or spent
+        rows.append(f"| {count} | {every if count else ''} | {fmean(means):.1f} | {spent:.1f} | {spent / usual:.1f} |")
+    print("| Rounds | polls every, s | mean trip, s | processor, s | times |\n|---|---|---|---|---|")
+    print(*rows, sep="\n")
+
+
+main()

@@ -1,0 +1,1 @@
+"""The commands of an installation, and how they say how far they are."""

@@ -1,0 +1,57 @@
+"""The words of a command: what is wrong with them is told in one line; times and lists are read as SUMO reads them."""
+import argparse
+import os
+import re
+from collections.abc import Callable, Iterable
+from typing import NoReturn
+
+from ..files import Fault, seconds
+
+
+class Parser(argparse.ArgumentParser):
+    """A parser for which wrong words are a Fault, one line without the usage."""
+
+    def error(self, message: str) -> NoReturn:
+        raise Fault(f"{message.removeprefix('argument ')} (what may be given: {self.prog} --help)")
+
+
+def within(least: int, most: int) -> Callable[[str], int]:
+    """A conversion that takes whole numbers of a range."""
+
+    def number(text: str) -> int:
+        if not text.isdecimal() or not least <= int(text) <= most:
+            raise argparse.ArgumentTypeError(f"{text!r} is not {least} to {most:,}")
+        return int(text)
+
+    return number
+
+
+def time_within(least: int, most: int) -> Callable[[str], int]:
+    """A conversion that takes whole seconds of a range, written as SUMO's times: 3600, 01:00:00 or 0:01:00:00."""
+
+    def time(text: str) -> int:
+        value = whole_seconds(text)
+        if value is None or not least <= value <= most:
+            raise argparse.ArgumentTypeError(f"{text!r} is not {least} to {most:,} s, in seconds or as HH:MM:SS")
+        return value
+
+    return time
+
+
+def whole_seconds(text: str) -> int | None:
+    """The seconds of a SUMO time; none where it is no time or no whole second."""
+    try:
+        value = seconds(text)
+    except ValueError:
+        return None
+    return int(value) if value == int(value) else None
+
+
+def listed(text: str) -> list[str]:
+    """The names of a list, with spaces or commas between; neither stands in a name of SUMO's."""
+    return [name for name in re.split(r"[\s,]+", text) if name]
+
+
+def files_of(words: Iterable[str]) -> list[str]:
+    """Files, of which one word may name several with commas between, as in SUMO; a file whose name has a comma is one."""
+    return [path for word in words for path in ([word] if os.path.exists(word) else filter(None, word.split(",")))]

@@ -1,0 +1,103 @@
+"""How much of what a lane can pass is used: v/c."""
+from dataclasses import dataclass
+from statistics import fmean
+
+from .passages import discharges
+
+QUEUES = 5  # of a lane, from which on its own saturation flow is taken
+# Vehicles an hour that leave a queue of a lane at 50 km/h, by the chance of slowing down (of 1,000), and seconds of green
+# lost at its begin: measured in 40 greens each on a lone cross whose western arm is always full.
+BY_DAWDLE = ((0, 2400), (100, 1935), (170, 1760), (300, 1490))
+USUAL_LOST = -1.5
+
+
+@dataclass(slots=True)
+class Use:
+    """What a lane passed in an interval, and how far it was used."""
+
+    passed: int = 0
+    ratio: float = 0.0  # v/c
+
+
+def usual_flow(dawdle: float) -> float:
+    """The saturation flow of a chance of slowing down (of 1,000), where no queue tells it."""
+    for (low, more), (high, less) in zip(BY_DAWDLE, BY_DAWDLE[1:]):
+        if dawdle <= high:
+            return more + (less - more) * (dawdle - low) / (high - low)
+    return BY_DAWDLE[-1][1]
+
+
+@dataclass(slots=True)
+class Saturation:
+    """How a lane passes a queue."""
+
+    flow: float  # vehicles an hour of green
+    lost: float  # seconds of each green that are lost at its begin; less than 0: won
+
+    def effective(self, open_) -> float:
+        """Effective green, of what each second shows."""
+        greens = sum(here and not before for before, here in zip([False, *open_], open_))
+        return max(1.0, sum(open_) - self.lost * greens)
+
+
+class SaturationFlows:
+    """How lanes pass queues: measured on the lane where there were queues enough, else over all lanes of the run, else as
+    usual."""
+
+    def __init__(self, passed, logs, greens, start, dawdle):
+        found = {
+            place: discharges(those, logs[place], start, lambda step, place=place: greens.begin_of(*place, step))
+            for place, those in passed.items()
+        }
+        everywhere = [one for those in found.values() for one in those]
+        self.usual = saturation(everywhere) if len(everywhere) >= QUEUES else Saturation(usual_flow(dawdle), USUAL_LOST)
+        self.own = {place: saturation(those) for place, those in found.items() if len(those) >= QUEUES}
+
+    def of(self, place) -> Saturation:
+        return self.own.get(place, self.usual)
+
+
+def saturation(those) -> Saturation:
+    return Saturation(3600 / fmean(one.headway for one in those), fmean(one.lost for one in those))
+
+
+def is_alike(shown, taken) -> bool:
+    """Whether all vehicles of a lane have the same green: no second shows it to some of the links taken alone. shown: for
+    each second the links that have green, none for all."""
+    return all(green is not None and (not green & taken or green >= taken) for green in shown)
+
+
+class Capacity:
+    """The use of lanes over intervals, of which every second is known."""
+
+    def __init__(self, greens, logs, passed, flows, start):
+        self.greens, self.logs, self.passed, self.flows, self.start = greens, logs, passed, flows, start
+
+    def use(self, place, begin: int, end: int, taken) -> Use:
+        """That of a lane from one clock to another; taken: the links to which vehicles go from it."""
+        passages = [one for one in self.passed.get(place, ()) if begin < one.line <= end]
+        shown = [self.greens.at(*place, step)[0] for step in range(begin, end)]
+        open_ = [green is None or bool(green & taken) for green in shown]
+        if not passages or not any(open_):
+            return Use(len(passages))
+        saturation = self.flows.of(place)
+        if is_alike(shown, taken):
+            ratio = len(passages) / (saturation.flow * saturation.effective(open_) / 3600)
+        else:
+            ratio = self.used(place, begin, passages, open_, saturation.flow)
+        return Use(len(passages), ratio * (1 + self.growth(place, begin, open_) / len(passages)))
+
+    def used(self, place, begin, passages, open_, flow):
+        """The share of green seconds in which a vehicle that has stood is on the lane, and a headway for each other one
+        that passes."""
+        stood, offset = self.logs[place].stood, begin - self.start
+        waiting = sum(shown and stood[offset + second] > 0 for second, shown in enumerate(open_))
+        alone = sum(not one.stood and one.alone for one in passages)
+        return min(1.0, (waiting + alone * 3600 / flow) / sum(open_))
+
+    def growth(self, place, begin, open_):
+        """How many more want to pass than do: the queue that the last green leaves, less that which the first one left."""
+        stood, offset = self.logs[place].stood, begin - self.start
+        ends = [second for second in range(len(open_) - 1) if open_[second] and not open_[second + 1]]
+        first, last = (ends[0], ends[-1]) if ends else (0, len(open_) - 1)
+        return max(0, stood[offset + last] - stood[offset + first])

@@ -1,0 +1,131 @@
+"""What vehicles lost on approaches and how far lanes were used, from looks at every second."""
+from collections import Counter, defaultdict
+from dataclasses import dataclass, field
+from statistics import fmean
+
+from .capacity import Capacity, SaturationFlows
+from .layout import Greens
+from .passages import by_place
+
+# Seconds that a vehicle which stops loses beyond what is seen here, where vehicles brake and start at once: measured on a
+# lone cross at four flows against SUMO's e3 (bench/delays --calibrate).
+STOP_LOSS = 4.2
+
+
+@dataclass(slots=True)
+class Crossing:
+    """A passage that goes on to another edge."""
+
+    movement: tuple  # (edge, next edge)
+    clock: int  # at which it ended
+    place: tuple  # (link, lane)
+    delay: float  # control delay, seconds
+    stops: int
+    stood: int
+    following: int  # link
+
+
+@dataclass(slots=True)
+class Totals:
+    """What vehicles lost, as means a vehicle."""
+
+    vehicles: int
+    delay: float  # control delay, seconds
+    stood: float  # seconds
+    stops: float | None  # none where it is not known
+    error: float | None = None  # half the 95 % interval of the delay, where it is not of all seconds
+
+
+@dataclass(slots=True)
+class Interval:
+    """What is known of an interval."""
+
+    begin: int
+    end: int
+    lost: dict = field(default_factory=dict)  # (edge, next edge): Totals
+    lanes: dict = field(default_factory=dict)  # (edge, next edge): vehicles by (link, lane)
+    queues: dict = field(default_factory=dict)  # (link, lane): metres of the queue in each cycle, or at each look
+    uses: dict = field(default_factory=dict)  # (link, lane): Use
+    flows: dict = field(default_factory=dict)  # (link, lane): saturation flow, vehicles an hour
+
+
+def totals(crossings) -> Totals:
+    return Totals(
+        len(crossings),
+        fmean(one.delay for one in crossings),
+        fmean(one.stood for one in crossings),
+        fmean(one.stops for one in crossings),
+    )
+
+
+def together(parts) -> Totals:
+    """What the vehicles of several movements lost."""
+    parts = [part for part in parts if part.vehicles]
+    count = sum(part.vehicles for part in parts)
+
+    def mean(name):
+        values = [getattr(part, name) for part in parts]
+        return None if None in values else sum(part.vehicles * value for part, value in zip(parts, values)) / count
+
+    errors = [part.vehicles * part.error for part in parts if part.error is not None]
+    error = sum(error * error for error in errors) ** 0.5 / count if errors else None
+    return Totals(count, mean("delay"), mean("stood"), mean("stops"), error)
+
+
+def free_seconds(mapping, dawdle: int, plan, at: int) -> float:
+    """What a vehicle takes for a link of its plan and the junction behind it where nobody is in its way; who departs there
+    gains speed from 0, a cell a second in each second."""
+    link = mapping.links[plan[at]]
+    driving = link.cells / max(0.001, link.limit - dawdle / 1000) + mapping.nodes[link.end][3]
+    return driving + ((link.limit - 1) / 2 if at == 0 else 0.0)
+
+
+class Measures:
+    """The measures of a run that was looked at in every second; plans: the links of each vehicle of the file, by number."""
+
+    def __init__(self, mapping, approaches, signals, dawdle: int, plans, passages):
+        self.mapping, self.approaches, self.plans, self.passages = mapping, approaches, plans, passages
+        self.dawdle, self.greens = dawdle, Greens(mapping, signals)
+        found = [(passage, self.crossing(passage)) for passage in passages.done]
+        self.crossings = [crossing for _, crossing in found if crossing]
+        self.taken = defaultdict(set)  # (link, lane): links to which vehicles go
+        for one in self.crossings:
+            self.taken[one.place].add(one.following)
+        passed = by_place(passage for passage, crossing in found if crossing)
+        self.flows = SaturationFlows(passed, passages.logs, self.greens, passages.start, dawdle)
+        self.capacity = Capacity(self.greens, passages.logs, passed, self.flows, passages.start)
+
+    def crossing(self, passage) -> Crossing | None:
+        """None where the vehicle's plan ends on the edge."""
+        plan = self.plans[passage.car]
+        at = next((at for at, link in enumerate(plan) if self.mapping.links[link].edge == passage.edge), None)
+        if at is None or at + 1 == len(plan):
+            return None
+        lost = max(0.0, passage.end - passage.begin - free_seconds(self.mapping, self.dawdle, plan, at))
+        delay = lost + STOP_LOSS * (passage.stops > 0)
+        movement = passage.edge, self.mapping.links[plan[at + 1]].edge
+        place = passage.link, passage.lane
+        return Crossing(movement, passage.end, place, delay, passage.stops, passage.stood, plan[at + 1])
+
+    def interval(self, begin: int, end: int) -> Interval:
+        found = Interval(begin, end)
+        crossings = defaultdict(list)
+        for one in self.crossings:
+            if begin < one.clock <= end:
+                crossings[one.movement].append(one)
+        for movement, those in crossings.items():
+            found.lost[movement] = totals(those)
+            found.lanes[movement] = Counter(one.place for one in those)
+        for place in self.passages.lanes:
+            found.queues[place] = self.queues(place, begin, end)
+            found.uses[place] = self.capacity.use(place, begin, end, self.taken[place])
+            found.flows[place] = self.flows.of(place).flow
+        return found
+
+    def queues(self, place, begin: int, end: int) -> list:
+        """The longest queue of a lane in each cycle of its signal, metres."""
+        longest, back = defaultdict(float), self.passages.logs[place].back
+        for step in range(begin, end):
+            _, cycle = self.greens.at(*place, step)
+            longest[cycle] = max(longest[cycle], back[step - self.passages.start])
+        return list(longest.values())

@@ -1,0 +1,87 @@
+"""The tables movements.csv, approaches.csv and junctions.csv."""
+from collections import defaultdict
+
+from ..run import tables
+from .measures import Interval, together
+from .service import level, percentile
+
+LOST = ("vehicles", "vehicles_per_hour", "control_delay_s", "error_s", "stopped_delay_s", "stops_per_vehicle")
+QUEUED = ("queue_50_m", "queue_95_m", "queue_max_m", "storage_m")
+MOVEMENTS = (
+    *("begin", "end", "junction", "control", "approach", "to", "movement", *LOST, *QUEUED),
+    *("saturation_flow", "capacity_per_hour", "v_c", "los"),
+)
+APPROACHES = ("begin", "end", "junction", "control", "approach", *LOST, *QUEUED, "v_c", "los")
+JUNCTIONS = ("begin", "end", "junction", "control", *LOST, "queue_max_m", "v_c", "los")
+MOVEMENT_SHARE = 0.05  # of a movement's vehicles, from which on a lane counts for its queue
+
+
+class Tables:
+    """Rows of one interval after the other, by junction, approach and movement; those of nobody are left out."""
+
+    def __init__(self, approaches):
+        self.by_junction = defaultdict(list)
+        for approach in approaches.values():
+            self.by_junction[approach.junction].append(approach)
+        self.movements, self.approaches, self.junctions = [], [], []
+
+    def add(self, interval: Interval) -> None:
+        for junction, approaches in sorted(self.by_junction.items()):
+            found = [self.add_approach(interval, approach) for approach in approaches]
+            found = [one for one in found if one]
+            if found:
+                parts, queues, ratios = zip(*found, strict=True)
+                lost, control = together(parts), approaches[0].control
+                last = f"{max(queues):.1f}", f"{max(ratios):.2f}", level(lost.delay, control)
+                self.junctions.append((interval.begin, interval.end, junction, control, *told(lost, interval), *last))
+
+    def add_approach(self, interval, approach):
+        """Gives what its vehicles lost, its longest queue and the greatest v/c of its movements; none where nobody is."""
+        parts, ratios = [], []
+        for target, name in sorted(approach.movements.items()):
+            if (approach.edge, target) in interval.lost:
+                ratios.append(self.add_movement(interval, approach, target, name))
+                parts.append(interval.lost[approach.edge, target])
+        if not parts:
+            return None
+        lost, queues = together(parts), [interval.queues[place] for place in approach.lanes]
+        head = interval.begin, interval.end, approach.junction, approach.control, approach.edge
+        last = f"{max(ratios):.2f}", level(lost.delay, approach.control)
+        self.approaches.append((*head, *told(lost, interval), *worst(queues, approach.metres), *last))
+        return lost, max((queue for lane in queues for queue in lane), default=0.0), max(ratios)
+
+    def add_movement(self, interval, approach, target, name):
+        """Gives its v/c."""
+        lost, lanes = (those[approach.edge, target] for those in (interval.lost, interval.lanes))
+        count = max(1, sum(lanes.values()))
+        hours = (interval.end - interval.begin) / 3600
+        # A lane passes as many of the movement as it does, over how far it is used.
+        capacity = sum(those / hours / interval.uses[place].ratio for place, those in lanes.items() if interval.uses[place].ratio)
+        ratio = lost.vehicles / hours / capacity if capacity else 0.0
+        flow = sum(those * interval.flows[place] for place, those in lanes.items()) / count
+        used = [interval.queues[place] for place, those in lanes.items() if those >= MOVEMENT_SHARE * count]
+        head = interval.begin, interval.end, approach.junction, approach.control, approach.edge, target, name
+        last = f"{flow:.0f}", f"{capacity:.0f}" if capacity else "", f"{ratio:.2f}"
+        letter = level(lost.delay, approach.control, ratio)
+        self.movements.append((*head, *told(lost, interval), *worst(used, approach.metres), *last, letter))
+        return ratio
+
+    def write(self, folder: str) -> None:
+        tables.write_table(f"{folder}/movements.csv", MOVEMENTS, self.movements)
+        tables.write_table(f"{folder}/approaches.csv", APPROACHES, self.approaches)
+        tables.write_table(f"{folder}/junctions.csv", JUNCTIONS, self.junctions)
+
+
+def told(lost, interval) -> tuple:
+    """The columns LOST."""
+    hourly = lost.vehicles * 3600 / (interval.end - interval.begin)
+    error = "" if lost.error is None else f"{lost.error:.1f}"
+    stops = "" if lost.stops is None else f"{lost.stops:.2f}"
+    return lost.vehicles, f"{hourly:.0f}", f"{lost.delay:.1f}", error, f"{lost.stood:.1f}", stops
+
+
+def worst(lanes, metres) -> tuple:
+    """The columns QUEUED, of the lane with the longest queue by its 95 %."""
+    queues = max(lanes, key=lambda lane: percentile(lane, 0.95), default=[])
+    values = percentile(queues, 0.5), percentile(queues, 0.95), max(queues, default=0.0), metres
+    return tuple(f"{value:.1f}" for value in values)

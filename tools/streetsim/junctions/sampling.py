@@ -1,0 +1,151 @@
+"""Delays by Little's law, from looks at random moments: vehicles on an approach are their flow times their time on it."""
+from collections import Counter, defaultdict
+from random import Random
+from statistics import fmean, stdev
+
+from .capacity import Use, is_alike, usual_flow
+from .layout import Greens
+from .measures import STOP_LOSS, Interval, Totals, free_seconds
+from .passages import queue_metres
+
+LOOKS = 30  # a quarter hour
+QUARTER = 900  # seconds
+NEAR = 2  # seconds of driving before the stop line, in which a vehicle uses its green
+NORMAL = 1.96  # half the 95 % interval of a normal distribution, in standard deviations
+
+
+def moments(start: int, until: int) -> list[int]:
+    """Clocks to look at: one at random in each of so many equal parts of every quarter hour."""
+    draws, part = Random(1), QUARTER / LOOKS
+    count = int((until - start) / part)
+    return sorted({start + 1 + int((place + draws.random()) * part) for place in range(count)} - {until + 1})
+
+
+class Sampled:
+    """The measures of a run that was looked at now and then."""
+
+    def __init__(self, mapping, approaches, signals, dawdle: int, plans, departs, arrivals, interval: int, start: int):
+        self.mapping, self.approaches, self.plans, self.departs, self.arrivals = mapping, approaches, plans, departs, arrivals
+        self.dawdle, self.greens, self.width, self.start = dawdle, Greens(mapping, signals), interval, start
+        self.edges = {link: edge for edge, approach in approaches.items() for link in approach.links}
+        self.lanes = [place for approach in approaches.values() for place in approach.lanes]
+        self.last = {}  # vehicle: (place in its plan, clock) where it was seen last
+        self.passed = defaultdict(Counter)  # interval: vehicles by movement
+        self.free = defaultdict(float)  # (interval, movement): their free seconds, added up
+        self.present = defaultdict(list)  # (interval, movement): (vehicles, standing ones) at each look at which there were
+        self.on_lanes = defaultdict(Counter)  # (interval, movement): vehicles seen by (link, lane)
+        self.queues = defaultdict(list)  # (interval, link, lane): metres at each look at which there was one
+        self.looks, self.greens_seen, self.greens_used = Counter(), Counter(), Counter()
+        self.taken = defaultdict(set)  # (link, lane): links to which vehicles go
+        self.unlike = set()  # (link, lane) of which not all vehicles have the same green
+
+    def see(self, frame) -> None:
+        clock = frame["clock"]
+        at, seen = (clock - 1 - self.start) // self.width, defaultdict(lambda: [0, 0])
+        self.looks[at] += 1
+        shown = {}
+        for link, lane, cells, buffer, *_ in frame["lanes"]:
+            if link in self.edges:
+                shown[link, lane] = cells
+                for entry in cells:
+                    self.note(at, clock, entry[0], link, lane, not entry[2], seen)
+                for car in buffer:
+                    self.note(at, clock, car, link, lane, False, seen)
+        for movement, counts in seen.items():
+            self.present[at, movement].append(tuple(counts))
+        for place in self.lanes:
+            self.note_lane(at, clock, place, shown.get(place, ()))
+
+    def note(self, at, clock, car, link, lane, standing, seen):
+        """A vehicle on an approach: it has passed all before it since it was seen last."""
+        plan = self.plans[car]
+        before, since = self.last.get(car, (0, self.departs[car]))
+        here = next((place for place in range(before, len(plan)) if plan[place] == link), None)
+        if here is None:
+            return
+        self.pass_by(plan, before, since, here, clock)
+        self.last[car] = here, clock
+        if here + 1 < len(plan):
+            movement = self.edges[link], self.mapping.links[plan[here + 1]].edge
+            seen[movement][0] += 1
+            seen[movement][1] += standing
+            self.on_lanes[at, movement][link, lane] += 1
+            self.taken[link, lane].add(plan[here + 1])
+
+    def pass_by(self, plan, before, since, here, clock):
+        """The approaches that a vehicle left on its way from one place of its plan to another, evenly between two clocks."""
+        for step, place in enumerate(range(before, here)):
+            moment = since + (step + 0.5) * (clock - since) / (here - before)
+            edge = self.edges.get(plan[place])
+            if edge is not None:
+                at = int(moment - self.start) // self.width
+                movement = edge, self.mapping.links[plan[place + 1]].edge
+                self.passed[at][movement] += 1
+                self.free[at, movement] += free_seconds(self.mapping, self.dawdle, plan, place)
+
+    def note_lane(self, at, clock, place, cells):
+        link = self.mapping.links[place[0]]
+        queue = queue_metres(cells, link)
+        if queue:
+            self.queues[at, *place].append(queue)
+        green, taken = self.greens.at(*place, clock - 1)[0], self.taken[place]
+        if not is_alike([green], taken):
+            self.unlike.add(place)
+        if green is None or green & taken:
+            self.greens_seen[at, *place] += 1
+            self.greens_used[at, *place] += bool(cells) and link.cells - 1 - cells[0][1] < NEAR * link.limit
+
+    def finish(self):
+        """Takes the way of those who have arrived since they were seen last."""
+        for car, arrival in enumerate(self.arrivals):
+            if arrival is not None:
+                before, since = self.last.get(car, (0, self.departs[car]))
+                self.pass_by(self.plans[car], before, since, len(self.plans[car]) - 1, arrival)
+        return self
+
+    def interval(self, begin: int, end: int) -> Interval:
+        at, found = (begin - self.start) // self.width, Interval(begin, end)
+        looks = self.looks[at]
+        for movement, count in self.passed[at].items():
+            seen = self.on_lanes[at, movement]
+            found.lanes[movement] = {place: count * number / seen.total() for place, number in seen.items()}
+            found.lost[movement] = self.lost(at, movement, count, looks, end - begin)
+        volumes = Counter()
+        for lanes in found.lanes.values():
+            volumes.update(lanes)
+        for place in self.lanes:
+            queues = self.queues[at, *place]
+            found.queues[place] = [0.0] * (looks - len(queues)) + queues
+            found.uses[place] = Use(0, self.ratio(at, place, volumes[place] * 3600 / (end - begin)))
+            found.flows[place] = usual_flow(self.dawdle)
+        return found
+
+    def ratio(self, at, place, hourly):
+        """v/c of a lane: by its saturation flow, or by how often a vehicle was near the stop line at green."""
+        seen = self.greens_seen[at, *place]
+        if not seen:
+            return 0.0
+        if place in self.unlike:
+            return self.greens_used[at, *place] / seen
+        return hourly / (usual_flow(self.dawdle) * seen / self.looks[at])
+
+    def lost(self, at, movement, count, looks, seconds):
+        """By Little's law; the share that stops is that of even arrivals."""
+        seen = self.present[at, movement]
+        vehicles = [number for number, _ in seen] + [0] * (looks - len(seen))
+        if not looks:
+            return Totals(count, 0.0, 0.0, None)
+        rate = count / seconds
+        delay = max(0.0, fmean(vehicles) / rate - self.free[at, movement] / count)
+        stood = sum(standing for _, standing in seen) / looks / rate
+        error = NORMAL * stdev(vehicles) / looks**0.5 / rate if looks > 1 else None
+        return Totals(count, delay + STOP_LOSS * self.share_stopping(at, movement, rate), stood, None, error)
+
+    def share_stopping(self, at, movement, rate):
+        """Of even arrivals those stop that come at red, or while its queue leaves: red over 1 less flow over saturation
+        flow, both as shares of the cycle."""
+        lanes = self.on_lanes[at, movement] or {}
+        looks = sum(self.looks[at] for _ in lanes)
+        green = sum(self.greens_seen[at, *place] for place in lanes) / looks if looks else 1.0
+        flow = rate / max(1, len(lanes)) * 3600 / usual_flow(self.dawdle)
+        return min(1.0, max(0.0, (1 - green) / max(0.05, 1 - flow)))

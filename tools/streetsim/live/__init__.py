@@ -1,0 +1,1 @@
+"""A page that runs the simulation: watched, changed, and saved as lines."""

@@ -1,0 +1,39 @@
+"""The engine of a page: a program that serves lines, begun anew where the page asks for it."""
+import threading
+from collections.abc import Iterable
+
+from ..client import Client
+from ..files import Fault
+
+
+class Engine:
+    """One run of the program at a time. Each begin starts it from nothing and sends the run's own lines."""
+
+    def __init__(self, program: str, lines: list[bytes]):
+        self.program, self.lines = program, lines
+        self.lock, self.client = threading.Lock(), None
+
+    def begin(self) -> list[bytes]:
+        """Starts anew; gives the replies to the run's lines."""
+        with self.lock:
+            self.stop()
+            # The program of a page counts no calls.
+            self.client = Client(self.program, calls=0)
+            return list(self.client.exchange(self.lines))
+
+    def ask(self, lines: Iterable[bytes]) -> list[bytes]:
+        """The replies to some lines, each ended by LF."""
+        with self.lock:
+            if self.client is None:
+                raise Fault("nothing is running: reload the page")
+            return list(self.client.exchange(lines))
+
+    def stop(self) -> None:
+        if self.client is not None:
+            client, self.client = self.client, None
+            client.process.kill()
+            client.end()
+
+    def close(self) -> None:
+        with self.lock:
+            self.stop()

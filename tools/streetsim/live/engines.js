@@ -1,0 +1,74 @@
+// The two engines of a page. Each has begin(), which starts from nothing and serves the run's own lines, and ask(lines); both give
+// replies as texts, in the order of the lines.
+
+// The program on this machine, by the bridge that served the page.
+class BridgeEngine {
+  constructor() {
+    this.page = crypto.randomUUID();
+    addEventListener("pagehide", () => navigator.sendBeacon(`${this.page}/leave`, ""));
+  }
+
+  async send(verb, body) {
+    const answer = await fetch(`${this.page}/${verb}`, { method: "POST", body }), text = await answer.text();
+    if (!answer.ok) throw new Error(answer.headers.get("Content-Type") === "application/json" ? JSON.parse(text).fault : `the bridge answers ${answer.status}`);
+    return text.split("\n").slice(0, -1);
+  }
+
+  begin() { return this.send("begin", ""); }
+  ask(lines) { return this.send("lines", lines.join("\n") + "\n"); }
+}
+
+// The program inside this page, as WebAssembly: its `read` waits for the next lines of the page, and what it writes answers the oldest
+// that were sent.
+class ModuleEngine {
+  static lacking() {
+    if (typeof WebAssembly !== "object" || typeof WebAssembly.Suspending !== "function") return "it cannot suspend a WebAssembly program (JavaScript Promise Integration)";
+    try { new WebAssembly.Memory({ address: "i64", initial: 1n }); return ""; } catch { return "it has no WebAssembly memory of 64 bits"; }
+  }
+
+  constructor(module, lines) { this.module = module; this.lines = lines; this.life = 0; }
+
+  async begin() {
+    const life = ++this.life, queue = [], asked = [], decoder = new TextDecoder();
+    let memory, at = 0, wake = null, out = new Uint8Array(1 << 16), used = 0;
+    const take = (pointer, size) => {
+      const count = Math.min(size, queue[0].length - at);
+      new Uint8Array(memory.buffer, pointer, count).set(queue[0].subarray(at, at + count));
+      at += count;
+      if (at === queue[0].length) { queue.shift(); at = 0; }
+      return BigInt(count);
+    };
+    const hand = () => {
+      const replies = decoder.decode(out.subarray(0, used)).split("\n").slice(0, -1);
+      used = 0;
+      for (const reply of replies) {
+        asked[0].got.push(reply);
+        if (asked[0].got.length === asked[0].want) { const whole = asked.shift(); whole.give(whole.got); }
+      }
+      return queue.length;
+    };
+    const page = {
+      read: new WebAssembly.Suspending((pointer, size) => queue.length || hand() ? take(Number(pointer), Number(size)) : new Promise(go => { wake = () => { wake = null; go(take(Number(pointer), Number(size))); }; })),
+      write: (_file, pointer, size) => {
+        const count = Number(size);
+        if (used + count > out.length) { const wider = new Uint8Array(2 * (used + count)); wider.set(out.subarray(0, used)); out = wider; }
+        out.set(new Uint8Array(memory.buffer, Number(pointer), count), used);
+        used += count;
+        return size;
+      },
+      exit: status => { throw new Error(`the engine ended with status ${status}`); },
+    };
+    const { exports } = await WebAssembly.instantiate(this.module, { page });
+    memory = exports.memory;
+    let broken = null;
+    WebAssembly.promising(exports.street_main)().catch(fault => { broken = fault; for (const one of asked.splice(0)) one.fail(fault); });
+    const encoder = new TextEncoder();
+    this.ask = lines => new Promise((give, fail) => {
+      if (broken || life !== this.life) { fail(broken ?? new Error("the engine was begun anew")); return; }
+      asked.push({ want: lines.length, got: [], give, fail });
+      queue.push(encoder.encode(lines.join("\n") + "\n"));
+      if (wake) wake();
+    });
+    return this.ask(this.lines);
+  }
+}

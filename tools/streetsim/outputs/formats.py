@@ -1,0 +1,182 @@
+"""SUMO's output files that are made second by second: each class writes one, from what a second shows."""
+from bisect import bisect_right
+from xml.sax.saxutils import quoteattr
+
+from .. import limits
+from .places import Places
+from .seconds import At, Second, Trip
+
+SCHEMAS = "http://sumo.dlr.de/xsd/"
+HALTING = 0.1  # metres a second, SUMO's: below it a vehicle stands
+
+
+class XmlFile:
+    """A file with a root element and SUMO's schema of it."""
+
+    root, schema = "", ""
+
+    def __init__(self, file, places: Places):
+        self.file, self.places = file, places
+        self.file.write(
+            f'<?xml version="1.0" encoding="UTF-8"?>\n\n<{self.root} xmlns:xsi="http://www.w3.org/2001/XMLSchema-instance" '
+            f'xsi:noNamespaceSchemaLocation="{SCHEMAS}{self.schema}.xsd">\n'
+        )
+
+    def step(self, second: Second) -> None:
+        """Takes a second; all seconds of a run are given one after another."""
+
+    def end(self) -> None:
+        self.file.write(f"</{self.root}>\n")
+
+
+def attributes(**values) -> str:
+    """Attributes of an element: numbers of seconds, metres and so on with two places, counts as they are."""
+    texts = (f"{value:.2f}" if isinstance(value, float) else str(value) for value in values.values())
+    return " ".join(f"{name}={quoteattr(text)}" for name, text in zip(values, texts, strict=True))
+
+
+class Tripinfo(XmlFile):
+    """A row for each vehicle that arrived. It departs in the second in which it is first seen; `departDelay` is since the
+    wished departure, so that both together are the duration of trips.csv."""
+
+    root, schema = "tripinfos", "tripinfo_file"
+
+    def step(self, second):
+        for _, trip in second.arrived:
+            self.file.write(f"    <tripinfo {self.row(trip, second.clock)}/>\n")
+
+    def row(self, trip: Trip, arrival: int) -> str:
+        names, duration = self.places.names, arrival - trip.depart
+        return attributes(
+            id=trip.name,
+            depart=float(trip.depart),
+            departLane=names[trip.first.link, trip.first.lane],
+            departPos=self.places.metres(trip.first),
+            departSpeed=self.places.speed(trip.first),
+            departDelay=float(trip.depart - trip.wished),
+            arrival=float(arrival),
+            arrivalLane=names[trip.last.link, trip.last.lane],
+            arrivalPos=self.places.mapping.links[trip.last.link].metres,
+            arrivalSpeed=self.places.speed(trip.last),
+            duration=float(duration),
+            routeLength=trip.metres,
+            waitingTime=float(trip.waiting),
+            waitingCount=trip.stops,
+            stopTime=0.0,
+            timeLoss=max(0.0, duration - trip.free),
+            rerouteNo=0,
+            devices="",
+            vType=trip.kind,
+            speedFactor=1.0,
+            vaporized="",
+        )
+
+
+class Summary(XmlFile):
+    """A row for each second."""
+
+    root, schema = "summary", "summary_file"
+
+    def __init__(self, file, places, wished):
+        super().__init__(file, places)
+        self.wished = wished  # sorted seconds at which vehicles would depart, as far as they are known
+        self.loaded = self.inserted = self.arrived = self.delays = self.durations = self.teleports = 0
+
+    def step(self, second):
+        self.loaded = bisect_right(self.wished, second.time)
+        self.count(second)
+        speeds = [self.places.speed(at) for at in second.here.values()]
+        free = [at.speed / self.places.mapping.links[at.link].limit for at in second.here.values()]
+        row = attributes(
+            time=float(second.time),
+            loaded=max(self.loaded, self.inserted),
+            inserted=self.inserted,
+            running=len(second.here),
+            waiting=max(0, self.loaded - self.inserted),
+            ended=self.arrived,
+            arrived=self.arrived,
+            collisions=0,
+            teleports=self.teleports,
+            halting=sum(speed < HALTING for speed in speeds),
+            stopped=0,
+            meanWaitingTime=self.delays / self.inserted if self.inserted else -1.0,
+            meanTravelTime=self.durations / self.arrived if self.arrived else -1.0,
+            meanSpeed=sum(speeds) / len(speeds) if speeds else -1.0,
+            meanSpeedRelative=sum(free) / len(free) if free else -1.0,
+        )
+        self.file.write(f"    <step {row}/>\n")
+
+    def count(self, second):
+        """Takes who departed, arrived and was taken out."""
+        self.inserted += len(second.departed)
+        self.delays += sum(second.trips[car].depart - second.trips[car].wished for car in second.departed)
+        self.arrived += len(second.arrived)
+        self.durations += sum(second.clock - trip.depart for _, trip in second.arrived)
+        self.teleports += len(second.teleported)
+
+
+class Fcd(XmlFile):
+    """The place and the speed of each vehicle in each second. Who is in a junction stands at the end of its lane."""
+
+    root, schema = "fcd-export", "fcd_file"
+
+    def __init__(self, file, places):
+        super().__init__(file, places)
+        self.texts = {}  # of places: many vehicles come to each
+        self.names = {}  # of vehicles and their types
+
+    def step(self, second):
+        self.names.update((car, self.named(second.trips[car])) for car in second.departed)
+        rows = [f'    <timestep time="{second.time:.2f}">\n']
+        for car, at in second.here.items():
+            before, after = self.texts.get(at) or self.text(at)
+            name, kind = self.names[car]
+            rows.append(f"        <vehicle id={name} {before} type={kind} {after}/>\n")
+        self.file.write("".join([*rows, "    </timestep>\n"]))
+
+    def named(self, trip: Trip) -> tuple[str, str]:
+        return quoteattr(trip.name), quoteattr(trip.kind)
+
+    def text(self, at: At) -> tuple[str, str]:
+        x, y, angle = self.places.point(at)
+        lane = self.places.names[at.link, at.lane]
+        after = attributes(speed=self.places.speed(at), pos=self.places.metres(at), lane=lane, slope=0.0)
+        self.texts[at] = attributes(x=x, y=y, angle=angle), after
+        return self.texts[at]
+
+
+class Queue(XmlFile):
+    """For each second and lane on which vehicles stand: the longest time of standing, and metres from the stop line to the
+    rear of the last of them."""
+
+    root, schema = "queue-export", "queue_file"
+
+    def __init__(self, file, places):
+        super().__init__(file, places)
+        self.standing = {}  # car: seconds
+
+    def step(self, second):
+        cars = [(car, at) for car, at in second.here.items() if at.cell is not None and not at.speed]
+        self.standing = {car: self.standing.get(car, 0) + 1 for car, _ in cars}
+        lengths, waits = {}, {}
+        for car, at in cars:
+            place, link = (at.link, at.lane), self.places.mapping.links[at.link]
+            length = link.metres - max(0, at.cell + 1 - at.size) * self.places.cell_metres[at.link]
+            lengths[place] = max(length, lengths.get(place, 0.0))
+            waits[place] = max(self.standing[car], waits.get(place, 0))
+        rows = [
+            attributes(
+                id=self.places.names[place],
+                queueing_time=float(waits[place]),
+                queueing_length=length,
+                queueing_length_experimental=length,
+            )
+            for place, length in sorted(lengths.items())
+        ]
+        lanes = "".join(f"            <lane {row}/>\n" for row in rows)
+        self.file.write(f'    <data timestep="{second.time:.2f}">\n        <lanes>\n{lanes}        </lanes>\n    </data>\n')
+
+
+def vehicle_metres(at: At) -> float:
+    """The length of a vehicle without its gap."""
+    return at.size * limits.CELL_METRES - limits.GAP_METRES

@@ -1,0 +1,264 @@
+"""SUMO's output files that are sums over intervals: edgeData, e1, e2."""
+from dataclasses import dataclass, field
+
+from ..run.detectors import E1, E2, longest_jam
+from .formats import XmlFile, attributes, vehicle_metres
+
+
+@dataclass(slots=True)
+class EdgeSums:
+    """What an edge saw in an interval."""
+
+    seconds: int = 0  # of vehicles
+    metres: float = 0.0
+    waiting: int = 0
+    loss: float = 0.0
+    covered: float = 0.0  # metres of vehicles, summed over seconds
+    departed: int = 0
+    arrived: int = 0
+    entered: int = 0
+    left: int = 0
+    teleported: int = 0
+
+
+class Edgedata(XmlFile):
+    """A row for each interval and edge. Who is in a junction is on no edge, as in SUMO."""
+
+    root, schema = "meandata", "meandata_file"
+
+    def __init__(self, file, places, period: int, start: int = 0):
+        super().__init__(file, places)
+        self.period, self.begin, self.clock = period, start, start
+        self.links, self.sums = places.mapping.links, {}
+
+    def of(self, link: int) -> EdgeSums:
+        return self.sums.setdefault(self.links[link].edge, EdgeSums())
+
+    def step(self, second):
+        if second.clock > self.begin + self.period:
+            self.write()
+        self.clock = second.clock
+        for at in second.here.values():
+            if at.cell is not None:
+                self.drive(at)
+        for car in second.departed:
+            self.of(second.here[car].link).departed += 1
+        for _, link in second.entered:
+            self.of(link).entered += 1
+        for _, at in second.left:
+            self.of(at.link).left += 1
+        for car, at in second.teleported:
+            self.of(at.link).teleported += 1
+        for _, trip in second.arrived:
+            self.of(trip.last.link).arrived += 1
+
+    def drive(self, at):
+        """A vehicle on an edge for a second."""
+        sums, link = self.of(at.link), self.links[at.link]
+        sums.seconds += 1
+        sums.metres += self.places.speed(at)
+        sums.waiting += not at.speed
+        sums.loss += max(0.0, 1 - at.speed / link.limit)
+        sums.covered += vehicle_metres(at)
+
+    def write(self):
+        """Writes the interval that has ended."""
+        end = min(self.clock, self.begin + self.period)
+        edges, seconds = self.places.mapping.links_of, end - self.begin
+        rows = [self.row(edge, self.sums.get(edge, EdgeSums()), seconds) for edge in edges]
+        self.file.write(f'    <interval begin="{self.begin:.2f}" end="{end:.2f}" id="streetsim">\n')
+        self.file.writelines(f"        <edge {row}/>\n" for row in rows)
+        self.file.write("    </interval>\n")
+        self.begin, self.sums = end, {}
+
+    def row(self, edge, sums, seconds):
+        links = [self.links[link] for link in self.places.mapping.links_of[edge]]
+        lanes, metres = sum(len(link.lanes) for link in links), links[0].metres
+        seen = {}
+        if sums.seconds:
+            speed, density = sums.metres / sums.seconds, sums.seconds / seconds / metres * 1000
+            seen = {
+                **({"traveltime": metres / speed} if speed else {}),
+                "density": density,
+                "laneDensity": density / lanes,
+                "occupancy": sums.covered / seconds / metres / lanes * 100,
+                "waitingTime": float(sums.waiting),
+                "timeLoss": sums.loss,
+                "speed": speed,
+                "speedRelative": speed / (links[0].limit * metres / links[0].cells),
+            }
+        names = ("departed", "arrived", "entered", "left", "teleported")
+        counts = {name: getattr(sums, name) for name in names}
+        return attributes(id=edge, sampledSeconds=float(sums.seconds), **seen, **counts)
+
+    def end(self):
+        if self.clock > self.begin:
+            self.write()
+        super().end()
+
+
+class Detectors(XmlFile):
+    """A row for each interval of each detector of a kind."""
+
+    root, kind = "detector", ""
+
+    def __init__(self, file, places, start: int = 0):
+        super().__init__(file, places)
+        self.detectors = [one for one in places.mapping.detectors if one.kind == self.kind]
+        self.begins, self.clock = {one.name: start for one in self.detectors}, start
+        self.sums = {one.name: self.empty(one, None) for one in self.detectors}
+
+    def step(self, second):
+        for one in self.detectors:
+            if second.clock > self.begins[one.name] + one.period:
+                self.write(one)
+        self.clock = second.clock
+        by_place = {}
+        for car, at in second.here.items():
+            by_place.setdefault((at.link, at.lane), []).append((car, at))
+        for one in self.detectors:
+            self.note(one, self.sums[one.name], second, by_place.get((one.link, one.lane), ()))
+
+    def write(self, one):
+        begin, end = self.begins[one.name], min(self.clock, self.begins[one.name] + one.period)
+        row = self.row(one, self.sums[one.name], end - begin)
+        self.file.write(f"    <interval {attributes(begin=float(begin), end=float(end), id=one.name)} {row}/>\n")
+        self.begins[one.name], self.sums[one.name] = end, self.empty(one, self.sums[one.name])
+
+    def end(self):
+        for one in self.detectors:
+            if self.clock > self.begins[one.name]:
+                self.write(one)
+        super().end()
+
+
+@dataclass(slots=True)
+class LoopSums:
+    speeds: list = field(default_factory=list)  # metres a second of those that passed
+    metres: list = field(default_factory=list)  # of these vehicles
+    occupied: int = 0  # seconds
+
+
+class Loops(Detectors):
+    """Induction loops (e1): who drove over a cell in a second, as detectors.csv counts them. Who leaves the edge in that
+    second has the speed of the second before."""
+
+    schema, kind = "det_e1_file", E1
+
+    def empty(self, one, _before):
+        return LoopSums()
+
+    def note(self, one, sums, second, here):
+        sums.occupied += any(at.cell is not None and at.cell - at.size < one.first <= at.cell for _, at in here)
+        for car, last in second.before.items():
+            if last.link == one.link and last.cell is not None and last.cell <= one.first:
+                self.note_pass(one, sums, last, second.here.get(car))
+
+    def note_pass(self, one, sums, last, now):
+        """Notes a vehicle that stood on the loop or before it if it is behind it; who left the edge keeps its lane."""
+        gone = now is None or now.link != one.link or now.cell is None
+        lane = now.lane if now is not None and now.link == one.link else last.lane
+        if lane == one.lane and (gone or now.cell > one.first):
+            speed = now.speed if now is not None and now.cell is not None and not gone else last.speed or 1.0
+            sums.speeds.append(speed * self.places.cell_metres[one.link])
+            sums.metres.append(vehicle_metres(last))
+
+    def row(self, one, sums, seconds):
+        count = len(sums.speeds)
+        return attributes(
+            nVehContrib=count,
+            flow=count * 3600 / seconds,
+            occupancy=sums.occupied / seconds * 100,
+            speed=sum(sums.speeds) / count if count else -1.0,
+            harmonicMeanSpeed=count / sum(1 / speed for speed in sums.speeds) if count else -1.0,
+            length=sum(sums.metres) / count if count else -1.0,
+            nVehEntered=count,
+        )
+
+
+@dataclass(slots=True)
+class AreaSums:
+    """What an area saw in an interval; halts are by car, seconds."""
+
+    inside: dict = field(default_factory=dict)  # car: At, of the last second
+    seen: set = field(default_factory=set)
+    entered: int = 0
+    left: int = 0
+    seconds: int = 0
+    metres: float = 0.0
+    loss: float = 0.0
+    most: int = 0
+    covered: list = field(default_factory=list)  # share of the area, by second
+    jams: list = field(default_factory=list)  # vehicles in the longest jam, by second
+    standing: int = 0  # vehicles, summed over seconds
+    halts: dict = field(default_factory=dict)  # going on: seconds in all
+    interval_halts: dict = field(default_factory=dict)  # going on: seconds of this interval
+    ended: list = field(default_factory=list)  # (seconds in all, of this interval)
+    started: int = 0
+
+
+class Areas(Detectors):
+    """Lane areas (e2), of vehicles whose front is in them. A jam is of vehicles that stand without a gap."""
+
+    schema, kind = "det_e2_file", E2
+
+    def empty(self, one, before):
+        if before is None:
+            return AreaSums()
+        return AreaSums(inside=before.inside, halts=before.halts, interval_halts=dict.fromkeys(before.halts, 0))
+
+    def note(self, one, sums, second, here):
+        inside = {car: at for car, at in here if at.cell is not None and one.first <= at.cell <= one.last}
+        sums.entered += len(inside.keys() - sums.inside.keys())
+        sums.left += len(sums.inside.keys() - inside.keys())
+        sums.seen.update(inside)
+        sums.seconds += len(inside)
+        sums.most = max(sums.most, len(inside))
+        sums.metres += sum(self.places.speed(at) for at in inside.values())
+        sums.loss += sum(max(0.0, 1 - at.speed / self.places.mapping.links[at.link].limit) for at in inside.values())
+        area = (one.last - one.first + 1) * self.places.cell_metres[one.link]
+        sums.covered.append(min(1.0, sum(map(vehicle_metres, inside.values())) / area))
+        ranked = sorted(inside.values(), key=lambda at: -at.cell)
+        sums.jams.append(longest_jam([(None, at.cell, at.speed, at.size) for at in ranked]))
+        sums.inside = inside
+        self.note_halts(sums, {car for car, at in inside.items() if not at.speed})
+
+    def note_halts(self, sums, standing):
+        for car in sums.halts.keys() - standing:
+            sums.ended.append((sums.halts.pop(car), sums.interval_halts.pop(car)))
+        sums.started += len(standing - sums.halts.keys())
+        sums.standing += len(standing)
+        for car in standing:
+            sums.halts[car] = sums.halts.get(car, 0) + 1
+            sums.interval_halts[car] = sums.interval_halts.get(car, 0) + 1
+
+    def row(self, one, sums, seconds):
+        car_metres = self.places.cell_metres[one.link]
+        halts = [halt for halt, _ in sums.ended] + list(sums.halts.values())
+        within = [halt for _, halt in sums.ended] + list(sums.interval_halts.values())
+        vehicles = len(sums.seen)
+        return attributes(
+            sampledSeconds=float(sums.seconds),
+            nVehEntered=sums.entered,
+            nVehLeft=sums.left,
+            nVehSeen=vehicles,
+            meanSpeed=sums.metres / sums.seconds if sums.seconds else -1.0,
+            meanTimeLoss=sums.loss / vehicles if vehicles else -1.0,
+            meanOccupancy=sum(sums.covered) / seconds * 100,
+            maxOccupancy=max(sums.covered, default=0.0) * 100,
+            meanMaxJamLengthInVehicles=sum(sums.jams) / seconds,
+            meanMaxJamLengthInMeters=sum(sums.jams) * car_metres / seconds,
+            maxJamLengthInVehicles=max(sums.jams, default=0),
+            maxJamLengthInMeters=max(sums.jams, default=0) * car_metres,
+            jamLengthInVehiclesSum=sum(sums.jams),
+            jamLengthInMetersSum=sum(sums.jams) * car_metres,
+            meanHaltingDuration=sum(halts) / len(halts) if halts else 0.0,
+            maxHaltingDuration=float(max(halts, default=0)),
+            haltingDurationSum=float(sum(halts)),
+            meanIntervalHaltingDuration=sum(within) / len(within) if within else 0.0,
+            maxIntervalHaltingDuration=float(max(within, default=0)),
+            intervalHaltingDurationSum=float(sum(within)),
+            startedHalts=float(sums.started),
+            meanVehicleNumber=sums.seconds / seconds,
+            maxVehicleNumber=sums.most,
+        )

@@ -1,0 +1,50 @@
+"""Where cells lie: SUMO's lane names, metres along a lane, points and angles."""
+from bisect import bisect_right
+from itertools import accumulate
+from math import atan2, degrees, dist
+
+LANE_WIDTH = 3.2  # metres, SUMO's default
+
+
+class Places:
+    """The lanes of a map in metres."""
+
+    def __init__(self, mapping):
+        self.mapping = mapping
+        self.names = {place: mapping.lane_name(*place) for place in mapping.lanes()}
+        self.cell_metres = [link.metres / link.cells for link in mapping.links]
+        self.lines = [Line(link.shape) for link in mapping.links]
+
+    def metres(self, at) -> float:
+        """Metres from the lane's begin to the front of a vehicle; in the junction the lane's length."""
+        link = self.mapping.links[at.link]
+        return link.metres if at.cell is None else (at.cell + 1) * self.cell_metres[at.link]
+
+    def speed(self, at) -> float:
+        """Metres a second."""
+        return at.speed * self.cell_metres[at.link]
+
+    def point(self, at) -> tuple[float, float, float]:
+        """x and y of a vehicle's front in metres, and its angle in degrees, clockwise from north."""
+        link = self.mapping.links[at.link]
+        side = ((len(link.lanes) - 1) / 2 - at.lane) * LANE_WIDTH
+        return self.lines[at.link].at(self.metres(at) / link.metres, side)
+
+
+class Line:
+    """A line through points."""
+
+    def __init__(self, points):
+        self.points = points
+        self.sizes = [dist(one, other) for one, other in zip(points, points[1:])]
+        self.ends = list(accumulate(self.sizes))
+
+    def at(self, share: float, side: float = 0.0) -> tuple[float, float, float]:
+        """The point at a share of the length, so many metres to the right of the line, and the angle there."""
+        way = share * self.ends[-1]
+        piece = min(bisect_right(self.ends, way), len(self.sizes) - 1)
+        (x, y), (following_x, following_y) = self.points[piece : piece + 2]
+        size = self.sizes[piece] or 1.0
+        east, north = (following_x - x) / size, (following_y - y) / size
+        along = way - (self.ends[piece] - self.sizes[piece])
+        return x + east * along + north * side, y + north * along - east * side, degrees(atan2(east, north)) % 360

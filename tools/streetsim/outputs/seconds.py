@@ -1,0 +1,128 @@
+"""What each second of a run shows, vehicle by vehicle: who departed, entered an edge, left it, arrived."""
+from dataclasses import dataclass, field
+
+from ..run.detectors import size_of
+from ..run.freeflow import FreeFlow
+
+
+@dataclass(slots=True, frozen=True)
+class At:
+    """Where a vehicle is: in a cell of a lane, or in the junction behind it (no cell)."""
+
+    link: int
+    lane: int
+    cell: int | None  # of its front
+    speed: float  # cells a second
+    size: int = 1  # cells
+
+
+@dataclass(slots=True)
+class Trip:
+    """A vehicle on its way."""
+
+    name: str
+    wished: int  # second at which it would depart
+    depart: int  # the step in which it departed
+    first: At
+    last: At
+    metres: float = 0.0  # of the links that it has been on
+    free: float = 0.0  # seconds of these where nobody is in the way, without the last junction
+    waiting: int = 0  # seconds of standing
+    stops: int = 0
+    standing: int = 0  # seconds since when it stands
+    crossing: float = 0.0  # seconds of the junction behind its link
+    kind: str = "DEFAULT_VEHTYPE"
+
+
+@dataclass(slots=True)
+class Second:
+    """One look at the lanes, and what has changed since the one before."""
+
+    clock: int
+    trips: dict  # car: Trip, of those on their way
+    here: dict = field(default_factory=dict)  # car: At
+    departed: list = field(default_factory=list)  # cars
+    entered: list = field(default_factory=list)  # (car, link): into the cells of an edge from another one
+    left: list = field(default_factory=list)  # (car, At): out of the cells of an edge into the junction behind it
+    teleported: list = field(default_factory=list)  # (car, At): taken out of the cells
+    arrived: list = field(default_factory=list)  # (car, Trip)
+    before: dict = field(default_factory=dict)  # car: At of the second before
+
+    @property
+    def time(self) -> int:
+        """SUMO's time: that of the step, at whose end the clock is one more."""
+        return self.clock - 1
+
+
+class Follower:
+    """Follows the vehicles of a run from second to second."""
+
+    def __init__(self, mapping, dawdle: float):
+        self.mapping, self.free_flow = mapping, FreeFlow(mapping, dawdle)
+        self.trips, self.expected, self.before = {}, {}, {}
+        self.entered_at = {}  # car: the clock since which it is in a junction
+
+    def expect(self, car, name: str, wished: int, kind: str = "DEFAULT_VEHTYPE") -> None:
+        """A vehicle that may depart from a second on; all are told before they are seen."""
+        self.expected[car] = name, wished, kind
+
+    def see(self, clock: int, lanes, arrived) -> Second:
+        """The second that ends at a clock. lanes: [link, lane, cells, cars in the buffer, ..] as a folder's polls have
+        them; arrived: the cars that arrived in it."""
+        second = Second(clock, self.trips, before=self.before)
+        for link, lane, cells, buffer, *_ in lanes:
+            for entry in cells:
+                second.here[entry[0]] = At(link, lane, entry[1], entry[2], size_of(entry))
+            for car in buffer:
+                second.here[car] = self.in_junction(car, link, lane, clock)
+        for car, at in second.here.items():
+            self.follow(second, car, at)
+        gone = set(arrived)
+        for car in self.before.keys() - second.here.keys():
+            if car not in gone and self.before[car].cell is not None:
+                second.teleported.append((car, self.before[car]))
+        second.arrived = [(car, self.trips.pop(car)) for car in arrived if car in self.trips]
+        self.before = second.here
+        return second
+
+    def in_junction(self, car, link, lane, clock):
+        """A vehicle in the buffer of a lane: it drives for as long as the junction takes at least, and then stands."""
+        last = self.before.get(car)
+        if last is None or last.cell is not None or last.link != link:
+            self.entered_at[car] = clock
+        residence = self.mapping.nodes[self.mapping.links[link].end][3]
+        driving = clock - self.entered_at[car] < max(1, residence)
+        return At(link, lane, None, 1.0 if driving else 0.0, last.size if last else 1)
+
+    def follow(self, second, car, at):
+        """Notes what a vehicle did since the second before."""
+        last, trip = self.before.get(car), self.trips.get(car)
+        if trip is None:
+            name, wished, kind = self.expected.get(car, (f"#{car}", second.clock - 1, "DEFAULT_VEHTYPE"))
+            trip = self.trips[car] = Trip(name, wished, second.clock - 1, at, at, kind=kind)
+            second.departed.append(car)
+            self.add_link(trip, at.link)
+        elif last is None or last.link != at.link or (last.cell is None and at.cell is not None):
+            if last is not None and last.cell is not None:
+                second.teleported.append((car, last))
+            second.entered.append((car, at.link))
+            self.add_link(trip, at.link)
+        elif at.cell is None and last.cell is not None:
+            second.left.append((car, last))
+        note_standing(trip, at)
+        trip.last = at
+
+    def add_link(self, trip, link):
+        trip.free += trip.crossing + self.free_flow.driving[link]
+        trip.crossing = self.free_flow.crossing[link]
+        trip.metres += self.mapping.links[link].metres
+
+
+def note_standing(trip: Trip, at: At) -> None:
+    """Counts seconds of standing and stops."""
+    if at.speed:
+        trip.standing = 0
+        return
+    trip.stops += trip.standing == 0
+    trip.standing += 1
+    trip.waiting += 1

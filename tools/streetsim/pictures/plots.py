@@ -1,0 +1,304 @@
+"""streetsim-plot: pictures of a run, as PNG, SVG or PDF."""
+import argparse
+import io
+import os
+
+from .. import limits, program
+from ..cli.words import Parser, listed, time_within, within
+from ..files import Fault, place_of, whole_path
+from ..run.compare import read_tripinfo
+from ..run.folder import read_folder
+from . import ring, series
+
+DPI, COLOURS = 95, 64
+DATES = {"svg": {"Date": None}, "pdf": {"CreationDate": None}}  # without: equal runs give equal bytes
+SPEEDS = (  # the least speed, in cells a step, its label, colour and width
+    (0, "standing", "#a50026", 2.2),
+    (1, "27 km/h", "#f08000", 1.4),
+    (2, "54 km/h", "#3b7fc4", 0.8),
+    (3, "81 km/h and more", "#1f4e79", 0.8),
+)
+MOST_LANES = 25
+MARKERS = "osd^v*"
+RING = (20, 40, 60, 70, 80, 90, 110, 140, 180, 250, 350, 500, 700)  # vehicles on 1,000 cells
+second = time_within(0, limits.CLOCK)
+
+
+def parser():
+    made = Parser(prog="streetsim-plot", description="Draws pictures of what streetsim-run wrote.")
+    kinds = made.add_subparsers(dest="kind", required=True)
+    for kind, words in (
+        ("corridor", "ways of the vehicles along a path over time, with red signals; run with --every 1"),
+        ("fundamental", "flow over density, of the counts or of a ring (--ring)"),
+        ("map", "the streets by mean density"),
+        ("queues", "queues at the stop lines over time"),
+        ("arrivals", "departures and arrivals over time"),
+    ):
+        one = kinds.add_parser(kind, help=words, description=words)
+        one.add_argument("folder", nargs="?" if kind == "fundamental" else None, help="what streetsim-run wrote")
+        one.add_argument("-o", "--output", required=True, help="the picture (.png, .svg, .pdf)")
+        if kind in ("corridor", "fundamental"):
+            one.add_argument("--edges", required=kind == "corridor", default="", help="edges, with spaces or commas between")
+        if kind == "corridor":
+            one.add_argument("--first", type=second, default=0, metavar="S", help="the first second shown")
+            one.add_argument("--last", type=second, default=600, metavar="S", help="the last second shown")
+        if kind == "fundamental":
+            one.add_argument(
+                "--ring",
+                type=dawdles,
+                metavar="DAWDLES",
+                help="measure a ring for these chances of dawdling, of 1,000, with commas between",
+            )
+            one.add_argument(
+                "--limit",
+                type=within(1, limits.LIMIT),
+                default=limits.LIMIT,
+                help="of the ring, cells a step (default %(default)s)",
+            )
+            one.add_argument("--program", help=f"for the ring: {program.HELP}")
+        if kind == "arrivals":
+            one.add_argument("--sumo", metavar="TRIPINFO", help="SUMO's trips of the same demand, drawn beside")
+    return made
+
+
+def dawdles(text):
+    """Up to six chances of dawdling, of 1,000."""
+    values = [within(0, 1000)(part) for part in text.split(",")]
+    if len(values) > len(MARKERS):
+        raise argparse.ArgumentTypeError(f"at most {len(MARKERS)} of them")
+    return values
+
+
+def main(arguments):
+    words = parser().parse_args(arguments)
+    draw = {
+        "corridor": draw_corridor,
+        "fundamental": draw_fundamental,
+        "map": draw_map,
+        "queues": draw_queues,
+        "arrivals": draw_arrivals,
+    }[words.kind]
+    if words.folder is None and not words.ring:
+        raise Fault("fundamental needs a folder or --ring")
+    ending_of(words.output)
+    place_of(words.output)
+    pyplot = drawing()
+    figure = draw(pyplot, read_folder(words.folder) if words.folder else None, words)
+    save(figure, words.output)
+    return 0
+
+
+def drawing():
+    """matplotlib's pyplot, without a display."""
+    try:
+        import matplotlib
+    except ImportError:
+        raise Fault("pictures need matplotlib (Debian: apt install python3-matplotlib)") from None
+    matplotlib.use("Agg")
+    from matplotlib import pyplot
+
+    pyplot.rcParams.update({"font.size": 9, "svg.hashsalt": "streetsim", "axes.grid": True, "grid.color": "#dddddd", "axes.axisbelow": True})
+    return pyplot
+
+
+def ending_of(path):
+    """The format of a picture, which its name tells."""
+    ending = os.path.splitext(path)[1].lower().removeprefix(".")
+    if ending not in ("png", *DATES):
+        raise Fault(f"{path}: a picture's name ends with .png, .svg or .pdf")
+    return ending
+
+
+def save(figure, path):
+    """A picture in the format of its name; a PNG of few colours, which keeps it small."""
+    ending = ending_of(path)
+    with whole_path(path) as half:
+        if ending != "png":
+            figure.savefig(half, format=ending, bbox_inches="tight", facecolor="white", metadata=DATES[ending])
+            return
+        from PIL import Image
+
+        raw = io.BytesIO()
+        figure.savefig(raw, dpi=DPI, bbox_inches="tight", facecolor="white")
+        Image.open(raw).convert("RGB").quantize(COLOURS).save(half, format="PNG", optimize=True)
+
+
+def path_of(folder, text):
+    """The edges of --edges, each of which must lead to the next."""
+    edges = listed(text)
+    if not edges:
+        raise Fault("--edges: no edge is named")
+    links = folder.links_along(edges)
+    turns = {(turn.link, turn.next) for turn in folder.mapping.turns}
+    for (edge, here), (following, there) in zip(zip(edges, links), list(zip(edges, links))[1:]):
+        if not any((link, target) in turns for link in here for target in there):
+            raise Fault(f"--edges: no turn leads from {edge!r} to {following!r}")
+    return edges
+
+
+def draw_corridor(pyplot, folder, words):
+    from matplotlib.collections import LineCollection, PolyCollection
+
+    edges = path_of(folder, words.edges)
+    if words.first >= words.last:
+        raise Fault(f"--first {words.first} is not before --last {words.last}")
+    if folder.every > 5:
+        raise Fault(f"{folder.path} was polled every {folder.every} s: a corridor needs streetsim-run --every 1 (to 5)")
+    if not any(words.first <= poll["clock"] <= words.last for poll in folder.polls()):
+        raise Fault(f"{folder.path}: nothing was polled from {words.first} to {words.last} s")
+    pieces = series.trajectories(folder, edges, words.first, words.last)
+    placed, length = series.stretches(folder, edges)
+    figure, axes = pyplot.subplots(figsize=(10, 6))
+    for least, label, colour, width in reversed(SPEEDS):
+        shown = [piece for piece in pieces if piece[2] == least or (piece[2] > least and least == SPEEDS[-1][0])]
+        if least == SPEEDS[-1][0] and not shown:
+            continue
+        fronts = [(begin, end) for begin, end, _, _ in shown]
+        axes.add_collection(LineCollection(fronts, colors=colour, linewidths=width, label=label))
+        axes.add_collection(PolyCollection(series.bands(shown), facecolors=colour, linewidths=0, alpha=0.6))
+    for at, (place, begin, end) in enumerate(series.reds(folder, edges, words.first, words.last)):
+        axes.plot(
+            (begin, end),
+            (place, place),
+            color="black",
+            linewidth=4,
+            solid_capstyle="butt",
+            label="red" if at == 0 else None,
+        )
+    axes.set(
+        xlim=(words.first, words.last),
+        ylim=(0, length * 1.01),
+        xlabel="time (s)",
+        ylabel="place along the path (m)",
+        title=f"From {edges[0]} to {edges[-1]}: each line is a vehicle",
+    )
+    handles, labels = axes.get_legend_handles_labels()
+    axes.legend(handles, labels, loc="upper center", bbox_to_anchor=(0.5, -0.1), ncol=4, frameon=False)
+    return figure
+
+
+def draw_fundamental(pyplot, folder, words):
+    figure, axes = pyplot.subplots(figsize=(7, 5))
+    if words.ring:
+        axes.set(
+            xlabel="density (vehicles/km and lane)",
+            ylabel="flow (vehicles/h and lane)",
+            title=f"One lane in a ring, limit {words.limit * limits.CELL_KMH} km/h",
+        )
+        for dawdle, marker in zip(words.ring, MARKERS):
+            points = [ring.measure(words.program, count, words.limit, dawdle) for count in RING]
+            axes.plot(
+                [point.per_km for point in points],
+                [point.per_hour for point in points],
+                marker=marker,
+                markersize=4,
+                label=f"dawdle {dawdle}",
+            )
+        axes.legend(frameon=False)
+    else:
+        points = series.flows(folder, listed(words.edges))
+        axes.set(
+            xlabel="density (vehicles/km and lane)",
+            ylabel="flow (vehicles/h and lane)",
+            title=f"Counts of {folder.period} s at the stop lines",
+        )
+        axes.scatter(
+            *(zip(*points, strict=True) if points else ((), ())), s=10, color="#225588", alpha=0.6, linewidths=0
+        )
+    axes.set_xlim(left=0)
+    axes.set_ylim(bottom=0)
+    return figure
+
+
+def draw_map(pyplot, folder, _words):
+    from matplotlib.collections import LineCollection
+
+    shown = sorted(zip(series.densities(folder), folder.mapping.links, strict=True), key=lambda pair: pair[0])
+    most = next((most for most in (25, 50) if shown[-1][0] <= most), 100)
+    width, height = (max(places) - min(places) for places in zip(*(point for _, link in shown for point in link.shape)))
+    wide = width > 2 * height
+    figure, axes = pyplot.subplots(figsize=(9, 4) if wide else (9, 8))
+    axes.add_collection(LineCollection([link.shape for _, link in shown], colors="#bbbbbb", linewidths=2.5))
+    lines = LineCollection(
+        [link.shape for _, link in shown],
+        cmap="viridis_r",
+        array=[density for density, _ in shown],
+        clim=(0, most),
+        linewidths=[1 + 5 * min(density, most) / most for density, _ in shown],
+    )
+    axes.add_collection(lines)
+    axes.autoscale_view()
+    low, high = axes.get_ylim()
+    more = max(0.0, 0.2 * width - (high - low)) / 2  # a street alone would be too flat a picture
+    axes.set(
+        aspect="equal",
+        ylim=(low - more, high + more),
+        xlabel="x (m)",
+        ylabel="y (m)",
+        title="Mean density: wider and darker is denser",
+    )
+    scale_bar(axes, width)
+    beside = {"orientation": "horizontal", "pad": 0.18} if wide else {}
+    figure.colorbar(lines, ax=axes, label="vehicles/km and lane", extend="max", shrink=0.7, **beside)
+    return figure
+
+
+def scale_bar(axes, width):
+    """A bar of a round number of metres, about a fifth of the width, below all that is shown."""
+    metres = series.round_length(max(width, 1) / 5)
+    low, high = axes.get_ylim()
+    low -= 0.06 * (high - low)
+    axes.set_ylim(low, high)
+    left, _ = axes.get_xlim()
+    begin, place = left + 0.03 * max(width, 1), low + 0.03 * (high - low)
+    axes.plot((begin, begin + metres), (place, place), color="black", linewidth=4, solid_capstyle="butt")
+    text = f"{metres:g} m" if metres < 1000 else f"{metres / 1000:g} km"
+    axes.text(begin + metres / 2, place + 0.015 * (high - low), text, ha="center", va="bottom")
+
+
+def draw_queues(pyplot, folder, _words):
+    lanes, count = series.longest_queues(folder, MOST_LANES)
+    if not lanes:
+        raise Fault(f"{folder.path}: no queues in this run")
+    times = sorted({time for _, queue in lanes for time in queue})
+    times = list(range(times[0], times[-1] + 1, folder.every))
+    figure, axes = pyplot.subplots(figsize=(10, 1 + 0.26 * max(4, len(lanes))))
+    image = axes.imshow(
+        [[queue.get(time, 0) for time in times] for _, queue in lanes],
+        aspect="auto",
+        cmap="magma_r",
+        interpolation="nearest",
+        extent=(times[0] / 60, (times[-1] + folder.every) / 60, len(lanes) - 0.5, -0.5),
+    )
+    axes.set_yticks(range(len(lanes)), [name for name, _ in lanes])
+    axes.grid(False)
+    axes.set(
+        xlabel="time (min)", ylabel="lane", title=f"Queues at the stop lines: the {len(lanes)} longest of {count} lanes"
+    )
+    figure.colorbar(image, ax=axes, label="queue (m)")
+    return figure
+
+
+def draw_arrivals(pyplot, folder, words):
+    """Departures and arrivals, and below them the difference: to SUMO's arrivals, else between the two curves."""
+    departs, arrivals = series.arrival_curves(folder)
+    figure, (axes, below) = pyplot.subplots(2, figsize=(8, 6.5), sharex=True, height_ratios=(3, 1))
+    curves = [(departs, "wished departures", "#888888", "--"), (arrivals, "arrivals here", "#225588", "-")]
+    if words.sumo:
+        sumo = sorted(arrival for _, arrival in read_tripinfo(words.sumo).values())
+        curves.append((sumo, "arrivals in SUMO", "#d06000", ":"))
+        times, values = series.difference(arrivals, sumo)
+        below.set(ylabel="here less SUMO")
+    else:
+        times, values = series.difference(departs, arrivals)
+        below.set(ylabel="on their way or\nwaiting to depart")
+    for moments, label, colour, style in curves:
+        minutes = [moment / 60 for moment in moments]
+        axes.step(minutes, range(1, len(minutes) + 1), where="post", label=label, color=colour, linestyle=style, linewidth=1.8)
+    below.step([time / 60 for time in times], values, where="post", color="#225588", linewidth=1.4)
+    below.axhline(0, color="black", linewidth=0.8)
+    title = f"{len(arrivals):,} of {len(departs):,} vehicles arrived"
+    axes.set(ylabel="vehicles", title=title, xlim=(0, None), ylim=(0, None))
+    below.set(xlabel="time (min)")
+    axes.legend(frameon=False)
+    return figure

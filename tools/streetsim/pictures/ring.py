@@ -1,0 +1,48 @@
+"""One lane in a ring: the fundamental diagram of the rules themselves."""
+from dataclasses import dataclass
+
+from .. import limits
+from ..client import Client
+
+CELLS = 1_000
+LAPS = 1_000
+WARM_UP = 4_000
+PERIOD = 300
+ROWS = 10
+
+
+@dataclass(slots=True, frozen=True)
+class Point:
+    density: float  # vehicles a cell, of the whole ring
+    flow: float  # vehicles a step, at a detector
+    speed: float  # cells a step, of those who passed it
+
+    @property
+    def per_km(self):
+        return self.density / limits.CELL_METRES * 1000
+
+    @property
+    def per_hour(self):
+        return self.flow * 3600
+
+
+def measure(program, vehicles, limit=5, dawdle=0, seed=1):
+    """A point of the diagram, of a ring of 1,000 cells, over ten rows of 300 steps."""
+    with Client(program) as sim:
+        sim.load(nodes=[[0, 1, 2]], links=[[0, 0, 0, 1, CELLS, limit]], turns=[[0, 0, 0, 0]], dawdle=dawdle, seed=seed)
+        sim.signal(0, [[600, []]])
+        for _ in range(vehicles):
+            sim.enter([0] * LAPS)
+        for _ in range(10 * CELLS):  # red until all have entered
+            if not sim.count().waiting:
+                break
+            sim.advance(20)
+        sim.signal(0, [[600, [[0, 0, 0]]]])
+        sim.advance(WARM_UP)
+        meter = sim.meter(0, 0, CELLS // 2, PERIOD)
+        sim.advance(PERIOD * ROWS)
+        rows = sim.read(meter).rows
+    passes = sum(row.passes for row in rows)
+    return Point(
+        vehicles / CELLS, passes / sum(row.steps for row in rows), sum(row.speeds for row in rows) / max(1, passes)
+    )

@@ -1,0 +1,135 @@
+"""The numbers behind the pictures, from what streetsim-run wrote; nothing here draws."""
+from bisect import bisect_right
+from collections import Counter, defaultdict
+from math import floor, log10
+
+from .. import limits
+from ..files import Fault
+
+
+def stretches(folder, edges):
+    """Where the links of a path lie, as {link: (metres from the path's begin, metres, cells)}, and its length."""
+    placed, begin = {}, 0.0
+    for links in folder.links_along(edges):
+        placed.update(
+            {link: (begin, folder.mapping.links[link].metres, folder.mapping.links[link].cells) for link in links}
+        )
+        begin += folder.mapping.links[links[0]].metres
+    return placed, begin
+
+
+def trajectories(folder, edges, first, last):
+    """Pieces of the vehicles' ways along a path between polls: ((second, metres), (second, metres), speed in cells a
+    step, metres of the vehicle's cells)."""
+    placed, _ = stretches(folder, edges)
+    pieces, before = [], {}
+    for poll in folder.polls():
+        clock, now = poll["clock"], {}
+        if not first <= clock <= last:
+            continue
+        for link, _lane, cells, _buffer, _closed in poll["lanes"]:
+            if link in placed:
+                begin, metres, count = placed[link]
+                for car, cell, speed, *size in cells:
+                    long = (size[0] if size else 1) * metres / count
+                    now[car] = clock, begin + (cell + 1) * metres / count, speed, long
+        for car, (_, place, speed, long) in now.items():
+            if car in before and before[car][1] <= place:
+                pieces.append((before[car][:2], (clock, place), speed, long))
+        before = now
+    return pieces
+
+
+def bands(pieces):
+    """The areas that vehicles longer than a cell cover over time, from their fronts to their rears, as corners."""
+    for (second, place), (later, other), _, long in pieces:
+        if long > 1.5 * limits.CELL_METRES:
+            yield (second, place), (later, other), (later, other - long), (second, place - long)
+
+
+def reds(folder, edges, first, last):
+    """When the signals along a path are red for going on along it: (metres, begin, end)."""
+    placed, _ = stretches(folder, edges)
+    links = folder.links_along(edges)
+    found = []
+    for here, following in zip(links, links[1:]):
+        place = placed[here[0]][0] + placed[here[0]][1]
+        plans = [
+            (clock, command)
+            for clock, command in folder.signals
+            if command["node"] == folder.mapping.links[here[0]].end
+        ]
+        begin = None
+        for second in range(first, last + 1):
+            sent = [command for clock, command in plans if clock <= second]
+            red = bool(sent) and second < last and not shows_green(sent[-1], second, here, following)
+            if red and begin is None:
+                begin = second
+            if not red and begin is not None:
+                found.append((place, begin, second))
+                begin = None
+    return found
+
+
+def shows_green(command, second, links, following):
+    """Whether a signal plan shows green from any of some links to any of others."""
+    place = (second + command["offset"]) % sum(duration for duration, _ in command["phases"])
+    for duration, greens in command["phases"]:
+        if place < duration:
+            return any(link in links and target in following for link, _, target in greens)
+        place -= duration
+    return False
+
+
+def densities(folder):
+    """Vehicles a kilometre and lane of each link, the mean over all polls."""
+    standing, polls = Counter(), 0
+    for poll in folder.polls():
+        polls += 1
+        for link, _lane, cells, _buffer, _closed in poll["lanes"]:
+            standing[link] += len(cells)
+    if not polls:
+        raise Fault(f"{folder.path}: nothing was polled")
+    return [
+        standing[number] / polls / len(link.lanes) / (link.cells * limits.CELL_METRES / 1000)
+        for number, link in enumerate(folder.mapping.links)
+    ]
+
+
+def longest_queues(folder, most):
+    """The lanes with the longest queues, the longest first: (edge_lane, {time: metres}); and how many lanes with
+    queues there are."""
+    by_lane = defaultdict(dict)
+    for row in folder.queues():
+        by_lane[f"{row['edge']}_{row['lane']}"][int(row["time"])] = float(row["metres"])
+    ranked = sorted(by_lane.items(), key=lambda item: (-max(item[1].values()), item[0]))
+    return ranked[:most], len(ranked)
+
+
+def flows(folder, edges):
+    """(vehicles a kilometre, vehicles an hour) of each count of a whole period with traffic."""
+    return [
+        (float(row["occupancy_percent"]) / 100 / limits.CELL_METRES * 1000, float(row["vehicles_per_hour"]))
+        for row in folder.counts()
+        if (not edges or row["edge"] in edges)
+        and int(row["vehicles"])
+        and int(row["end"]) - int(row["begin"]) == folder.period
+    ]
+
+
+def arrival_curves(folder):
+    """Sorted times of wished departures and of arrivals."""
+    trips = folder.trips()
+    return sorted(int(row["depart"]) for row in trips), sorted(int(row["arrival"]) for row in trips if row["arrival"])
+
+
+def difference(first, second):
+    """The times at which one of two curves of sorted times rises, and how far the first is then above the second."""
+    times = sorted({*first, *second})
+    return times, [bisect_right(first, time) - bisect_right(second, time) for time in times]
+
+
+def round_length(metres):
+    """The greatest 1, 2 or 5 times a power of ten that is at most so long."""
+    power = 10 ** floor(log10(metres))
+    return next(times * power for times in (5, 2, 1) if times * power <= metres)

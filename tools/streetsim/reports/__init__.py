@@ -1,0 +1,1 @@
+"""streetsim-report: one page that tells what runs gave."""

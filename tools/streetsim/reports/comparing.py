@@ -1,0 +1,50 @@
+"""Before and after: differences of two plans, paired by seed."""
+from dataclasses import dataclass
+
+from ..run.tables import interval
+
+
+@dataclass(slots=True)
+class Difference:
+    """Means over the seeds that both plans have, and the 95 % interval of their difference."""
+
+    before: float
+    after: float
+    change: float
+    half: float | None  # half the width of the interval; none of one seed
+    seeds: int
+
+    def told(self) -> str:
+        """The change with its interval."""
+        if self.half is None:
+            return f"{self.change:+.1f}"
+        return f"{self.change:+.1f} ± {self.half:.1f}"
+
+    def is_sure(self) -> bool:
+        """Whether the interval leaves no doubt of the sign."""
+        return self.half is not None and abs(self.change) > self.half
+
+
+def paired(before: dict, after: dict) -> Difference | None:
+    """Of values by seed; none where no seed is common."""
+    seeds = sorted(before.keys() & after.keys())
+    if not seeds:
+        return None
+    change, half = interval([after[seed] - before[seed] for seed in seeds])
+    firsts, seconds = (sum(values[seed] for seed in seeds) / len(seeds) for values in (before, after))
+    return Difference(firsts, seconds, change, half, len(seeds))
+
+
+def by_seed(row, name: str) -> dict:
+    """The values of a measure."""
+    return {seed: values[name] for seed, values in row.by_seed.items() if name in values}
+
+
+def total_delay(rows) -> dict:
+    """By seed the mean control delay over all of some rows, by vehicles."""
+    sums = {}
+    for row in rows:
+        for seed, values in row.by_seed.items():
+            lost, count = sums.get(seed, (0.0, 0.0))
+            sums[seed] = lost + values["vehicles"] * values["control_delay_s"], count + values["vehicles"]
+    return {seed: lost / count for seed, (lost, count) in sums.items() if count}

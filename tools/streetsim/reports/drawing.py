@@ -1,0 +1,83 @@
+"""Pictures of a report, as SVG: the map by delay, and queues beside the room that they have."""
+from html import escape
+from math import hypot
+
+# Darker is worse, so that the letters differ in grey too.
+COLOURS = {"A": "#ffffcc", "B": "#fed976", "C": "#feb24c", "D": "#fd8d3c", "E": "#e31a1c", "F": "#800026"}
+LIGHT = "EF"  # letters that are written in white
+WIDE, MOST_HIGH, SIDE = 900, 640, 4  # pixels
+
+
+def letter_mark(letter: str) -> str:
+    """A letter on its colour."""
+    return f'<span class="los los-{letter}">{letter}</span>'
+
+
+def map_picture(mapping, approaches, junctions) -> str:
+    """The streets; approaches by the colour of their letter, junctions as marks with theirs. approaches: {edge: (letter,
+    text)}, junctions: {name: (letter, text)}."""
+    points = [point for link in mapping.links for point in link.shape]
+    (left, right), (low, high) = ((min(values), max(values)) for values in zip(*points, strict=True))
+    scale = min((WIDE - 60) / max(1.0, right - left), (MOST_HIGH - 60) / max(1.0, high - low))
+    tall = (high - low) * scale + 60
+
+    def at(point, shift=(0.0, 0.0)):
+        return f"{(point[0] - left) * scale + 30 + shift[0]:.1f},{(high - point[1]) * scale + 30 + shift[1]:.1f}"
+
+    parts = [f'<svg class="map" viewBox="0 0 {WIDE} {tall:.0f}" role="img" aria-label="Map by delay">']
+    for link in mapping.links:
+        letter, text = approaches.get(link.edge, ("", link.edge))
+        colour, width = (COLOURS[letter], 4 + "ABCDEF".index(letter)) if letter else ("#bbbbbb", 2)
+        way = " ".join(at(point, aside(link.shape)) for point in link.shape)
+        if letter:
+            parts.append(f'<polyline points="{way}" class="edge-line" stroke="#666" stroke-width="{width + 2}"/>')
+        line = f'<polyline points="{way}" class="edge-line" stroke="{colour}" stroke-width="{width}">'
+        parts.append(f"{line}<title>{escape(text)}</title></polyline>")
+    for name, x, y, _ in mapping.nodes:
+        if name in junctions:
+            letter, text = junctions[name]
+            across, down = at((x, y)).split(",")
+            parts.append(junction_mark(name, letter, text, across, down))
+    return "".join([*parts, "</svg>"])
+
+
+def aside(shape) -> tuple[float, float]:
+    """Pixels to the right of a line, so that the directions of a street lie side by side."""
+    (x, y), (end_x, end_y) = shape[0], shape[-1]
+    size = hypot(end_x - x, end_y - y) or 1.0
+    return SIDE * (end_y - y) / size, SIDE * (end_x - x) / size
+
+
+def junction_mark(name, letter, text, across, down):
+    """A circle with the letter, which leads to the junction's table."""
+    colour = "#fff" if letter in LIGHT else "#000"
+    circle = f'<circle cx="{across}" cy="{down}" r="11" fill="{COLOURS[letter]}" stroke="#000"/>'
+    write = f'<text x="{across}" y="{down}" dy="4" text-anchor="middle" fill="{colour}" class="letter">{letter}</text>'
+    return f'<a href="#{anchor(name)}"><title>{escape(text)}</title>{circle}{write}</a>'
+
+
+def anchor(name: str) -> str:
+    """The place of a junction in the page."""
+    return "junction-" + "".join(sign if sign.isalnum() else f"-{ord(sign):x}-" for sign in name)
+
+
+def queue_picture(rows) -> str:
+    """A bar for each approach: the room of the edge, the 95 % queue in it, its 50 %, and a line at the greatest. rows: (name,
+    50 %, 95 %, greatest, room), metres."""
+    most = max(max(greatest, room) for _, _, _, greatest, room in rows) or 1.0
+    scale, parts = 480 / most, []
+    for place, (name, half, usual, greatest, room) in enumerate(rows):
+        y = 8 + 26 * place
+        title = f"{name}: 50 % {half:.0f} m, 95 % {usual:.0f} m, greatest {greatest:.0f} m of {room:.0f} m"
+        over = ", fills the edge" if greatest >= room > 0 else ""
+        parts.append(
+            f"<g><title>{escape(title)}</title>"
+            f'<text x="150" y="{y + 13}" text-anchor="end">{escape(name)}</text>'
+            f'<rect x="156" y="{y}" width="{room * scale:.1f}" height="18" fill="#fff" stroke="#666"/>'
+            f'<rect x="156" y="{y + 3}" width="{usual * scale:.1f}" height="12" fill="#9ecae1"/>'
+            f'<rect x="156" y="{y + 3}" width="{half * scale:.1f}" height="12" fill="#3182bd"/>'
+            f'<line x1="{156 + greatest * scale:.1f}" x2="{156 + greatest * scale:.1f}" y1="{y}" y2="{y + 18}" class="greatest"/>'
+            f'<text x="646" y="{y + 13}">{half:.0f}, {usual:.0f}, {greatest:.0f} of {room:.0f} m{over}</text></g>'
+        )
+    tall = 12 + 26 * len(rows)
+    return f'<svg class="queues" viewBox="0 0 {WIDE} {tall}" role="img" aria-label="Queues">{"".join(parts)}</svg>'

@@ -1,0 +1,115 @@
+"""What a report reads: the folders of a run, one for each seed, and their junction tables."""
+import os
+import re
+from collections import Counter, defaultdict
+from dataclasses import dataclass, field
+from statistics import fmean
+
+from ..files import Fault
+from ..junctions.rows import APPROACHES, JUNCTIONS, MOVEMENTS
+from ..junctions.service import level
+from ..run.folder import NAME, Folder, read_folder
+from ..run.tables import read_table
+
+TABLES = {"movements": MOVEMENTS, "approaches": APPROACHES, "junctions": JUNCTIONS}
+KEYS = {"movements": ("junction", "approach", "to"), "approaches": ("junction", "approach"), "junctions": ("junction",)}
+MEASURES = (
+    *("vehicles", "vehicles_per_hour", "control_delay_s", "stopped_delay_s", "stops_per_vehicle"),
+    *("queue_50_m", "queue_95_m", "queue_max_m", "storage_m", "v_c", "capacity_per_hour"),
+)
+
+
+@dataclass(slots=True)
+class Row:
+    """A movement, approach or junction in an interval: means over seeds, and each seed's values."""
+
+    key: tuple
+    control: str
+    movement: str  # L, T, R, U of a movement
+    values: dict  # measure: mean over the seeds that have it
+    by_seed: dict  # seed: {measure: value}
+
+    @property
+    def delay(self) -> float:
+        return self.values["control_delay_s"]
+
+    def letter(self) -> str:
+        return level(self.delay, self.control, self.values["v_c"] if self.movement else None)
+
+
+@dataclass(slots=True)
+class Runs:
+    """The runs of one plan, one for each seed."""
+
+    name: str
+    folders: dict[int, Folder]
+    rows: dict = field(default_factory=dict)  # (table, begin, end): {key: Row}
+
+    @property
+    def first(self) -> Folder:
+        return next(iter(self.folders.values()))
+
+    def trips(self) -> dict[int, float]:
+        """By seed the mean trip of those who arrived, seconds."""
+        found = {}
+        for seed, folder in self.folders.items():
+            durations = [float(row["duration"]) for row in folder.trips() if row["duration"]]
+            if durations:
+                found[seed] = fmean(durations)
+        return found
+
+    def intervals(self) -> list[tuple[int, int]]:
+        return sorted({(begin, end) for _, begin, end in self.rows})
+
+    def busiest(self) -> tuple[int, int]:
+        """The interval in which most vehicles an hour crossed junctions."""
+        volumes = Counter()
+        for (table, begin, end), rows in self.rows.items():
+            if table == "junctions":
+                volumes[begin, end] = sum(row.values["vehicles_per_hour"] for row in rows.values())
+        return min(volumes, key=lambda interval: (-volumes[interval], interval))
+
+
+def read_runs(path: str) -> Runs:
+    """The runs of a folder that streetsim-run wrote with --junctions, or of its seeds."""
+    places = {int(name[5:]): f"{path}/{name}" for name in sorted(os.listdir(path)) if is_seed(path, name)}
+    if not places:
+        folder = read_folder(path)
+        folders = {folder.made.get("seed", 1): folder}
+    else:
+        folders = {seed: read_folder(place) for seed, place in sorted(places.items())}
+    made = Runs(os.path.basename(os.path.normpath(path)), folders)
+    for table in TABLES:
+        read_rows(made, table)
+    if not made.rows:
+        raise Fault(f"{path}: the junction tables have no rows")
+    return made
+
+
+def is_seed(path, name):
+    return re.fullmatch(r"seed-\d+", name) is not None and os.path.exists(f"{path}/{name}/{NAME}")
+
+
+def read_rows(runs, table):
+    """Adds the rows of a table of all seeds."""
+    found = defaultdict(dict)  # (begin, end): {(key, control, movement): {seed: measures}}
+    for seed, folder in runs.folders.items():
+        place = f"{folder.path}/{table}.csv"
+        if not os.path.exists(place):
+            raise Fault(f"{folder.path}: no {table}.csv: a report needs streetsim-run --junctions")
+        for row in read_table(place, TABLES[table]):
+            key = tuple(row[name] for name in KEYS[table]), row["control"], row.get("movement", "")
+            numbers = {name: float(row[name]) for name in MEASURES if row.get(name)}
+            found[int(row["begin"]), int(row["end"])].setdefault(key, {})[seed] = numbers
+    for (begin, end), rows in found.items():
+        made = {key: Row(key, control, movement, means(seeds), seeds) for (key, control, movement), seeds in rows.items()}
+        runs.rows[table, begin, end] = made
+
+
+def means(seeds):
+    """Of each measure over the seeds that have it; of the greatest queue the greatest."""
+    names = {name for values in seeds.values() for name in values}
+    found = {name: fmean(values[name] for values in seeds.values() if name in values) for name in names}
+    if "queue_max_m" in found:
+        found["queue_max_m"] = max(values["queue_max_m"] for values in seeds.values() if "queue_max_m" in values)
+    return found

@@ -1,0 +1,217 @@
+"""The sections of a report, as HTML."""
+import base64
+from html import escape
+from pathlib import Path
+
+from ..run.tables import interval
+from .comparing import by_seed, paired, total_delay
+from .drawing import COLOURS, LIGHT, anchor, letter_mark, map_picture, queue_picture
+
+WEIGHTS = (
+    ("skipped:", "Left out: vehicles that do not drive"),
+    ("warning:", "Otherwise than in SUMO"),
+    ("ignored:", "Read, and without effect"),
+    ("", "Notes"),
+)
+ASSUMPTIONS = (
+    "A vehicle takes one to four cells of 7.5 m and moves in steps of a second; speeds are whole cells a second.",
+    "Control delay has 4.2 s for each vehicle that stops, measured on a lone cross against SUMO's detectors, as vehicles "
+    "brake and start at once.",
+    "Letters are those of the Highway Capacity Manual 2010 by control delay; of a movement F too where v/c is above 1.",
+    "Queues are the backs of queues in each cycle of the signal. A queue as long as its edge has filled it, and may reach on.",
+    "Routes are given: nobody changes its route on the way.",
+)
+
+
+def table(head, rows, names=1) -> str:
+    """A table; the first columns are names, the others numbers. Cells are HTML."""
+
+    def line(tag, cells):
+        kinds = ['class="name"' if place < names else "" for place in range(len(cells))]
+        return "<tr>" + "".join(f"<{tag} {kind}>{cell}</{tag}>" for kind, cell in zip(kinds, cells, strict=True)) + "</tr>"
+
+    body = "".join(line("td", row) for row in rows)
+    return f"<table><thead>{line('th', head)}</thead><tbody>{body}</tbody></table>"
+
+
+def clock(second: int) -> str:
+    return f"{second // 3600:d}:{second // 60 % 60:02d}:{second % 60:02d}"
+
+
+def what_was_run(all_runs) -> str:
+    """Network, demand, seeds, the program's sum."""
+    rows = []
+    for runs in all_runs:
+        folder, made = runs.first, runs.first.made
+        mapping = folder.mapping
+        sources = mapping.sources or {}
+        files = ", ".join(escape(path) for path in (sources.get("net"), *sources.get("routes", ()), *sources.get("additional", ())) if path)
+        seeds = ", ".join(map(str, runs.folders))
+        rows += [
+            [f"<b>{escape(runs.name)}</b>", escape(made.get("run", "")), ],
+            ["files of the import", files or "not told by the map"],
+            ["network", f"{len(mapping.links_of):,} edges, {len(mapping.nodes):,} junctions, {len(mapping.signals):,} with signals"],
+            ["demand", f"{made.get('vehicles', len(mapping.cars)):,} vehicles"],
+            ["time", f"{clock(made.get('start', 0))} to {clock(made.get('until', 0))}, seeds {seeds}, dawdle {folder.dawdle}"],
+            ["program", f"SHA-256 {escape(str(made.get('program')))}"],
+        ]
+    lines = "".join(f'<tr><th class="name" scope="row">{name}</th><td class="name">{text}</td></tr>' for name, text in rows)
+    return f"<table>{lines}</table>"
+
+
+def verdict(all_runs) -> str:
+    """Whether the runs are to be trusted."""
+    parts = []
+    for runs in all_runs:
+        doubts = [f"seed {seed}: {doubt}" for seed, folder in runs.folders.items() for doubt in folder.doubts]
+        name = escape(runs.name)
+        if doubts:
+            listed = "".join(f"<li>{escape(doubt)}</li>" for doubt in doubts)
+            parts.append(f'<div class="verdict doubt">{name}: not to be trusted<ul>{listed}</ul></div>')
+        else:
+            parts.append(f'<p class="verdict">{name}: nothing speaks against this run.</p>')
+    return "".join(parts)
+
+
+def warnings(all_runs) -> str:
+    """What the import had to say, what changes results most first."""
+    lines = list(dict.fromkeys(line for runs in all_runs for line in runs.first.mapping.warnings))
+    parts = []
+    for mark, title in WEIGHTS:
+        those = [line for line in lines if mark and line.startswith(mark)]
+        those = those or [line for line in lines if not mark and not line.startswith(tuple(m for m, _ in WEIGHTS if m))]
+        if those:
+            listed = "".join(f"<li>{escape(line.removeprefix(mark).strip())}</li>" for line in those)
+            parts.append(f"<h3>{title}</h3><ul>{listed}</ul>")
+    return "".join(parts) or "<p>The import had nothing to warn of.</p>"
+
+
+def figures(all_runs, interval_of) -> str:
+    """Mean trip and mean control delay of each plan."""
+    rows = []
+    for runs in all_runs:
+        trips, delays = runs.trips(), total_delay(runs.rows["junctions", *interval_of].values())
+        rows.append([escape(runs.name), mean_told(trips.values()), mean_told(delays.values())])
+    return table(["", "mean trip, s", "mean control delay of a junction, s"], rows)
+
+
+def mean_told(values) -> str:
+    values = list(values)
+    if not values:
+        return "none"
+    mean, half = interval(values)
+    return f"{mean:.1f}" + (f" ± {half:.1f}" if half is not None else "")
+
+
+def map_section(runs, interval_of) -> str:
+    approaches = {
+        row.key[1]: (row.letter(), f"{row.key[1]}: {row.delay:.1f} s, {row.letter()}")
+        for row in runs.rows["approaches", *interval_of].values()
+    }
+    junctions = {
+        row.key[0]: (row.letter(), f"{row.key[0]}: {row.delay:.1f} s, {row.letter()}")
+        for row in runs.rows["junctions", *interval_of].values()
+    }
+    legend = " ".join(letter_mark(letter) for letter in COLOURS)
+    picture = map_picture(runs.first.mapping, approaches, junctions)
+    return f"<figure>{picture}<figcaption>Approaches and junctions by level of service {legend}</figcaption></figure>"
+
+
+def junction_letters(runs) -> str:
+    """The letter of each junction in each interval."""
+    intervals = runs.intervals()
+    names = sorted({key[0] for (table_, *_), rows in runs.rows.items() if table_ == "junctions" for key in rows})
+    rows = []
+    for name in names:
+        found = [runs.rows.get(("junctions", *one), {}).get((name,)) for one in intervals]
+        cells = [f"{row.delay:.0f} s {letter_mark(row.letter())}" if row else "" for row in found]
+        rows.append([f'<a href="#{anchor(name)}">{escape(name)}</a>', *cells])
+    return table(["junction", *(f"{clock(begin)} to {clock(end)}" for begin, end in intervals)], rows)
+
+
+def junction_section(runs, name, interval_of) -> str:
+    """A junction's movements and queues."""
+    junction = runs.rows["junctions", *interval_of][name,]
+    movements = [row for row in runs.rows["movements", *interval_of].values() if row.key[0] == name]
+    approaches = [row for row in runs.rows["approaches", *interval_of].values() if row.key[0] == name]
+    head = ["approach", "to", "", "veh/h", "delay, s", "LOS", "v/c", "stopped, s", "stops", "queue 50 %, m", "95 %", "greatest"]
+    head[-1] += " of room"
+    rows = [movement_row(row) for row in sorted(movements, key=lambda row: row.key)]
+    values = junction.values
+    queues = [
+        (row.key[1], *(row.values[name_] for name_ in ("queue_50_m", "queue_95_m", "queue_max_m", "storage_m")))
+        for row in sorted(approaches, key=lambda row: row.key)
+    ]
+    return (
+        f'<section><h3 id="{anchor(name)}">Junction {escape(name)}: {junction.delay:.1f} s {letter_mark(junction.letter())}, '
+        f'{values["vehicles_per_hour"]:.0f} vehicles an hour, {escape(junction.control)}</h3>'
+        f"{table(head, rows, names=3)}{queue_picture(queues)}</section>"
+    )
+
+
+def movement_row(row):
+    values = row.values
+    stops = f"{values['stops_per_vehicle']:.2f}" if "stops_per_vehicle" in values else ""
+    queues = [f"{values['queue_50_m']:.0f}", f"{values['queue_95_m']:.0f}", f"{values['queue_max_m']:.0f} of {values['storage_m']:.0f}"]
+    return [
+        *(escape(part) for part in (row.key[1], row.key[2], row.movement)),
+        *(f"{values['vehicles_per_hour']:.0f}", f"{row.delay:.1f}", letter_mark(row.letter()), f"{values['v_c']:.2f}"),
+        *(f"{values['stopped_delay_s']:.1f}", stops, *queues),
+    ]
+
+
+def before_and_after(before, after, interval_of) -> str:
+    """Mean trip, junctions and movements of two plans, with paired 95 % intervals over seeds."""
+    lines = [("mean trip, s", paired(before.trips(), after.trips()))]
+    rows = [side.rows["junctions", *interval_of] for side in (before, after)]
+    lines.append(("mean control delay of a junction, s", paired(*(total_delay(side.values()) for side in rows))))
+    parts = [difference_table(lines)]
+    for name, title in (("junctions", "Junctions"), ("movements", "Movements")):
+        rows = [side.rows.get((name, *interval_of), {}) for side in (before, after)]
+        parts.append(f"<h3>{title}: control delay, s</h3>" + difference_rows(*rows))
+    count = len(before.folders.keys() & after.folders.keys())
+    said = "Differences are of the same seeds" if count > 1 else "One seed alone tells nothing of chance: use --seeds 1-5"
+    return f'<p class="small">{said}; those whose sign is sure at 95 % are bold.</p>' + "".join(parts)
+
+
+def difference_table(lines) -> str:
+    rows = [[escape(name), f"{one.before:.1f}", f"{one.after:.1f}", change_told(one)] for name, one in lines if one]
+    return table(["", "before", "after", "change, 95 % interval"], rows)
+
+
+def difference_rows(before, after) -> str:
+    rows = []
+    for key in sorted(before.keys() & after.keys()):
+        first, second = before[key], after[key]
+        one = paired(by_seed(first, "control_delay_s"), by_seed(second, "control_delay_s"))
+        if one:
+            letters = f"{letter_mark(first.letter())} to {letter_mark(second.letter())}"
+            name = escape(" to ".join((key[0], " ".join(key[1:2]), *key[2:])) if len(key) > 1 else key[0])
+            rows.append([name, f"{one.before:.1f}", f"{one.after:.1f}", change_told(one), letters])
+    return table(["", "before", "after", "change", "LOS"], rows)
+
+
+def change_told(one) -> str:
+    return f'<span class="sure">{one.told()}</span>' if one.is_sure() else one.told()
+
+
+def image(content: bytes, text: str) -> str:
+    """A picture in the page itself."""
+    return f'<img alt="{escape(text)}" src="data:image/png;base64,{base64.b64encode(content).decode()}">'
+
+
+def letter_styles() -> str:
+    return "\n".join(
+        f".los-{letter} {{ background: {colour}; color: {'#fff' if letter in LIGHT else '#000'} }}" for letter, colour in COLOURS.items()
+    )
+
+
+def page(title: str, lead: str, sections) -> str:
+    """The whole page; sections: (name, title, HTML)."""
+    text = (Path(__file__).parent / "page.html").read_text(encoding="utf-8")
+    links = "".join(f'<a href="#{name}">{escape(head)}</a>' for name, head, _ in sections)
+    body = "\n".join(f'<section aria-labelledby="{name}"><h2 id="{name}">{escape(head)}</h2>{part}</section>' for name, head, part in sections)
+    filled = {"@TITLE@": escape(title), "@LEAD@": lead, "@LINKS@": links, "@LETTERS@": letter_styles(), "@BODY@": body}
+    for mark, content in filled.items():
+        text = text.replace(mark, content)
+    return text

@@ -1,0 +1,1 @@
+"""Route plans by feedback between a router and runs: streetsim-route."""

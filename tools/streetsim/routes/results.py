@@ -1,0 +1,83 @@
+"""The files of a search: its iterations, the check by other seeds, movements, trips and the setting."""
+from __future__ import annotations
+
+import json
+from collections.abc import Iterator, Sequence
+from statistics import fmean
+
+from ..files import whole_file
+from ..run.tables import interval, write_table
+from .costs import mean_of
+from .graph import END
+from .loading import Town
+from .search import Iteration, Judged
+from .trips import Trip
+
+NAME = "setting.json"
+ITERATIONS = (
+    *("iteration", "mean_trip_s", "arrived", "rescues", "relative_gap", "mean_way_s", "may_change", "changed", "taken_back"),
+    "calls",
+)
+CHECK = ("seed", "mean_trip_s", "arrived", "rescues")
+MOVEMENTS = ("begin", "end", "edge", "next_edge", "vehicles", "mean_s", "free_s")
+TRIPS = ("id", "depart", "edges", "may_change", "mean_trip_s", "way_s", "shortest_s")
+
+
+def write_results(folder: str, town: Town, trips: Sequence[Trip], iterations: Sequence[Iteration], judged: Judged, setting: dict) -> None:
+    write_table(f"{folder}/iterations.csv", ITERATIONS, iteration_rows(iterations))
+    write_table(f"{folder}/check.csv", CHECK, check_rows(judged))
+    write_table(f"{folder}/movements.csv", MOVEMENTS, movement_rows(town, judged, setting["slice"]))
+    write_table(f"{folder}/trips.csv", TRIPS, trip_rows(trips, judged))
+    with whole_file(f"{folder}/{NAME}") as file:
+        json.dump({**setting, **figures(judged)}, file, indent=1)
+        file.write("\n")
+
+
+def iteration_rows(iterations: Sequence[Iteration]) -> Iterator[tuple]:
+    for one in iterations:
+        yield (
+            *(one.number, f"{one.mean:.2f}", one.arrived, one.rescues, f"{one.gap:.5f}", f"{one.cost:.2f}", one.may_change, one.changed),
+            *(int(one.taken_back), one.calls),
+        )
+
+
+def check_rows(judged: Judged) -> Iterator[tuple]:
+    for seed, one in zip(judged.seeds, judged.outcomes, strict=True):
+        yield seed, f"{one.mean:.3f}", one.arrived, one.rescues
+
+
+def movement_rows(town: Town, judged: Judged, width: int) -> Iterator[tuple]:
+    """For each slice and movement that was seen in the check runs vehicles and mean seconds, of one run by the mean."""
+    graph, observed = town.graph, mean_of([one.observed for one in judged.outcomes])
+    for slice_ in range(observed.slices):
+        for movement, (edge, following) in enumerate(graph.movements):
+            place = movement * observed.slices + slice_
+            if count := observed.counts[place]:
+                following_name = "" if following == END else graph.edges[following]
+                mean, free = observed.seconds[place] / count, judged.loaded.free[movement]
+                yield (
+                    *(slice_ * width, (slice_ + 1) * width, graph.edges[edge], following_name, f"{count:.2f}", f"{mean:.1f}", f"{free:.1f}"),
+                )
+
+
+def trip_rows(trips: Sequence[Trip], judged: Judged) -> Iterator[tuple]:
+    """For each trip its mean seconds of the check runs where it arrived in all, and of its way and the shortest by their costs."""
+    searched = {one.trip: one for one in judged.found}
+    for at, trip in enumerate(trips):
+        ends = [one.ends[at] for one in judged.outcomes]
+        mean = "" if None in ends else f"{fmean(ends) - trip.depart:.1f}"
+        found = searched.get(at)
+        ways = (f"{found.own:.1f}", f"{found.least:.1f}") if found and found.path else ("", "")
+        yield trip.name, f"{trip.depart:.2f}", len(trip.path), int(trip.changes), mean, *ways
+
+
+def figures(judged: Judged) -> dict:
+    """What the check gave: the mean trip with half the width of its 95 % interval, and the gap."""
+    mean, half = interval([one.mean for one in judged.outcomes])
+    return {
+        "mean_trip_s": round(mean, 3),
+        "half_width_95_s": None if half is None else round(half, 3),
+        "relative_gap": round(judged.gap, 5),
+        "arrived": min(one.arrived for one in judged.outcomes),
+        "rescues": [one.rescues for one in judged.outcomes],
+    }

@@ -1,0 +1,131 @@
+"""Time-dependent shortest paths over edges."""
+from __future__ import annotations
+
+from array import array
+from collections.abc import Mapping, Sequence
+from heapq import heappop, heappush
+from itertools import pairwise
+from typing import NamedTuple
+
+from .costs import Costs, Table
+from .graph import END, Graph
+
+FAR = 1e9  # seconds: no way
+
+Path = tuple[int, ...]
+Shut = Mapping[int, Sequence[tuple[float, float]]]  # by edge: from when until when nobody can pass it
+
+
+class Wish(NamedTuple):
+    """A trip as the router sees it: from when on it goes from an edge to another, and the path that it has (none: empty)."""
+
+    trip: int
+    origin: int
+    target: int
+    clock: float
+    path: Path
+
+
+class Found(NamedTuple):
+    """What the router found for a trip: the best path, its seconds and those of the trip's own path. No path: no way."""
+
+    trip: int
+    path: Path
+    least: float
+    own: float
+
+
+class Router:
+    """A* with the least seconds to the target as bound, which are searched backwards once for each target in turn."""
+
+    def __init__(self, graph: Graph, costs: Costs, shut: Shut | None = None) -> None:
+        self.graph, self.table, self.shut = graph, Table(costs), shut or {}
+        self.least = [costs.least(movement) for movement in range(len(graph.movements))]
+        self.arcs: list[list[tuple[int, array]] | None] = [None] * len(graph.edges)
+        self.target, self.bounds = END, [FAR]
+
+    def arcs_of(self, edge: int) -> list[tuple[int, array]]:
+        """The next edges of an edge, each with the costs of going there; what is shut then costs too much."""
+        made = self.arcs[edge]
+        if made is None:
+            ways = ((following, self.table.row(movement)) for following, movement in self.graph.out[edge])
+            made = [(following, self.without(row, self.shut[following]) if following in self.shut else row) for following, row in ways]
+            self.arcs[edge] = made
+        return made
+
+    def without(self, row: array, times: Sequence[tuple[float, float]]) -> array:
+        """Costs of a movement without those by which its next edge is reached while it is shut."""
+        part = self.table.costs.part
+        reached = (part * (at + 0.5) + seconds if part < FAR else 0.0 for at, seconds in enumerate(row))
+        return array("d", [FAR if any(begin <= clock < end for begin, end in times) else row[at] for at, clock in enumerate(reached)])
+
+    def bounds_to(self, target: int) -> list[float]:
+        """The least seconds from the begin of each edge to that of the target."""
+        if self.target == target:
+            return self.bounds
+        least, into = self.least, self.graph.into
+        found, heap = [FAR] * len(into), [(0.0, target)]
+        found[target] = 0.0
+        while heap:
+            seconds, edge = heappop(heap)
+            if seconds > found[edge]:
+                continue
+            for before, movement in into[edge]:
+                through = seconds + least[movement]
+                if through < found[before]:
+                    found[before] = through
+                    heappush(heap, (through, before))
+        self.target, self.bounds = target, found
+        return found
+
+    def search(self, origin: int, target: int, clock: float) -> tuple[Path, float]:
+        """The path that is shortest from a clock on, and its seconds to the end of the target; no path where there is none."""
+        bounds, inverse, last = self.bounds_to(target), self.table.inverse, self.table.last
+        best, before = {origin: clock}, {}
+        heap = [(clock + bounds[origin], -clock, origin)] if bounds[origin] < FAR else []  # of equal ones the farthest first
+        while heap:
+            _, now, edge = heappop(heap)
+            now = -now
+            if edge == target:
+                return self.traced(before, origin, target), now + self.table.at(self.graph.movement_of[target, END], now) - clock
+            if now > best[edge]:
+                continue
+            part = int(now * inverse)
+            if part > last:
+                part = last
+            for following, row in self.arcs_of(edge):
+                then = now + row[part]
+                if then < best.get(following, FAR):
+                    best[following] = then
+                    before[following] = edge
+                    heappush(heap, (then + bounds[following], -then, following))
+        return (), FAR
+
+    @staticmethod
+    def traced(before: dict[int, int], origin: int, target: int) -> Path:
+        path = [target]
+        while path[-1] != origin:
+            path.append(before[path[-1]])
+        return tuple(reversed(path))
+
+    def clocks(self, path: Path, clock: float) -> list[float]:
+        """When each edge of a path is reached, and its end."""
+        found, movement_of = [clock], self.graph.movement_of
+        for way in pairwise((*path, END)):
+            found.append(found[-1] + self.table.at(movement_of[way], found[-1]))
+        return found
+
+    def own(self, wish: Wish) -> float:
+        """The seconds of the path that a trip has."""
+        return self.clocks(wish.path, wish.clock)[-1] - wish.clock if wish.path else FAR
+
+    def found(self, wish: Wish) -> Found:
+        path, least = self.search(wish.origin, wish.target, wish.clock)
+        return Found(wish.trip, path, least, self.own(wish))
+
+
+def parts_of(wishes: Sequence[Wish], count: int) -> list[list[Wish]]:
+    """The wishes in so many parts at most, by target, so that few targets are searched backwards twice."""
+    order = sorted(wishes, key=lambda wish: (wish.target, wish.trip))
+    size = max(1, -(-len(order) // count))
+    return [order[at : at + size] for at in range(0, len(order), size)]

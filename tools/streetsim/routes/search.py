@@ -1,0 +1,183 @@
+"""The search for routes from which nobody gains much by leaving them: router, run, router, .."""
+from __future__ import annotations
+
+from collections.abc import Callable, Sequence
+from dataclasses import dataclass, field
+from statistics import fmean
+
+from .. import limits
+from .costs import Costs, costs_of, flat_costs, mean_of
+from .loading import Loaded, Town
+from .router import FAR, Found, Path, Wish
+from .start import first_ways
+from .team import Team
+from .trips import Trip
+from .watching import Ground, Outcome
+
+LEAST_GAIN = 0.5  # seconds for which a trip changes its way
+SLOWER = 0.9  # by which the share of those who change falls from iteration to iteration
+TRUST = 1.3  # where the gap is above so many times the least, routes are taken back
+LEAST_SHARE = 0.01
+OWN_SEED = 0.5  # a search ends at this part of the gap asked for, since by its own seeds the gap is too good
+STILL = 5  # iterations without a smaller gap, of which is warned
+
+
+@dataclass(frozen=True, slots=True)
+class Asked:
+    """What a search is to do. gap: a share of the seconds on shortest ways; share: of trips, that change at the start."""
+
+    iterations: int
+    gap: float
+    share: float
+    seeds: Sequence[int]
+
+
+@dataclass(frozen=True, slots=True)
+class Iteration:
+    """What was seen in an iteration. cost: mean seconds of the ways of those who may change, by the costs of that iteration."""
+
+    number: int
+    mean: float  # seconds of a trip
+    arrived: int  # of the run in which the fewest did
+    rescues: int  # of all runs
+    gap: float
+    cost: float
+    may_change: int
+    changed: int
+    taken_back: bool
+    calls: int
+    processor: float  # seconds, of the simulator
+
+    def line(self, trips: int) -> str:
+        back = ", taken back" if self.taken_back else ""
+        return (
+            f"{self.number}: mean trip {self.mean:.1f} s, gap {100 * self.gap:.2f} %{back}, {self.changed:,} of {trips:,} change, "
+            f"{self.rescues:,} rescues"
+        )
+
+
+@dataclass(slots=True)
+class Best:
+    """The best iteration so far: the ways and entries of its trips. An iteration is better where more trips arrive, and of those
+    where as many do, where the gap is less: a gap says nothing of trips that stand for ever."""
+
+    lacking: int = limits.VEHICLES  # trips that did not arrive
+    gap: float = FAR
+    number: int = 0
+    ways: list[tuple[Path, float]] = field(default_factory=list)
+
+    def is_below(self, lacking: int, gap: float, trust: float = 1.0) -> bool:
+        """Whether it is better than an iteration, whose gap may be so many times its own."""
+        return (self.lacking, trust * self.gap) < (lacking, gap)
+
+    def give_to(self, trips: Sequence[Trip]) -> None:
+        for trip, (path, entry) in zip(trips, self.ways, strict=True):
+            trip.path, trip.entry = path, entry
+
+
+@dataclass(frozen=True, slots=True)
+class Judged:
+    """Routes and the runs by which they are judged, of seeds that no search saw."""
+
+    loaded: Loaded
+    seeds: Sequence[int]
+    outcomes: list[Outcome]
+    observed: Costs
+    found: list[Found]
+    gap: float
+
+
+class Search:
+    """A search for the ways of some trips in a town. told: hears of each iteration, and says whether the user asks for an end."""
+
+    def __init__(self, town: Town, ground: Ground, trips: Sequence[Trip], team: Team, told: Callable[[Iteration], bool]) -> None:
+        self.town, self.ground, self.trips, self.team, self.told = town, ground, trips, team, told
+        self.iterations: list[Iteration] = []
+        self.best = Best()
+        self.expected: Costs | None = None
+
+    def start(self, seed: int) -> None:
+        """Gives first ways to the trips that have none."""
+        if any(not trip.path for trip in self.trips):
+            free, capacity = self.town.empty()
+            first_ways(self.town.graph, self.trips, free, capacity, seed, self.team.search)
+
+    def improve(self, asked: Asked) -> None:
+        """Searches; the trips then have the ways of the iteration with the least gap."""
+        share = asked.share
+        for number in range(asked.iterations + 1):
+            loaded, outcomes, costs = self.observe(asked.seeds)
+            found = self.searched(costs)
+            gap, lacking = gap_of(found), len(self.trips) - min(one.arrived for one in outcomes)
+            back = self.best.is_below(lacking, gap, TRUST)
+            if not self.best.is_below(lacking, gap):
+                self.best = Best(lacking, gap, number, [(trip.path, trip.entry) for trip in self.trips])
+            last = number == asked.iterations or gap <= OWN_SEED * asked.gap
+            if back and not last:
+                self.best.give_to(self.trips)
+                found = self.searched(costs)
+            share = max(LEAST_SHARE, share / 2 if back else share)
+            changing = [] if last else changes(found, share)
+            share = share if back else share * SLOWER
+            iteration = iteration_of(number, outcomes, found, gap, len(changing), back)
+            self.iterations.append(iteration)
+            if self.told(iteration) or last:
+                break
+            for one in changing:
+                self.trips[one.trip].path = one.path
+        self.best.give_to(self.trips)
+
+    def observe(self, seeds: Sequence[int]) -> tuple[Loaded, list[Outcome], Costs]:
+        """Runs the present ways; the trips then have their entries."""
+        loaded = self.town.loaded(self.trips)
+        expected = self.expected or flat_costs(self.town.graph, loaded.free)
+        outcomes = self.team.runs(loaded, expected, seeds)
+        for at, trip in enumerate(self.trips):
+            trip.entry = fmean(one.entries[at] for one in outcomes)
+        self.expected = costs_of(self.town.graph, loaded.free, mean_of([one.observed for one in outcomes]), self.ground.width)
+        return loaded, outcomes, self.expected
+
+    def searched(self, costs: Costs) -> list[Found]:
+        """The best ways of the trips that may change."""
+        wishes = [
+            Wish(at, trip.origin, trip.target, trip.entry, trip.path) for at, trip in enumerate(self.trips) if trip.changes
+        ]
+        return self.team.search(wishes, costs)
+
+    def judged(self, seeds: Sequence[int]) -> Judged:
+        """The present ways by seeds of which the search knows nothing."""
+        loaded, outcomes, costs = self.observe(seeds)
+        found = self.searched(costs)
+        return Judged(loaded, seeds, outcomes, costs, found, gap_of(found))
+
+
+def gain(found: Found) -> float:
+    return max(0.0, found.own - found.least) if found.path else 0.0
+
+
+def gap_of(found: Sequence[Found]) -> float:
+    """The relative gap: what all could gain, over the seconds of their shortest ways. 0 where nobody may change."""
+    least = sum(one.least for one in found if one.path)
+    return sum(map(gain, found)) / least if least else 0.0
+
+
+def changes(found: Sequence[Found], share: float) -> list[Found]:
+    """Those who change: of those who gain at all the ones with the greatest relative loss, a share of all at most, or one."""
+    worth = sorted((one for one in found if gain(one) > LEAST_GAIN), key=lambda one: (-gain(one) / max(1.0, one.least), one.trip))
+    return sorted(worth[: max(1, int(len(found) * share))], key=lambda one: one.trip)
+
+
+def iteration_of(number: int, outcomes: Sequence[Outcome], found: Sequence[Found], gap: float, changed: int, back: bool) -> Iteration:
+    return Iteration(
+        number=number,
+        mean=fmean(one.mean for one in outcomes),
+        arrived=min(one.arrived for one in outcomes),
+        rescues=sum(one.rescues for one in outcomes),
+        gap=gap,
+        cost=fmean(one.own for one in found) if found else 0.0,
+        may_change=len(found),
+        changed=changed,
+        taken_back=back,
+        calls=max(one.calls for one in outcomes),
+        processor=sum(one.processor for one in outcomes),
+    )

@@ -1,0 +1,57 @@
+"""First ways without a simulation: shortest paths by free flow, waits at signals, and delays by the volumes so far."""
+from __future__ import annotations
+
+import random
+from collections import defaultdict
+from collections.abc import Callable, Iterable, Sequence
+from itertools import pairwise
+
+from ..files import Fault
+from .costs import Costs, flat_costs
+from .graph import Graph
+from .router import Found, Wish
+from .trips import Trip
+
+PARTS = 5  # of the trips, each of which sees the delays that those before it make
+STEEPNESS, POWER = 0.5, 4  # delay: so much of the free seconds, times the load to that power (as of the Bureau of Public Roads)
+MOST_DELAY = 300.0  # seconds
+LEAST_HOURS = 0.25  # over which volumes are taken to be spread
+
+Searching = Callable[[Sequence[Wish], Costs], Iterable[Found]]
+
+
+def first_ways(
+    graph: Graph, trips: Sequence[Trip], free: Sequence[float], capacity: Sequence[float], seed: int, search: Searching
+) -> None:
+    """Gives each trip that has no way its first one. capacity: vehicles an hour, of each movement."""
+    wanting = [at for at, trip in enumerate(trips) if not trip.path]
+    random.Random(f"start {seed}").shuffle(wanting)
+    hours = max(LEAST_HOURS, (trips[-1].depart - trips[0].depart) / 3600)
+    volume = [0] * len(graph.movements)
+    for part in range(PARTS):
+        mine = wanting[part::PARTS]
+        hourly = [count * PARTS / part / hours if part else 0.0 for count in volume]
+        seconds = delayed(graph, free, [flow / most for flow, most in zip(hourly, capacity, strict=True)])
+        wishes = [Wish(at, trips[at].origin, trips[at].target, trips[at].depart, ()) for at in mine]
+        for found in search(wishes, flat_costs(graph, seconds)):
+            trip = trips[found.trip]
+            if not found.path:
+                raise Fault(f"trip {trip.name!r}: no way from {graph.edges[trip.origin]} to {graph.edges[trip.target]}")
+            trip.path = found.path
+            for way in pairwise(found.path):
+                volume[graph.movement_of[way]] += 1
+
+
+def delayed(graph: Graph, free: Sequence[float], loads: Sequence[float]) -> list[float]:
+    """Seconds of movements under loads, volume over capacity: each has its own delay, or the mean of those of its edge that are
+    used where that is more."""
+    delays = [min(MOST_DELAY, STEEPNESS * seconds * load**POWER) for seconds, load in zip(free, loads, strict=True)]
+    of_edge = defaultdict(list)
+    for (edge, _), delay, load in zip(graph.movements, delays, loads, strict=True):
+        if load:
+            of_edge[edge].append(delay)
+    means = {edge: sum(values) / len(values) for edge, values in of_edge.items()}
+    return [
+        seconds + max(delay, means.get(edge, 0.0))
+        for (edge, _), seconds, delay in zip(graph.movements, free, delays, strict=True)
+    ]

@@ -1,0 +1,42 @@
+"""The tasks of a search, on processes of this machine or on a cluster: parts of the routing, and runs."""
+from __future__ import annotations
+
+import contextlib
+from collections.abc import Iterator, Sequence
+
+from ..study.machines import Machines, machines
+from .costs import Costs
+from .loading import Loaded
+from .router import Found, Router, Shut, Wish, parts_of
+from .watching import Ground, Outcome, watched
+
+CLUSTER_PARTS = 16  # of a search
+
+
+class Team:
+    """Whatever the number of its workers, it gives the same."""
+
+    def __init__(self, workers: Machines, parts: int) -> None:
+        self.workers, self.parts = workers, parts
+
+    def search(self, wishes: Sequence[Wish], costs: Costs, shut: Shut | None = None) -> list[Found]:
+        """What the router finds, by trip."""
+        parts = parts_of(wishes, self.parts)
+        tasks = [(f"part {at} of a search", search_part, 0, part, costs, shut) for at, part in enumerate(parts, 1)]
+        return sorted((found for part in self.workers.ordered(tasks) for found in part), key=lambda found: found.trip)
+
+    def runs(self, loaded: Loaded, expected: Costs, seeds: Sequence[int]) -> list[Outcome]:
+        """What runs with some seeds show, in the order of the seeds."""
+        tasks = [(f"the run with seed {seed}", watched, 0, loaded.run, loaded.mapping, expected, seed) for seed in seeds]
+        return list(self.workers.ordered(tasks))
+
+
+@contextlib.contextmanager
+def team(ground: Ground, jobs: int, cluster: str | None) -> Iterator[Team]:
+    with machines(jobs, cluster, [ground]) as workers:
+        yield Team(workers, CLUSTER_PARTS if cluster else jobs)
+
+
+def search_part(ground: Ground, wishes: Sequence[Wish], costs: Costs, shut: Shut | None) -> list[Found]:
+    router = Router(ground.graph, costs, shut)
+    return [router.found(wish) for wish in wishes]

@@ -1,0 +1,141 @@
+"""Trips of SUMO's files: where each begins and ends, when, and the way that it has; and routes written back."""
+from __future__ import annotations
+
+from collections.abc import Iterable, Sequence
+from dataclasses import dataclass
+from xml.etree import ElementTree
+from xml.sax.saxutils import quoteattr
+
+from .. import limits
+from ..files import Fault, elements, told, whole_file
+from ..sumo.demand import NOT_DRIVEN, READ, Demand, Vehicle
+from ..sumo.net import SumoNet
+from ..sumo.report import Report
+from ..sumo.types import DEFAULT, TAGS, Types
+from .graph import Graph
+from .router import Path
+
+ENDS = {"from", "to", "fromTaz", "toTaz", "departLane", "departSpeed", "departPos", "arrivalPos", "arrivalSpeed"}
+PERSONS = ("person", "personFlow", "personTrip")
+
+
+@dataclass(slots=True)
+class Trip:
+    """A trip between two edges by number. path: empty where it has none yet; entry: when it came on the road in the last run."""
+
+    name: str
+    depart: float  # seconds
+    origin: int
+    target: int
+    type: str
+    path: Path
+    entry: float
+    changes: bool = True  # whether it may take another way
+
+
+class TripDemand(Demand):
+    """The vehicles of files of trips, flows and routes. One without a route has the edges where it begins and ends alone."""
+
+    def __init__(self, net: SumoNet, types: Types, seed: int, report: Report) -> None:
+        super().__init__(net, types, seed, report)
+        self.without: set[str] = set()  # vehicles without a route
+        self.told_types: list[str] = []  # vehicle types as they stand in the files
+
+    def read(self, path: str) -> None:
+        readers = {"route": self.read_route, "vehicle": self.read_vehicle, "flow": self.read_flow, "trip": self.read_vehicle}
+        for element in elements(path, ["routes", "trips", "additional", "add"]):
+            if element.tag in PERSONS:
+                raise Fault(f"{told(path, element)}: persons are not routed here; take them out, or compute their cars' trips with duarouter")
+            if element.tag in TAGS:
+                self.told_types.append(ElementTree.tostring(element, encoding="unicode").strip())
+                self.types.read(path, element)
+            elif element.tag in readers:
+                readers[element.tag](path, element)
+            elif element.tag in NOT_DRIVEN:
+                self.report.skipped[f"{NOT_DRIVEN[element.tag]}, which streetsim does not have"] += 1
+            else:
+                self.report.ignored[f"<{element.tag}> of route files"] += 1
+
+    def add(self, path: str, element: ElementTree.Element, departures: Sequence[tuple[str, float]]) -> None:
+        count = len(self.vehicles) + len(departures)
+        if 2 * count >= limits.CALLS:
+            most = limits.CALLS // 2
+            raise Fault(f"{path}: {count:,} trips, and a run has calls for fewer than {most:,}, as each takes two")
+        if element.find("route") is not None or element.get("route") is not None:
+            super().add(path, element, departures)
+            return
+        ends = self.ends(path, element)
+        self.report.ignored["stops"] += sum(1 for _ in element.iter("stop"))
+        for name in set(element.keys()) - READ - ENDS:
+            self.report.ignored[f"{name} of {element.tag}s"] += 1
+        for name, depart in departures:
+            self.vehicles.append(Vehicle(name, depart, ends, element.get("type")))
+            self.without.add(name)
+
+    def ends(self, path: str, element: ElementTree.Element) -> tuple[str, str]:
+        """The edges where a trip begins and ends."""
+        if element.get("via"):
+            raise Fault(f"{told(path, element)}: via is not routed here; compute this route with duarouter")
+        if element.find("routeDistribution") is not None:
+            raise Fault(f"{told(path, element)}: a routeDistribution is not read here; let duarouter draw its routes")
+        if element.get("from") is None or element.get("to") is None:
+            taz = " (fromTaz and toTaz name districts: let od2trips or duarouter choose edges)" if element.get("fromTaz") else ""
+            raise Fault(f"{told(path, element)}: a trip needs from and to{taz}")
+        ends = element.get("from", ""), element.get("to", "")
+        if unknown := [name for name in ends if name not in self.net.edges and name not in self.net.dropped]:
+            raise Fault(f"{told(path, element)}: the network has no edge {unknown[0]!r}")
+        return ends
+
+
+@dataclass(slots=True)
+class Trips:
+    """All trips by departure, and the vehicle types of their files."""
+
+    all: list[Trip]
+    types: list[str]
+
+
+def read_trips(paths: Iterable[str], net: SumoNet, graph: Graph, types: Types, options, report: Report) -> Trips:
+    """The trips of files. Those that can not drive are counted in the report, by reason."""
+    demand = TripDemand(net, types, options.seed, report)
+    for path in paths:
+        demand.read(path)
+    found = []
+    for one in demand.finish():
+        if why := reason_against(one, net, options.begin):
+            report.skipped[why] += 1
+            continue
+        path = () if one.name in demand.without else tuple(graph.number[name] for name in one.edges)
+        ends = graph.number[one.edges[0]], graph.number[one.edges[-1]]
+        found.append(Trip(one.name, one.depart, *ends, one.type, path, one.depart))
+    if not found:
+        raise Fault(f"{', '.join(paths)}: no trip that can drive")
+    return Trips(found, demand.told_types)
+
+
+def reason_against(vehicle: Vehicle, net: SumoNet, begin: int) -> str | None:
+    """Why a vehicle can not drive, or none."""
+    if any(edge in net.dropped for edge in vehicle.edges):
+        return "an edge of the trip has no lane for the classes"
+    if vehicle.depart < begin:
+        return "departs before the begin"
+    return f"departs after {limits.CLOCK:,} s" if vehicle.depart > limits.CLOCK else None
+
+
+def vehicles_of(trips: Iterable[Trip], graph: Graph) -> list[Vehicle]:
+    """The trips as vehicles of an import."""
+    return [Vehicle(trip.name, trip.depart, graph.names(trip.path), trip.type) for trip in trips]
+
+
+def write_routes(path: str, trips: Trips, graph: Graph) -> None:
+    """A file of routes, as SUMO and streetsim-import take it."""
+    with whole_file(path) as file:
+        file.write("<routes>\n" + "".join(f"    {one}\n" for one in trips.types))
+        for trip in trips.all:
+            kind = f" type={quoteattr(trip.type)}" if trip.type != DEFAULT else ""
+            edges = quoteattr(" ".join(graph.names(trip.path)))
+            file.write(
+                f'    <vehicle id={quoteattr(trip.name)} depart="{trip.depart:.2f}"{kind} departLane="best">'
+                f"<route edges={edges}/></vehicle>\n"
+            )
+        file.write("</routes>\n")

@@ -1,0 +1,177 @@
+"""A run that is watched: where its vehicles are seen now and then, and what movements took by that."""
+from __future__ import annotations
+
+import resource
+from collections.abc import Sequence
+from dataclasses import dataclass
+from itertools import pairwise
+
+from .. import limits
+from ..client import Client, NoReply, ProgramEnded, Refused, Starved, Vehicle
+from ..files import Fault
+from ..run.budget import MINUTE, SLACK, Asking
+from ..run.freeflow import FreeFlow
+from ..run.mapping import Map
+from ..run.record import Recorder, Records, Settings
+from ..run.running import seeded
+from ..run.runs import Run
+from .costs import Costs, Observed, nothing_observed
+from .graph import END, Graph
+from .passes import Passes, Sight
+
+ASKED = (1, 2, 3, 5, 10, 15, 30, 60)  # minutes from one time at which vehicles are looked for to the next
+CROWDED = 2.0  # vehicles are on their way so much longer than alone on the road
+
+
+@dataclass(frozen=True, slots=True)
+class Ground:
+    """What all runs and searches of a network stand on. program: its path; digest: of its file; width: seconds of a slice."""
+
+    program: str
+    digest: str
+    graph: Graph
+    width: int
+    until: int
+
+    @property
+    def slices(self) -> int:
+        return self.until // self.width + 1
+
+
+@dataclass(slots=True)
+class Outcome:
+    """What a run gave, trip by trip. A trip that has not arrived counts until the end of the run."""
+
+    observed: Observed
+    entries: list[float]  # when each came on the road, or its wished departure
+    ends: list[int | None]  # when each arrived
+    mean: float  # seconds from the wished departure
+    rescues: int
+    calls: int
+    processor: float  # seconds, of the simulator
+
+    @property
+    def arrived(self) -> int:
+        return sum(end is not None for end in self.ends)
+
+
+class Watcher(Recorder):
+    """Runs with rescues until all have arrived, and notes where each vehicle was seen; makes no tables."""
+
+    def __init__(self, sim: Client, run: Run, mapping: Map, until: int) -> None:
+        super().__init__(sim, run, mapping, Settings(until, 0), None, lambda *_: None)
+        driving = FreeFlow(mapping, run.load.command["dawdle"] / 1000).driving
+        self.driving = driving
+        self.scale = [seconds / link.cells for seconds, link in zip(driving, mapping.links, strict=True)]
+        self.seen: list[list[Sight]] = [[] for _ in run.enters]
+        self.most = sim.calls or limits.CALLS
+        self.every, self.by_lane, self.watches = self.way_to_look()
+        self.stood: dict[tuple[int, int], tuple[int, int]] = {}  # (vehicle, link) at whose end it stood at the last look: car, since
+
+    def way_to_look(self) -> tuple[int, bool, int]:
+        """The seconds from one look to the next; whether all lanes are asked for, which is done where the calls allow it each minute,
+        and not all vehicles on their way; and the lanes that may then be watched for rescues each minute."""
+        left, minutes = self.most - self.budget.base(0) - SLACK, self.budget.minutes
+        if minutes * (len(self.places) + 1) <= left:
+            return MINUTE, True, 0
+        driven = sum(self.free_flow(line.command["plan"]) for line in self.run.enters)
+        for often in ASKED:
+            looks = int(CROWDED * driven / (often * MINUTE)) + len(self.run.enters)
+            if looks + minutes <= left:
+                return often * MINUTE, False, (left - looks) // minutes
+        raise Fault(
+            f"{len(self.run.enters):,} vehicles up to {self.settings.until:,} s take more calls than the {self.most:,} of the program: "
+            "take fewer trips, or an earlier --until"
+        )
+
+    def record(self) -> Records:
+        asking = Asking(self.every if self.by_lane else 0, self.by_lane, [], 0)
+        self.budget.asking = lambda most: asking
+        return super().record()
+
+    def look(self, clock: int) -> None:
+        if not self.by_lane and clock % self.every == 0:
+            self.ask_all(clock)
+        super().look(clock)
+        census = self.records.censuses[-1] if self.records.censuses else None
+        if census and census.clock == clock and self.entered == len(self.run.enters):
+            if census.arrived + census.taken == census.admitted:
+                self.settings.until = clock
+
+    def ask_all(self, clock: int) -> None:
+        """Asks all vehicles on their way where they are, and watches the lanes at whose ends some stand at two looks."""
+        under_way = [owner for owner in range(self.entered) if owner not in self.ended]
+        stood, self.stood = self.stood, {}
+        for owner, reply in zip(under_way, self.vehicles(under_way), strict=True):
+            if reply.state == "arrived":
+                self.ended[owner] = reply
+            elif reply.state in ("cell", "buffer"):
+                self.note_vehicle(clock, owner, reply)
+                if reply.state == "buffer" or not reply.speed and reply.cell == self.mapping.links[reply.link].cells - 1:
+                    self.note_standing(clock, owner, reply, stood)
+
+    def note_vehicle(self, clock: int, owner: int, reply: Vehicle) -> None:
+        if reply.state == "cell":
+            self.note(owner, clock, reply.link, reply.cell, reply.speed)
+        else:
+            self.note_at_end(owner, clock, reply.link)
+
+    def note_standing(self, clock: int, owner: int, reply: Vehicle, stood: dict) -> None:
+        key = owner, reply.link
+        self.stood[key] = stood.get(key, (reply.car, clock))
+        if key in stood:
+            self.watched.add((reply.link, reply.lane))
+            self.standing.setdefault((reply.car, reply.link), self.stood[key][1])
+
+    def ask_late(self, clock: int) -> None:
+        """Nothing: whoever stands is seen when all are looked for."""
+
+    def allowance(self, clock: int) -> int:
+        return limits.CALLS if self.by_lane else self.watches
+
+    def note_lanes(self, clock: int, lanes: dict) -> None:
+        for (link, _), reply in lanes.items():
+            for car, cell, speed, *_ in reply.cells:
+                self.note(self.owners[car], clock, link, cell, speed)
+            for car, *_ in reply.buffer:
+                self.note_at_end(self.owners[car], clock, link)
+
+    def note(self, owner: int, clock: int, link: int, cell: int, speed: int) -> None:
+        self.seen[owner].append(Sight(clock, link, (cell + 1) * self.scale[link], speed))
+
+    def note_at_end(self, owner: int, clock: int, link: int) -> None:
+        self.seen[owner].append(Sight(clock, link, self.driving[link], 0))
+
+
+def watched(ground: Ground, run: Run, mapping: Map, expected: Costs, seed: int) -> Outcome:
+    """One run with a seed, and what it showed. expected: costs by which what was lost between two sights is dealt out."""
+    run, before = seeded(run, seed), resource.getrusage(resource.RUSAGE_CHILDREN)
+    try:
+        with Client(ground.program) as sim:
+            watcher = Watcher(sim, run, mapping, ground.until)
+            records = watcher.record()
+    except (Refused, Starved, NoReply, ProgramEnded) as fault:
+        raise Fault(f"a run with seed {seed}: {fault}") from None
+    after = resource.getrusage(resource.RUSAGE_CHILDREN)
+    passes = Passes(ground.graph, mapping, expected, run.load.command["dawdle"] / 1000, watcher.every)
+    spent = after.ru_utime + after.ru_stime - before.ru_utime - before.ru_stime
+    return outcome_of(ground, run, passes, watcher.seen, records, spent)
+
+
+def outcome_of(ground: Ground, run: Run, passes: Passes, seen: Sequence[Sequence[Sight]], records: Records, spent: float) -> Outcome:
+    observed = nothing_observed(len(ground.graph.movements), ground.slices)
+    entries, ends, total = [], [], 0
+    for line, sights, last in zip(run.enters, seen, records.ends, strict=True):
+        plan, depart = line.command["plan"], line.command["depart"]
+        end = arrival_of(last)
+        clocks = passes.clocks(plan, depart, sights, end)
+        entries.append(clocks[0] if clocks else float(depart))
+        ends.append(end)
+        total += (ground.until if end is None else end) - depart
+        for place, (since, until) in enumerate(pairwise([*clocks, float(ground.until if end is None else end)] if clocks else [])):
+            observed.add(passes.movement(plan, place), int(since // ground.width), until - since)
+    return Outcome(observed, entries, ends, total / len(run.enters), records.rescues.total(), records.calls, spent)
+
+
+def arrival_of(last: Vehicle | None) -> int | None:
+    return last.step + 1 if last is not None and last.state == "arrived" else None

@@ -1,0 +1,1 @@
+"""A run: its lines, what is recorded of it, its folder of tables."""

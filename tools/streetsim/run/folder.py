@@ -1,0 +1,78 @@
+"""A folder that streetsim-run wrote, read back."""
+import json
+import os
+from dataclasses import asdict, dataclass, field
+
+from ..files import Fault, open_text, read_json, reading, whole_file
+from . import tables
+from .mapping import Map, map_from
+
+NAME = "setting.json"
+
+
+@dataclass(slots=True)
+class Folder:
+    path: str
+    mapping: Map
+    signals: list  # commands with the clock at which each was sent: [clock, command]
+    dawdle: int
+    every: int
+    period: int
+    made: dict = field(default_factory=dict)  # of what the folder was made: run, seed, start, until, rescue, program
+    doubts: list = field(default_factory=list)  # why the run is not to be trusted
+
+    def trips(self):
+        return tables.read_table(f"{self.path}/trips.csv", tables.TRIPS)
+
+    def counts(self):
+        return tables.read_table(f"{self.path}/counts.csv", tables.COUNTS)
+
+    def edges(self):
+        return tables.read_table(f"{self.path}/edges.csv", tables.EDGES)
+
+    def queues(self):
+        return tables.read_table(f"{self.path}/queues.csv", tables.QUEUES)
+
+    def polls(self):
+        """What stood on the lanes at each poll: {"clock", "lanes": [link, lane, [[car, cell, speed], ..], [cars in the
+        buffer], closed stretches]}; the size of a car stands after its speed where it is above 1."""
+        path = f"{self.path}/lanes.jsonl.gz"
+        with reading(path), open_text(path) as file:
+            yield from map(json.loads, file)
+
+    def links_along(self, edges):
+        """The links of each edge of a path."""
+        for edge in edges:
+            if edge not in self.mapping.links_of:
+                raise Fault(f"{self.path}: the map has no edge {edge!r}")
+        return [self.mapping.links_of[edge] for edge in edges]
+
+
+def write_setting(path, mapping, run, settings, every, yielding, doubts=(), program_sum=None):
+    """run: without the signals by which its vehicles give way; yielding: rounds.Yielding; doubts: why the run is not to be
+    trusted, empty where there is no reason; program_sum: the SHA-256 of the program."""
+    made = {"run": os.path.basename(run.path), "seed": run.load.command.get("seed", 0), "start": run.start()}
+    made.update(until=settings.until, rescue=settings.rescue, vehicles=len(run.enters), program=program_sum)
+    signals = [[run.start(), line.command] for line in run.first if line.command["cmd"] == "signal"]
+    signals += [[clock, line.command] for clock, line in run.timed if line.command["cmd"] == "signal"]
+    with whole_file(f"{path}/{NAME}") as file:
+        json.dump(
+            {
+                "map": mapping.written(),
+                "signals": signals,
+                "dawdle": run.load.command["dawdle"],
+                "every": every,
+                "period": settings.period,
+                "yielding": asdict(yielding),
+                "not_trusted": list(doubts),
+                "made": made,
+            },
+            file,
+            separators=(",", ":"),
+        )
+
+
+def read_folder(path):
+    value = read_json(f"{path}/{NAME}", ("map", "signals", "dawdle", "every", "period"))
+    kept = (value[key] for key in ("signals", "dawdle", "every", "period"))
+    return Folder(path, map_from(path, value["map"]), *kept, value.get("made", {}), value.get("not_trusted", []))

@@ -1,0 +1,124 @@
+"""Signals that are green in the gaps between vehicles that go first, where there is no light."""
+from bisect import bisect_left, bisect_right
+from collections import defaultdict
+from itertools import accumulate, groupby
+
+from .. import limits
+from .runs import Line
+
+AFTER = 1  # seconds after one that goes first until the next may go
+AROUND = 300  # seconds before and after, in which those that go first are counted
+SHOWN, HIDDEN = 3, 2  # seconds in turn, where those that use a gap follow each other slowly
+CLOSE = 15  # seconds between two of them that may use one gap, and before and after them for what differs from run to run
+PATIENCE = 150  # seconds without a gap; then one goes
+TAIL = 30  # seconds after the last vehicle
+
+
+def gap_lines(mapping, passed, start):
+    """Signal lines for the nodes where vehicles give way, (clock, line), by when others pass, {(link, lane): [(second, next
+    link)]}."""
+    end = int(max((second for each in passed.values() for second, _ in each), default=start)) + TAIL
+    times = defaultdict(list)
+    for (link, lane), each in passed.items():
+        for second, following in each:
+            times[link, lane, following].append(second)
+    turns_at, groups_at = defaultdict(list), defaultdict(list)
+    for turn in mapping.turns:
+        turns_at[mapping.links[turn.link].end].append((turn.link, turn.lane, turn.next))
+    for one in mapping.yields:
+        red = red_seconds(one, times, start, end)
+        if red is not None:
+            groups_at[one.node].append((one.turns, red))
+    found = [pair for node, groups in groups_at.items() for pair in node_lines(node, turns_at[node], groups, start)]
+    return sorted(found, key=lambda pair: (pair[0], pair[1].command["node"]))
+
+
+def node_lines(node, turns, groups, start):
+    """The signal lines of a node, (clock, line); groups: of turns that give way, and for each second whether they are red.
+    Others are always green, and all are in the end."""
+    waits = {turn for each, _ in groups for turn in each}
+    always = [turn for turn in turns if turn not in waits]
+
+    def green(state):
+        """The turns that are green, as they stand in a line."""
+        shown = [turn for (each, _), hidden in zip(groups, state, strict=True) if not hidden for turn in each]
+        return ",".join(f"[{link},{lane},{following}]" for link, lane, following in sorted([*always, *shown]))
+
+    phases = [*phases_of([red for _, red in groups]), (limits.PHASE_STEPS, (0,) * len(groups))]
+    shown = {state: green(state) for state in {state for _, state in phases}}
+    begins = list(accumulate((length for length, _ in phases), initial=start))
+    for first in range(0, len(phases), limits.PHASES):
+        part, clock = phases[first : first + limits.PHASES], begins[first]
+        listed = ",".join(f"[{length},[{shown[state]}]]" for length, state in part)
+        offset = -clock % sum(length for length, _ in part)
+        text = f'{{"cmd":"signal","node":{node},"offset":{offset},"phases":[{listed}]}}'
+        yield clock, Line(0, text, {"cmd": "signal", "node": node})
+
+
+def phases_of(reds):
+    """The runs of seconds in which the same groups are red, (seconds, red or not by group)."""
+    made = []
+    for state, run in groupby(zip(*reds, strict=True)):
+        length = sum(1 for _ in run)
+        while length:
+            made.append((min(limits.PHASE_STEPS, length), state))
+            length -= made[-1][0]
+    return made
+
+
+def red_seconds(waiting, times, start, end):
+    """For each second from the start whether turns are red, as somebody comes who goes first; none where nobody does."""
+    comes = [(second, foe) for foe in waiting.foes for second in times.get((foe.link, foe.lane, foe.next), ())]
+    comes.sort(key=lambda one: one[0])
+    if not comes:
+        return None
+    seconds = [second for second, _ in comes]
+    red, owed = bytearray(end - start), 0.5
+    for second, foe in comes:
+        around = bisect_right(seconds, second + AROUND) - bisect_left(seconds, second - AROUND)
+        length = foe.gap.before(around * 3600 / (2 * AROUND)) + AFTER + owed
+        owed = length % 1
+        last = round(second) + AFTER - start
+        close(red, last - int(length), last)
+    if any(foe.slow for _, foe in comes):
+        for first, last in followings(sorted(second for turn in waiting.turns for second in times.get(turn, ()))):
+            slow_down(red, int(first) - start, int(last) - start)
+    be_patient(red)
+    return red
+
+
+def close(red, first, last):
+    """Makes seconds red, as far as there are such."""
+    first, last = max(0, first), min(len(red), last)
+    red[first:last] = b"\1" * (last - first)
+
+
+def followings(seconds):
+    """When vehicles follow each other closely, of when they pass, which rises: (first second, last second), some more
+    before and after."""
+    first = 0
+    for at in range(1, len(seconds) + 1):
+        if at == len(seconds) or seconds[at] - seconds[at - 1] > CLOSE:
+            if at - first > 1:
+                yield seconds[first] - CLOSE, seconds[at - 1] + CLOSE
+            first = at
+
+
+def slow_down(red, first, last):
+    """Hides some of each gap between two seconds, so that not more use it than can."""
+    at = red.find(0, max(0, first), max(0, last))
+    while at >= 0:
+        close(red, at + SHOWN, at + SHOWN + HIDDEN)
+        at = red.find(0, at + SHOWN + HIDDEN, last)
+
+
+def be_patient(red):
+    """Lets one go after a long time without a gap."""
+    at = red.find(1)
+    while at >= 0:
+        end = red.find(0, at)
+        if (len(red) if end < 0 else end) - at < PATIENCE:
+            at = red.find(1, end) if end >= 0 else -1
+        else:
+            red[at + PATIENCE - 1] = 0
+            at = red.find(1, at + PATIENCE)

@@ -1,0 +1,135 @@
+"""The map file: which SUMO names the numbers of a run stand for."""
+from dataclasses import asdict, dataclass, field
+
+from .. import limits
+from ..files import Fault, read_json
+from ..sumo.conflicts import waiting_of
+from .detectors import Detector
+
+KEYS = ("nodes", "links", "turns", "signals", "cars", "options", "warnings")
+
+
+@dataclass(slots=True, frozen=True)
+class MapLink:
+    edge: str
+    lanes: tuple  # SUMO's lane indexes
+    begin: int  # nodes
+    end: int
+    cells: int
+    limit: int  # cells a step
+    metres: float
+    shape: tuple  # of (x, y)
+
+    def cells_between(self, begin, end):
+        """The first and the last cell from one place to another, in metres."""
+        size = self.metres / self.cells
+        first = min(self.cells - 1, max(0, int(begin / size)))
+        return first, min(self.cells - 1, max(first, round(end / size) - 1))
+
+
+    def closed_between(self, begin, end):
+        """The cells that works close from one place to another, in metres. Where there is a lane beside, the first cells
+        stay open as far as the works allow: turns lead to this lane, and who comes by one leaves it there."""
+        first, last = self.cells_between(begin, end)
+        return (max(first, min(limits.SIZE, last)), last) if len(self.lanes) > 1 else (first, last)
+
+
+@dataclass(slots=True, frozen=True)
+class MapTurn:
+    link: int
+    lane: int
+    next: int
+    next_lane: int
+    light: str | None
+    index: int  # in the light's state
+    added: bool  # not SUMO's
+    speed: float = 13.9  # metres a second, inside the junction if that is known
+    limit: int = 2  # of its link, cells a step
+
+
+@dataclass(slots=True)
+class Map:
+    nodes: list  # [junction, x, y, residence]
+    links: list
+    turns: list
+    signals: list  # [light, node]
+    cars: list  # SUMO's vehicle names, by number
+    options: dict
+    warnings: list
+    detectors: list = field(default_factory=list)  # of additional files
+    yields: list = field(default_factory=list)  # who gives way without a light: Waiting
+    links_of: dict = field(default_factory=dict)  # edge: links
+    sources: dict = field(default_factory=dict)  # the files of the import, as sumo.sources keeps them
+
+    def __post_init__(self):
+        for number, link in enumerate(self.links):
+            self.links_of.setdefault(link.edge, []).append(number)
+
+    def lane_name(self, link, lane):
+        """SUMO's name of a lane: edge_index."""
+        return f"{self.links[link].edge}_{self.links[link].lanes[lane]}"
+
+    def place_of(self, name):
+        """The (link, lane) of a lane that goes by SUMO's name, or none."""
+        return next((place for place in self.lanes() if self.lane_name(*place) == name), None)
+
+    def lanes(self):
+        """All (link, lane)."""
+        return [(number, lane) for number, link in enumerate(self.links) for lane in range(len(link.lanes))]
+
+    def written(self):
+        """The file's content."""
+        return {
+            "nodes": self.nodes,
+            "links": [list(asdict(link).values()) for link in self.links],
+            "turns": [list(asdict(turn).values()) for turn in self.turns],
+            "signals": self.signals,
+            "cars": self.cars,
+            "options": self.options,
+            "warnings": self.warnings,
+            "yields": [one.written() for one in self.yields],
+            "detectors": [list(asdict(detector).values()) for detector in self.detectors],
+            "sources": self.sources,
+        }
+
+
+def map_of(network, lights, names, report):
+    """The map of an import."""
+    options = asdict(network.options)
+    return Map(
+        nodes=[
+            [name, *place, residence]
+            for name, place, residence in zip(network.nodes, network.places, network.residences, strict=True)
+        ],
+        links=[
+            MapLink(link.edge, link.lanes, link.begin, link.end, link.cells, link.limit, link.metres, tuple(link.shape))
+            for link in network.links
+        ],
+        turns=[
+            MapTurn(
+                link, lane, following, turn.next_lane, turn.light, turn.index, turn.added, turn.speed, turn.limit
+            )
+            for (link, lane, following), turn in network.turns.items()
+        ],
+        signals=lights,
+        cars=names,
+        options=options,
+        warnings=list(report.lines()),
+        yields=network.yields,
+    )
+
+
+def read_map(path):
+    return map_from(path, read_json(path, KEYS))
+
+
+def map_from(path, value):
+    """The map of a file's content."""
+    try:
+        detectors = [Detector(*detector) for detector in value.get("detectors", ())]
+        links, turns = [MapLink(*link) for link in value["links"]], [MapTurn(*turn) for turn in value["turns"]]
+        more = {"detectors": detectors, "yields": waiting_of(value.get("yields", ()))}
+        more |= {"sources": value.get("sources", {}), **{key: value[key] for key in KEYS if key not in ("links", "turns")}}
+        return Map(links=links, turns=turns, **more)
+    except (KeyError, TypeError, ValueError) as fault:
+        raise Fault(f"{path}: not a map that streetsim-import wrote: {fault}") from None

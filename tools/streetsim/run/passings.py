@@ -1,0 +1,77 @@
+"""When vehicles pass stop lines, by where polls of the lanes see them."""
+from collections import defaultdict
+from dataclasses import dataclass
+
+
+@dataclass(slots=True)
+class Sight:
+    """Where a vehicle was seen last."""
+
+    place: int  # in its plan
+    clock: int
+    lane: int
+    cell: int
+    left: bool  # whether it was past the stop line, in the buffer
+
+
+class Passings:
+    """{(link, lane): [(second, next link)]}. Between two polls vehicles are taken to have come from where the second one sees
+    them at the speed of the free road."""
+
+    def __init__(self, mapping, enters, dawdle):
+        self.links = mapping.links
+        self.plans = [line.command["plan"] for line in enters]
+        self.speeds = [link.limit - dawdle / 1000 for link in mapping.links]
+        self.stays = [node[3] for node in mapping.nodes]
+        self.seen = [Sight(0, line.command["depart"], line.command.get("lane", 0), 0, False) for line in enters]
+        self.found = defaultdict(list)
+
+    def note(self, car, clock, link, lane, cell, left=False):
+        """A vehicle is seen at a cell of a lane, or in its buffer."""
+        plan, before = self.plans[car], self.seen[car]
+        place = before.place
+        while place < len(plan) and plan[place] != link:
+            place += 1
+        if place == len(plan):
+            return
+        now = self.seen[car] = Sight(place, clock, lane, cell, left)
+        if (place, left) != (before.place, before.left):
+            self.between(plan, before, now)
+
+    def arrived(self, car, clock):
+        """A vehicle has come to the end of its plan."""
+        last = self.plans[car][-1]
+        self.note(car, clock, last, 0, self.links[last].cells)
+
+    def between(self, plan, before, now):
+        """Notes the stop lines between two sights: of the links from the first one on, and of the last if it is left."""
+        first = self.links[plan[before.place]]
+        usual = before.clock + max(0, first.cells - before.cell) / self.speeds[plan[before.place]]
+        second = now.clock - (0 if now.left else now.cell / self.speeds[plan[now.place]])
+        if now.left:
+            second = self.left(plan, before, now, usual)
+        for at in range(now.place - 1, before.place - 1, -1):
+            second -= self.stay(plan[at])
+            if at > before.place:
+                self.add(plan, at, 0, max(second, before.clock))
+            elif not before.left:
+                self.add(plan, at, before.lane, max(second, min(usual, now.clock)))
+            second -= self.driving(plan[at])
+
+    def left(self, plan, before, now, usual):
+        """Notes the stop line of the link in whose buffer a vehicle is; gives when it came to that link."""
+        if now.place == before.place:
+            self.add(plan, now.place, before.lane, min(now.clock, max(usual, now.clock - self.stay(plan[now.place]))))
+            return now.clock
+        self.add(plan, now.place, 0, now.clock)
+        return now.clock - self.driving(plan[now.place])
+
+    def stay(self, link):
+        return self.stays[self.links[link].end]
+
+    def driving(self, link):
+        return self.links[link].cells / self.speeds[link]
+
+    def add(self, plan, place, lane, second):
+        if place + 1 < len(plan):
+            self.found[plan[place], lane].append((second, plan[place + 1]))

@@ -1,0 +1,147 @@
+"""Giving way without a light, by rounds: a run is made, it is read from it when vehicles pass their stop lines, and the next run
+has signals that are green in the gaps between those who go first. As who waits changes who comes when, this is repeated."""
+from collections import Counter
+from dataclasses import dataclass, replace
+from itertools import pairwise
+from operator import itemgetter
+
+from .. import limits
+from ..files import Fault
+from .budget import INTERVALS, MINUTE, Asking, Budget
+from .gaps import gap_lines
+from .passings import Passings
+from .record import Recorder, Settings
+
+COARSEST = 120  # seconds between polls: with longer ones passings are not known well enough
+
+
+@dataclass(slots=True)
+class Yielding:
+    """How vehicles give way without a light in a run."""
+
+    rounds: int = 0  # that were made for it
+    junctions: int = 0
+    lines: int = 0  # signals that were sent
+    every: int = 0  # seconds between the polls of the rounds
+    why_not: str = ""  # nobody gives way
+
+    def told(self):
+        """What there is to say, or nothing."""
+        if self.why_not:
+            return f"nobody gives way without a light: {self.why_not}"
+        if not self.lines:
+            return ""
+        return f"{self.junctions:,} junctions without a light give way by {self.lines:,} signal lines"
+
+
+class Round(Recorder):
+    """A run that is watched for who passes which stop line when; it ends when all have arrived."""
+
+    def __init__(self, sim, run, mapping, settings, places, tell):
+        super().__init__(sim, run, mapping, settings, None, tell)
+        self.polled, self.most = places, sim.calls if settings.calls is None else settings.calls
+        self.passings = Passings(mapping, run.enters, run.load.command.get("dawdle", 0))
+
+    def record(self):
+        """Makes the round; gives when vehicles passed."""
+        self.begin(self.asking())
+        self.watched = set(self.places) if self.settings.rescue and self.records.asking.all_watched else set()
+        clock, every = self.start, self.records.asking.every
+        while clock < self.settings.until and not self.is_over():
+            self.send_timed(clock)
+            clock = self.advance(clock, min((clock // step + 1) * step for step in (MINUTE, every)))
+            self.look(clock)
+            self.tell(clock, self.records.censuses[-1] if self.records.censuses else None)
+        self.find_ends()
+        for owner, end in self.ended.items():
+            if end.state == "arrived":
+                self.passings.arrived(owner, end.step)
+        return self.passings.found
+
+    def asking(self):
+        """The most frequent polls for which there are calls."""
+        self.budget = Budget(self.run, self.settings, self.places, self.polled, ())
+        return asking_of(self.budget, self.most)
+
+    def is_over(self):
+        """Whether all have entered and ended."""
+        last = self.records.censuses[-1] if self.records.censuses else None
+        return self.entered == len(self.run.enters) and last is not None and last.admitted == last.arrived + last.taken
+
+    def measure(self, clock, lanes, sampled, ended):
+        """Nothing is measured."""
+
+    def note_lanes(self, clock, lanes):
+        owners, note = self.owners, self.passings.note
+        for (link, lane), reply in lanes.items():
+            for car, cell, *_ in reply.cells:
+                note(owners[car], clock, link, lane, cell)
+            for car, *_ in reply.buffer:
+                note(owners[car], clock, link, lane, self.mapping.links[link].cells, True)
+
+
+def asking_of(budget, most):
+    """The most frequent polls of a round that fit in so many calls (0: any number)."""
+    for every in INTERVALS:
+        for watched in (True, False):
+            needed = budget.base(0) + budget.polls(every) + budget.watching(watched)
+            if 0 < every <= COARSEST and (not most or needed <= most):
+                return Asking(every, watched, [], 0, needed=needed)
+    raise Fault(f"its rounds need more than the {most:,} calls that the program takes")
+
+
+def giving_way(run, mapping, settings, rounds, serving, tell):
+    """The run with signals by which its vehicles give way without a light, and what they are. `serving` starts the program,
+    `tell` gets the clock and the last census."""
+    if not rounds or not mapping.yields:
+        return run, Yielding()
+    places = places_of(mapping)
+    asked = Settings(settings.until, rescue=settings.rescue, calls=settings.calls)
+    made, yielding, count = run, Yielding(rounds), expected_lines(run, mapping)
+    try:
+        for _ in range(rounds):
+            with serving() as sim:
+                one = Round(sim, made, mapping, asked, places, tell)
+                refuse_too_many(run, count, settings, mapping, one.most)
+                lines = gap_lines(mapping, one.record(), run.start())
+            yielding.every = one.records.asking.every
+            made, count = with_lines(run, lines), len(lines)
+        refuse_too_many(run, count, settings, mapping, one.most)
+    except Fault as fault:
+        return run, Yielding(why_not=str(fault))
+    yielding.lines, yielding.junctions = count, len({line.command["node"] for _, line in lines})
+    return made, yielding
+
+
+def places_of(mapping):
+    """The lanes on which those are seen who go first, and those who give way to them slowly, before and after the stop line."""
+    links = {link for one in mapping.yields for foe in one.foes for link in (foe.link, foe.next)}
+    slow = (turn for one in mapping.yields for turn in one.turns if any(foe.slow for foe in one.foes))
+    links.update(link for begin, _, end in slow for link in (begin, end))
+    return [place for place in mapping.lanes() if place[0] in links]
+
+
+def with_lines(run, lines):
+    """The run with more timed lines."""
+    start = run.start()
+    first = [*run.first, *(line for clock, line in lines if clock == start)]
+    timed = sorted([*run.timed, *(pair for pair in lines if pair[0] > start)], key=itemgetter(0))
+    return replace(run, first=first, timed=timed)
+
+
+def expected_lines(run, mapping):
+    """About as many lines as there will be, of the plans alone: a phase begins and one ends for each vehicle that goes first,
+    of which half are seen together with another one."""
+    passing = Counter(pair for line in run.enters for pair in pairwise(line.command["plan"]))
+    phases = Counter()
+    for one in mapping.yields:
+        phases[one.node] += sum(passing[pair] for pair in {(foe.link, foe.next) for foe in one.foes})
+    return sum(1 + count // limits.PHASES for count in phases.values())
+
+
+def refuse_too_many(run, lines, settings, mapping, most):
+    """Refuses signal lines that leave a run too few calls: each takes two."""
+    budget = Budget(run, settings, mapping.lanes(), (), mapping.detectors)
+    needed = budget.base(min(limits.METERS, len(mapping.lanes()))) + 2 * lines
+    if most and needed > most:
+        raise Fault(f"the run needs some {needed:,} calls with the signals for it, and the program takes {most:,}")

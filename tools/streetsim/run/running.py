@@ -1,0 +1,316 @@
+"""streetsim-run: runs a file and writes its tables."""
+import contextlib
+import json
+import os
+import sys
+import time
+from dataclasses import replace
+from functools import partial
+from statistics import fmean
+
+from .. import limits, program
+from ..cli.words import Parser, listed, time_within, within
+from ..client import Client, NoReply, ProgramEnded, Refused, Starved
+from ..files import Fault, whole_file, whole_folder
+from ..junctions.reporting import write_junctions
+from ..outputs.watching import watch
+from ..outputs.writing import KINDS, kinds_of, write_outputs
+from ..study.jobs import CORES, side_by_side
+from ..study.seeds import seeds_of
+from ..study.sessions import digest_of
+from . import tables, trust
+from .budget import INTERVALS, Budget
+from .detectors import area_rows, loop_rows
+from .folder import NAME, write_setting
+from .mapping import read_map
+from .record import Recorder, Repeater, Settings
+from .rounds import giving_way
+from .runs import read_run
+from .works import with_works, works_of
+
+
+def parser():
+    made = Parser(
+        prog="streetsim-run",
+        description="Runs a file that streetsim-import made, and writes counts, trips, queues, a summary "
+        "and what stood on the lanes.",
+    )
+    made.add_argument("run", help="the run (.jsonl)")
+    made.add_argument("--map", required=True, help="its map of names (.json)")
+    made.add_argument("--until", required=True, type=time_within(1, limits.CLOCK), metavar="S", help="the clock at the end")
+    made.add_argument(
+        "--every",
+        type=time_within(0, limits.CLOCK),
+        metavar="S",
+        help="seconds between polls of the lanes; 0: never (default: 10, or more where the calls do not allow that)",
+    )
+    made.add_argument(
+        "--period",
+        type=time_within(1, limits.PERIOD),
+        default=900,
+        metavar="S",
+        help="seconds of a count (default %(default)s)",
+    )
+    made.add_argument("--edges", default="", help="edges whose lanes are polled, with spaces or commas between (default: all)")
+    made.add_argument(
+        "--rescue",
+        type=time_within(0, limits.CLOCK),
+        default=300,
+        metavar="S",
+        help="take out who stood so long at a stop line and enter it on the next link; 0: never (default %(default)s)",
+    )
+    made.add_argument(
+        "--counted",
+        choices=["all", "busiest"],
+        default="all",
+        help=f"all: where a run has more than {limits.METERS:,} lanes, further runs repeat it to count the others; busiest: "
+        "the lanes on most plans alone",
+    )
+    made.add_argument(
+        "--calls", type=within(1, limits.CALLS), metavar="N", help="take at most so many calls of the program (default: all)"
+    )
+    made.add_argument(
+        "--seeds", metavar="FIRST-LAST", help="run each of these seeds, side by side, into folders of their own"
+    )
+    made.add_argument(
+        "--jobs", type=within(1, 1024), default=CORES, help="runs side by side (default: one for each core, %(default)s)"
+    )
+    made.add_argument(
+        "--close",
+        action="append",
+        default=[],
+        metavar="LANE:METRES-METRES:S-S",
+        help="road works: close a lane (edge_index) between two places, from one second to another; may be repeated",
+    )
+    made.add_argument(
+        "--joint",
+        default="",
+        metavar="NAMES",
+        help="edges or lanes, with commas between, that are joint as if they had road works, for a run to compare with",
+    )
+    made.add_argument(
+        "--sumo-output",
+        type=kinds_of,
+        default=(),
+        metavar="KINDS",
+        help=f"also write SUMO's own output files into DIR/sumo: of {','.join(KINDS)}",
+    )
+    made.add_argument(
+        "--rounds",
+        type=within(0, 10),
+        default=2,
+        metavar="N",
+        help="runs before the one that counts, by which those who give way without a light find gaps (default %(default)s; "
+        "0: nobody gives way)",
+    )
+    made.add_argument(
+        "--junctions",
+        nargs="?",
+        type=within(60, limits.CLOCK),
+        const=0,
+        metavar="S",
+        help="also write delay, level of service, queues and v/c of movements, approaches and junctions, by intervals of so "
+        "many seconds (default: --period)",
+    )
+    made.add_argument("--out", required=True, metavar="DIR", help="the folder to write to")
+    made.add_argument("--program", help=program.HELP)
+    made.add_argument("--workers", type=within(1, 64), default=1, help="of the simulator (default %(default)s)")
+    return made
+
+
+class Progress:
+    """A line on a terminal: clock, vehicles on their way, arrived, steps a second. Nothing elsewhere."""
+
+    def __init__(self, until, runs=1):
+        self.until, self.shown, self.begin, self.last = until, sys.stderr.isatty(), time.monotonic(), 0.0
+        self.clocks, self.ways, self.arrived = [0] * runs, [0] * runs, [0] * runs
+
+    def show(self, clock, census, run=0):
+        """Notes how far a run is, and shows the line at most five times a second."""
+        if not self.shown or census is None:
+            return
+        self.clocks[run], self.ways[run], self.arrived[run] = clock, census.cells + census.buffers, census.arrived
+        now, ended = time.monotonic(), min(self.clocks) >= self.until
+        if now - self.last < 0.2 and not ended:
+            return
+        self.last = now
+        print(f"\r{self.line(now)} ", end="\n" if ended else "", file=sys.stderr, flush=True)
+
+    def line(self, now):
+        done, runs = sum(self.clocks), len(self.clocks)
+        bar = "#" * (30 * done // (self.until * runs))
+        over = sum(clock >= self.until for clock in self.clocks)
+        place = f"{self.clocks[0]:,} s" if runs == 1 else f"{over} of {runs} runs done"
+        return (
+            f"[{bar:30}] {place}, {sum(self.ways):,} on their way, {sum(self.arrived):,} arrived, "
+            f"{done / max(0.001, now - self.begin):,.0f} steps/s"
+        )
+
+
+def main(arguments):
+    words = parser().parse_args(arguments)
+    run, mapping = read_run(words.run), read_map(words.map)
+    if not fits(run, mapping):
+        raise Fault(f"{words.map}: not the map of {words.run}, whose links are other ones")
+    asked = (words.until, words.every, words.period, words.rescue, tuple(listed(words.edges)), words.calls)
+    settings = Settings(*asked, words.counted == "all")
+    unknown = [edge for edge in settings.edges if edge not in mapping.links_of]
+    if unknown:
+        raise Fault(f"--edges: the map has no edge {unknown[0]!r}")
+    for kind in {"e1", "e2"} & set(words.sumo_output):
+        if not any(one.kind == kind for one in mapping.detectors):
+            raise Fault(f"--sumo-output {kind}: the map has no such detector")
+    works = [works_of(text, mapping) for text in words.close]
+    if late := [one.text for one in works if one.first >= words.until]:
+        raise Fault(f"--close {late[0]!r}: begins after --until {words.until}")
+    run, mapping, told = with_works(run, mapping, words.map, works, listed(words.joint))
+    print(*told, sep="\n", end="\n" if told else "", file=sys.stderr)
+    if words.until <= run.start():
+        raise Fault(f"--until {words.until}: the run starts at {run.start()}")
+    words.program = program.find_program(words.program)
+    if words.seeds:
+        return run_seeds(words, run, mapping, settings)
+    shown = Progress(words.until)
+    with whole_folder(words.out, NAME) as folder:
+        figures = one_run(words, run, mapping, settings, folder, shown.show, words.jobs)
+    report(figures, "")
+    return 0
+
+
+def fits(run, mapping):
+    """Whether a run loads the links of a map."""
+    links = [
+        [at, link.begin, link.end, len(link.lanes), link.cells, link.limit] for at, link in enumerate(mapping.links)
+    ]
+    return run.load.command.get("links") == links
+
+
+def one_run(words, run, mapping, settings, folder, tell, jobs):
+    """One run into a folder that is there; gives its figures. `tell` gets the clock and the last census."""
+    given, (run, yielding) = run, giving_way(run, mapping, settings, words.rounds, partial(serving, words), tell)
+    with whole_file(f"{folder}/lanes.jsonl.gz") as lanes_file, serving(words) as sim:
+        records = Recorder(sim, run, mapping, settings, lanes_file, tell, mapping.detectors).record()
+    count_further(words, run, mapping, settings, records, jobs)
+    trips = list(tables.trips(records, run, mapping))
+    if words.sumo_output:
+        with_sumo_outputs(words, run, mapping, settings, records, trips, folder, jobs)
+    told = list(notes(records, settings))
+    if words.junctions is not None:
+        interval = words.junctions or settings.period
+        told += write_junctions(partial(serving, words), run, mapping, settings, records, folder, jobs, interval)
+    tables.write_table(f"{folder}/counts.csv", tables.COUNTS, tables.counts(records, mapping))
+    tables.write_table(f"{folder}/trips.csv", tables.TRIPS, trips)
+    tables.write_table(f"{folder}/edges.csv", tables.EDGES, tables.edges(records, mapping))
+    tables.write_table(f"{folder}/detectors.csv", tables.LOOPS, loop_rows(records, mapping.detectors))
+    tables.write_table(f"{folder}/areas.csv", tables.AREAS, area_rows(records, mapping.detectors, settings.until))
+    tables.write_table(f"{folder}/queues.csv", tables.QUEUES, tables.queues(records, mapping))
+    tables.write_table(f"{folder}/summary.csv", tables.SUMMARY, tables.summary(records))
+    made, rescues = trust.trips_at(records.clock, run.start(), trips), records.rescues.total()
+    doubts = trust.doubts(made, rescues, records.censuses, run, mapping)
+    program_sum = digest_of(words.program)
+    write_setting(folder, mapping, given, settings, records.asking.every, yielding, doubts, program_sum)
+    return {
+        "vehicles": made.vehicles,
+        "arrived": len(made.durations),
+        "mean_trip_s": fmean(made.durations) if made.durations else None,
+        "rescues": rescues,
+        "notes": told,
+        "told": ", ".join(filter(None, (made.told(), f"{rescues:,} rescues", yielding.told()))),
+        "doubts": doubts,
+    }
+
+
+def with_sumo_outputs(words, run, mapping, settings, records, trips, folder, jobs):
+    """Writes SUMO's output files, of looks at all lanes in every second."""
+    os.mkdir(f"{folder}/sumo")
+    paths = {kind: f"{folder}/sumo/{kind}.xml" for kind in words.sumo_output}
+    rows = [dict(zip(tables.TRIPS, trip, strict=True)) for trip in trips]
+    start, dawdle = run.start(), run.load.command["dawdle"] / 1000
+    clocks, lanes = range(start + 1, settings.until + 1), mapping.lanes()
+    frames = watch(partial(serving, words), run, mapping, settings, records.rescued, clocks, lanes, folder, jobs)
+    write_outputs(paths, mapping, rows, frames, dawdle, settings.period, start)
+
+
+def report(figures, name):
+    """Prints what a run gave."""
+    for told in figures["notes"]:
+        print(f"{name}{told}", file=sys.stderr)
+    print(f"{name}{figures['told']}")
+    if figures["doubts"]:
+        print(f"{name}{trust.verdict(figures['doubts'])}")
+
+
+@contextlib.contextmanager
+def serving(words):
+    """The program of a run; what it refuses is a Fault."""
+    try:
+        with Client(words.program, words.workers) as sim:
+            yield sim
+    except (Refused, Starved, NoReply, ProgramEnded) as fault:
+        raise Fault(f"{words.run}: {fault}") from None
+
+
+def count_further(words, run, mapping, settings, first, jobs):
+    """Counts the lanes that the first run has no detectors for, by runs that repeat it; adds to its records."""
+
+    def repeat(lanes, _tell):
+        with serving(words) as sim:
+            repeater = Repeater(sim, run, mapping, settings)
+            asking = Budget(run, settings, lanes, (), ()).repeated(lanes, len(first.rescued), settings.calls or sim.calls)
+            return repeater.record(first, asking, lambda clock: None)
+
+    for records in side_by_side(repeat, first.asking.further, jobs):
+        first.counts.update(records.counts)
+        first.edgedata.add(records.edgedata)
+        first.uncounted -= len(records.counts)
+
+
+def notes(records, settings):
+    """What the tables do not have."""
+    if records.uncounted:
+        yield (
+            f"counts: {records.uncounted:,} lanes have no detector, a run takes {limits.METERS:,}; those on most plans "
+            "have one (--counted all counts all)"
+        )
+    if settings.every is None and records.asking.every != INTERVALS[0]:
+        often = f"every {records.asking.every:,} s" if records.asking.every else "never"
+        yield f"lanes are polled {often}, as the program takes no more calls"
+    if records.unpolled:
+        yield f"{records.unpolled:,} polls of the lanes were left out, as rescues took the calls"
+    if records.unsent:
+        yield f"{records.unsent:,} lines were not sent, as their clock is after --until"
+
+
+def seeded(run, seed):
+    """The run with another seed."""
+    command = {**run.load.command, "seed": seed}
+    return replace(run, load=replace(run.load, command=command, text=json.dumps(command, separators=(",", ":"))))
+
+
+def run_seeds(words, run, mapping, settings):
+    """A run for each seed, side by side; prints and writes each mean trip, their mean and its 95 % interval."""
+    seeds = seeds_of(words.seeds, "--seeds")
+    shown = Progress(words.until, len(seeds))
+    with whole_folder(words.out, NAME) as folder:
+
+        def run_seed(seed, tell):
+            place = f"{folder}/seed-{seed}"
+            os.mkdir(place)
+            return one_run(words, seeded(run, seed), mapping, settings, place, lambda *values: tell(values), 1)
+
+        figures = side_by_side(run_seed, seeds, words.jobs, lambda place, values: shown.show(*values, place))
+        names = ("vehicles", "arrived", "mean_trip_s", "rescues")
+        rows = [(seed, *(one[name] for name in names)) for seed, one in zip(seeds, figures, strict=True)]
+        tables.write_table(f"{folder}/seeds.csv", ("seed", *names), rows)
+    for seed, one in zip(seeds, figures, strict=True):
+        report(one, f"seed {seed}: ")
+    means = [one["mean_trip_s"] for one in figures if one["arrived"]]
+    if means:
+        mean, half = tables.interval(means)
+        print(
+            f"mean trip {mean:.1f} s"
+            + (f", 95 % interval {mean - half:.1f} to {mean + half:.1f} s" if half is not None else "")
+        )
+    if doubtful := [str(seed) for seed, one in zip(seeds, figures, strict=True) if one["doubts"]]:
+        print(f"not to be trusted: seed{'s' if len(doubtful) > 1 else ''} {', '.join(doubtful)}")
+    return 0

@@ -1,0 +1,72 @@
+"""Run files: lines of commands, in order. A line may say with "at" at which clock it is sent (streetsim ignores that
+field)."""
+import json
+from dataclasses import dataclass, field
+from itertools import accumulate
+
+from ..files import Fault, open_text, reading
+
+
+@dataclass(slots=True)
+class Line:
+    number: int  # in the file, from 1
+    text: str
+    command: dict
+
+
+@dataclass(slots=True)
+class Run:
+    path: str
+    load: Line
+    first: list = field(default_factory=list)  # sent after the load, before the first step
+    timed: list = field(default_factory=list)  # of (clock, Line), by clock
+    enters: list = field(default_factory=list)  # vehicles, by the order of lines
+    needed: list = field(default_factory=list)  # for each enter, the least depart of it and those after it
+
+    def start(self):
+        return self.load.command.get("start", 0)
+
+
+def read_run(path):
+    """The run of a file. The load must be its first line."""
+    with reading(path), open_text(path) as file:
+        return run_of_texts(path, file)
+
+
+def run_of_texts(path, texts):
+    """The run of lines as texts."""
+    lines = [line_of(path, number, text) for number, text in enumerate(texts, 1) if text.strip()]
+    if not lines or lines[0].command["cmd"] != "load":
+        raise Fault(f"{path}: the first line must be a load")
+    return run_of(path, lines)
+
+
+def run_of(path, lines):
+    """The run of some lines, of which the first is the load."""
+    run = Run(path, lines[0])
+    for line in lines[1:]:
+        if line.command["cmd"] == "enter":
+            run.enters.append(line)
+        elif "at" in line.command:
+            run.timed.append((line.command["at"], line))
+        else:
+            run.first.append(line)
+    run.timed.sort(key=lambda pair: pair[0])
+    run.needed = list(accumulate((line.command["depart"] for line in reversed(run.enters)), min))[::-1]
+    return run
+
+
+def line_of(path, number, text):
+    try:
+        command = json.loads(text)
+        if (
+            command["cmd"] == "enter"
+            and not (isinstance(command["depart"], int) and command["plan"])
+            or not isinstance(command.get("at", 0), int)
+        ):
+            raise ValueError('an enter needs a depart and a plan, and "at" is a clock')
+        if command["cmd"] in ("advance", "takeout", "meter", "read"):
+            raise ValueError(f"{command['cmd']} is sent by streetsim-run itself")
+    except (ValueError, KeyError, TypeError, AttributeError) as fault:
+        raise Fault(f"{path}: line {number} is no command of a run: {fault}") from None
+    return Line(number, text.strip(), command)

@@ -1,0 +1,103 @@
+"""Whether a run is to be trusted: what speaks against it, in words for its last line and its setting.
+
+The marks are chosen, not measured: above them a run is of another town than the one that was asked for.
+"""
+from collections.abc import Iterator, Sequence
+from dataclasses import dataclass
+from itertools import compress
+from statistics import fmean
+
+from .. import limits
+
+MOST_RESCUES = 0.01  # of the vehicles; one alone is none too many
+MOST_LATE = 0.1  # of those that would have arrived, were nobody in their way
+MOST_WAITING = 0.05  # of the vehicles that wait to enter, at the worst minute
+STILL = 600  # seconds without an arrival
+OTHER_LENGTH = 0.1  # of the metres that are driven
+NAMED = 3  # edges
+
+
+@dataclass(slots=True)
+class Trips:
+    """A run's trips at its last clock. Seconds are from the wished departure."""
+
+    clock: int
+    vehicles: int  # in the run file
+    durations: list[int]  # of those that arrived
+    to_date: list[int]  # of those that wished to depart and have not arrived
+    due: int  # those that would have arrived, were nobody in their way
+    late: int  # those of them that have not
+    long_due: int  # those that would have arrived for STILL seconds and have not
+    last: int  # arrival, or the start
+
+    def told(self) -> str:
+        """Their means, and over whom."""
+        if not self.durations:
+            mean = "no trip"
+        elif self.to_date:
+            mean = f"mean trip {fmean(self.durations):.1f} s of these"
+        else:
+            mean = f"mean trip {fmean(self.durations):.1f} s"
+        under_way = f", {fmean(self.to_date):.1f} s to date of {len(self.to_date):,} under way" if self.to_date else ""
+        return f"{self.vehicles:,} vehicles, {len(self.durations):,} arrived, {mean}{under_way}"
+
+
+def trips_at(clock: int, start: int, rows: Sequence[tuple]) -> Trips:
+    """Of rows of trips.csv: (id, depart, arrival, duration, free flow, ..)."""
+    arrived = [row[2] != "" for row in rows]
+    open_ = [row for row, there in zip(rows, arrived, strict=True) if not there and row[1] < clock]
+    ends = [row[1] + float(row[4]) for row in open_]
+    late = sum(end <= clock for end in ends)
+    return Trips(
+        clock=clock,
+        vehicles=len(rows),
+        durations=[row[3] for row in compress(rows, arrived)],
+        to_date=[clock - row[1] for row in open_],
+        due=late + sum(arrived),
+        late=late,
+        long_due=sum(end + STILL <= clock for end in ends),
+        last=max((row[2] for row in compress(rows, arrived)), default=start),
+    )
+
+
+def doubts(trips: Trips, rescues: int, censuses: Sequence, run, mapping) -> list[str]:
+    """What speaks against a run, each in some words; nothing where it is to be trusted."""
+    return [*of_rescues(trips, rescues), *of_arrivals(trips), *of_entries(trips, censuses), *of_lengths(trips, run, mapping)]
+
+
+def of_rescues(trips: Trips, rescues: int) -> Iterator[str]:
+    if rescues > max(1, MOST_RESCUES * trips.vehicles):
+        yield f"{rescues:,} rescues of {trips.vehicles:,} vehicles"
+
+
+def of_arrivals(trips: Trips) -> Iterator[str]:
+    if trips.long_due and trips.clock - trips.last >= STILL:
+        yield f"the network is locked: nobody has arrived for {trips.clock - trips.last:,} s, and {trips.long_due:,} should have"
+    elif trips.late > MOST_LATE * trips.due:
+        yield f"{trips.late:,} of {trips.due:,} vehicles that had the time to arrive have not"
+
+
+def of_entries(trips: Trips, censuses: Sequence) -> Iterator[str]:
+    worst = max(censuses, key=lambda census: census.waiting, default=None)
+    if worst is not None and worst.waiting > MOST_WAITING * trips.vehicles:
+        yield f"{worst.waiting:,} vehicles waited to enter at {worst.clock:,} s, and are in no queue or count"
+
+
+def of_lengths(trips: Trips, run, mapping) -> Iterator[str]:
+    """Where the routes are of another length than in SUMO, as edges are whole cells."""
+    here = [link.cells * limits.CELL_METRES for link in mapping.links]
+    there = [link.metres for link in mapping.links]
+    plans = [line.command["plan"] for line in run.enters if line.command["depart"] < trips.clock]
+    metres = [sum(sum(map(lengths.__getitem__, plan)) for plan in plans) for lengths in (here, there)]
+    if abs(metres[0] - metres[1]) > OTHER_LENGTH * metres[1]:
+        used = {link for plan in plans for link in plan if here[link] != there[link]}
+        order = sorted(used, key=lambda link: (-abs(here[link] - there[link]), link))
+        edges = ", ".join(dict.fromkeys(mapping.links[link].edge for link in order[:NAMED]))
+        share = 100 * (metres[0] / metres[1] - 1)
+        how = f"{abs(share):.0f} % {'longer' if share > 0 else 'shorter'} here than in SUMO"
+        yield f"routes are {how}, as edges are whole cells: most of all {edges}"
+
+
+def verdict(found: Sequence[str]) -> str:
+    """The line that says that a run is not to be trusted."""
+    return f"not to be trusted: {'; '.join(found)}"

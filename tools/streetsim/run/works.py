@@ -1,0 +1,230 @@
+"""Road works: stretches of lanes that are closed for a time.
+
+Nobody changes lane between parallel links, so who has the closed one in its plan would stand before the works until
+they end. So an edge with works is imported anew as joint links of two lanes each, a closed lane beside an open one.
+Where a link is closed on all of its lanes and its edge has another one, the plans of those who may come there meanwhile
+take that.
+"""
+from __future__ import annotations
+
+import json
+import math
+import re
+from collections import Counter, defaultdict
+from collections.abc import Iterable, Iterator
+from dataclasses import dataclass, replace
+from itertools import product
+
+from ..cli.progress import Slow
+from ..cli.words import whole_seconds
+from ..files import Fault
+from ..sumo.importing import convert, run_and_map
+from ..sumo.network import Options
+from ..sumo.report import Report, some
+from ..sumo.sources import sources_of
+from .freeflow import FreeFlow
+from .mapping import Map
+from .runs import Line, Run, run_of_texts
+
+LATE = 300  # seconds that who stands in queues may be late, beside as much as it drives
+FORM = re.compile(r"(.+):(\d+)-(\d+):([\d:.]+)-([\d:.]+)")
+
+
+@dataclass(slots=True, frozen=True)
+class Works:
+    text: str  # as it was asked for
+    lane: str  # SUMO's name
+    begin: int  # metres
+    end: int
+    first: int  # second
+    last: int
+
+
+@dataclass(slots=True)
+class Site:
+    """Works on a link of a map."""
+
+    works: Works
+    link: int
+    lane: int
+    cells: tuple  # the first and the last
+
+
+def works_of(text: str, mapping: Map) -> Works:
+    """The works that LANE:METRES-METRES:S-S asks for."""
+    found = FORM.fullmatch(text)
+    clocks = [whole_seconds(clock) for clock in found.groups()[3:]] if found else []
+    if not found or None in clocks or int(found[2]) >= int(found[3]) or clocks[0] >= clocks[1]:
+        raise Fault(f"--close {text!r}: expected LANE:METRES-METRES:S-S, rising")
+    place = mapping.place_of(found[1])
+    if place is None:
+        raise Fault(f"--close {text!r}: the map has no lane {found[1]!r}")
+    metres = mapping.links[place[0]].metres
+    if int(found[3]) > math.ceil(metres):
+        raise Fault(f"--close {text!r}: the lane ends at {metres:g} m")
+    return Works(text, found[1], int(found[2]), int(found[3]), *clocks)
+
+
+def with_works(
+    run: Run, mapping: Map, map_path: str, works: list[Works], others: Iterable[str] = ()
+) -> tuple[Run, Map, list[str]]:
+    """The run and its map with works, and what there is to say; others: lanes and edges that are to be joint as well,
+    as if they had works."""
+    names = parallel_names(others, mapping)
+    names += [name for name in lanes_to_join(works, mapping) if name not in names]
+    told = []
+    if names:
+        run, mapping = joint(run, mapping, map_path, names)
+        told.append(f"joint for this run, so that vehicles change lane: edges {some(sorted(edges_of(names, mapping)))}")
+    sites = sites_of(works, mapping)
+    timed = sorted([*run.timed, *(line for site in sites for line in lines_of(site))], key=lambda pair: pair[0])
+    run = replace(run, timed=timed)
+    shut = shut_links(sites, mapping)
+    run = round_works(run, mapping, shut)
+    return run, mapping, told + list(all_closed(run, mapping, shut))
+
+
+def sites_of(works: Iterable[Works], mapping: Map) -> list[Site]:
+    places = {mapping.lane_name(*place): place for place in mapping.lanes()}
+    found = []
+    for one in works:
+        link, lane = places[one.lane]
+        found.append(Site(one, link, lane, mapping.links[link].closed_between(one.begin, one.end)))
+    return found
+
+
+def lines_of(site: Site) -> Iterator[tuple[int, Line]]:
+    """The timed lines of works."""
+    place = {"link": site.link, "lane": site.lane, "first": site.cells[0], "last": site.cells[1]}
+    for clock, name in ((site.works.first, "close"), (site.works.last, "reopen")):
+        yield clock, Line(0, json.dumps({"cmd": name, **place}), {"cmd": name, **place})
+
+
+def shut_links(sites: list[Site], mapping: Map) -> dict[int, list[tuple[int, int]]]:
+    """The times in which all lanes of a link are closed at one place, {link: [(first second, last second)]}."""
+    on_lane = defaultdict(list)
+    for site in sites:
+        on_lane[site.link, site.lane].append(site)
+    found = defaultdict(list)
+    for link in sorted({site.link for site in sites}):
+        lanes = [on_lane[link, lane] for lane in range(len(mapping.links[link].lanes))]
+        for together in product(*lanes):
+            first, last = max(one.works.first for one in together), min(one.works.last for one in together)
+            begin, end = max(one.cells[0] for one in together), min(one.cells[1] for one in together)
+            if first < last and begin <= end + 1:
+                found[link].append((first, last))
+    return found
+
+
+def parallel_names(names: Iterable[str], mapping: Map) -> list[str]:
+    """Those of some names of edges and lanes that are to be joint and whose edges are several links."""
+    found, known = [], mapping.options.get("joint", ())
+    for name in dict.fromkeys(names):
+        if name not in mapping.links_of and mapping.place_of(name) is None:
+            raise Fault(f"--joint: the map has no edge or lane {name!r}")
+        links = mapping.links_of[next(iter(edges_of([name], mapping)))]
+        if len(links) == 1 and len(mapping.links[links[0]].lanes) == 1:
+            raise Fault(f"--joint: edge {mapping.links[links[0]].edge!r} has one lane, and none beside it")
+        if len(links) > 1 and name not in known:
+            found.append(name)
+    return found
+
+
+def lanes_to_join(works: Iterable[Works], mapping: Map) -> list[str]:
+    """The lanes with works of edges where a link is shut that has others beside it, but for those that are joint."""
+    sites = sites_of(works, mapping)
+    edges = {mapping.links[link].edge for link in shut_links(sites, mapping)}
+    many = {edge for edge in edges if len(mapping.links_of[edge]) > 1}
+    lanes = dict.fromkeys(site.works.lane for site in sites if mapping.links[site.link].edge in many)
+    known = mapping.options.get("joint", ())
+    return [name for name in lanes if name not in known and name.rpartition("_")[0] not in known]
+
+
+def why_parallel(mapping: Map, lane: str) -> str | None:
+    """Why a lane cannot be closed as the map is: nobody could change to the lane beside it. None where it can."""
+    link = mapping.links[mapping.place_of(lane)[0]]
+    if len(link.lanes) > 1 or len(mapping.links_of[link.edge]) == 1:
+        return None
+    return (
+        f"lane {lane!r} cannot be closed: it is a link of its own, and nobody changes lane between the parallel links "
+        f"of edge {link.edge!r}, so its vehicles would stand; the edge must be joint from the start"
+    )
+
+
+def joint(run: Run, mapping: Map, map_path: str, names: list[str]) -> tuple[Run, Map]:
+    """The run and its map, imported anew with more lanes joint."""
+    known = {name: tuple(value) if isinstance(value, list) else value for name, value in mapping.options.items()}
+    try:
+        sources = sources_of(mapping.sources, map_path, run.path)
+        options = Options(**{**known, "joint": (*known.get("joint", ()), *names)})
+        with Slow(f"importing {sources.net} anew"):
+            report = Report()
+            made = convert(sources.net, sources.additional, sources.routes, options, report)
+            lines, mapping = run_and_map(made, report)
+    except Fault as fault:
+        raise Fault(
+            f"{some(names)}: nobody changes lane between the parallel links of an edge, so its lanes must be joint, "
+            f"which needs the import anew: {fault}. Run streetsim-import with --joint {','.join(names)}"
+        ) from None
+    return run_of_texts(run.path, lines), mapping
+
+
+def edges_of(names: Iterable[str], mapping: Map) -> set[str]:
+    """The edges of names of edges and lanes."""
+    return {name if name in mapping.links_of else name.rpartition("_")[0] for name in names}
+
+
+def round_works(run: Run, mapping: Map, shut: dict) -> Run:
+    """The run where who may come to a shut link takes another one of its edge."""
+    ways, use, enters = defaultdict(list), Counter(), list(run.enters)
+    for turn in mapping.turns:
+        ways[turn.link, turn.next].append(turn.lane)
+    free_flow = FreeFlow(mapping, run.load.command.get("dawdle", 0) / 1000)
+    for place, line in enumerate(enters):
+        if shut.keys().isdisjoint(line.command["plan"]):
+            continue
+        plan = plan_round(line.command, mapping, shut, ways, use, free_flow)
+        if plan != line.command["plan"]:
+            command = {**line.command, "plan": plan}
+            if plan[0] != line.command["plan"][0]:
+                command["lane"] = ways[tuple(plan[:2])][0] if len(plan) > 1 else 0
+            enters[place] = replace(line, command=command, text=json.dumps(command, separators=(",", ":")))
+    return replace(run, enters=enters)
+
+
+def plan_round(
+    command: dict, mapping: Map, shut: dict, ways: dict, use: Counter, free_flow: FreeFlow
+) -> list[int]:
+    """A plan that takes other links of the same edges where it may come to a shut one meanwhile."""
+    plan = list(command["plan"])
+    for at, link in enumerate(plan):
+        soonest, latest = free_flow(plan[:at]), 2 * free_flow(plan[: at + 1]) + LATE
+        soonest, latest = command["depart"] + soonest, command["depart"] + latest
+        if not any(soonest < last and first <= latest for first, last in shut.get(link, ())):
+            continue
+        beside = [
+            other
+            for other in mapping.links_of[mapping.links[link].edge]
+            if other not in shut
+            and (at == 0 or (plan[at - 1], other) in ways)
+            and (at + 1 == len(plan) or (other, plan[at + 1]) in ways)
+        ]
+        if beside:
+            plan[at] = min(beside, key=lambda other: use[other] / len(mapping.links[other].lanes))
+            use[plan[at]] += 1
+    return plan
+
+
+def all_closed(run: Run, mapping: Map, shut: dict) -> Iterator[str]:
+    """Says where an edge is closed on all its lanes, as nobody takes another way."""
+    for edge in dict.fromkeys(mapping.links[link].edge for link in shut):
+        links = mapping.links_of[edge]
+        if all(link in shut for link in links):
+            times = [time for link in links for time in shut[link]]
+            first, last = min(first for first, _ in times), max(last for _, last in times)
+            count = sum(not set(links).isdisjoint(line.command["plan"]) for line in run.enters)
+            what = "its only lane is" if sum(len(mapping.links[link].lanes) for link in links) == 1 else "all lanes are"
+            yield (
+                f"edge {edge}: {what} closed between {first:,} and {last:,} s; nobody takes another way, so who of the "
+                f"{count:,} vehicles through it comes meanwhile waits before the works"
+            )

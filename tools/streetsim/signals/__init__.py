@@ -1,0 +1,1 @@
+"""Signal plans: written, reckoned and searched."""

@@ -1,0 +1,194 @@
+"""Plans by formula, of flows alone: Webster's cycles and splits, and waves along the heaviest flows."""
+from collections import Counter, defaultdict
+from dataclasses import dataclass
+
+from ..run.freeflow import FreeFlow
+from .plans import Timing
+
+SATURATION = 1800  # vehicles an hour and lane that pass in green
+
+
+@dataclass(frozen=True, slots=True)
+class Hop:
+    """From one light to the next along the heaviest way between them."""
+
+    parent: str
+    seconds: float  # of travel from the parent; below 0 where the way goes to it
+    leave: int  # the parent's phase that lets the platoon go, or come
+    come: int  # the phase that lets it come, or go
+
+
+@dataclass(slots=True)
+class Streets:
+    """What formulas need to know of the vehicles of a run."""
+
+    order: list  # lights, the heaviest flow first
+    behind: dict  # for each light itself and those that hang behind it in the tree of the heaviest flows
+    hops: dict  # for each light that hangs behind another: its Hop
+    loads: dict  # for each light and phase the heaviest flow that is green in it, vehicles an hour and lane
+
+
+def streets_of(run, mapping, lights):
+    """Flows, their tree, and loads of the vehicles of a run at some lights."""
+    plans = [line.command["plan"] for line in run.enters]
+    light_at = {node: light for light, node in mapping.signals if light in lights}
+    light_of = [light_at.get(link.end) for link in mapping.links]
+    ways = ways_between(plans, light_of)
+    through = Counter({light: 0 for light in lights})
+    for plan in plans:
+        through.update({light_of[link] for link in plan[:-1]} - {None})
+    order = sorted(through, key=lambda light: (-through[light], light))
+    parents, behind = tree(order, ways)
+    free_flow = FreeFlow(mapping, run.load.command["dawdle"] / 1000)
+    hops = {light: hop_of(light, parent, ways, mapping, lights, free_flow) for light, parent in parents.items()}
+    loads = loads_of(run, mapping, lights)
+    return Streets(order, behind, {light: hop for light, hop in hops.items() if hop}, loads)
+
+
+def ways_between(plans, light_of):
+    """How many vehicles go straight from one light to another, by their way: {(light, other): {links: vehicles}}. A way
+    is from the link that ends at the one to that after the other."""
+    ways = defaultdict(Counter)
+    for plan in plans:
+        met = [at for at in range(len(plan) - 1) if light_of[plan[at]]]
+        for here, there in zip(met, met[1:]):
+            pair = light_of[plan[here]], light_of[plan[there]]
+            if pair[0] != pair[1]:
+                ways[pair][tuple(plan[here : there + 2])] += 1
+    return ways
+
+
+def tree(order, ways):
+    """The tree of the heaviest flows between lights, rooted at the heaviest light of each part: the parent of each other
+    light, and for each light itself and all behind it, parents before children."""
+    both = Counter()
+    for (light, other), found in ways.items():
+        both[min(light, other), max(light, other)] += found.total()
+    group, joined = {light: {light} for light in order}, defaultdict(set)
+    for (light, other), _ in sorted(both.items(), key=lambda item: (-item[1], item[0])):
+        if group[light] is not group[other]:
+            joined[light].add(other)
+            joined[other].add(light)
+            group[light] |= group[other]
+            for member in group[other]:
+                group[member] = group[light]
+    parents, reached = {}, {}
+    for root in order:
+        if root not in reached:
+            walk(root, joined, parents, reached)
+    behind = {light: [light] for light in order}
+    for light in reversed(reached):
+        if light in parents:
+            behind[parents[light]] += behind[light]
+    return parents, behind
+
+
+def walk(root, joined, parents, reached):
+    """Notes the parents of all that hang together with a root, parents first."""
+    waiting = [root]
+    while waiting:
+        light = waiting.pop(0)
+        reached[light] = True
+        for other in sorted(joined[light] - reached.keys()):
+            parents[other] = light
+            waiting.append(other)
+
+
+def hop_of(light, parent, ways, mapping, lights, free_flow):
+    """The heaviest way between a light and its parent; none where a phase that lets it pass is not found."""
+    found = [
+        (count, direction, way)
+        for direction, pair in ((1, (parent, light)), (-1, (light, parent)))
+        for way, count in ways[pair].items()
+    ]
+    if not found:
+        return None
+    _, direction, way = max(found)
+    turn_of = {(turn.link, turn.next): turn for turn in mapping.turns}
+    first, last = turn_of.get(way[:2]), turn_of.get(way[-2:])
+    at_parent, here = (first, last) if direction > 0 else (last, first)
+    if not at_parent or not here or (at_parent.light, here.light) != (parent, light):
+        return None
+    leave, come = green_phases(lights[parent], at_parent.index), green_phases(lights[light], here.index)
+    seconds = free_flow.crossing[way[0]] + free_flow(way[1:-1])
+    return Hop(parent, direction * seconds, leave[0], come[0]) if leave and come else None
+
+
+def green_phases(light, index):
+    return [at for at, state in enumerate(light.states) if state[index] in "GgsOo"]
+
+
+def loads_of(run, mapping, lights):
+    """For each light and phase the heaviest flow, vehicles an hour and lane, of a link that is green in it."""
+    departs = [line.command["depart"] for line in run.enters]
+    hours = max(900, max(departs) - min(departs)) / 3600 if departs else 1.0
+    flow = Counter(pair for line in run.enters for pair in zip(line.command["plan"], line.command["plan"][1:]))
+    turns = {(turn.link, turn.next): turn for turn in mapping.turns if turn.light in lights and not turn.added}
+    loads = {}
+    for name, light in lights.items():
+        own = [turn for turn in turns.values() if turn.light == name]
+        loads[name] = []
+        for state in light.states:
+            links = Counter()
+            for turn in own:
+                if state[turn.index] in "GgsOo":
+                    links[turn.link] += flow[turn.link, turn.next] / hours / len(mapping.links[turn.link].lanes)
+            loads[name].append(max(links.values(), default=0.0))
+    return loads
+
+
+def webster_cycle(lost, flow_ratio):
+    """Webster's cycle of the least delay, for the lost seconds of a cycle and the sum over its phases of the flow by the
+    saturation flow; none at capacity."""
+    return (1.5 * lost + 5) / (1 - flow_ratio) if flow_ratio < 1 else None
+
+
+def critical_cycle(lights, plan, streets):
+    """The longest of the lights' cycles after Webster; none where one is at capacity."""
+    cycles = [
+        webster_cycle(light.lost(plan[name]), sum(streets.loads[name][at] for at in light.free) / SATURATION)
+        for name, light in lights.items()
+        if light.free
+    ]
+    return round(max(cycles)) if cycles and None not in cycles else None
+
+
+def at_cycle(lights, plan, cycle, loads=None):
+    """The plan at a cycle, as far as the lights can keep it: greens in proportion to the given ones, or to loads."""
+    made = {}
+    for name, timing in plan.items():
+        shares = [max(1.0, load) for load in loads[name]] if loads else None
+        cycle_of = cycle or timing.cycle
+        made[name] = lights[name].scaled(timing, cycle_of, shares) or lights[name].scaled(timing, cycle_of) or timing
+    return made
+
+
+def waved(plan, streets):
+    """The plan with offsets along the tree: green comes when the platoon does."""
+    made = dict(plan)
+    for root in streets.order:
+        if root in streets.hops:
+            continue
+        for light in streets.behind[root]:
+            hop = streets.hops.get(light)
+            if hop:
+                start = made[hop.parent].offset + sum(made[hop.parent].durations[: hop.leave]) + hop.seconds
+                timing = made[light]
+                offset = round(start - sum(timing.durations[: hop.come])) % timing.cycle
+                made[light] = Timing(offset, timing.durations)
+    return made
+
+
+def proposals(plan, lights, streets, changed, cycles):
+    """Plans by formula, (name, plan): each cycle with the given splits and with Webster's, with the given offsets and
+    with a wave; of what may be changed."""
+    for cycle in (None, *cycles):
+        for loads in (None, streets.loads) if "splits" in changed else (None,):
+            if cycle is None and loads is None:
+                made = plan
+            else:
+                made = at_cycle(lights, plan, cycle, loads)
+            told = f"{f'cycle {cycle} s' if cycle else 'given cycles'}, {'splits by flow' if loads else 'given splits'}"
+            yield f"{told}, given offsets", made
+            if "offsets" in changed:
+                yield f"{told}, wave", waved(made, streets)

@@ -1,0 +1,103 @@
+"""What streetsim-signals writes of a search: the plan, tables, pictures, and what is said of it."""
+import argparse
+import sys
+import tempfile
+from dataclasses import replace
+from statistics import fmean
+
+from ..cli.words import listed
+from ..files import whole_folder
+from ..pictures import plots
+from ..run.folder import read_folder
+from ..run.freeflow import FreeFlow
+from ..run.record import Settings
+from ..run.running import one_run
+from ..run.tables import write_table
+from ..study.seeds import paired
+from .light_lines import LightLines
+from .plans import write_additional
+
+LAST = "before-after.csv"
+BEFORE_AFTER = ("figure", "before", "after", "difference", "half_width_95", "runs")
+LIGHTS = ("light", "cycle_before", "cycle_after", "offset_before", "offset_after", "greens_before", "greens_after")
+TRIALS = ("simulations", "step", "mean_trip_s", "best_s")
+
+
+def compared(town, before, after):
+    """The rows of before-after.csv, of runs with equal seeds: means over all vehicles; one that has not arrived counts
+    until the end."""
+    cars, free = len(town.session.departs), free_trip(town)
+    figures = {
+        "mean_trip_s": lambda one: one.seconds / cars,
+        "mean_loss_s": lambda one: one.seconds / cars - free,
+        "arrived": lambda one: one.arrived,
+    }
+    rows = []
+    for name, figure in figures.items():
+        values = [[figure(one) for one in outcomes] for outcomes in (before, after)]
+        rows.append((name, *map(fmean, values), *paired(*values), len(before)))
+    return rows
+
+
+def free_trip(town):
+    """The mean trip were nobody in the way."""
+    free_flow, until = FreeFlow(town.mapping, town.run.load.command["dawdle"] / 1000), town.session.clocks[-1]
+    return fmean(free_flow(line.command["plan"]) for line in town.run.enters if line.command["depart"] < until)
+
+
+def write_found(words, town, search, rows):
+    """Writes the plan, the tables and the pictures, all or none."""
+    plan = search.best[1]
+    with whole_folder(words.out, LAST) as folder:
+        told = [(name, *(f"{value:.3f}" for value in values), runs) for name, *values, runs in rows]
+        write_table(f"{folder}/{LAST}", BEFORE_AFTER, told)
+        write_table(f"{folder}/lights.csv", LIGHTS, light_rows(town, plan))
+        trials = [(one.simulations, one.step, f"{one.value:.3f}", f"{one.best:.3f}") for one in search.trials]
+        write_table(f"{folder}/search.csv", TRIALS, trials)
+        for name, drawn in (("before", town.plan), ("after", plan)) if words.edges else ():
+            draw(words, town, drawn, f"{folder}/{name}.png")
+        write_additional(words.output, town.lights, plan)
+
+
+def light_rows(town, plan):
+    for name, light in sorted(town.lights.items()):
+        pair = town.plan[name], plan[name]
+        greens = (" ".join(str(one.durations[at]) for at in light.free) for one in pair)
+        yield (name, *(one.cycle for one in pair), *(one.offset for one in pair), *greens)
+
+
+def draw(words, town, plan, path):
+    """The ways of the vehicles along --edges under a plan, with the signals."""
+    run = replace(town.run, first=town.first_lines(plan))
+    settings = Settings(until=min(words.last + 1, words.until), every=1, rescue=0, edges=tuple(listed(words.edges)))
+    serving = argparse.Namespace(run=words.run, program=words.program, workers=1)
+    with tempfile.TemporaryDirectory() as folder:
+        one_run(serving, run, town.mapping, settings, folder, lambda *_: None, 1)
+        figure = plots.draw_corridor(plots.drawing(), read_folder(folder), words)
+        plots.save(figure, path)
+
+
+def tell(town, search, rows, stopped):
+    """Says what was found; gives the status, 1 where it is not shown to be better."""
+    _, before, after, difference, half, runs = rows[0]
+    for text in warnings_of(town, search.best[1]):
+        print(f"warning: {text}", file=sys.stderr)
+    if stopped:
+        print("stopped: the best plan found so far is written")
+    print(
+        f"mean trip {before:.1f} s as given, {after:.1f} s as found: {difference:+.1f} s ± {half:.1f} "
+        f"(95 % interval, {runs} seeds that the search did not see); {search.simulations:,} simulations"
+    )
+    if difference + half < 0:
+        return 0
+    print("not shown to be better")
+    return 1
+
+
+def warnings_of(town, plan):
+    """What is to be said of a found plan: where it is not all shown here, and where offsets mean nothing."""
+    lines = LightLines(town.lines.net, town.run, town.mapping)
+    lines.of(plan, town.lights)
+    yield from lines.report.warnings
+    if len({timing.cycle for timing in plan.values()}) > 1:
+        yield "lights have unequal cycles, between which offsets mean nothing"

@@ -1,0 +1,71 @@
+"""Signal lines of a plan, as streetsim-import makes them of SUMO's programs, made anew only where greens change."""
+import json
+from collections import defaultdict
+from dataclasses import replace
+
+from ..sumo.net import Program, read_additional, read_net
+from ..sumo.report import Report
+from ..sumo.signals import connections_of, movements_of_junction, signal
+from ..sumo.types import Types
+from ..sumo.yielding import hourly_flows
+
+
+class Driven:
+    """A vehicle of a run, as the import counts flows."""
+
+    def __init__(self, command, links):
+        self.edges, self.depart = [links[link].edge for link in command["plan"]], command["depart"]
+
+
+def read_plans(paths, mapping):
+    """The network of the first file, with the signal programs of it and of the others, of which the last counts."""
+    report = Report()
+    net = read_net(paths[0], tuple(mapping.options["classes"]), report)
+    types = Types(mapping.options.get("seed", 1), report)
+    for path in paths[1:]:
+        read_additional(path, net, types, report)
+    return net
+
+
+class LightLines:
+    """The signal lines of plans in a network, for the vehicles of a run."""
+
+    def __init__(self, net, run, mapping):
+        self.net, self.mapping = replace(net, programs=dict(net.programs)), mapping
+        self.flows = hourly_flows([Driven(line.command, mapping.links) for line in run.enters])
+        self.limits_of = {link.edge: link.limit for link in mapping.links}
+        self.connections = connections_of(net)
+        self.nodes = defaultdict(list)
+        for light, node in mapping.signals:
+            self.nodes[light].append(node)
+        self.turns = defaultdict(list)
+        for turn in mapping.turns:
+            self.turns[mapping.links[turn.link].end].append((turn.link, turn.lane, turn.next, turn))
+        self.made = {}  # (light, durations): for each node the phases as bytes
+        self.report = Report()  # of what was made, where a light needs more phases than there may be
+
+    def of(self, plan, lights):
+        """The lines of a plan."""
+        lines = []
+        for name, timing in plan.items():
+            key = name, timing.durations
+            if key not in self.made:
+                self.made[key] = [self.phases(name, node, timing, lights[name]) for node in self.nodes[name]]
+            for node, phases in zip(self.nodes[name], self.made[key], strict=True):
+                values = node, -timing.offset % timing.cycle, phases
+                lines.append(b'{"cmd":"signal","node":%d,"offset":%d,"phases":%s}\n' % values)
+        return b"".join(lines)
+
+    def phases(self, name, node, timing, light):
+        """The phases at a node of a light."""
+        program = Program(0.0, list(zip(timing.durations, light.states, strict=True)), "static")
+        self.net.programs[name] = program
+        junction, permissive = self.mapping.nodes[node][0], self.mapping.options["permissive"]
+        found = {}
+        if permissive is None and self.flows:
+            connections = self.connections[junction]
+            found = movements_of_junction(junction, connections, self.net, self.flows, self.limits_of, self.report)
+        turns = self.turns[node]
+        edges = {link: self.mapping.links[link].edge for link, *_ in turns}
+        made = signal(node, turns, edges, name, program, permissive, self.report, found)
+        return json.dumps(made["phases"], separators=(",", ":")).encode()

@@ -1,0 +1,211 @@
+"""streetsim-signals: finds signal plans by simulation."""
+import os
+import sys
+from statistics import fmean, stdev
+
+from .. import limits, program
+from ..cli.progress import Meanwhile, Slow, Stopping
+from ..cli.words import Parser, files_of, listed, time_within, within
+from ..files import Fault, place_of, refuse_equal
+from ..pictures import plots
+from ..run.folder import Folder
+from ..study.jobs import CORES
+from ..study.machines import machines
+from ..study.seeds import seeds_for, seeds_of
+from .formulas import critical_cycle, streets_of
+from .found import compared, tell, write_found
+from .plans import LEAST
+from .search import Search, search_plan
+from .town import Reading, Runner, read_town
+
+CHANGES = ("offsets", "splits", "cycle")
+STEP = 10  # seconds from one cycle that is proposed to the next
+TRIED = 10  # runs of the given plan tell how many seeds a search needs
+DRAWN = 500  # seconds of the pictures
+
+
+def parser():
+    made = Parser(
+        prog="streetsim-signals",
+        description="Finds signal plans by simulation: cycles, splits and offsets under which trips are shorter. The order "
+        "of phases, yellow and all-red stay. What is found is a proposal to be checked.",
+    )
+    made.add_argument("run", help="the run (.jsonl)")
+    made.add_argument("--map", required=True, help="its map of names (.json)")
+    made.add_argument(
+        "--plans",
+        required=True,
+        nargs="+",
+        metavar="FILE",
+        help="the network (.net.xml), and additional files with programs, of which the last of a light counts",
+    )
+    made.add_argument("--until", required=True, type=time_within(1, limits.CLOCK), metavar="S", help="the clock at the end of a run")
+    add_search(made)
+    add_machines(made)
+    made.add_argument("--edges", default="", help="draw the ways of the vehicles along these edges, before and after")
+    made.add_argument("--first", type=time_within(0, limits.CLOCK), metavar="S", help="the first second drawn (default: a third of the run)")
+    made.add_argument("--last", type=time_within(0, limits.CLOCK), metavar="S", help=f"the last second drawn (default: {DRAWN} s later)")
+    made.add_argument("-o", "--output", required=True, help="the plan found (.add.xml)")
+    made.add_argument("--out", required=True, metavar="DIR", help="the folder for tables and pictures")
+    return made
+
+
+def add_search(made):
+    """The words that say what is searched, how long and with which seeds."""
+    made.add_argument(
+        "--change", default=",".join(CHANGES), help="what may be changed, with commas between (default %(default)s)"
+    )
+    made.add_argument("--cycle", default="60-120", metavar="S-S", help="cycles to try (default %(default)s)")
+    made.add_argument(
+        "--least",
+        type=within(1, limits.PHASE_STEPS),
+        default=LEAST,
+        metavar="S",
+        help="the least green (default %(default)s); a phase's minDur and maxDur bound it too",
+    )
+    made.add_argument("--keep", default="", metavar='"LIGHT .."', help="lights that stay as they are, with spaces or commas between")
+    made.add_argument(
+        "--seeds", metavar="FIRST-LAST", help="of the search (default: one, or more where runs of the given plan differ much)"
+    )
+    made.add_argument(
+        "--check", default="101-110", metavar="FIRST-LAST", help="seeds of the report, which the search does not see (default %(default)s)"
+    )
+    made.add_argument(
+        "--budget",
+        type=within(0, limits.VEHICLES),
+        default=1000,
+        metavar="N",
+        help="simulations of the search (default %(default)s)",
+    )
+
+
+def add_machines(made):
+    """The words that say where runs are done."""
+    made.add_argument(
+        "--jobs", type=within(1, 1024), default=CORES, help="runs side by side (default: one for each core, %(default)s)"
+    )
+    made.add_argument(
+        "--cluster", metavar="HOST:PORT", help="do the runs on the workers of this scheduler of dask.distributed"
+    )
+    made.add_argument("--program", help=program.HELP)
+
+
+def main(arguments):
+    words = parser().parse_args(arguments)
+    words.plans = files_of(words.plans)
+    changed, cycles = changes_of(words)
+    check = check_seeds(words)
+    check_outputs(words)
+    words.program = program.find_program(words.program)
+    with Slow(f"reading {words.run}"):
+        town = read_town(
+            Reading(words.run, words.map, words.plans, words.until, words.program, words.least, listed(words.keep))
+        )
+    check_cycles(words, town, cycles)
+    check_pictures(words, town)
+    with machines(words.jobs, words.cluster, [town.session]) as workers:
+        runner = Runner(workers, town)
+        seeds = search_seeds(words, runner, check)
+        search, stopped = searched(words, runner, changed, cycles, seeds)
+        before, after = (runner.outcomes(plan, check) for plan in (town.plan, search.best[1]))
+    rows = compared(town, before, after)
+    write_found(words, town, search, rows)
+    return tell(town, search, rows, stopped)
+
+
+def changes_of(words):
+    """What may be changed, and the cycles of the range."""
+    changed = listed(words.change)
+    if unknown := [name for name in changed if name not in CHANGES]:
+        raise Fault(f"--change: {unknown[0]!r} is none of {', '.join(CHANGES)}")
+    first, _, last = words.cycle.partition("-")
+    most = limits.PHASES * limits.PHASE_STEPS
+    if not (first.isdecimal() and last.isdecimal() and 1 <= int(first) <= int(last) <= most):
+        raise Fault(f"--cycle {words.cycle!r}: expected S-S, rising")
+    return changed, range(int(first), int(last) + 1) if "cycle" in changed else range(0)
+
+
+def check_seeds(words):
+    """The seeds of the report; refuses a budget of no plan, and seeds by which a plan would be found and judged."""
+    seeds, check = seeds_of(words.seeds, "--seeds") if words.seeds else range(1), seeds_of(words.check, "--check")
+    if len(check) < 2:
+        raise Fault(f"--check {words.check}: an interval needs two seeds at least")
+    if words.seeds and set(seeds) & set(check):
+        raise Fault(f"--seeds {words.seeds} and --check {words.check} overlap: a plan must not be judged by what it was found by")
+    if words.budget < len(seeds):
+        raise Fault(f"--budget {words.budget}: one plan takes {len(seeds)} simulations")
+    return check
+
+
+def check_outputs(words):
+    refuse_equal({"-o": words.output}, [words.run, words.map, *words.plans])
+    folder = os.path.dirname(place_of(words.output))
+    if not os.path.isdir(folder):
+        raise Fault(f"{words.output}: there is no folder {folder}")
+    if os.path.exists(words.out) and not os.path.isdir(words.out):
+        raise Fault(f"{words.out}: exists and is no folder")
+
+
+def check_cycles(words, town, cycles):
+    """Refuses cycles of which no light can keep one."""
+    able = (town.lights[name].scaled(timing, cycle) for name, timing in town.plan.items() for cycle in cycles)
+    if cycles and not any(able):
+        raise Fault(f"--cycle {words.cycle}: no light can keep such a cycle (--least {words.least}, and the bounds of its phases)")
+
+
+def check_pictures(words, town):
+    """Fills in the seconds of the pictures; refuses what could not be drawn at the end."""
+    if not words.edges:
+        return
+    plots.path_of(Folder("--edges", town.mapping, [], 0, 1, 0), words.edges)
+    plots.drawing()
+    words.first = words.until // 3 if words.first is None else words.first
+    words.last = min(words.until, words.first + DRAWN) if words.last is None else words.last
+    if not words.first < words.last <= words.until:
+        raise Fault(f"--first {words.first}, --last {words.last}: must rise, and end with the run at {words.until} s")
+
+
+def search_seeds(words, runner, check):
+    """The seeds of the search: those given, else as many as runs of the given plan say; these are told."""
+    tried = [seed for seed in range(1, TRIED + len(check) + 1) if seed not in check][:TRIED]
+    means = list(runner.means([runner.town.plan], tried))
+    needed = seeds_for(means)
+    seeds = seeds_of(words.seeds, "--seeds") if words.seeds else tried[:needed]
+    differ = f"trips of the given plan differ by {100 * stdev(means) / fmean(means):.1f} % from seed to seed"
+    advice = f", {needed} are advised" if len(seeds) < needed else ""
+    print(f"{differ}: the search uses {len(seeds)} seed{'s' if len(seeds) > 1 else ''}{advice}", file=sys.stderr)
+    if words.budget < len(seeds):
+        raise Fault(f"--budget {words.budget}: one plan takes {len(seeds)} simulations")
+    return seeds
+
+
+def searched(words, runner, changed, cycles, seeds):
+    """The search when it has ended, and whether the user ended it."""
+    town, meanwhile = runner.town, Meanwhile("simulations", words.budget)
+    streets = streets_of(town.run, town.mapping, town.lights)
+    with Stopping() as stopping:
+
+        def values(plans):
+            means = runner.means(plans, seeds)
+            for _ in plans:
+                yield fmean(next(means) for _ in seeds)
+
+        def told(search):
+            meanwhile.show(search.simulations, best_line(search))
+            return stopping.asked
+
+        search = Search(values, words.budget, len(seeds), told)
+        search_plan(search, town.plan, town.lights, streets, changed, lengths(cycles, town, streets))
+        meanwhile.end()
+        return search, stopping.asked
+
+
+def lengths(cycles, town, streets):
+    """The cycles that are proposed: each ten seconds of the range and its end, and Webster's where it lies within."""
+    made = {*cycles[::STEP], *cycles[-1:]}
+    return sorted(made | ({critical_cycle(town.lights, town.plan, streets)} & set(cycles)))
+
+
+def best_line(search):
+    best, given = search.best[0], search.trials[0].value
+    return f"best {best:.1f} s ({100 * (best / given - 1):+.1f} %)" if given else ""

@@ -1,0 +1,148 @@
+"""Signal plans: taken from SUMO's programs, changed within their bounds, written as an additional file.
+
+A plan is a Timing for each light, {light: Timing}; order of phases, yellow and all-red are the light's and never change.
+"""
+from dataclasses import dataclass
+from xml.sax.saxutils import quoteattr
+
+from .. import limits
+from ..files import whole_file
+
+LEAST = 5  # seconds of a green that may be stretched
+STATIC = "static"
+
+
+@dataclass(frozen=True, slots=True)
+class Timing:
+    """When a light's phases are shown, in whole seconds; the offset is SUMO's."""
+
+    offset: int
+    durations: tuple
+
+    @property
+    def cycle(self):
+        return sum(self.durations)
+
+    def shifted(self, seconds):
+        return Timing((self.offset + seconds) % self.cycle, self.durations)
+
+
+@dataclass(frozen=True, slots=True)
+class Light:
+    """What no search changes: the states in their order, and for each phase its (least, most) seconds."""
+
+    name: str
+    states: tuple
+    bounds: tuple
+
+    @property
+    def free(self):
+        """The phases that may be stretched."""
+        return [at for at, (least, most) in enumerate(self.bounds) if least < most]
+
+    def lost(self, timing):
+        """The seconds of a cycle that no phase shows that may be stretched."""
+        return timing.cycle - sum(timing.durations[at] for at in self.free)
+
+    def scaled(self, timing, cycle, shares=None):
+        """The timing at another cycle; its greens share what is left in proportion to some shares (without: to
+        themselves), and its offset keeps its part of the cycle. None where that does not fit."""
+        free = self.free
+        shares = [(shares or timing.durations)[at] for at in free]
+        greens = spread(shares, cycle - self.lost(timing), [self.bounds[at] for at in free])
+        if greens is None:
+            return None
+        durations = list(timing.durations)
+        for at, green in zip(free, greens, strict=True):
+            durations[at] = green
+        return Timing(round(timing.offset * cycle / timing.cycle) % cycle, tuple(durations))
+
+    def moved(self, timing, source, target, seconds):
+        """The timing with seconds of green moved from one phase to another; none where a bound forbids that."""
+        durations = list(timing.durations)
+        durations[source] -= seconds
+        durations[target] += seconds
+        fits = all(self.bounds[at][0] <= durations[at] <= self.bounds[at][1] for at in (source, target))
+        return Timing(timing.offset, tuple(durations)) if fits else None
+
+
+def whole(durations):
+    """Durations rounded by running sum, so that the cycle stays."""
+    made, exact, before = [], 0.0, 0
+    for duration in durations:
+        exact += duration
+        made.append(round(exact) - before)
+        before += made[-1]
+    return tuple(made)
+
+
+def spread(shares, total, bounds):
+    """Whole seconds in proportion to shares and within bounds whose sum is the total; none where there are none such."""
+    if not shares or not sum(least for least, _ in bounds) <= total <= sum(most for _, most in bounds):
+        return None
+    low, high = 0.0, 1000.0 * total / max(1, sum(shares))
+    for _ in range(60):
+        factor = (low + high) / 2
+        if sum(bounded(share * factor, bound) for share, bound in zip(shares, bounds, strict=True)) < total:
+            low = factor
+        else:
+            high = factor
+    made = list(whole(bounded(share * high, bound) for share, bound in zip(shares, bounds, strict=True)))
+    for at in sorted(range(len(made)), key=lambda at: -made[at]):  # what rounding left goes to the longest that takes it
+        made[at] = bounded(made[at] + total - sum(made), bounds[at])
+    return made if sum(made) == total else None
+
+
+def bounded(value, bound):
+    return min(bound[1], max(bound[0], value))
+
+
+def light_of(name, program, least=LEAST):
+    """The light of a SUMO program, and its timing."""
+    durations = whole(duration for duration, _ in program.phases)
+    bounds = program.bounds or [(None, None)] * len(durations)
+    phases = zip(program.phases, durations, bounds, strict=True)
+    bounds = tuple(bounds_of(state, given, bound, least) for (_, state), given, bound in phases)
+    light = Light(name, tuple(state for _, state in program.phases), bounds)
+    return light, Timing(round(program.offset) % max(1, sum(durations)), durations)
+
+
+def bounds_of(state, given, bound, least):
+    """The (least, most) seconds of a phase: one with green and no yellow may be stretched, as far as its minDur and
+    maxDur allow where they are written; each other keeps its length."""
+    low = least if bound[0] is None else round(bound[0])
+    high = limits.PHASE_STEPS if bound[1] is None else round(bound[1])
+    if not is_green(state) or given < least:
+        return given, given
+    return min(given, max(least, low)), max(given, min(high, limits.PHASE_STEPS))
+
+
+def is_green(state):
+    """Whether somebody has green in a phase and nobody yellow."""
+    return bool(set(state) & set("GgsOo")) and not set(state) & set("yYu")
+
+
+def why_kept(name, program, asked, timed):
+    """Why a light's plan is left as it is, or none."""
+    if name in asked:
+        return "as --keep says"
+    if name in timed:
+        return "its plan changes by time of day"
+    if program.kind != STATIC:
+        return f"it is {program.kind}"
+    if any(duration > limits.PHASE_STEPS for duration, _ in program.phases):
+        return f"it has a phase above {limits.PHASE_STEPS} s"
+    return None
+
+
+def write_additional(path, lights, plan):
+    """Writes a plan as SUMO and streetsim-import take it: a whole program for each light."""
+    with whole_file(path) as file:
+        file.write("<additional>\n")
+        for name, timing in sorted(plan.items()):
+            words = f'type="static" programID="streetsim" offset="{timing.offset}"'
+            file.write(f"    <tlLogic id={quoteattr(name)} {words}>\n")
+            for duration, state in zip(timing.durations, lights[name].states, strict=True):
+                file.write(f'        <phase duration="{duration}" state="{state}"/>\n')
+            file.write("    </tlLogic>\n")
+        file.write("</additional>\n")

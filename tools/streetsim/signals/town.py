@@ -1,0 +1,124 @@
+"""A run as a search or a study sees it: its lights and their plans, and all as bytes that workers run."""
+import json
+import sys
+from collections import namedtuple
+from dataclasses import dataclass
+
+from ..files import Fault
+from ..run.mapping import Map, read_map
+from ..run.running import fits
+from ..run.runs import Line, Run, read_run
+from ..study.sessions import Session, outcome, session_of, vehicle_seconds
+from ..sumo.report import some
+from .light_lines import LightLines, read_plans
+from .plans import light_of, why_kept
+
+Reading = namedtuple("Reading", "run map plans until program least keep")  # what the user says of it
+
+
+@dataclass(slots=True)
+class Town:
+    run: Run
+    mapping: Map
+    lights: dict  # that are searched, by name
+    plan: dict  # the one given, of these
+    lines: LightLines
+    session: Session
+
+    def signals(self, plan):
+        """The signal lines of a plan."""
+        return self.lines.of(plan, self.lights)
+
+    def first_lines(self, plan):
+        """The first lines of the run with the signals of a plan."""
+        made = [Line(0, text, json.loads(text)) for text in self.signals(plan).decode().splitlines()]
+        nodes = {line.command["node"] for line in made}
+        return [line for line in self.run.first if signal_node(line) not in nodes] + made
+
+
+def signal_node(line):
+    """The node of a signal line, or none."""
+    return line.command["node"] if line.command["cmd"] == "signal" else None
+
+
+def read_pair(run_path, map_path, until):
+    """A run and its map, with something to run."""
+    run, mapping = read_run(run_path), read_map(map_path)
+    if not fits(run, mapping):
+        raise Fault(f"{map_path}: not the map of {run_path}, whose links are other ones")
+    if until <= run.start():
+        raise Fault(f"{run_path}: starts at {run.start()} s, which is not before {until} s")
+    if not any(line.command["depart"] < until for line in run.enters):
+        raise Fault(f"{run_path}: no vehicle departs before {until} s")
+    return run, mapping
+
+
+def read_town(reading):
+    """The town of a search."""
+    run, mapping = read_pair(reading.run, reading.map, reading.until)
+    net = read_plans(reading.plans, mapping)
+    lights, plan = searched_lights(reading, run, mapping, net)
+    nodes = frozenset(node for light, node in mapping.signals if light in lights)
+    session = session_of(reading.program, run, reading.until, nodes)
+    town = Town(run, mapping, lights, plan, LightLines(net, run, mapping), session)
+    warn_of_others(reading, town)
+    return town
+
+
+def searched_lights(reading, run, mapping, net):
+    """The lights that are searched, and the plan given; what is left as it is, is told."""
+    names, asked = lights_of(reading, mapping, net), set(reading.keep)
+    if unknown := sorted(asked - set(names)):
+        raise Fault(f"--keep: the map has no light {unknown[0]!r}")
+    timed_nodes = {signal_node(line) for _, line in run.timed}
+    timed = {light for light, node in mapping.signals if node in timed_nodes}
+    lights, plan, reasons = {}, {}, {}
+    for name in names:
+        if why := why_kept(name, net.programs[name], asked, timed):
+            reasons.setdefault(why, []).append(name)
+        else:
+            lights[name], plan[name] = light_of(name, net.programs[name], reading.least)
+    for why, kept in reasons.items():
+        print(f"not changed, {why}: {some(kept)}", file=sys.stderr)
+    if not lights:
+        raise Fault(f"{reading.map}: no light whose plan may be changed")
+    return lights, plan
+
+
+def lights_of(reading, mapping, net):
+    """The names of the map's lights, each of which must have a program in the plans."""
+    names = sorted({light for light, _ in mapping.signals})
+    lacking = [name for name in names if name not in net.programs or not net.programs[name].phases]
+    if lacking:
+        raise Fault(f"{' '.join(reading.plans)}: no program of light {lacking[0]!r}, which {reading.map} has")
+    return names
+
+
+def warn_of_others(reading, town):
+    """Says where the run's own signals are others than those of the plans given."""
+    ours = [line.command for line in town.run.first if signal_node(line) is not None]
+    given = [json.loads(text) for text in town.signals(town.plan).splitlines()]
+    others = [command for command in given if command not in ours]
+    if others:
+        words = f"{len(others)} of {len(given)} signals of {reading.run} are others than those of the plans given, which count"
+        print(f"warning: {words}", file=sys.stderr)
+
+
+class Runner:
+    """Runs plans of a town on some workers."""
+
+    def __init__(self, workers, town):
+        self.workers, self.town, self.cars = workers, town, len(town.session.departs)
+
+    def means(self, plans, seeds):
+        """For each plan and seed, in order, the mean trip."""
+        for seconds in self.ordered(vehicle_seconds, plans, seeds):
+            yield seconds / self.cars
+
+    def outcomes(self, plan, seeds):
+        """For each seed, what the plan gives exactly."""
+        return list(self.ordered(outcome, [plan], seeds))
+
+    def ordered(self, function, plans, seeds):
+        made = ((self.town.signals(plan), seed) for plan in plans for seed in seeds)
+        return self.workers.ordered([(f"the run with seed {seed}", function, 0, signals, seed) for signals, seed in made])

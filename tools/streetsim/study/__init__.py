@@ -1,0 +1,1 @@
+"""Many runs: seeds, processes and machines, studies."""

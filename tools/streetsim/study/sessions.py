@@ -1,0 +1,150 @@
+"""Whole runs as prepared bytes: what the program is sent, and what is read from its replies.
+
+A session holds all of a run but its seed and its signals, so that runs of many plans cost little besides the program's own
+time. It carries no path but the program's: its functions run on any machine that has the program.
+"""
+import functools
+import hashlib
+import json
+import re
+import subprocess
+import tempfile
+from dataclasses import dataclass
+from itertools import pairwise
+
+from .. import limits
+from ..client import most_calls
+from ..files import Fault
+
+INTERVALS = (10, 20, 30, 60, 120, 300, 600)  # seconds between counts; the first that the program's calls allow
+ARRIVED = re.compile(rb'"arrived":(\d+)')
+REFUSED = re.compile(rb'.*(?:"error":|"starved"|"short":).*')
+
+
+@dataclass(frozen=True, slots=True)
+class Session:
+    program: str
+    digest: str  # SHA-256 of the program's file
+    calls: int
+    opening: bytes  # the load, up to its seed
+    first: bytes  # what goes before the enters, but the signals
+    enters: bytes
+    departs: tuple  # of the vehicles that depart before the end
+    clocks: tuple  # at which vehicles are counted: the start and the end, and between
+    counting: bytes  # the steps, with counts
+    asking: bytes  # the steps, and then a question for each of these vehicles
+
+
+@dataclass(frozen=True, slots=True)
+class Outcome:
+    """What a run gave, asked for each vehicle; one that has not arrived counts until the end."""
+
+    digest: str  # SHA-256 of all replies
+    arrived: int
+    seconds: int  # of all vehicles, from the wished departure to the arrival
+
+
+@functools.cache
+def digest_of(path):
+    """The SHA-256 of a file, or none where it cannot be read."""
+    try:
+        with open(path, "rb") as file:
+            return hashlib.file_digest(file, "sha256").hexdigest()
+    except OSError:
+        return None
+
+
+def session_of(program, run, until, without=frozenset(), **load):
+    """The session of a run up to a clock, without the signals of some nodes, and with other values of the load."""
+    command = {**run.load.command, **load}
+    command.pop("seed", None)
+    first = [line for line in run.first if not (line.command["cmd"] == "signal" and line.command["node"] in without)]
+    enters = [line for line in run.enters if line.command["depart"] < until]
+    timed = [(clock, line) for clock, line in run.timed if clock < until]
+    calls = most_calls(program) or limits.CALLS
+    clocks = counted_clocks(run, until, calls - 2 * len(enters) - len(first) - len(without) - 2 * len(timed) - 2)
+    asks = b"".join(b'{"cmd":"vehicle","car":%d}\n' % car for car in range(len(enters)))
+    long = sorted({*range(run.start(), until, limits.STEPS), until})
+    return Session(
+        program=program,
+        digest=digest_of(program),
+        calls=calls,
+        opening=json.dumps(command, separators=(",", ":")).encode()[:-1] + b',"seed":',
+        first=lines_of(first),
+        enters=lines_of(enters),
+        departs=tuple(line.command["depart"] for line in enters),
+        clocks=clocks,
+        counting=steps(clocks, timed, b'{"cmd":"count"}\n'),
+        asking=steps(long, timed, b"") + asks,
+    )
+
+
+def lines_of(lines):
+    return "".join(line.text + "\n" for line in lines).encode()
+
+
+def counted_clocks(run, until, calls):
+    """The clocks at which vehicles are counted, as often as so many calls allow."""
+    start, timed = run.start(), {clock for clock, _ in run.timed if run.start() < clock < until}
+    for every in INTERVALS:
+        clocks = tuple(sorted({*range(start, until, every), *timed, until}))
+        if 2 * len(clocks) <= calls:
+            return clocks
+    raise Fault(f"{run.path}: a run of {len(run.enters):,} vehicles up to {until:,} s takes more calls than the program allows")
+
+
+def steps(clocks, timed, counted):
+    """The steps from clock to clock, what is sent at these, and a line after each advance."""
+    clocks = sorted({*clocks, *(clock for clock, _ in timed if clocks[0] < clock < clocks[-1])})
+    sent = {clock: b"" for clock in clocks}
+    for clock, line in timed:
+        sent[max(clock, clocks[0])] += line.text.encode() + b"\n"
+    parts = (
+        sent[begin] + b'{"cmd":"advance","steps":%d}\n' % (end - begin) + counted for begin, end in pairwise(clocks)
+    )
+    return b"".join(parts)
+
+
+def replies(session, signals, seed, tail):
+    """What the program says to a whole run. Files in place of pipes, so that nobody waits for the other side."""
+    if digest_of(session.program) != session.digest:
+        raise Fault(f"{session.program}: another program than the one that the runs were prepared for, or none")
+    with tempfile.TemporaryFile() as given, tempfile.TemporaryFile() as told:
+        given.writelines((session.opening, b"%d}\n" % seed, session.first, signals, session.enters, tail))
+        given.seek(0)
+        words = [session.program, "--calls", str(session.calls)]
+        done = subprocess.run(words, stdin=given, stdout=told, stderr=subprocess.PIPE, check=False)
+        told.seek(0)
+        text = told.read()
+    if done.returncode:
+        why = done.stderr.decode(errors="replace").strip()
+        raise Fault(f"the program ended with status {done.returncode}: {why or 'nothing on standard error'}")
+    if found := any(mark in text for mark in (b'"error":', b'"starved"', b'"short":')) and REFUSED.search(text):
+        number = text.count(b"\n", 0, found.start()) + 1
+        raise Fault(f"the program refused call {number:,} of a run: {found[0].decode(errors='replace')[:100]}")
+    return text
+
+
+def vehicle_seconds(session, signals, seed):
+    """The seconds of all vehicles from the wished departure to the arrival or the end: the area above the curve of
+    arrivals. These are whole seconds, taken as spread evenly between two counts."""
+    text = replies(session, signals, seed, session.counting)
+    arrived = [0, *map(int, ARRIVED.findall(text))]
+    if len(arrived) != len(session.clocks):
+        raise Fault(f"{len(arrived) - 1:,} counts were answered, and {len(session.clocks) - 1:,} were asked for")
+    start, count = session.clocks[0], len(session.departs)
+    area = sum(
+        (later - clock) * (count - (here + there) / 2)
+        for (clock, later), (here, there) in zip(pairwise(session.clocks), pairwise(arrived), strict=True)
+    )
+    return area + 0.5 * arrived[-1] + count * start - sum(session.departs)
+
+
+def outcome(session, signals, seed):
+    """What a run gave, exactly."""
+    text = replies(session, signals, seed, session.asking)
+    count, until = len(session.departs), session.clocks[-1]
+    last = [json.loads(line) for line in text.splitlines()[-count:]] if count else []
+    ends = [one["step"] + 1 if one["state"] == "arrived" else None for one in last]
+    seconds = sum((until if end is None else end) - depart for end, depart in zip(ends, session.departs, strict=True))
+    return Outcome(hashlib.sha256(text).hexdigest(), sum(end is not None for end in ends), seconds)

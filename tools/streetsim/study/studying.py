@@ -1,0 +1,273 @@
+"""streetsim-study: seeds times variants, each run once, and how sure their differences are."""
+import argparse
+import os
+import sys
+from dataclasses import dataclass
+from functools import partial
+from statistics import fmean, stdev
+
+import tomllib
+
+from .. import limits, program
+from ..cli.progress import Meanwhile, Slow
+from ..cli.words import Parser, whole_seconds
+from ..files import Fault, reading, whole_folder
+from ..pictures import plots
+from ..run.mapping import read_map
+from ..run.tables import write_table
+from ..run.works import lanes_to_join, with_works, works_of
+from ..signals.light_lines import LightLines, read_plans
+from ..signals.planning import add_machines
+from ..signals.plans import light_of
+from ..signals.town import Reading, lights_of, read_pair
+from .machines import machines
+from .seeds import paired, runs_needed, seeds_of, unpaired
+from .sessions import outcome, session_of
+
+LAST = "differences.csv"
+KEYS = {"run", "map", "until", "seeds", "base", "variant"}
+VARIANT = {"run", "map", "plans", "close", "dawdle"}
+RUNS = ("variant", "seed", "arrived", "mean_trip_s", "total_s", "digest")
+DIFFERENCES = (
+    *("variant", "mean_trip_s", "difference", "half_width_95_paired", "half_width_95_unpaired", "runs"),
+    *("runs_needed_paired", "runs_needed_unpaired"),
+)
+
+
+@dataclass(slots=True)
+class Study:
+    until: int
+    seeds: range
+    base: str
+    variants: dict  # name: (session, signal lines)
+
+
+def parser():
+    made = Parser(
+        prog="streetsim-study",
+        description="Runs each variant of a study with each seed, and writes the differences of their mean trips with 95 % "
+        "intervals, and how many runs a precision needs.",
+    )
+    made.add_argument("study", help="the study (.toml)")
+    add_machines(made)
+    made.add_argument(
+        "--precision",
+        type=percent,
+        default=1.0,
+        metavar="PERCENT",
+        help="half the width that intervals are to have, of the base's mean trip (default %(default)s)",
+    )
+    made.add_argument("--out", required=True, metavar="DIR", help="the folder to write to")
+    return made
+
+
+def percent(text):
+    try:
+        value = float(text)
+    except ValueError:
+        value = 0.0
+    if not 0 < value <= 100:
+        raise argparse.ArgumentTypeError(f"{text!r} is not above 0 and at most 100")
+    return value
+
+
+def main(arguments):
+    words = parser().parse_args(arguments)
+    if os.path.exists(words.out) and not os.path.isdir(words.out):
+        raise Fault(f"{words.out}: exists and is no folder")
+    words.program = program.find_program(words.program)
+    with Slow(f"reading {words.study}"):
+        study = read_study(words.study, words.program)
+    results = run_all(words, study)
+    rows = differences(study, results, words.precision)
+    with whole_folder(words.out, LAST) as folder:
+        write_table(f"{folder}/runs.csv", RUNS, run_rows(study, results))
+        write_table(f"{folder}/{LAST}", DIFFERENCES, map(written, rows))
+        draw(study, rows, f"{folder}/differences.png")
+    tell(study, rows)
+    return 0
+
+
+def read_study(path, simulator):
+    """A study, with its variants as bytes; the paths in it are beside it."""
+    with reading(path), open(path, "rb") as file:
+        value = load_toml(path, file)
+    refuse_unknown(path, value, KEYS, "key")
+    for key in ("run", "map", "until", "seeds", "variant"):
+        if key not in value:
+            raise Fault(f"{path}: no {key!r} in it")
+    until, variants = value["until"], value["variant"]
+    if isinstance(until, str) and whole_seconds(until) is not None:
+        value["until"] = until = whole_seconds(until)
+    if type(until) is not int or not 1 <= until <= limits.CLOCK:
+        raise Fault(f"{path}: until = {until!r} is not 1 to {limits.CLOCK:,}")
+    if not isinstance(variants, dict) or not all(isinstance(one, dict) for one in variants.values()) or not variants:
+        raise Fault(f"{path}: variants are tables [variant.NAME]")
+    base = value.get("base", next(iter(variants)))
+    if base not in variants:
+        raise Fault(f"{path}: base = {base!r}: there is no variant of this name; there are {', '.join(variants)}")
+    seeds = seeds_of(value["seeds"], f"{path}: seeds")
+    lanes = joint_lanes(path, value)
+    made = {name: read_variant(f"{path}: variant {name!r}", path, value, one, lanes, simulator) for name, one in variants.items()}
+    return Study(until, seeds, base, made)
+
+
+def load_toml(path, file):
+    try:
+        return tomllib.load(file)
+    except tomllib.TOMLDecodeError as fault:
+        raise Fault(f"{path}: not TOML: {fault}") from None
+
+
+def refuse_unknown(where, table, known, what):
+    if unknown := [key for key in table if key not in known]:
+        raise Fault(f"{where}: unknown {what} {unknown[0]!r}; known are {', '.join(sorted(known))}")
+
+
+def joint_lanes(path, study):
+    """The lanes that works of a variant need to be joint, and so are in all variants of the same run: {(run, map): lanes}."""
+    found = {}
+    for name, variant in study["variant"].items():
+        check_types(f"{path}: variant {name!r}", {**study, **variant})
+        lanes = found.setdefault(pair_of(study, variant), {})
+        if closed := variant.get("close"):
+            mapping = read_map(os.path.join(os.path.dirname(os.path.abspath(path)), pair_of(study, variant)[1]))
+            lanes.update(dict.fromkeys(lanes_to_join([works_of(text, mapping) for text in closed], mapping)))
+    return found
+
+
+def pair_of(study, variant):
+    """The run and the map of a variant."""
+    return tuple(variant.get(key, study[key]) for key in ("run", "map"))
+
+
+def read_variant(where, path, study, variant, joint, simulator):
+    """The session and the signal lines of a variant; joint: the lanes that are joint for works, by run and map."""
+    refuse_unknown(where, variant, VARIANT, "key")
+    beside = partial(os.path.join, os.path.dirname(os.path.abspath(path)))
+    run_path, map_path = map(beside, pair_of(study, variant))
+    run, mapping = read_pair(run_path, map_path, study["until"])
+    works = [works_of(text, mapping) for text in variant.get("close", ())]
+    run, mapping, told = with_works(run, mapping, map_path, works, joint[pair_of(study, variant)])
+    print(*(f"{where}: {text}" for text in told), sep="\n", end="\n" if told else "", file=sys.stderr)
+    load = {"dawdle": variant["dawdle"]} if "dawdle" in variant else {}
+    if "plans" not in variant:
+        return session_of(simulator, run, study["until"], **load), b""
+    plans = list(map(beside, variant["plans"]))
+    signals = signals_of(Reading(run_path, map_path, plans, study["until"], simulator, 0, ()), run, mapping)
+    nodes = frozenset(node for _, node in mapping.signals)
+    return session_of(simulator, run, study["until"], nodes, **load), signals
+
+
+def check_types(where, value):
+    """Refuses values of another kind than their key's."""
+    for key in ("run", "map"):
+        if not isinstance(value[key], str):
+            raise Fault(f"{where}: {key} = {value[key]!r} is no path")
+    for key in ("plans", "close"):
+        if not isinstance(value.get(key, []), list) or not all(isinstance(one, str) for one in value.get(key, ())):
+            raise Fault(f"{where}: {key} = {value[key]!r} is no list of texts")
+    if value.get("plans") == []:
+        raise Fault(f"{where}: plans = []: the network is the first of them")
+    if type(value.get("dawdle", 0)) is not int or not 0 <= value.get("dawdle", 0) <= 1000:
+        raise Fault(f"{where}: dawdle = {value['dawdle']!r} is not 0 to 1,000")
+
+
+def signals_of(asked, run, mapping):
+    """The signal lines of all lights of the map under the plans of a variant."""
+    net = read_plans(asked.plans, mapping)
+    found = {name: light_of(name, net.programs[name]) for name in lights_of(asked, mapping, net)}
+    plan = {name: timing for name, (_, timing) in found.items()}
+    return LightLines(net, run, mapping).of(plan, {name: light for name, (light, _) in found.items()})
+
+
+def run_all(words, study):
+    """What each variant gives with each seed, {variant: outcomes}."""
+    sessions = [session for session, _ in study.variants.values()]
+    total = len(study.variants) * len(study.seeds)
+    meanwhile, results = Meanwhile("runs", total), {}
+    with machines(words.jobs, words.cluster, sessions) as workers:
+        tasks = [
+            (f"variant {name!r}, seed {seed}", outcome, place, signals, seed)
+            for place, (name, (_, signals)) in enumerate(study.variants.items())
+            for seed in study.seeds
+        ]
+        found = workers.ordered(tasks)
+        for name in study.variants:
+            results[name] = []
+            for _ in study.seeds:
+                results[name].append(next(found))
+                meanwhile.show(sum(map(len, results.values())))
+    meanwhile.end()
+    return results
+
+
+def means_of(study, results, name):
+    cars = len(study.variants[name][0].departs)
+    return [one.seconds / cars for one in results[name]]
+
+
+def run_rows(study, results):
+    for name, outcomes in results.items():
+        for seed, one, mean in zip(study.seeds, outcomes, means_of(study, results, name), strict=True):
+            yield name, seed, one.arrived, f"{mean:.3f}", one.seconds, one.digest
+
+
+def differences(study, results, precision):
+    """A row for each variant, to the base: mean trips of equal seeds (paired), and as if their seeds were others."""
+    base = means_of(study, results, study.base)
+    error = fmean(base) * precision / 100
+    rows = []
+    for name in study.variants:
+        means = means_of(study, results, name)
+        if name == study.base or len(means) < 2:
+            difference = None if name == study.base else fmean(means) - fmean(base)
+            rows.append((name, fmean(means), difference, None, None, len(means), None, None))
+            continue
+        difference, half = paired(base, means)
+        other = unpaired(base, means)
+        apart = [there - here for here, there in zip(base, means, strict=True)]
+        needed = runs_needed(stdev(apart), error), runs_needed((stdev(base) ** 2 + stdev(means) ** 2) ** 0.5, error)
+        rows.append((name, fmean(means), difference, half, other, len(means), *needed))
+    return rows
+
+
+def written(row):
+    return tuple("" if value is None else f"{value:.3f}" if isinstance(value, float) else value for value in row)
+
+
+def draw(study, rows, path):
+    """The differences with their intervals; without matplotlib no picture, which is said."""
+    shown = [row for row in rows if row[0] != study.base]
+    try:
+        pyplot = plots.drawing()
+    except Fault as fault:
+        print(f"no picture: {fault}", file=sys.stderr)
+        return
+    if not shown:
+        return
+    figure, axes = pyplot.subplots(figsize=(7, 1.2 + 0.4 * len(shown)))
+    for place, (_, _, difference, half, other, *_) in enumerate(reversed(shown)):
+        for width, size, label in ((other, 1.2, "unpaired"), (half, 4.0, "paired")):
+            if width is not None:
+                label = f"95 % interval, {label}" if place == 0 else None
+                axes.plot((difference - width, difference + width), (place, place), color="#225588", linewidth=size, label=label)
+        axes.plot([difference], [place], marker="o", color="black", markersize=5)
+    axes.axvline(0, color="black", linewidth=0.8)
+    axes.set_yticks(range(len(shown)), [row[0] for row in reversed(shown)])
+    axes.set(xlabel=f"mean trip less that of {study.base} (s)", ylim=(-0.6, len(shown) - 0.4))
+    axes.set_title(f"{len(study.seeds)} seeds")
+    if len(study.seeds) > 1:
+        axes.legend(frameon=False, fontsize=8)
+    plots.save(figure, path)
+
+
+def tell(study, rows):
+    """Prints a line for each variant."""
+    for name, mean, difference, half, _, runs, needed, _ in rows:
+        line = f"{name}: mean trip {mean:.1f} s"
+        if difference is not None:
+            line += f", {difference:+.2f} s" + (f" ± {half:.2f} (95 % interval, {runs} paired runs)" if half is not None else "")
+        if needed is not None and needed > runs:
+            line += f"; the wanted precision needs {needed:,} runs"
+        print(line)

@@ -1,0 +1,118 @@
+"""Who gives way to whom where there is no light, and for how long: for the map, by which runs find gaps.
+
+The seconds were measured in SUMO 1.15 at lone junctions, under a queue that does not end (bench/junctions): how many leave in
+each gap between two that they give way to, then chosen so that as many leave here against 200 to 1,000 vehicles an hour. They
+fall with the flow, as the traffic of SUMO, whose vehicles differ in speed, is more bunched and leaves more long gaps.
+"""
+from collections import Counter, defaultdict
+from dataclasses import dataclass
+
+from .signals import connections_of
+
+EQUAL = 0.8  # seconds more where nobody has a main street
+FAST = 10.0  # metres a second inside the junction: a stream that is joined like that is a fast one
+SLOW = 0.8  # of a street's speed: a junction is turned in with less
+TURNING, LOOKING = 2.3, 1.2  # seconds lost in it, and by one that goes straight on and has to look out
+EQUALS = "="  # SUMO's state of such a connection
+
+
+@dataclass(slots=True, frozen=True)
+class Gap:
+    """The seconds that have to be free before one who goes first."""
+
+    seconds: float  # with few of these
+    less: float  # for each 1,000 of these an hour
+    least: float
+
+    def before(self, hourly):
+        return max(self.least, self.seconds - self.less * hourly / 1000)
+
+
+CROSSING, ENTERING, JOINING = Gap(6.2, 2.6, 3.5), Gap(7.2, 2.0, 3.5), Gap(8.4, 3.0, 5.0)  # a stream; a slow, a fast one
+
+
+@dataclass(slots=True, frozen=True)
+class Foe:
+    """A way that goes first: vehicles from a lane to a link."""
+
+    link: int
+    lane: int
+    next: int
+    gap: Gap
+    slow: bool  # whether those that use one gap follow each other more slowly than from a queue
+
+    def written(self):
+        return [self.link, self.lane, self.next, self.gap.seconds, self.gap.less, self.gap.least, self.slow]
+
+
+@dataclass(slots=True, frozen=True)
+class Waiting:
+    """Turns that show green when nobody comes who goes first."""
+
+    node: int
+    turns: tuple  # of (link, lane, next link)
+    foes: tuple
+
+    def written(self):
+        """As it stands in the map."""
+        return [self.node, list(map(list, self.turns)), [foe.written() for foe in self.foes]]
+
+
+def waiting_of(value):
+    """What gives way, of a map's value."""
+    return [
+        Waiting(node, tuple(map(tuple, turns)), tuple(Foe(*foe[:3], Gap(*foe[3:6]), foe[6]) for foe in foes))
+        for node, turns, foes in value
+    ]
+
+
+def conflicts_of(net, network, flows):
+    """What gives way where no light is, of the movements that routes use."""
+    turns_at = defaultdict(list)
+    for link, lane, following in network.turns:
+        turns_at[network.links[link].edge, network.links[following].edge].append((link, lane, following))
+    number = {name: at for at, name in enumerate(network.nodes)}
+    return [
+        Waiting(number[junction], tuple(sorted(turns_at[way])), tuple(found.values()))
+        for junction, connections in connections_of(net).items()
+        if junction in number and not any(one.light or one.request is None for one in connections)
+        for way, found in foes_by_way(connections, net.yields.get(junction, {}), network, flows).items()
+    ]
+
+
+def foes_by_way(connections, yields, network, flows):
+    """Those who go before each way of a junction, {(edge, next edge): {(link, lane, next link): foe}}."""
+    of_request = {one.request: one for one in connections if flows.get((one.source, one.target))}
+    found = defaultdict(dict)
+    for request, one in of_request.items():
+        for foe in sorted(yields.get(request, ())):
+            if foe in of_request:
+                found[one.source, one.target].update(foes(one, of_request[foe], network))
+    return found
+
+
+def foes(one, other, network):
+    """The vehicles of another connection that go before those of one, {(link, lane, next link): foe}."""
+    link, lane = network.place_of[other.source, other.source_lane]
+    joins = one.target == other.target
+    fast = joins and (other.speed is None or other.speed > FAST)
+    gap = JOINING if fast else ENTERING if joins else CROSSING
+    if one.state == EQUALS:
+        gap = Gap(round(gap.seconds + EQUAL, 1), gap.less, gap.least)
+    return {(link, lane, following): Foe(link, lane, following, gap, fast) for following in network.links_of[other.target]}
+
+
+def lost(connections, net, flows):
+    """Vehicles an hour at a junction, and the seconds that these lose beside one that goes straight on and first."""
+    sharing = Counter((connection.source, connection.target) for connection in connections)
+    total = seconds = 0.0
+    for connection in connections:
+        way = connection.source, connection.target
+        flow = flows.get(way, 0.0) / sharing[way]
+        total += flow
+        yields = net.yields.get(net.edges[connection.source].end, {}).get(connection.request)
+        if connection.speed and connection.speed < SLOW * net.edges[connection.source].lanes[0].speed:
+            seconds += TURNING * flow
+        elif yields:
+            seconds += LOOKING * flow
+    return total, seconds

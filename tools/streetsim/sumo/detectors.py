@@ -1,0 +1,67 @@
+"""SUMO's induction loops (e1) and lane areas (e2) of additional files, placed on the cells of an import."""
+from dataclasses import dataclass
+
+from .. import limits
+from ..files import Fault, attribute, number, seconds, told
+from ..run.detectors import E1, E2, Detector
+
+KINDS = {"inductionLoop": E1, "e1Detector": E1, "laneAreaDetector": E2, "e2Detector": E2}
+
+
+@dataclass(slots=True, frozen=True)
+class SumoDetector:
+    where: str  # file and element, for what is told
+    name: str
+    kind: str
+    lane: str
+    begin: float  # metres; below 0: from the lane's end
+    end: float | None  # of an e2; none: to the lane's end
+    period: int
+
+
+def read_detector(path, element, report):
+    """A detector of a file; none where streetsim has none of its sort, which is reported."""
+    kind = KINDS[element.tag]
+    if element.get("lanes"):
+        report.ignored[f"<{element.tag}> over several lanes"] += 1
+        return None
+    end = None
+    begin = attribute(path, element, "pos", number)
+    if kind == E2 and element.get("endPos"):
+        end = attribute(path, element, "endPos", number)
+    elif kind == E2 and element.get("length"):
+        end = begin + attribute(path, element, "length", number)
+    names = [name for name in ("freq", "period") if element.get(name)]
+    period = round(attribute(path, element, names[0], seconds)) if names else limits.PERIOD
+    if period < 1:
+        raise Fault(f"{told(path, element)}: {names[0]}={element.get(names[0])!r} is no period")
+    name, lane = attribute(path, element, "id"), attribute(path, element, "lane")
+    return SumoDetector(told(path, element), name, kind, lane, begin, end, min(period, limits.PERIOD))
+
+
+def placed(detectors, mapping, dropped, report):
+    """Detectors on the cells of a map. A lane that the network does not have is a Fault; one that was left out is not."""
+    places = {mapping.lane_name(*place): place for place in mapping.lanes()}
+    found = {}
+    for one in detectors:
+        if one.name in found:
+            raise Fault(f"{one.where}: a second detector of this name")
+        if one.lane in places:
+            link, lane = places[one.lane]
+            found[one.name] = Detector(one.name, one.kind, link, lane, *cells(one, mapping.links[link]), one.period)
+        elif one.lane.rpartition("_")[0] in mapping.links_of or one.lane.rpartition("_")[0] in dropped:
+            report.warn(f"detector {one.name} lies on {one.lane}, which is left out")
+        else:
+            raise Fault(f"{one.where}: the network has no lane {one.lane!r}")
+    if sum(one.kind == E1 for one in found.values()) > limits.METERS:
+        raise Fault(f"more than {limits.METERS:,} induction loops")
+    return list(found.values())
+
+
+def cells(one, link):
+    """The first and the last cell: the one that a loop lies in, or all of which an area has a part."""
+    begin, end = (place + link.metres if place is not None and place < 0 else place for place in (one.begin, one.end))
+    first, _ = link.cells_between(begin, begin)
+    if one.kind == E1:
+        return first, first
+    return link.cells_between(begin, link.metres if end is None else max(begin, end))

@@ -1,0 +1,65 @@
+"""When the vehicles of a SUMO flow depart."""
+import math
+from itertools import count, islice, takewhile
+
+from .. import limits
+from ..files import Fault, at_least_zero, attribute, number, seconds, told
+
+DAY = 86_400.0
+
+
+def departs(path, element, draws):
+    """Seconds, rising: begin + k * period while below the end; of a probability, or of period="exp(rate)", by draws."""
+    begin = optional(path, element, "begin", seconds, 0.0)
+    most = optional(path, element, "number", at_least_zero(int), None)
+    end = optional(path, element, "end", seconds, DAY if most is None else math.inf)
+    times = islice(moments(path, element, begin, end, most, draws), limits.VEHICLES + 1 if most is None else most)
+    found = list(islice(takewhile(lambda time: time < end, times), limits.VEHICLES + 1))
+    if len(found) > limits.VEHICLES:
+        raise Fault(f"{told(path, element)}: more than {limits.VEHICLES:,} vehicles")
+    return found
+
+
+def optional(path, element, name, convert, default):
+    return attribute(path, element, name, convert) if element.get(name) else default
+
+
+def moments(path, element, begin, end, most, draws):
+    """All departures that the rate of a flow gives, without regard to its end."""
+    for name in ("vehsPerHour", "perHour"):
+        if element.get(name):
+            hourly = attribute(path, element, name, at_least_zero(number))
+            return (begin + at * 3600 / hourly for at in count()) if hourly else ()
+    if element.get("probability"):
+        return by_chance(begin, attribute(path, element, "probability", at_least_zero(number)), draws)
+    if (element.get("period") or "").startswith("exp("):
+        rate = attribute(path, element, "period", lambda text: at_least_zero(number)(text[4:].removesuffix(")")))
+        return by_rate(begin, rate, draws)
+    if element.get("period"):
+        period = attribute(path, element, "period", at_least_zero(seconds))
+    elif most is not None and end < math.inf:
+        period = max(0.0, end - begin) / max(1, most)
+    else:
+        raise Fault(f"{told(path, element)}: no rate (number with end, period, vehsPerHour, perHour or probability)")
+    return (begin + at * period for at in count())
+
+
+def by_chance(begin, chance, draws):
+    """Seconds in each of which a vehicle departs by a chance; the seconds until the next are drawn at once."""
+    if chance <= 0:
+        return
+    second = -1
+    while True:
+        waited = math.log(1 - draws.random()) / math.log(1 - chance) if chance < 1 else 0.0
+        if not waited < limits.CLOCK:
+            return
+        second += 1 + int(waited)
+        yield begin + second
+
+
+def by_rate(begin, rate, draws):
+    """Times whose gaps are drawn with a mean of 1 / rate."""
+    clock = begin
+    while rate > 0:
+        clock += draws.expovariate(rate)
+        yield clock

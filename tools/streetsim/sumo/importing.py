@@ -1,0 +1,214 @@
+"""streetsim-import: SUMO networks and routes to streetsim's commands."""
+import json
+import sys
+from collections import Counter
+
+from .. import limits
+from ..cli.progress import Slow
+from ..cli.words import Parser, files_of, listed, time_within, within
+from ..files import Fault, place_of, refuse_equal, whole_file
+from ..run.mapping import map_of
+from .conflicts import conflicts_of
+from .demand import Demand, enters
+from .detectors import placed
+from .net import CLASSES, read_additional, read_net
+from .network import Network, Options
+from .report import Report, some
+from .signals import movements, signals
+from .sources import Sources
+from .types import Sizes, Types
+from .yielding import equivalents, hourly_flows
+
+
+def parser():
+    made = Parser(
+        prog="streetsim-import",
+        description="Makes load, signal and enter lines, and a map of the names, of a SUMO network and its routes.",
+    )
+    made.add_argument("net", help="the network (.net.xml, .net.xml.gz)")
+    made.add_argument(
+        "additional",
+        nargs="*",
+        help="additional files with signal programs, of which the last of a light counts, and vehicle types",
+    )
+    made.add_argument("--routes", nargs="+", default=[], metavar="FILE", help="vehicles, flows and routes (.rou.xml)")
+    made.add_argument("-o", "--output", required=True, help="the run: lines of JSON (.jsonl, .jsonl.gz)")
+    made.add_argument("--map", required=True, help="the map of names to write (.json)")
+    made.add_argument("--strict", action="store_true", help="end with status 1 where vehicles were skipped")
+    add_options(made)
+    return made
+
+
+def add_options(made):
+    """The words that say how a network and its vehicles become commands."""
+    made.add_argument(
+        "--classes", default="passenger", help="keep lanes that allow one of these vehicle classes, with commas between"
+    )
+    made.add_argument(
+        "--turns",
+        choices=["both", "strict"],
+        default="both",
+        help="both: each lane of two leads to each next link; strict: SUMO's connections alone",
+    )
+    made.add_argument(
+        "--sizes",
+        choices=["on", "off"],
+        default="on",
+        help="on: vehicles take as many cells, 1 to 4, as their type is long with its gap; off: one cell each",
+    )
+    made.add_argument(
+        "--joint",
+        default="",
+        metavar="NAMES",
+        help="edges, or lanes (edge_index), with commas between: links of two lanes also where lanes lead to different "
+        "edges, so that vehicles change between them; for lanes that a program closes later",
+    )
+    made.add_argument(
+        "--begin",
+        type=time_within(0, limits.CLOCK),
+        default=0,
+        metavar="S",
+        help="the clock at the start; vehicles before it are skipped",
+    )
+    for name, most, words in (
+        ("dawdle", 1000, "chance of slowing down, of 1,000"),
+        ("change", 1000, "chance of changing lane, of 1,000"),
+        ("zone", 1000, "turn zone in cells"),
+        ("seed", 2**64 - 1, "of all draws"),
+        ("residence", limits.RESIDENCE, "steps in a buffer at signals and real junctions"),
+        ("buffer", limits.BUFFER, "vehicles in a buffer"),
+    ):
+        made.add_argument(
+            f"--{name}",
+            type=within(1 if name in ("residence", "buffer") else 0, most),
+            default=getattr(Options(), name),
+            help=f"{words} (default %(default)s)",
+        )
+    made.add_argument(
+        "--permissive",
+        type=float,
+        metavar="SHARE",
+        help="the last share of each permissive green that is shown (default: by the flows that it gives way to)",
+    )
+
+
+def options_of(words):
+    if words.permissive is not None and not 0 <= words.permissive <= 1:
+        raise Fault("--permissive is a share from 0 to 1")
+    classes = tuple(listed(words.classes))
+    unknown = [name for name in classes if name not in CLASSES]
+    if unknown:
+        raise Fault(f"--classes: SUMO has no vehicle class {unknown[0]!r}; it has {', '.join(CLASSES)}")
+    names = ("dawdle", "change", "zone", "seed", "residence", "buffer", "permissive", "begin")
+    given = {name: getattr(words, name) for name in names}
+    given.update(strict_turns=words.turns == "strict", sizes=words.sizes == "on")
+    given["joint"] = tuple(listed(words.joint))
+    return Options(classes=classes, **given)
+
+
+def main(arguments):
+    words = parser().parse_args(arguments)
+    words.additional, words.routes = files_of(words.additional), files_of(words.routes)
+    refuse_equal({"-o": words.output, "--map": words.map}, [words.net, *words.additional, *words.routes])
+    place_of(words.output), place_of(words.map)
+    report, options = Report(), options_of(words)
+    sources = Sources(words.net, words.additional, words.routes)
+    with Slow(f"importing {words.net}"):
+        made = convert(sources.net, sources.additional, sources.routes, options, report)
+    mapping = write_run(words.output, words.map, made, report, sources)
+    print(*report.lines(), sep="\n", end="\n" if any(report.lines()) else "", file=sys.stderr)
+    print(
+        f"{len(mapping.nodes):,} nodes, {len(mapping.links):,} links, {len(mapping.turns):,} turns, "
+        f"{len(mapping.signals):,} signals, {len(mapping.cars):,} vehicles",
+        file=sys.stderr,
+    )
+    return 1 if words.strict and report.skipped else 0
+
+
+def write_run(output, map_output, made, report, sources=None):
+    """Writes what `converted` made: the run and its map, which keeps the sources. Gives the map."""
+    lines, mapping = run_and_map(made, report)
+    mapping.sources = sources.written(map_output, lines) if sources else {}
+    with whole_file(output) as run, whole_file(map_output) as mapped:
+        run.writelines(line + "\n" for line in lines)
+        json.dump(mapping.written(), mapped, separators=(",", ":"))
+    return mapping
+
+
+def run_and_map(made, report):
+    """The lines of the run as texts, and its map, of what `converted` made."""
+    network, lights, commands, names = made
+    mapping = map_of(network, lights, names, report)
+    mapping.detectors = placed(network.detectors, mapping, network.dropped, report)
+    mapping.warnings = list(report.lines())
+    lines = [json.dumps(command, separators=(",", ":")) for command in commands]
+    refuse_over_limits(network, lines[0], names)
+    return lines, mapping
+
+
+def convert(net_path, additional, routes, options, report):
+    """The network, its lights, the commands of the run and the names of its vehicles."""
+    net = read_net(net_path, options.classes, report)
+    types = Types(options.seed, report)
+    for path in additional:
+        read_additional(path, net, types, report)
+    demand = Demand(net, types, options.seed, report)
+    for path in routes:
+        demand.read(path)
+    return converted(net, types, demand.finish(), options, report)
+
+
+def converted(net, types, vehicles, options, report):
+    """The same of a network that was read, and of vehicles in order of departure."""
+    flows = hourly_flows(vehicles)
+    network = Network(net, options, report, flows)
+    found = movements(net, network, flows, report)
+    network.equivalents = equivalents(one for junction in found.values() for one in junction.values())
+    sizes = Sizes(types)
+    entered, names = enters(vehicles, net, network, sizes, report)
+    network.open_beside_works()
+    sizes.tell(report)
+    warn_of_rules(net, network, report)
+    made = signals(net, network, found, report)
+    lights = [[light, command["node"]] for light, command in made]
+    network.yields = conflicts_of(net, network, flows)
+    return network, lights, [network.load(), *(command for _, command in made), *entered], names
+
+
+def refuse_over_limits(network, load, names):
+    over = list(network.over_limits())
+    if len(names) > limits.VEHICLES:
+        over.append(f"{len(names):,} vehicles, at most {limits.VEHICLES:,}")
+    if len(load) > limits.LINE:
+        over.append(f"a load line of {len(load):,} bytes, at most {limits.LINE:,}")
+    if over:
+        raise Fault(f"too large for streetsim: {'; '.join(over)}. Nothing was written")
+
+
+def warn_of_rules(net, network, report):
+    """What is other here than in SUMO, as far as it concerns this network."""
+    if net.closed_lanes:
+        classes = " and ".join(network.options.classes)
+        report.warn(
+            f"{net.closed_lanes} lanes are closed to {classes} and left out, with {len(net.dropped)} whole edges"
+        )
+    short = sorted({link.edge for link in network.links if link.metres < limits.CELL_METRES})
+    if short:
+        report.warn(f"{len(short)} edges are shorter than a cell of {limits.CELL_METRES} m and get one: {some(short)}")
+    for (speed, limit), count in sorted(Counter((link.speed, link.limit) for link in network.links).items()):
+        free = (limit - network.options.dawdle / 1000) * limits.CELL_METRES
+        if abs(free - speed) > 0.1 * speed:
+            report.warn(
+                f"{speed * 3.6:.0f} km/h becomes {limit} cells a step, {free * 3.6:.0f} km/h when free: {count} links"
+            )
+    minor = sum(connection.state in "m=" and not connection.light for connection in net.connections)
+    if minor:
+        report.warn(f"{minor} connections have to give way in SUMO; here those that routes use do, by the rounds of streetsim-run")
+    if network.joined:
+        report.warn(f"{len(network.joined)} turns between parallel links added for routes that change between them")
+    split = sum(len(links) > 1 for links in network.links_of.values())
+    if split:
+        report.warn(f"{split} edges became parallel links of one or two lanes")
+    if network.closing:
+        names = some(sorted(network.closing))
+        report.warn(f"lanes are joint that lead to different edges, as --joint asks: edges {names}")

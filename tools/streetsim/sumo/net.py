@@ -1,0 +1,233 @@
+"""Reads a SUMO network (.net.xml, and signal programs of additional files)."""
+from dataclasses import dataclass, field, replace
+
+from ..files import Fault, at_least_zero, attribute, elements, number, seconds, told
+from .detectors import KINDS, read_detector
+from .types import TAGS
+
+INNER = ("internal", "walkingarea", "crossing")
+DEMAND = ("route", "vehicle", "flow", "trip")
+# SUMO's vehicle classes.
+CLASSES = (
+    *("private", "emergency", "authority", "army", "vip", "passenger", "hov", "taxi", "bus", "coach", "delivery"),
+    *("truck", "trailer", "tram", "rail_urban", "rail", "rail_electric", "rail_fast", "motorcycle", "moped", "bicycle"),
+    *("pedestrian", "evehicle", "ship", "container", "cable_car", "subway", "aircraft", "wheelchair", "scooter", "drone"),
+    *("custom1", "custom2"),
+)
+
+
+@dataclass(slots=True)
+class Lane:
+    index: int
+    speed: float  # metres a second
+    metres: float
+    shape: list  # of (x, y), metres
+
+
+@dataclass(slots=True)
+class Edge:
+    name: str
+    begin: str
+    end: str
+    priority: int
+    lanes: list  # those that one of the classes may use, from the right
+
+
+@dataclass(slots=True)
+class Connection:
+    source: str
+    target: str
+    source_lane: int
+    target_lane: int
+    light: str | None
+    index: int  # in the light's state
+    state: str  # M: major, m: minor, ..
+    request: int | None = None  # its place among the requests of its junction
+    speed: float | None = None  # metres a second inside the junction
+
+
+@dataclass(slots=True)
+class Program:
+    offset: float
+    phases: list  # of (seconds, state)
+    kind: str  # static, actuated, ..
+    bounds: list = field(default_factory=list)  # for each phase its minDur and maxDur, or none
+
+
+@dataclass(slots=True)
+class SumoNet:
+    junctions: dict = field(default_factory=dict)  # name: (x, y)
+    edges: dict = field(default_factory=dict)  # name: Edge
+    dropped: set = field(default_factory=set)  # edges without a lane for the classes
+    closed_lanes: int = 0  # lanes that are not for the classes
+    connections: list = field(default_factory=list)  # between kept lanes
+    roundabouts: set = field(default_factory=set)  # edges
+    programs: dict = field(default_factory=dict)  # light: Program, the last loaded
+    detectors: list = field(default_factory=list)  # of additional files
+    yields: dict = field(default_factory=dict)  # junction: for each request those that it gives way to
+    inner_speeds: dict = field(default_factory=dict)  # lane inside a junction: metres a second
+
+
+def shape(text):
+    """A list of two points or more; heights are left out."""
+    points = [tuple(number(part) for part in point.split(",")[:2]) for point in text.split()]
+    if len(points) < 2 or any(len(point) < 2 for point in points):
+        raise ValueError(text)
+    return points
+
+
+def allows(element, classes):
+    """Whether a lane or connection is open to one of the vehicle classes."""
+    if element.get("allow") is not None:
+        allowed = element.get("allow").split()
+        return "all" in allowed or any(name in allowed for name in classes)
+    closed = (element.get("disallow") or "").split()
+    return "all" not in closed and any(name not in closed for name in classes)
+
+
+def read_net(path, classes, report):
+    """The network of a .net.xml, with the lanes that one of the classes may use."""
+    net, named = SumoNet(), set()
+    readers = {
+        "edge": read_edge,
+        "junction": read_junction,
+        "connection": read_connection,
+        "roundabout": read_roundabout,
+        "tlLogic": read_program,
+    }
+    for element in elements(path, ["net"]):
+        if element.tag in readers:
+            readers[element.tag](path, element, net, classes)
+            if element.tag == "edge":
+                named.update(name for lane in element.iter("lane") for name in (lane.get("allow") or "").split())
+        elif element.tag not in ("location", "type", "request"):
+            report.ignored[f"<{element.tag}> of the network"] += 1
+    if not net.edges:
+        raise Fault(
+            f"{path}: no lane is open to {', '.join(classes)}; "
+            f"lanes are opened to: {', '.join(sorted(named)) or 'none by name'}"
+        )
+    return net
+
+
+def read_additional(path, net, types, report):
+    """Signal programs and vehicle types of an additional file; all else there is counted as ignored."""
+    for element in elements(path, ["additional", "add", "routes", "tlLogics"]):
+        if element.tag == "tlLogic":
+            read_program(path, element, net, ())
+        elif element.tag in TAGS:
+            types.read(path, element)
+        elif element.tag in KINDS:
+            net.detectors += filter(None, [read_detector(path, element, report)])
+        elif element.tag in DEMAND:
+            raise Fault(f"{told(path, element)} in an additional file: give files of routes after --routes")
+        else:
+            report.ignored[f"<{element.tag}> of additional files"] += 1
+
+
+def read_edge(path, element, net, classes):
+    if element.get("function") in INNER:
+        for lane in element.iter("lane"):
+            net.inner_speeds[attribute(path, lane, "id")] = attribute(path, lane, "speed", at_least_zero(number))
+        return
+    name = attribute(path, element, "id")
+    if name in net.edges or name in net.dropped:
+        raise Fault(f"{told(path, element)}: a second edge of this name")
+    lanes = [
+        Lane(
+            attribute(path, lane, "index", at_least_zero(int)),
+            attribute(path, lane, "speed", at_least_zero(number)),
+            attribute(path, lane, "length", at_least_zero(number)),
+            attribute(path, lane, "shape", shape),
+        )
+        for lane in element.iter("lane")
+        if allows(lane, classes)
+    ]
+    if len({lane.index for lane in lanes}) < len(lanes):
+        raise Fault(f"{told(path, element)}: two lanes of one index")
+    net.closed_lanes += sum(1 for _ in element.iter("lane")) - len(lanes)
+    if lanes:
+        net.edges[name] = Edge(
+            name,
+            attribute(path, element, "from"),
+            attribute(path, element, "to"),
+            attribute(path, element, "priority", int) if element.get("priority") else -1,
+            lanes,
+        )
+    else:
+        net.dropped.add(name)
+
+
+def read_junction(path, element, net, _classes):
+    if element.get("type") != "internal":
+        name = attribute(path, element, "id")
+        net.junctions[name] = attribute(path, element, "x", number), attribute(path, element, "y", number)
+        net.yields[name] = {
+            attribute(path, request, "index", at_least_zero(int)): {
+                at for at, bit in enumerate(reversed(attribute(path, request, "response"))) if bit == "1"
+            }
+            for request in element.iter("request")
+        }
+
+
+def read_connection(path, element, net, classes):
+    """A connection between lanes that are kept; all edges stand before it in the file."""
+    source, target = attribute(path, element, "from"), attribute(path, element, "to")
+    for edge in (source, target):
+        if edge not in net.edges and edge not in net.dropped and not edge.startswith(":"):
+            raise Fault(f"{told(path, element)}: the network has no edge {edge!r}")
+    if source not in net.edges or target not in net.edges or not allows(element, classes):
+        return
+    if net.edges[source].end != net.edges[target].begin:
+        raise Fault(f"{told(path, element)}: edge {target!r} does not begin where this one ends")
+    source_lane, target_lane = (attribute(path, element, name, at_least_zero(int)) for name in ("fromLane", "toLane"))
+    if has_lane(net.edges[source], source_lane) and has_lane(net.edges[target], target_lane):
+        light = element.get("tl")
+        index = attribute(path, element, "linkIndex", at_least_zero(int)) if light else 0
+        state, inner = element.get("state", "M"), element.get("via", "")
+        net.connections.append(
+            Connection(
+                source,
+                target,
+                source_lane,
+                target_lane,
+                light,
+                index,
+                state,
+                request_of(inner),
+                net.inner_speeds.get(inner),
+            )
+        )
+
+
+def request_of(inner):
+    """The place among its junction's requests of a connection that runs over a lane inside it, ":junction_N_LANE": the
+    lanes of one inner edge follow each other."""
+    parts = inner.rsplit("_", 2)
+    return int(parts[1]) + int(parts[2]) if len(parts) == 3 and all(map(str.isdecimal, parts[1:])) else None
+
+
+def has_lane(edge, index):
+    return any(lane.index == index for lane in edge.lanes)
+
+
+def read_roundabout(path, element, net, _classes):
+    net.roundabouts.update(attribute(path, element, "edges").split())
+
+
+def read_program(path, element, net, _classes):
+    phases = [
+        (attribute(path, phase, "duration", at_least_zero(seconds)), attribute(path, phase, "state"))
+        for phase in element.iter("phase")
+    ]
+    bounds = [tuple(bound_of(path, phase, name) for name in ("minDur", "maxDur")) for phase in element.iter("phase")]
+    offset = attribute(path, element, "offset", seconds) if element.get("offset") else 0.0
+    light = attribute(path, element, "id")
+    if not phases and light in net.programs:  # an offset alone, as SUMO's tlsCoordinator writes it
+        net.programs[light] = replace(net.programs[light], offset=offset)
+    else:
+        net.programs[light] = Program(offset, phases, element.get("type", "static"), bounds)
+
+
+def bound_of(path, phase, name):
+    return attribute(path, phase, name, at_least_zero(seconds)) if phase.get(name) else None

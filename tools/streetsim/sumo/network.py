@@ -1,0 +1,377 @@
+"""Nodes, links and turns of streetsim, made of a SUMO network."""
+from collections import Counter, defaultdict
+from dataclasses import dataclass, replace
+
+from .. import limits
+from ..files import Fault
+from .conflicts import lost
+from .report import some
+from .signals import connections_of
+
+MISSING_TURN = 0.5  # what a change between parallel links costs that SUMO has no connection for
+WRONG_LANE = 100.0  # the same from lanes that do not lead to an edge to which others wait for a gap
+CROWDING = 0.2  # what a link costs each of whose lanes carries as much as its edge's links do on average
+CROWDING_BESIDE = 2.0  # the same where links of an edge lead to a common one and on some of them vehicles wait for gaps
+
+
+@dataclass(slots=True)
+class Options:
+    """What an import can be told; the values are explained in tools/README.md."""
+
+    classes: tuple = ("passenger",)
+    strict_turns: bool = False
+    dawdle: int = 170
+    change: int = 1000
+    zone: int = 1000
+    seed: int = 1
+    residence: int = 2
+    buffer: int = 4
+    permissive: float | None = None  # by the flows
+    begin: int = 0
+    sizes: bool = True  # of vehicles, by their types; else one cell each
+    joint: tuple = ()  # edges, or lanes by SUMO's names, whose lanes are to be joint with the ones beside them
+
+
+@dataclass(slots=True)
+class Link:
+    edge: str
+    lanes: tuple  # indexes of SUMO lanes; one or two
+    begin: int
+    end: int
+    cells: int
+    limit: int
+    metres: float
+    speed: float
+    shape: list
+
+
+@dataclass(slots=True)
+class Turn:
+    next_lane: int
+    light: str | None
+    index: int
+    added: bool
+    speed: float  # metres a second, inside the junction if that is known
+    limit: int  # of its link, cells a step
+
+
+class Network:
+    """Links and nodes go by number, their place in the load."""
+
+    def __init__(self, net, options, report, flows):
+        """Flows are the routes' vehicles an hour from edge to edge; none where no route is known."""
+        self.options, self.detectors, self.dropped = options, net.detectors, net.dropped
+        edges = ordered(net)
+        ends = {name for edge in edges for name in (edge.begin, edge.end)}
+        self.nodes = [name for name in net.junctions if name in ends]
+        number = {name: at for at, name in enumerate(self.nodes)}
+        if len(number) < len(ends):
+            raise Fault(f"the network has no junction {min(ends - number.keys())!r}, where an edge begins or ends")
+        self.places = [net.junctions[name] for name in self.nodes]
+        self.links, self.links_of, self.place_of = [], {}, {}
+        following, waiting = next_edges(net, flows)
+        self.closing = closing_lanes(net, options.joint)
+        bundles = bundles_of(edges, following, waiting, self.closing, report)
+        for edge in edges:
+            self.links_of[edge.name] = list(range(len(self.links), len(self.links) + len(bundles[edge.name])))
+            for lanes in bundles[edge.name]:
+                self.place_of.update({(edge.name, lane.index): (len(self.links), at) for at, lane in enumerate(lanes)})
+                self.links.append(link_of(edge, lanes, number, options))
+        self.turns = {}  # (link, lane, next link): Turn
+        self.waiting = set()  # (edge, next edge) to which a signal lets go only when there is a gap
+        self.waiting.update((edge, target) for (edge, _), targets in waiting.items() for target in targets)
+        self.movements = defaultdict(list)  # (edge, next edge): connections
+        self.add_connections(net, report)
+        if not options.strict_turns:
+            self.open_both_lanes(report)
+        self.leads = {(link, self.links[following].edge) for link, _, following in self.turns}
+        self.unlike = self.shared_ways() & {edge for edge, _ in self.waiting}
+        self.residences = residences(edges, net, self.nodes, options.residence, flows)
+        self.use = Counter()
+        self.equivalents = {}  # (edge, next edge): in how many others' place a vehicle counts that waits for a gap
+        self.joined = set()
+        self.yields = []  # conflicts.Waiting
+
+    def add_connections(self, net, report):
+        """Of several connections from one lane to one next link the one to the same lane counts, else the lowest."""
+        doubled = set()
+        for connection in net.connections:
+            self.movements[connection.source, connection.target].append(connection)
+            link, lane = self.place_of[connection.source, connection.source_lane]
+            following, next_lane = self.place_of[connection.target, connection.target_lane]
+            key, turn = (link, lane, following), self.turn(link, next_lane, connection, False)
+            held = self.turns.get(key)
+            if held is not None:
+                doubled.add(connection.source)
+            if held is None or (next_lane != lane, next_lane) < (held.next_lane != lane, held.next_lane):
+                self.turns[key] = turn
+        if doubled:
+            report.warn(
+                "several connections from one lane to one next edge, of which one is kept: "
+                f"edges {some(sorted(doubled))}"
+            )
+
+    def turn(self, link, next_lane, connection, added):
+        speed = connection.speed or self.links[link].speed
+        return Turn(next_lane, connection.light, connection.index, added, speed, self.links[link].limit)
+
+    def open_both_lanes(self, report):
+        """Where one lane of two has a turn to a next link, the other gets it too: else two vehicles side by side, each
+        needing the other's lane, stand for ever."""
+        count = 0
+        for (link, lane, following), turn in list(self.turns.items()):
+            if len(self.links[link].lanes) == 2 and (link, 1 - lane, following) not in self.turns:
+                self.turns[link, 1 - lane, following] = replace(turn, added=True)
+                count += 1
+        if count:
+            report.warn(
+                f"{count} turns added, so that both lanes of a link lead to each next link "
+                "(--turns strict leaves them out)"
+            )
+
+    def serves(self, link, following):
+        """The lanes of a link that have a turn to the next one."""
+        return [lane for lane in range(len(self.links[link].lanes)) if (link, lane, following) in self.turns]
+
+    def join(self, link, following):
+        """Adds turns from a link to a parallel one of those that the street leads to; their signal is that of the
+        movement."""
+        connections = self.movements[self.links[link].edge, self.links[following].edge]
+        for lane, index in enumerate(self.links[link].lanes):
+            nearest = min(connections, key=lambda connection: abs(connection.source_lane - index))
+            next_lane = min(lane, len(self.links[following].lanes) - 1)
+            self.turns[link, lane, following] = self.turn(link, next_lane, nearest, True)
+        self.joined.add((link, following))
+
+    def open_beside_works(self):
+        """Where a link has no lane but ones that are to be closed, and its edge has others, these get its turns: so that
+        plans can go round it."""
+        for name, closing in self.closing.items():
+            shut = [link for link in self.links_of[name] if closing.issuperset(self.links[link].lanes)]
+            beside = [link for link in self.links_of[name] if link not in shut]
+            before = {link for link, _, following in self.turns if following in shut}
+            after = {following for link, _, following in self.turns if link in shut}
+            ways = [(link, other) for link in sorted(before) for other in beside]
+            ways += [(other, following) for other in beside for following in sorted(after)]
+            for link, following in ways:
+                if not self.serves(link, following):
+                    self.join(link, following)
+
+    def route(self, edges):
+        """The links of a route over parallel links, by least cost; turns that are wanting are added. None where two
+        edges have no connection."""
+        if any((edge, following) not in self.movements for edge, following in zip(edges, edges[1:])):
+            return None
+        best = {link: (self.crowding(link), (link,)) for link in self.links_of[edges[0]]}
+        for edge in edges[1:]:
+            best = {
+                link: min(
+                    (cost + self.crowding(link) + self.change_cost(path[-1], link), (*path, link))
+                    for cost, path in best.values()
+                )
+                for link in self.links_of[edge]
+            }
+        plan = min(best.values())[1]
+        self.use[plan[-1]] += 1
+        for link, following in zip(plan, plan[1:]):
+            self.use[link] += self.equivalents.get((self.links[link].edge, self.links[following].edge), 1)
+            if not self.serves(link, following):
+                self.join(link, following)
+        return plan
+
+    def shared_ways(self):
+        """The edges of which two links lead to one next edge."""
+        ways = Counter((self.links[link].edge, target) for link, target in self.leads)
+        return {edge for (edge, _), count in ways.items() if count > 1}
+
+    def change_cost(self, link, following):
+        """What a plan costs more that goes from one link to another without a connection of SUMO's."""
+        if self.serves(link, following):
+            return 0.0
+        edge, target = self.links[link].edge, self.links[following].edge
+        wrong = (edge, target) in self.waiting and (link, target) not in self.leads
+        return WRONG_LANE if wrong else MISSING_TURN
+
+    def crowding(self, link):
+        """The cost of a link for what each of its lanes carries already, against the mean of the edge's links."""
+        links = self.links_of[self.links[link].edge]
+        total = sum(self.use[other] for other in links)
+        weight = CROWDING_BESIDE if self.links[link].edge in self.unlike else CROWDING
+        return weight * self.use[link] / len(self.links[link].lanes) * len(links) / total if total else 0.0
+
+    def load(self):
+        """The load command."""
+        options = self.options
+        return {
+            "cmd": "load",
+            "nodes": [[at, residence, options.buffer] for at, residence in enumerate(self.residences)],
+            "links": [
+                [at, link.begin, link.end, len(link.lanes), link.cells, link.limit]
+                for at, link in enumerate(self.links)
+            ],
+            "turns": [[link, lane, following, turn.next_lane] for (link, lane, following), turn in self.turns.items()],
+            "zone": options.zone,
+            "dawdle": options.dawdle,
+            "change": options.change,
+            "seed": options.seed,
+            "start": options.begin,
+        }
+
+    def over_limits(self):
+        """The limits that this network passes, in words."""
+        for what, count, most in (
+            ("nodes", len(self.nodes), limits.NODES),
+            ("links", len(self.links), limits.LINKS),
+            ("turns", len(self.turns), limits.TURNS),
+        ):
+            if count > most:
+                yield f"{count:,} {what}, at most {most:,}"
+        long = [link for link in self.links if link.cells > limits.CELLS]
+        if long:
+            edges = some(link.edge for link in long)
+            yield f"{len(long)} links above {limits.CELLS:,} cells of {limits.CELL_METRES} m: edges {edges}"
+
+
+def ordered(net):
+    """Edges in load order, which is the only priority at a node: roundabouts, then main streets, then fast ones."""
+    major, all_of = Counter(), Counter()
+    for connection in net.connections:
+        all_of[connection.source] += 1
+        major[connection.source] += connection.state == "M"
+
+    def key(edge):
+        return (
+            edge.name not in net.roundabouts,
+            -major[edge.name] / max(1, all_of[edge.name]),
+            -edge.priority,
+            -edge.lanes[0].speed,
+        )
+
+    return sorted(net.edges.values(), key=key)
+
+
+def next_edges(net, flows):
+    """The edges that each lane leads to, and of these the ones to which a signal lets it go only when there is a gap.
+    Those alone that routes take, where a lane leads to any of these."""
+    used = {(connection.source, connection.source_lane) for connection in net.connections if taken(connection, flows)}
+    following, waiting = defaultdict(set), defaultdict(set)
+    for connection in net.connections:
+        lane = connection.source, connection.source_lane
+        if lane not in used or taken(connection, flows):
+            following[lane].add(connection.target)
+            if may_wait(connection, net):
+                waiting[lane].add(connection.target)
+    return following, waiting
+
+
+def taken(connection, flows):
+    """Whether a route takes the way of a connection."""
+    return bool(flows.get((connection.source, connection.target)))
+
+
+def may_wait(connection, net):
+    """Whether a signal shows a connection that it may go if nobody comes whom it has to give way to."""
+    program = net.programs.get(connection.light)
+    yields = net.yields.get(net.edges[connection.source].end, {}).get(connection.request)
+    shown = {state[connection.index : connection.index + 1] for _, state in program.phases} if program else set()
+    return bool(yields) and not shown.isdisjoint("go")
+
+
+def closing_lanes(net, names):
+    """The lanes that are named, or whose edge is, {edge: lane indexes}."""
+    found = defaultdict(set)
+    for name in names:
+        edge, _, index = (name, "", "") if name in net.edges else name.rpartition("_")
+        lanes = [lane.index for lane in net.edges[edge].lanes] if edge in net.edges else []
+        named = [lane for lane in lanes if not index or index == str(lane)]
+        if not named:
+            raise Fault(f"--joint: the import has no edge or lane {name!r}")
+        if len(lanes) == 1:
+            raise Fault(f"--joint: edge {edge!r} has one lane, and none beside it")
+        found[edge].update(named)
+    return found
+
+
+def bundles_of(edges, following, waiting, closing, report):
+    """The lanes of each edge by its links. Turn lanes are no links of their own where there would be too many."""
+    bundles = {edge.name: parallel(edge, following, waiting, closing.get(edge.name, ())) for edge in edges}
+    if sum(map(len, bundles.values())) <= limits.LINKS:
+        return bundles
+    report.warn(f"turn lanes are joined with the lanes beside them, as there may be {limits.LINKS:,} links at most")
+    return {edge.name: parallel(edge, following, None, closing.get(edge.name, ())) for edge in edges}
+
+
+def parallel(edge, following, waiting, closing=()):
+    """The lanes of an edge in groups of one and two, from the right: as few lanes that are to be closed as there may be
+    without an open one beside them, then as few groups, and of these the ones whose lanes share most next edges."""
+    places = [(edge.name, lane.index) for lane in edge.lanes]
+    best = [(0, 0, 0, [])]  # for the first lanes: those without an open one, groups, less their shared edges
+    for end in range(1, len(places) + 1):
+        found = []
+        for size in (1, 2):
+            lanes = [index for _, index in places[end - size : end]]
+            shut = [index for index in lanes if index in closing]
+            if size <= end and (size == 1 or shut or may_share(*places[end - 2 : end], following, waiting)):
+                alone, groups, shared, made = best[end - size]
+                alone += len(shut) if len(shut) == size else 0
+                own = len(following[places[end - 1]] & following[places[end - 2]]) if size == 2 else 0
+                found.append((alone, groups + 1, shared - own, [*made, edge.lanes[end - size : end]]))
+        best.append(min(found, key=lambda way: way[:3]))
+    return best[-1][3]
+
+
+def may_share(right, left, following, waiting):
+    """Whether two lanes side by side may be one link: not where they lead to different edges, and not where one of them
+    has vehicles that wait for a gap and the other has not, if it is told where vehicles wait."""
+    if waiting is None or not following[right] or not following[left]:
+        return True
+    return bool(following[right] & following[left]) and waiting[right] == waiting[left]
+
+
+def link_of(edge, lanes, number, options):
+    wished = lanes[0].speed / limits.CELL_METRES + options.dawdle / 1000
+    limit = min(range(1, limits.LIMIT + 1), key=lambda cells: abs(cells - wished))
+    cells = max(1, round(lanes[0].metres / limits.CELL_METRES))
+    return Link(
+        edge.name,
+        tuple(lane.index for lane in lanes),
+        number[edge.begin],
+        number[edge.end],
+        cells,
+        limit,
+        lanes[0].metres,
+        lanes[0].speed,
+        middle(lanes),
+    )
+
+
+def middle(lanes):
+    """The line between the lanes of a link, or the last lane's where they have not as many points."""
+    if len({len(lane.shape) for lane in lanes}) > 1:
+        return lanes[-1].shape
+    return [
+        tuple(sum(part) / len(lanes) for part in zip(*points, strict=True))
+        for points in zip(*(lane.shape for lane in lanes), strict=True)
+    ]
+
+
+def residences(edges, net, nodes, residence, flows):
+    """Steps in a buffer for each node: the given ones at signals and real junctions, 1 elsewhere. At real junctions
+    without a light more, as many as its vehicles lose on average that turn or have to look out."""
+    into, out = Counter(edge.end for edge in edges), Counter(edge.begin for edge in edges)
+    real = {name for name in nodes if into[name] >= 2 and out[name] >= 2 and into[name] + out[name] >= 5}
+    lit = {net.edges[connection.source].end for connection in net.connections if connection.light}
+    more = losses(net, [name for name in nodes if name in real - lit], flows)
+    usual = {name: residence for name in real | lit}
+    return [min(limits.RESIDENCE, usual.get(name, 1) + more.get(name, 0)) for name in nodes]
+
+
+def losses(net, names, flows):
+    """Whole seconds that vehicles lose at junctions, on average; what rounding owes is carried on to the next."""
+    connections, found, owed = connections_of(net), {}, 0.0
+    for name in names:
+        total, seconds = lost(connections[name], net, flows)
+        own = seconds / total if total else 0.0
+        found[name] = min((int(own), int(own) + 1), key=lambda steps: abs(owed + (own - steps) * total))
+        owed += (own - found[name]) * total
+    return found

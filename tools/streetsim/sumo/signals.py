@@ -1,0 +1,207 @@
+"""Signal commands, made of SUMO's signal programs."""
+from collections import defaultdict
+from itertools import groupby
+
+from .. import limits
+from ..files import Fault
+from .report import some
+from .yielding import GREEN, PERMISSIVE, hidden_start, movements_of, places, runs_of, settle
+
+DEFAULT_SHARE = 0.7  # of a permissive green that is shown, where nothing is known of who gives way
+GRAINS = (1, 2, 3, 5, 8, 12, 20)  # seconds to which greens are rounded: the first that gives few phases
+
+
+def movements(net, network, flows, report):
+    """The connections of each junction with a light over its cycle, {junction: {request: movement}}; none where nothing
+    is known of who gives way to whom, or of flows, which are the routes' vehicles an hour from edge to edge."""
+    limits_of = {link.edge: link.limit for link in network.links}
+    found = {}
+    for junction, connections in connections_of(net).items() if flows else ():
+        if at_junction := movements_of_junction(junction, connections, net, flows, limits_of, report):
+            found[junction] = at_junction
+    return found
+
+
+def connections_of(net):
+    """The connections of each junction."""
+    found = defaultdict(list)
+    for connection in net.connections:
+        found[net.edges[connection.source].end].append(connection)
+    return found
+
+
+def movements_of_junction(junction, connections, net, flows, limits_of, report):
+    """The movements of one junction, {request: movement}; none where nothing is known of who gives way to whom."""
+    light = light_of(connections, net)
+    ours = [connection for connection in connections if connection.light in (light, None)]
+    if not light or not net.yields.get(junction) or any(connection.request is None for connection in ours):
+        return {}
+    states = each_second(light, net.programs[light], report)
+    check_states(light, states, ours)
+    found = movements_of(ours, states, net.yields[junction], flows, limits_of)
+    settle(list(found.values()))
+    return found
+
+
+def light_of(turns, net):
+    """The light that is used at a node, of those of its turns or connections: the first that has a program."""
+    lights = {turn.light for turn in turns if turn.light}
+    return min((light for light in lights if light in net.programs and net.programs[light].phases), default=None)
+
+
+def signals(net, network, movements_at, report):
+    """A signal command for each node with a light, and for each the light's name."""
+    turns_at = defaultdict(list)
+    for (link, lane, following), turn in network.turns.items():
+        turns_at[network.links[link].end].append((link, lane, following, turn))
+    made = []
+    for node, turns in sorted(turns_at.items()):
+        lights = {turn.light for *_, turn in turns if turn.light}
+        known = sorted(light for light in lights if light in net.programs and net.programs[light].phases)
+        junction = network.nodes[node]
+        if lights and not known:
+            report.warn(f"junction {junction!r}: no program for its light {some(sorted(lights))}; always green")
+        if len(known) > 1:
+            report.warn(f"junction {junction!r}: of its lights {', '.join(known)} the first alone is used")
+        if known:
+            edges = {link: network.links[link].edge for link, *_ in turns}
+            found = movements_at.get(junction, {}) if network.options.permissive is None else {}
+            program, permissive = net.programs[known[0]], network.options.permissive
+            made.append((known[0], signal(node, turns, edges, known[0], program, permissive, report, found)))
+    for light in sorted({light for light, _ in made}):
+        if net.programs[light].kind != "static":
+            report.warn(f"light {light!r} is {net.programs[light].kind}: its listed durations are used")
+    return made
+
+
+def signal(node, turns, edges, light, program, permissive, report, found=None):
+    """The signal command of one node, of its turns (link, lane, next link, with light and index), the edges of their
+    links, and what was found of who gives way there; else the last share of each permissive green is shown."""
+    states = each_second(light, program, report)
+    check_states(light, states, [turn for *_, turn in turns])
+    told = by_gaps(found) if found else by_share(light, turns, states, permissive)
+    for grain in GRAINS:
+        phases = run_lengths(green_seconds(light, turns, states, told, grain))
+        if len(phases) <= limits.PHASES:
+            break
+    if len(phases) > limits.PHASES:
+        report.warn(f"light {light!r}: more than {limits.PHASES} phases, so permissive greens are green throughout")
+        phases = run_lengths(green_seconds(light, turns, states, {}, 1))
+    if len(phases) > limits.PHASES:
+        report.warn(
+            f"light {light!r}: still more than {limits.PHASES} phases; the shortest are joined to those before them"
+        )
+        phases = joined(phases)
+    never = sorted(
+        {
+            edges[link]
+            for link, lane, following, _ in turns
+            if not any((link, lane, following) in green for _, green in phases)
+        }
+    )
+    if never:
+        report.warn(f"light {light!r}: a turn is never green on edges {some(never)}")
+    cycle = sum(duration for duration, _ in phases)
+    return {
+        "cmd": "signal",
+        "node": node,
+        "offset": round(-program.offset) % cycle,
+        "phases": [[duration, sorted(map(list, green))] for duration, green in phases],
+    }
+
+
+def each_second(light, program, report):
+    """The program's state in each second of its cycle; durations are rounded by running sum, so that the cycle stays."""
+    states, clock = [], 0.0
+    for duration, state in program.phases:
+        if duration > limits.PHASE_STEPS:
+            report.warn(f"light {light!r}: a phase of {duration:,.0f} s is cut to {limits.PHASE_STEPS} s")
+        clock += min(duration, limits.PHASE_STEPS)
+        states += [state] * (round(clock) - len(states))
+    if not states:
+        raise Fault(f"light {light!r}: its cycle is no second long")
+    return states
+
+
+def check_states(light, states, turns):
+    """Refuses a program whose states do not have a place for each of some turns."""
+    for turn in turns:
+        if turn.light == light and any(turn.index >= len(state) for state in states):
+            raise Fault(f"light {light!r}: a state is shorter than link index {turn.index}")
+
+
+def by_gaps(found):
+    """For each index of a light's state the seconds of each permissive green that are shown and their parts, {index:
+    {first second: (seconds, parts)}}, by what was found of who gives way; of those that share an index the most."""
+    told = defaultdict(dict)
+    for movement in found.values():
+        own = told[movement.index]
+        for start, seconds in movement.shown.items():
+            own[start] = max((seconds, movement.parts), own.get(start, (0, 1)))
+    return told
+
+
+def by_share(light, turns, states, permissive):
+    """The same by the last share of each permissive green, the usual one where none is given."""
+    share, told = DEFAULT_SHARE if permissive is None else permissive, {}
+    for index in {turn.index for *_, turn in turns if turn.light == light}:
+        runs = runs_of("".join(state[index] for state in states), PERMISSIVE)
+        told[index] = {start: (length - round(length * (1 - share)), 1) for start, length in runs.items()}
+    return told
+
+
+def green_seconds(light, turns, states, told, grain):
+    """The green turns of each second. Turns that the light does not control are always green."""
+    greens = [set() for _ in states]
+    for link, lane, following, turn in turns:
+        shown = (
+            shown_green("".join(state[turn.index] for state in states), told.get(turn.index, {}), turn, grain)
+            if turn.light == light
+            else [True] * len(states)
+        )
+        for green, on in zip(greens, shown, strict=True):
+            if on:
+                green.add((link, lane, following))
+    return [frozenset(green) for green in greens]
+
+
+def shown_green(states, told, turn, grain):
+    """For each second whether a turn shows green. Of each permissive green only so many seconds as are told, in so many
+    parts. Of each other green that no permissive one goes before the begin is left out in which SUMO's queues start.
+    Begins are rounded down to a grain of seconds."""
+    count = len(states)
+    shown = [state in GREEN for state in states]
+    for start, length in runs_of(states, PERMISSIVE).items():
+        for begin, end in places(length, *told.get(start, (length, 1))):
+            begin = begin // grain * grain
+            end = length if end == length else max(begin + grain, end // grain * grain)
+            for second in range(begin, min(end, length)):
+                shown[(start + second) % count] = True
+    for start, length in runs_of(states, GREEN).items():
+        if length < count and states[start - 1] not in PERMISSIVE:
+            for second in range(hidden_start(length, turn.speed, turn.limit) // grain * grain):
+                shown[(start + second) % count] = False
+    return shown
+
+
+def run_lengths(greens):
+    """Phases of at most the longest duration."""
+    phases = []
+    for green, run in groupby(greens):
+        length = len(list(run))
+        while length:
+            phases.append((min(length, limits.PHASE_STEPS), green))
+            length -= phases[-1][0]
+    return phases
+
+
+def joined(phases):
+    """As many phases as there may be: the shortest goes to the one before it, as long as that is not too long."""
+    phases = list(phases)
+    while len(phases) > limits.PHASES:
+        fitting = [at for at in range(1, len(phases)) if phases[at - 1][0] + phases[at][0] <= limits.PHASE_STEPS]
+        if not fitting:
+            raise Fault(f"a signal of {len(phases)} long phases does not fit in {limits.PHASES}")
+        at = min(fitting, key=lambda place: phases[place][0])
+        phases[at - 1 : at + 1] = [(phases[at - 1][0] + phases[at][0], phases[at - 1][1])]
+    return phases

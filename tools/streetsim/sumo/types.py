@@ -1,0 +1,126 @@
+"""Reads SUMO vehicle types and gives their vehicles sizes: how many cells each takes."""
+import random
+from collections import Counter, defaultdict
+
+from .. import limits
+from ..files import Fault, at_least_zero, attribute, number, told
+from .report import some
+
+DEFAULT = "DEFAULT_VEHTYPE"
+USUAL = 5.0, 2.5  # metres of a vehicle, and of the gap to the one ahead of it when both stand
+BY_CLASS = {  # where SUMO's defaults are other ones
+    "bicycle": (1.6, 0.5),
+    "moped": (2.1, 2.5),
+    "motorcycle": (2.2, 2.5),
+    "emergency": (6.5, 2.5),
+    "delivery": (6.5, 2.5),
+    "truck": (7.1, 2.5),
+    "trailer": (16.5, 2.5),
+    "bus": (12.0, 2.5),
+    "coach": (14.0, 2.5),
+    "tram": (22.0, 2.5),
+    "rail_urban": (109.5, 5.0),
+    "rail": (135.0, 5.0),
+    "rail_electric": (200.0, 5.0),
+    "rail_fast": (200.0, 5.0),
+    "ship": (17.0, 2.5),
+}
+READ = {"id", "length", "minGap", "vClass", "probability", "probabilities", "vTypes"}
+TAGS = ("vType", "vTypeDistribution")
+
+
+def weights_of(text):
+    return [at_least_zero(number)(part) for part in text.split()]
+
+
+class Types:
+    """The vehicle types that files tell: the metres of road that a vehicle takes with the gap ahead of it; and the
+    distributions, from which the type of each vehicle is drawn."""
+
+    def __init__(self, seed, report):
+        self.report = report
+        self.metres = {DEFAULT: sum(USUAL), "DEFAULT_TAXITYPE": sum(USUAL)}
+        self.metres["DEFAULT_BIKETYPE"] = sum(BY_CLASS["bicycle"])
+        self.mixes = {}  # distribution: types and their weights
+        self.draws = random.Random(f"types {seed}")
+        self.unknown = set()
+
+    def read(self, path, element):
+        if element.tag == "vType":
+            self.read_type(path, element)
+        else:
+            self.read_mix(path, element)
+
+    def read_type(self, path, element):
+        length, gap = BY_CLASS.get(element.get("vClass"), USUAL)
+        if element.get("length"):
+            length = attribute(path, element, "length", at_least_zero(number))
+        if element.get("minGap"):
+            gap = attribute(path, element, "minGap", at_least_zero(number))
+        self.metres[attribute(path, element, "id")] = length + gap
+        for name in set(element.keys()) - READ:
+            self.report.ignored[f"{name} of vTypes"] += 1
+
+    def read_mix(self, path, element):
+        names, weights = (element.get("vTypes") or "").split(), []
+        shares = attribute(path, element, "probabilities", weights_of) if element.get("probabilities") else []
+        for place, name in enumerate(names):
+            if name not in self.metres:
+                raise Fault(f"{told(path, element)}: there is no type {name!r}")
+            weights.append(shares[place] if place < len(shares) else 1.0)
+        for inner in element.iter("vType"):
+            self.read_type(path, inner)
+            names.append(inner.get("id"))
+            weights += attribute(path, inner, "probability", weights_of) if inner.get("probability") else [1.0]
+        if not names or sum(weights) <= 0:
+            raise Fault(f"{told(path, element)}: a distribution without a type")
+        self.mixes[attribute(path, element, "id")] = names, weights
+
+    def drawn(self, name):
+        """The type that a vehicle has: the one that is named, or one of the distribution that is named."""
+        if name in self.mixes:
+            names, weights = self.mixes[name]
+            return self.draws.choices(names, weights)[0]
+        if name is not None and name not in self.metres:
+            self.unknown.add(name)
+        return name if name in self.metres else DEFAULT
+
+
+class Sizes:
+    """Gives vehicles their sizes in the order of departure. What a size lacks or has too much is carried on to the next
+    vehicle of the type: else all trucks of 9.6 m took one cell."""
+
+    def __init__(self, types):
+        self.types = types
+        self.rests = defaultdict(float)  # by type: cells that are owed
+        self.count = Counter()  # vehicles by size
+        self.metres = 0.0  # of all vehicles, in SUMO
+        self.too_long = Counter()  # vehicles by type
+
+    def of(self, name):
+        """The cells that the next vehicle of a type takes."""
+        metres = self.types.metres[name]
+        wished = min(limits.SIZE, max(1.0, metres / limits.CELL_METRES)) + self.rests[name]
+        size = int(wished + 0.5)
+        self.rests[name] = wished - size
+        self.count[size] += 1
+        self.metres += metres
+        if metres > limits.SIZE * limits.CELL_METRES:
+            self.too_long[name] += 1
+        return size
+
+    def tell(self, report):
+        """How many took which size and the metres of all, where some are longer than a cell; what does not fit."""
+        if self.types.unknown:
+            report.warn(f"vehicle types that no file tells are taken for cars: {some(sorted(self.types.unknown))}")
+        if self.too_long:
+            report.warn(
+                f"{self.too_long.total()} vehicles are longer than {limits.SIZE} cells of {limits.CELL_METRES} m and "
+                f"take {limits.SIZE}: types {some(sorted(self.too_long))}"
+            )
+        if set(self.count) - {1}:
+            sizes = ", ".join(f"{count:,} of {size}" for size, count in sorted(self.count.items()))
+            here = sum(size * count for size, count in self.count.items()) * limits.CELL_METRES
+            report.notes.append(
+                f"vehicles by cells: {sizes}; {here:,.0f} m of road here, {self.metres:,.0f} m in SUMO with the gaps"
+            )

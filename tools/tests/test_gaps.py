@@ -1,0 +1,114 @@
+"""Giving way without a light: who waits for whom, when vehicles pass, where the gaps are."""
+import unittest
+
+import support  # noqa: F401
+from streetsim.run.gaps import PATIENCE, be_patient, followings, gap_lines, phases_of, red_seconds, slow_down
+from streetsim.run.mapping import MapLink, MapTurn
+from streetsim.run.passings import Passings
+from streetsim.run.runs import Line
+from streetsim.sumo.conflicts import CROSSING, JOINING, Foe, Gap, Waiting
+
+
+def link(begin, end, cells=20):
+    return MapLink("x", (0,), begin, end, cells, 2, cells * 7.5, ())
+
+
+class Links:
+    """A map's links and nodes: 0 goes to 1, that to 2; vehicles stay 2 s at nodes."""
+
+    links = [link(0, 1), link(1, 2), link(2, 3)]
+    turns = [MapTurn(0, 0, 1, 0, None, 0, False), MapTurn(1, 0, 2, 0, None, 0, False)]
+    nodes = [["n", 0, 0, 2]] * 4
+
+
+def passed(*sights):
+    """The passings of a vehicle on all three links from second 0 on, of what polls see: (clock, link, cell, left)."""
+    passings = Passings(Links, [Line(0, "", {"plan": [0, 1, 2], "lane": 0, "depart": 0})], 0)
+    for clock, at, cell, left in sights:
+        passings.note(0, clock, at, 0, cell, left)
+    return dict(passings.found)
+
+
+class When(unittest.TestCase):
+    def test_between_two_polls(self):
+        # On the next link at cell 4 it has been 4 / 2 s there and 2 s at the node.
+        self.assertEqual(passed((10, 0, 15, False), (20, 1, 4, False)), {(0, 0): [(16.0, 1)]})
+
+    def test_who_is_in_a_buffer_has_passed(self):
+        # It was 5 cells before the stop line, so it came there 2.5 s later at the earliest.
+        self.assertEqual(passed((10, 0, 15, False), (13, 0, 20, True), (16, 1, 2, False)), {(0, 0): [(12.5, 1)]})
+
+    def test_a_link_that_no_poll_sees(self):
+        self.assertEqual(passed((10, 0, 19, False), (30, 2, 4, False)), {(1, 0): [(26.0, 2)], (0, 0): [(14.0, 1)]})
+
+    def test_who_was_not_seen_before(self):
+        self.assertEqual(passed((20, 1, 4, False)), {(0, 0): [(16.0, 1)]})
+
+    def test_who_was_seen_last_on_its_way_and_has_arrived(self):
+        # It came to its last link 20 / 2 s before, and was 2 s at the node.
+        passings = Passings(Links, [Line(0, "", {"plan": [0, 1, 2], "lane": 0, "depart": 0})], 0)
+        passings.note(0, 20, 1, 0, 4)
+        passings.arrived(0, 42)
+        self.assertEqual(dict(passings.found), {(0, 0): [(16.0, 1)], (1, 0): [(30.0, 2)]})
+
+    def test_a_link_that_is_not_on_the_way(self):
+        passings = Passings(Links, [Line(0, "", {"plan": [0, 1], "depart": 0})], 0)
+        passings.note(0, 30, 2, 0, 4)
+        self.assertEqual(dict(passings.found), {})
+
+
+def foe(gap, slow=False):
+    return Foe(0, 0, 1, gap, slow)
+
+
+class Reds(unittest.TestCase):
+    def test_red_before_and_after_who_goes_first(self):
+        waiting = Waiting(1, ((2, 0, 1),), (foe(Gap(5.5, 0.0, 3.5)),))
+        red = red_seconds(waiting, {(0, 0, 1): [30.0]}, 0, 60)
+        self.assertEqual([at for at, closed in enumerate(red) if closed], list(range(24, 31)))
+        self.assertIsNone(red_seconds(waiting, {}, 0, 60))
+
+    def test_more_traffic_shorter_red(self):
+        waiting = Waiting(1, ((2, 0, 1),), (foe(CROSSING),))
+        few = sum(red_seconds(waiting, {(0, 0, 1): [300.0]}, 0, 600))
+        many = sum(red_seconds(waiting, {(0, 0, 1): [20.0 * at for at in range(1, 30)]}, 0, 600)) / 29
+        self.assertGreater(few, many)
+        self.assertGreater(JOINING.before(400), CROSSING.before(400))
+
+    def test_those_who_join_follow_each_other_slowly(self):
+        red = bytearray(12)
+        slow_down(red, 0, 12)
+        self.assertEqual(list(red), [0, 0, 0, 1, 1, 0, 0, 0, 1, 1, 0, 0])
+        waiting = Waiting(1, ((2, 0, 1),), (foe(JOINING, True),))
+        alone = red_seconds(waiting, {(0, 0, 1): [30.0], (2, 0, 1): [60.0]}, 0, 90)
+        two = red_seconds(waiting, {(0, 0, 1): [30.0], (2, 0, 1): [60.0, 63.0]}, 0, 90)
+        self.assertEqual([at for at in range(90) if two[at] > alone[at]], [at for at in range(45, 80) if at % 5 > 2])
+
+    def test_those_who_follow_closely(self):
+        self.assertEqual(list(followings([10, 20, 90, 200, 214, 228])), [(-5, 35), (185, 243)])
+
+    def test_after_a_long_time_one_goes(self):
+        red = bytearray(b"\1" * (PATIENCE + 10))
+        be_patient(red)
+        self.assertEqual([at for at, closed in enumerate(red) if not closed], [PATIENCE - 1])
+
+
+class Lines(unittest.TestCase):
+    def test_phases(self):
+        reds = [bytearray([0, 0, 1, 1]), bytearray([0, 1, 1, 0])]
+        self.assertEqual(phases_of(reds), [(1, (0, 0)), (1, (0, 1)), (1, (1, 1)), (1, (1, 0))])
+        self.assertEqual([length for length, _ in phases_of([bytearray(1300)])], [600, 600, 100])
+
+    def test_a_signal_line(self):
+        # Link 0 gives way at node 1 to one who comes from link 1 at second 130: red from 130 - 4 on, with what rounding owes.
+        class Yielding(Links):
+            yields = [Waiting(1, ((0, 0, 1),), (Foe(1, 0, 2, Gap(4.0, 0.0, 0.0), False),))]
+
+        [(clock, line)] = gap_lines(Yielding, {(1, 0): [(130.0, 2)]}, 100)
+        self.assertEqual(clock, 100)
+        phases = '[26,[[0,0,1]]],[5,[]],[29,[[0,0,1]]],[600,[[0,0,1]]]'
+        self.assertEqual(line.text, f'{{"cmd":"signal","node":1,"offset":560,"phases":[{phases}]}}')
+
+
+if __name__ == "__main__":
+    unittest.main()

@@ -1,0 +1,234 @@
+"""The junction tables: against hand reckoning on a street of two links, and of a whole run against its other tables."""
+import csv
+import json
+import unittest
+from collections import Counter
+
+from support import MAP, PROGRAM, TOOLS, Case, needs_simulator
+from streetsim.junctions import reporting
+from streetsim.junctions.capacity import usual_flow
+from streetsim.junctions.layout import PRIORITY, SIGNALS, Greens, approaches_of, turn_name
+from streetsim.junctions.measures import STOP_LOSS, Measures, Totals, together
+from streetsim.junctions.passages import Passages, discharges, queue_metres
+from streetsim.junctions.rows import APPROACHES, JUNCTIONS, MOVEMENTS, Tables
+from streetsim.junctions.sampling import LOOKS, Sampled, moments
+from streetsim.junctions.service import level, percentile
+from streetsim.run.mapping import map_from
+from streetsim.run.tables import read_table
+
+CORRIDOR = TOOLS / "examples/corridor"
+# The light is red in steps 0 to 4 of each 10, then green.
+SIGNAL = {"cmd": "signal", "node": 1, "offset": 0, "phases": [[5, []], [5, [[0, 0, 1]]]]}
+PLANS = [[0, 1], [0, 1], [0]]
+# Vehicle 0 comes from elsewhere at clock 1, drives 2 cells a step, stands at clocks 4 to 6 at the stop line, is in the
+# junction at 7, and gone at 8. Vehicle 1 comes at 3 and stands behind it at 6 and 7. Vehicle 2 ends on the link.
+FRAMES = [
+    (1, [[0, 0, [[0, 0, 2]], []]]),
+    (2, [[0, 0, [[0, 4, 4]], []]]),
+    (3, [[0, 0, [[0, 8, 4], [1, 0, 2]], []]]),
+    (4, [[0, 0, [[0, 9, 0], [1, 3, 3]], []]]),
+    (5, [[0, 0, [[0, 9, 0], [1, 7, 4]], []]]),
+    (6, [[0, 0, [[0, 9, 0], [1, 8, 0], [2, 0, 1]], []]]),
+    (7, [[0, 0, [[1, 8, 0], [2, 4, 4]], [0]]]),
+    (8, [[0, 0, [[1, 9, 1], [2, 8, 4]], []]]),
+    (9, [[0, 0, [[2, 9, 1]], [1]]]),
+    (10, [[1, 0, [[1, 0, 1]], []]]),
+]
+
+
+def at_rest(count, first=9):
+    """Cells of vehicles that stand one behind the other."""
+    return [[number, first - number, 0] for number in range(count)]
+
+
+class Definitions(unittest.TestCase):
+    def test_turns(self):
+        north = [(0, 0), (0, 10)]
+        for way, name in (((0, 20), "T"), ((10, 10), "R"), ((-10, 10), "L"), ((0.1, 0), "U"), ((4, 20), "T")):
+            self.assertEqual(turn_name(north, [(0, 10), way]), name, way)
+
+    def test_letters(self):
+        """Exhibits 18-4 and 19-1 of the Highway Capacity Manual 2010: a bound belongs to the better letter."""
+        at = {SIGNALS: {10: "A", 10.1: "B", 20: "B", 35: "C", 55: "D", 80: "E", 80.1: "F"}}
+        at[PRIORITY] = {10: "A", 15: "B", 15.1: "C", 25: "C", 35: "D", 50: "E", 51: "F"}
+        for control, letters in at.items():
+            self.assertEqual({delay: level(delay, control) for delay in letters}, letters)
+        self.assertEqual((level(5.0, SIGNALS, 1.01), level(5.0, SIGNALS, 1.0)), ("F", "A"))
+
+    def test_percentiles(self):
+        self.assertEqual([percentile([4, 1, 3, 2, 5], share) for share in (0, 0.5, 0.95, 1)], [1, 3, 4.8, 5])
+        self.assertEqual(percentile([], 0.5), 0.0)
+
+    def test_queues(self):
+        """From the stop line of a link of 75 m: three vehicles of 7.5 m; a gap of 15 m joins, one of 30 m does not."""
+        link = map_from("", MAP).links[0]
+        self.assertEqual(queue_metres(at_rest(3), link), 22.5)
+        self.assertEqual(queue_metres([[0, 9, 0], [1, 6, 0]], link), 30.0)
+        self.assertEqual(queue_metres([[0, 9, 0], [1, 4, 0]], link), 7.5)
+        self.assertEqual(queue_metres([[0, 9, 2], [1, 8, 0]], link), 15.0)
+        self.assertEqual(queue_metres([[0, 4, 0]], link), 0.0)
+        self.assertEqual(queue_metres([[0, 9, 0, 2]], link), 15.0)
+
+    def test_several_movements_together(self):
+        """10 vehicles that lose 20 s and 30 that lose 40 s; errors of independent means."""
+        made = together([Totals(10, 20.0, 10.0, 1.0, 4.0), Totals(30, 40.0, 30.0, 2.0, 1.0), Totals(0, 0.0, 0.0, 0.0)])
+        self.assertEqual((made.vehicles, made.delay, made.stood, made.stops), (40, 35.0, 25.0, 1.75))
+        self.assertAlmostEqual(made.error, (40**2 + 30**2) ** 0.5 / 40)
+
+    def test_usual_flows(self):
+        self.assertEqual([usual_flow(dawdle) for dawdle in (0, 50, 170, 1000)], [2400, 2167.5, 1760, 1490])
+
+    def test_greens(self):
+        greens = Greens(map_from("", MAP), [[0, SIGNAL]])
+        self.assertEqual([greens.at(0, 0, step)[0] for step in (4, 5, 9, 10)], [set(), {1}, {1}, set()])
+        self.assertEqual(greens.begin_of(0, 0, 17), 15)
+        self.assertIsNone(greens.begin_of(0, 0, 12))
+        self.assertIsNone(greens.at(1, 0, 3)[0])
+
+    def test_saturation_headways(self):
+        """Ten vehicles pass from step 5 on: the first four in every third step, the others in every second."""
+        frames = [(clock, [[0, 0, at_rest(10), []]]) for clock in range(1, 6)]
+        gone, clock = 0, 5
+        for steps in (3,) * 4 + (2,) * 6:
+            for _ in range(steps - 1):
+                clock += 1
+                frames.append((clock, [[0, 0, [[car, 9 - car, 0] for car in range(gone, 10)], []]]))
+            clock, gone = clock + 1, gone + 1
+            frames.append((clock, [[0, 0, [[car, 9 - car, 0] for car in range(gone, 10)], [gone - 1]]]))
+        seen = passages(frames)
+        greens = Greens(map_from("", MAP), [[0, {**SIGNAL, "phases": [[5, []], [50, [[0, 0, 1]]]]}]])
+        [one] = discharges(seen.done, seen.logs[0, 0], 0, lambda step: greens.begin_of(0, 0, step))
+        # Six headways of 2 s. The fourth passes 12 s after green, 4 s later than at such headways.
+        self.assertEqual((one.headway, one.lost), (2.0, 4.0))
+
+
+def passages(frames):
+    """What the passages of the street see; the last look is empty."""
+    mapping = map_from("", MAP)
+    seen = Passages(mapping, approaches_of(mapping), 0)
+    for clock, lanes in [*frames, (frames[-1][0] + 1, [])]:
+        seen.see({"clock": clock, "lanes": lanes})
+    return seen
+
+
+class ByHand(unittest.TestCase):
+    def setUp(self):
+        self.mapping = map_from("", MAP)
+        self.approaches = approaches_of(self.mapping)
+        self.seen = passages(FRAMES)
+        plans = [[1, *plan] for plan in PLANS]
+        self.measures = Measures(self.mapping, self.approaches, [[0, SIGNAL]], 0, plans, self.seen)
+
+    def test_layout(self):
+        [approach] = self.approaches.values()
+        self.assertEqual((approach.edge, approach.junction, approach.control), ("a", "B", SIGNALS))
+        self.assertEqual((approach.movements, approach.lanes, approach.metres), ({"b": "T"}, [(0, 0)], 75.0))
+
+    def test_delays(self):
+        """10 cells at 5 a step and 1 s in the junction are 3 s; the vehicles take 7 of them, and both stop once."""
+        lost = self.measures.interval(0, 10).lost["a", "b"]
+        self.assertEqual((lost.vehicles, lost.delay, lost.stood, lost.stops), (2, 4 + STOP_LOSS, 2.5, 1.0))
+        self.assertEqual([one.clock for one in self.measures.crossings], [8, 10])
+        self.assertEqual(self.measures.interval(0, 9).lost["a", "b"].vehicles, 1)
+
+    def test_who_departs_stands_without_a_stop(self):
+        frames = [(1, [[0, 0, [[0, 0, 0]], []]]), (2, [[0, 0, [[0, 1, 1]], []]]), (3, [[0, 0, [], [0]]])]
+        [passage] = passages(frames).done
+        self.assertEqual((passage.stops, passage.stood), (0, 0))
+
+    def test_queues(self):
+        """Of one cycle of 10 steps, with two vehicles at clock 6."""
+        self.assertEqual(self.measures.queues((0, 0), 0, 10), [15.0])
+
+    def test_capacity(self):
+        """Green has 5 steps, and 1.5 s are won at its begin; 2 pass in 10 s of 2,400 vehicles an hour."""
+        use = self.measures.interval(0, 10).uses[0, 0]
+        self.assertAlmostEqual(use.ratio, 2 / (2400 * 6.5 / 3600))
+
+    def test_rows(self):
+        made = Tables(self.approaches)
+        made.add(self.measures.interval(0, 10))
+        [row] = [dict(zip(MOVEMENTS, row, strict=True)) for row in made.movements]
+        names = ("junction", "approach", "to", "movement", "vehicles", "vehicles_per_hour", "queue_95_m", "v_c", "los")
+        self.assertEqual([row[name] for name in names], ["B", "a", "b", "T", 2, "720", "15.0", "0.46", "A"])
+        self.assertEqual(row["capacity_per_hour"], "1560")
+        [approach], [junction] = made.approaches, made.junctions
+        self.assertEqual((approach[APPROACHES.index("los")], junction[JUNCTIONS.index("los")]), ("A", "A"))
+
+
+class Sampling(unittest.TestCase):
+    def test_moments(self):
+        found = moments(0, 1800)
+        self.assertEqual(len(found), 2 * LOOKS)
+        part = 900 / LOOKS
+        self.assertEqual([int((clock - 1) // part) for clock in found], list(range(2 * LOOKS)))
+
+    def test_littles_law(self):
+        """With a look at every clock it is the time on the approach: both vehicles are there for 7 s, where 3 s and 2 s for
+        gaining speed would do, and stand 5 s together. Half of the time is green, and 360 vehicles an hour come to a lane
+        that passes 2,400."""
+        mapping = map_from("", MAP)
+        made = Sampled(mapping, approaches_of(mapping), [[0, SIGNAL]], 0, PLANS, [0, 2, 5], [10, 12, 12], 20, 0)
+        for clock, lanes in [*FRAMES, *((clock, []) for clock in range(11, 21))]:
+            made.see({"clock": clock, "lanes": lanes})
+        lost = made.finish().interval(0, 20).lost["a", "b"]
+        self.assertEqual((lost.vehicles, lost.stood, lost.stops), (2, 2.5, None))
+        self.assertAlmostEqual(lost.delay, 2 + STOP_LOSS * 0.5 / (1 - 360 / 2400))
+
+
+@needs_simulator
+class OfARun(Case):
+    """The first half hour of the corridor."""
+
+    def run_corridor(self, out, *words):
+        run, mapped = self.folder / "run.jsonl", self.folder / "map.json"
+        network, routes = CORRIDOR / "corridor.net.xml.gz", CORRIDOR / "corridor.rou.xml"
+        self.tool("import", network, "--routes", routes, "-o", run, "--map", mapped)
+        usual = ("--map", mapped, "--until", 1800, "--every", 0, "--out", self.folder / out, "--program", PROGRAM)
+        return self.tool("run", run, *usual, *words)
+
+    def table(self, out, name, columns):
+        return read_table(f"{self.folder}/{out}/{name}.csv", columns)
+
+    def test_vehicles_are_those_of_the_other_tables(self):
+        self.run_corridor("out", "--junctions", "900", "--calls", "60000")
+        movements = self.table("out", "movements", MOVEMENTS)
+        passed = Counter()
+        for row in movements:
+            passed[row["begin"], row["approach"]] += int(row["vehicles"])
+        with open(self.folder / "out/edges.csv", encoding="utf-8") as file:
+            left = {(row["begin"], row["edge"]): int(row["left"]) for row in csv.DictReader(file)}
+        self.assertEqual(len(passed), 40)
+        for key, count in passed.items():
+            self.assertAlmostEqual(count, left[key], delta=4)  # those in the junction at an end of the interval
+        total = sum(passed.values())
+        junctions = self.table("out", "junctions", JUNCTIONS)
+        self.assertEqual(sum(int(row["vehicles"]) for row in junctions), total)
+        for row in movements:
+            self.assertGreaterEqual(float(row["control_delay_s"]) + 1, float(row["stopped_delay_s"]))
+            self.assertLessEqual(float(row["queue_50_m"]), float(row["queue_95_m"]))
+            self.assertTrue(0 < float(row["v_c"]) < 1)
+
+    def test_random_moments_are_near(self):
+        """The mean delay of approaches within the error that is stated, for most of them."""
+        self.run_corridor("out", "--junctions", "1800")
+        before, reporting.EXACT_RUNS = reporting.EXACT_RUNS, 0
+        self.addCleanup(setattr, reporting, "EXACT_RUNS", before)
+        from streetsim.run.running import main
+
+        run, mapped = self.folder / "run.jsonl", self.folder / "map.json"
+        words = [run, "--map", mapped, "--until", 1800, "--every", 0, "--junctions", 1800, "--out", self.folder / "looked"]
+        main([str(word) for word in (*words, "--program", PROGRAM)])
+        exact = {row["approach"]: float(row["control_delay_s"]) for row in self.table("out", "approaches", APPROACHES)}
+        looked = self.table("looked", "approaches", APPROACHES)
+        near = sum(abs(float(row["control_delay_s"]) - exact[row["approach"]]) <= float(row["error_s"]) for row in looked)
+        self.assertEqual(len(looked), 20)
+        self.assertGreaterEqual(near, 17)
+
+    def test_faults(self):
+        words = ("run", "x.jsonl", "--map", "x.json", "--until", 10, "--out", self.folder / "x", "--junctions", "5")
+        self.assertIn("'5' is not 60 to", self.tool(*words, status=2)[1])
+
+
+if __name__ == "__main__":
+    unittest.main()

@@ -1,0 +1,252 @@
+"""The live page: who is served, what a request may send, and that a clicked session replays to the same replies."""
+import http.client
+import json
+import shutil
+import subprocess
+import threading
+import unittest
+from contextlib import contextmanager
+from importlib.util import find_spec
+
+from support import MAP, NUMBERED, PROGRAM, RED, Case, needs_package, needs_simulator
+from streetsim.live.bridge import MOST_LINE, Bridge
+from streetsim.live.engine import Engine
+from streetsim.live.page import data_of, own_lines, page_of
+from streetsim.run.mapping import read_map
+from streetsim.run.runs import read_run
+
+DRIVER = shutil.which("chromedriver")
+needs_driver = needs_package("chromium-driver", DRIVER)
+needs_selenium = needs_package("python3-selenium", find_spec("selenium"))
+ENTERS = [{"cmd": "enter", "plan": [0, 1], "lane": 0, "depart": depart} for depart in (0, 2, 4)]
+
+
+class LiveCase(Case):
+    """A street of two links with a red light between them, three vehicles, and a green that comes at second 20."""
+
+    def setUp(self):
+        super().setUp()
+        green = {"cmd": "signal", "node": 1, "offset": 0, "phases": [[600, [[0, 0, 1]]]], "at": 20}
+        lines = [{"cmd": "load", **NUMBERED}, RED, *ENTERS, green]
+        self.run_path = self.write("run.jsonl", "".join(json.dumps(line) + "\n" for line in lines))
+        self.map_path = self.write("map.json", json.dumps({**MAP, "cars": ["v", "w", "x"]}))
+        self.run_file, self.mapping = read_run(self.run_path), read_map(self.map_path)
+
+    @contextmanager
+    def bridge(self):
+        engine = Engine(PROGRAM, own_lines(self.run_file))
+        with Bridge(engine, page_of(self.run_file, self.mapping)) as bridge:
+            thread = threading.Thread(target=bridge.serve_forever, daemon=True)
+            thread.start()
+            try:
+                yield bridge
+            finally:
+                bridge.shutdown()
+                thread.join()
+                engine.close()
+
+
+class Data(LiveCase):
+    def test_what_a_page_knows(self):
+        data = data_of(self.run_file, self.mapping)
+        self.assertEqual([(link["name"], link["begin"], link["end"], link["cells"]) for link in data["links"]], [("a", 0, 1, 10), ("b", 1, 2, 10)])
+        self.assertEqual([clock for clock, _ in data["timed"]], [20])
+        self.assertEqual([plan["node"] for plan in data["signals"]], [1])
+
+    def test_a_map_of_another_run(self):
+        path = self.write("other.json", json.dumps({**MAP, "links": MAP["links"][:1]}))
+        told = self.tool("live", self.run_path, "--map", path, "--program", "/bin/cat", "--no-open", status=2)[1]
+        self.assertIn("the map is of another run", told)
+
+    def test_nothing_to_run(self):
+        told = self.tool("live", self.run_path, "--map", self.map_path, "--program", self.folder / "no", "--no-open", status=2)[1]
+        self.assertIn("no program that can be run", told)
+
+
+@needs_simulator
+class Requests(LiveCase):
+    """What the bridge serves and what it refuses."""
+
+    def ask(self, bridge, verb, path, body=b"", **headers):
+        link = http.client.HTTPConnection("127.0.0.1", bridge.server_port, timeout=20)
+        link.request(verb, path, body, {"Origin": f"http://127.0.0.1:{bridge.server_port}", **headers})
+        answer = link.getresponse()
+        told = answer.read()
+        link.close()
+        return answer.status, told
+
+    def test_the_page_and_its_lines(self):
+        with self.bridge() as bridge:
+            token = f"/{bridge.token}"
+            status, page = self.ask(bridge, "GET", f"{token}/")
+            self.assertEqual((status, b"<!DOCTYPE html>" in page), (200, True))
+            status, told = self.ask(bridge, "POST", f"{token}/one/begin")
+            self.assertEqual((status, told.count(b"\n")), (200, 5))
+            status, told = self.ask(bridge, "POST", f"{token}/one/lines", b'{"cmd":"advance","steps":3}\n{"cmd":"count"}\n')
+            self.assertEqual((status, told.splitlines()[0]), (200, b'{"clock":3}'))
+            # A page that leaves makes room for the next one, which begins anew.
+            self.ask(bridge, "POST", f"{token}/one/leave")
+            self.assertEqual(self.ask(bridge, "POST", f"{token}/two/begin")[0], 200)
+            self.assertEqual(self.ask(bridge, "POST", f"{token}/two/lines", b'{"cmd":"advance","steps":1}\n')[1], b'{"clock":1}\n')
+
+    def test_refused(self):
+        line = b'{"cmd":"count"}\n'
+        with self.bridge() as bridge:
+            token = f"/{bridge.token}"
+            self.assertEqual(self.ask(bridge, "POST", f"{token}/one/begin")[0], 200)
+            long = b'{"cmd":"count","x":"' + b"x" * (2 * MOST_LINE) + b'"}\n'
+            for name, status, path, body, headers in (
+                ("another token", 403, "/wrong/one/lines", line, {}),
+                ("no token", 403, "/", line, {}),
+                ("a foreign page", 403, f"{token}/one/lines", line, {"Origin": "http://example.org"}),
+                ("a foreign name of this machine", 403, f"{token}/one/lines", line, {"Host": f"example.org:{bridge.server_port}"}),
+                ("a second page", 409, f"{token}/two/begin", b"", {}),
+                ("lines of a second page", 409, f"{token}/two/lines", line, {}),
+                ("a line of 2 MiB", 413, f"{token}/one/lines", long, {}),
+                ("no end of a line", 400, f"{token}/one/lines", b"{}", {}),
+                ("a blank line", 400, f"{token}/one/lines", line + b"\n", {}),
+                ("another verb", 404, f"{token}/one/stop", line, {}),
+            ):
+                with self.subTest(name):
+                    told = self.ask(bridge, "POST", path, body, **headers)
+                    self.assertEqual(told[0], status, told)
+                    self.assertTrue(json.loads(told[1])["fault"])
+            self.assertEqual(self.ask(bridge, "GET", f"{token}/other")[0], 404)
+            # None of them changed anything, or ended what is served.
+            self.assertIn(b'"clock":0', self.ask(bridge, "POST", f"{token}/one/lines", line)[1])
+
+    def test_more_than_a_request_may_have(self):
+        with self.bridge() as bridge:
+            link = http.client.HTTPConnection("127.0.0.1", bridge.server_port, timeout=20)
+            link.putrequest("POST", f"/{bridge.token}/one/lines")
+            link.putheader("Content-Length", str(1 << 40))
+            link.endheaders()
+            self.assertEqual(link.getresponse().status, 413)
+            link.close()
+
+
+@needs_simulator
+@needs_driver
+@needs_selenium
+class Page(LiveCase):
+    """The page in Chromium, by clicks."""
+
+    @contextmanager
+    def browser(self, wide=1366, high=768):
+        from selenium import webdriver
+
+        options = webdriver.ChromeOptions()
+        # No name is resolved: a page that asked another machine for something would lack it.
+        words = ["--headless=new", "--no-sandbox", "--disable-gpu", f"--window-size={wide},{high}", "--host-resolver-rules=MAP * ~NOTFOUND, EXCLUDE 127.0.0.1"]
+        for word in words:
+            options.add_argument(word)
+        options.set_capability("goog:loggingPrefs", {"browser": "ALL"})
+        options.add_experimental_option("prefs", {"download.default_directory": str(self.folder)})
+        made = webdriver.Chrome(options=options, service=webdriver.chrome.service.Service(DRIVER))
+        try:
+            yield made
+            self.assertEqual([entry["message"] for entry in made.get_log("browser") if entry["level"] == "SEVERE" and "favicon" not in entry["message"]], [])
+        finally:
+            made.quit()
+
+    def open(self, browser, address):
+        browser.get(address)
+        self.wait(browser, "return document.body.dataset.ready || ''")
+        self.assertEqual(browser.execute_script("return document.body.dataset.ready + at('fault').textContent"), "yes")
+
+    def wait(self, browser, script):
+        from selenium.webdriver.support.ui import WebDriverWait
+
+        return WebDriverWait(browser, 30).until(lambda driver: driver.execute_script(script))
+
+    def click(self, browser, name):
+        """Clicks a button by its id or text, and waits until what it began is done."""
+        script = "return document.getElementById(arguments[0]) || [...document.querySelectorAll('button')].find(one => one.textContent === arguments[0])"
+        browser.execute_script(script, name).click()
+        self.idle(browser)
+
+    def idle(self, browser):
+        self.wait(browser, "return turn.then(() => !busy)")
+
+    def shown(self, browser):
+        return json.loads(browser.execute_script("return document.body.dataset.shown"))
+
+    def choose(self, browser, link, lane, share):
+        """Clicks at a share of a lane's length."""
+        script = "const link = session.data.links[arguments[0]], [x, y] = scene.screen(...scene.place(link, arguments[1], arguments[2])), box = at('map').getBoundingClientRect(); return [x + box.left, y + box.top]"
+        x, y = browser.execute_script(script, link, lane, share)
+        from selenium.webdriver.common.action_chains import ActionChains
+
+        actions = ActionChains(browser)
+        actions.w3c_actions.pointer_action.move_to_location(round(x), round(y)).pointer_down().pointer_up()
+        actions.perform()
+        self.idle(browser)
+
+    def put(self, browser, name, value):
+        script = "const box = document.getElementById(arguments[0]); box.value = arguments[1]; box.dispatchEvent(new Event('input'))"
+        browser.execute_script(script, name, value)
+
+    def replayed(self, text):
+        done = subprocess.run([PROGRAM], input=text, capture_output=True, text=True, check=True)
+        return done.stdout.splitlines()
+
+    def test_a_clicked_session(self):
+        """Steps, a plan, a closure, a detector, a vehicle taken out, and back: what is saved replays to what the page was answered."""
+        with self.bridge() as bridge, self.browser() as browser:
+            self.open(browser, bridge.address)
+            self.click(browser, "step")
+            self.assertEqual(self.shown(browser)["clock"], 1)
+            # By hand: one vehicle is in its cell, two wait.
+            self.assertEqual((self.shown(browser)["driving"], self.shown(browser)["seen"]), (1, 1))
+            self.choose(browser, 1, 0, 0.55)
+            self.put(browser, "first", 4)
+            self.put(browser, "last", 6)
+            self.click(browser, "Close")
+            self.assertEqual(self.shown(browser)["closed"], 1)
+            self.put(browser, "cell", 2)
+            self.put(browser, "period", 5)
+            self.click(browser, "Place it")
+            self.choose(browser, 0, 0, 1)
+            self.put(browser, "phase0", 700)
+            self.click(browser, "Set the plan")
+            self.assertIn("BadSignal", browser.execute_script("return at('chosen').textContent"))
+            self.put(browser, "phase0", 30)
+            self.click(browser, "Set the plan")
+            for _ in range(8):
+                self.click(browser, "step")
+            self.choose(browser, 0, 0, 0.95)
+            self.assertIn("Vehicle", browser.execute_script("return at('title').textContent"))
+            self.click(browser, "Take it out")
+            self.click(browser, "step")
+            self.assertEqual(self.shown(browser)["clock"], 10)
+            self.put(browser, "second", 9)
+            self.click(browser, "back")
+            self.assertEqual(self.shown(browser)["clock"], 9)
+            for _ in range(20):
+                self.click(browser, "step")
+            saved, record = browser.execute_script("return [session.saved(), session.record()]")
+        replies = self.replayed(saved)
+        self.assertEqual(replies[5:], [reply for _, reply in record])
+        self.assertTrue(any('"cmd":"close"' in line for line, _ in record))
+        # The run's own green at second 20 is among the lines, and what was done at second 9 is not, as the page went back there.
+        self.assertTrue(any('"at": 20' in line for line, _ in record))
+        self.assertFalse(any("takeout" in line for line, _ in record))
+
+    def test_playing_on_a_narrow_screen(self):
+        with self.bridge() as bridge, self.browser(420, 800) as browser:
+            self.open(browser, bridge.address)
+            browser.execute_script("document.activeElement.blur()")
+            from selenium.webdriver.common.keys import Keys
+
+            browser.find_element("tag name", "body").send_keys(Keys.SPACE)
+            self.wait(browser, "return session.clock > 5")
+            browser.find_element("tag name", "body").send_keys(Keys.SPACE)
+            self.idle(browser)
+            self.assertEqual(browser.execute_script("return at('play').textContent"), "Play")
+            box = browser.execute_script("const box = at('map').getBoundingClientRect(); return [box.width, box.height, document.documentElement.scrollWidth]")
+            self.assertGreater(min(box[:2]), 100)
+            self.assertLessEqual(box[2], browser.execute_script("return innerWidth"))
+
+
+if __name__ == "__main__":
+    unittest.main()

@@ -1,0 +1,288 @@
+"""SUMO's output files: against hand reckoning, the folder's own tables, SUMO's schemas and SUMO's scripts."""
+import gzip
+import json
+import os
+import shutil
+import subprocess
+import unittest
+from pathlib import Path
+from xml.etree import ElementTree
+
+from support import MAP, NUMBERED, PROGRAM, TOOLS, Case, needs_package, needs_simulator, needs_sumo_tools
+from streetsim.files import Fault
+from streetsim.outputs.writing import KINDS, Outputs, write_from_folder
+from streetsim.run.folder import read_folder
+from streetsim.run.mapping import map_from
+from streetsim.run.tables import AREAS, EDGES, LOOPS, SUMMARY, TRIPS, read_table
+
+SUMO = Path("/usr/share/sumo")
+SCHEMAS = {
+    "tripinfo": "tripinfo_file",
+    "summary": "summary_file",
+    "edgedata": "meandata_file",
+    "fcd": "fcd_file",
+    "queue": "queue_file",
+    "e1": "det_e1_file",
+    "e2": "det_e2_file",
+}
+CORRIDOR = TOOLS / "examples/corridor"
+DETECTORS = """<additional>
+  <inductionLoop id="loop" lane="J2J3_0" pos="-40" period="300" file="x.xml"/>
+  <inductionLoop id="other" lane="J3J2_1" pos="200" period="450" file="x.xml"/>
+  <laneAreaDetector id="area" lane="J2J3_1" pos="100" endPos="280" period="300" file="x.xml"/>
+</additional>"""
+
+
+def draws():
+    words = ["/usr/bin/python3", "-c", "import matplotlib"]
+    return subprocess.run(words, capture_output=True, check=False).returncode == 0
+
+
+# Scripts of SUMO with their words, a file that each makes, and what it says.
+SCRIPTS = (
+    ("visualization/plot_summary.py -i {summary} -m running --blind -o a.png", "a.png", ""),
+    ("visualization/plot_tripinfo_distributions.py -i {tripinfo} -m duration --blind -o b.png", "b.png", ""),
+    ("visualization/plot_net_dump.py -n {net} -m speed,entered -i {edgedata},{edgedata} --blind -o c%s.png", "", ""),
+    ("visualization/plotXMLAttributes.py -x depart -y duration -o d.png {tripinfo}", "d.png", ""),
+    ("plot_trajectories.py -t td -o e.png {fcd}", "e.png", ""),
+    ("traceExporter.py -i {fcd} -n {net} --gpx-output f.gpx", "f.gpx", ""),
+    ("xml/xml2csv.py {tripinfo} -o g.csv", "g.csv", ""),
+    ("output/tripStatistics.py -t {tripinfo} -o h.txt", "h.txt", ""),
+    ("output/edgeDataDiff.py {edgedata} {edgedata} i.xml", "i.xml", ""),
+    ("output/tripinfoDiff.py {tripinfo} {tripinfo} j.xml", "j.xml", "duration differences"),
+    ("output/attributeStats.py {tripinfo} -e tripinfo -a duration", "", "count {arrived}"),
+    ("output/accelerations.py {fcd}", "", "Accelerations"),
+    ("output/computeCoordination.py -f {fcd} --filter-route J1J2,J2J3", "", "coordinationFactor"),
+)
+
+# Two links of 10 cells of 7.5 m, limit 5; a loop at cell 3 and an area of cells 0 to 5 of the first.
+MAPPING = {**MAP, "cars": ["v", "w"], "detectors": [["loop", "e1", 0, 0, 3, 3, 10], ["area", "e2", 0, 0, 0, 5, 10]]}
+# Vehicle 0 departs in second 0, wished so; drives 3 cells, stands a second, drives on past the loop, through the
+# junction and arrives. Vehicle 1 wished second 0 too and departs in second 2.
+FRAMES = [
+    (1, [[0, 0, [[0, 0, 0]], []]], ()),
+    (2, [[0, 0, [[0, 3, 3]], []]], ()),
+    (3, [[0, 0, [[0, 3, 0], [1, 0, 0]], []]], ()),
+    (4, [[0, 0, [[0, 7, 4], [1, 2, 2]], []]], ()),
+    (5, [[0, 0, [[1, 2, 0]], [0]]], ()),
+    (6, [[0, 0, [[1, 4, 2]], []], [1, 0, [[0, 0, 1]], []]], ()),
+    (7, [[0, 0, [[1, 8, 4]], []], [1, 0, [[0, 4, 4]], []]], ()),
+    (8, [[0, 0, [[1, 8, 0]], []]], (0,)),
+]
+
+
+class ByHand(Case):
+    def setUp(self):
+        super().setUp()
+        paths = {kind: str(self.folder / f"{kind}.xml") for kind in KINDS}
+        with Outputs(paths, map_from("", MAPPING), 0.0, period=4) as outputs:
+            outputs.expect(0, "v", 0)
+            outputs.expect(1, "w", 0)
+            for clock, lanes, arrived in FRAMES:
+                outputs.step(clock, lanes, arrived)
+
+    def rows(self, kind, tag):
+        root = ElementTree.parse(self.folder / f"{kind}.xml").getroot()
+        return [element.attrib for element in root.iter(tag)]
+
+    def test_tripinfo(self):
+        """Seconds 0 to 8, of which two standing: at its departure and in second 2. The road alone takes 10/5 s for each
+        link and 1 s for the junction."""
+        [row] = self.rows("tripinfo", "tripinfo")
+        self.assertEqual([row[name] for name in ("id", "departLane", "arrivalLane")], ["v", "a_0", "b_0"])
+        names = ("depart", "departDelay", "arrival", "duration", "waitingTime", "routeLength", "timeLoss")
+        self.assertEqual([float(row[name]) for name in names], [0, 0, 8, 8, 2, 150, 3])
+        self.assertEqual(row["waitingCount"], "2")
+
+    def test_summary(self):
+        rows = self.rows("summary", "step")
+        self.assertEqual([row["time"] for row in rows], [f"{second}.00" for second in range(8)])
+        self.assertEqual([row["inserted"] for row in rows], ["1", "1", "2", "2", "2", "2", "2", "2"])
+        self.assertEqual([row["waiting"] for row in rows], ["1", "1", "0", "0", "0", "0", "0", "0"])
+        self.assertEqual([row["halting"] for row in rows], ["1", "0", "2", "0", "1", "0", "0", "1"])
+        # 4 and 2 cells a second.
+        self.assertEqual((rows[3]["meanSpeed"], rows[3]["meanSpeedRelative"]), ("22.50", "0.60"))
+        # Vehicle 1 waited 2 s.
+        last = rows[-1]
+        self.assertEqual((last["meanWaitingTime"], last["meanTravelTime"], last["arrived"]), ("1.00", "8.00", "1"))
+
+    def test_fcd(self):
+        times = ElementTree.parse(self.folder / "fcd.xml").getroot()
+        at = {(float(time.get("time")), one.get("id")): one.attrib for time in times for one in time}
+        self.assertEqual(len(at), 13)
+        front = [float(at[3.0, "v"][name]) for name in ("x", "y", "angle", "pos", "speed")]
+        self.assertEqual(front, [60, 0, 90, 60, 30])
+        self.assertEqual((at[4.0, "v"]["lane"], at[4.0, "v"]["pos"]), ("a_0", "75.00"))
+
+    def test_queue(self):
+        """In second 2 the rear one stands with its rear at the lane's begin; the front one since that second alone."""
+        times = ElementTree.parse(self.folder / "queue.xml").getroot()
+        lanes = [[lane.attrib for lane in time.iter("lane")] for time in times]
+        told = {"queueing_length": "75.00", "queueing_time": "1.00", "queueing_length_experimental": "75.00"}
+        self.assertEqual(lanes[2], [{"id": "a_0", **told}])
+        self.assertEqual(lanes[1], [])
+        self.assertEqual([lane["queueing_length"] for lane in lanes[7]], ["15.00"])
+
+    def test_edgedata(self):
+        """In the first four seconds vehicle 0 is 4 s on the edge for 7 cells, and vehicle 1 is 2 s there for 2 cells."""
+        first, _, second, other = self.rows("edgedata", "edge")
+        self.assertEqual((first["id"], first["sampledSeconds"]), ("a", "6.00"))
+        self.assertEqual((first["departed"], first["left"]), ("2", "0"))
+        self.assertEqual((first["speed"], first["waitingTime"]), (f"{9 * 7.5 / 6:.2f}", "3.00"))
+        self.assertEqual(first["density"], f"{6 / 4 / 0.075:.2f}")
+        self.assertEqual(second["left"], "1")
+        self.assertEqual((other["entered"], other["arrived"], other["left"]), ("1", "1", "0"))
+
+    def test_detectors(self):
+        """Both pass cell 3: the first at 4 cells a second, the other at 2. The area has cells 0 to 5."""
+        [loop] = self.rows("e1", "interval")
+        self.assertEqual((loop["nVehContrib"], loop["flow"]), ("2", "900.00"))
+        self.assertEqual((loop["speed"], loop["harmonicMeanSpeed"]), ("22.50", "20.00"))
+        self.assertEqual(loop["occupancy"], f"{2 / 8 * 100:.2f}")
+        [area] = self.rows("e2", "interval")
+        self.assertEqual((area["sampledSeconds"], area["startedHalts"]), ("7.00", "4.00"))
+        self.assertEqual((area["nVehSeen"], area["nVehLeft"]), ("2", "2"))
+
+    def test_nothing_is_left_after_a_fault(self):
+        before = sorted(self.folder.iterdir())
+        paths = {"fcd": str(self.folder / "y.xml")}
+        with self.assertRaises(ZeroDivisionError), Outputs(paths, map_from("", MAPPING), 0.0) as outputs:
+            outputs.step(1, [], ())
+            raise ZeroDivisionError
+        self.assertEqual(sorted(self.folder.iterdir()), before)
+
+
+class Faults(Case):
+    def test_kinds(self):
+        words = ("run", "x.jsonl", "--map", "x.json", "--until", 10, "--out", self.folder / "out")
+        told = self.tool(*words, "--sumo-output", "fcd,trip", status=2)[1]
+        self.assertIn("'trip' is none of tripinfo, summary", told)
+
+    def test_detectors_that_are_not_there(self):
+        run = self.write("x.jsonl", json.dumps({"cmd": "load", **NUMBERED}))
+        mapped = self.write("x.json", json.dumps(MAP))
+        words = (run, "--map", mapped, "--until", 10, "--out", self.folder / "out", "--program", "/bin/true")
+        told = self.tool("run", *words, "--sumo-output", "e2", status=2)[1]
+        self.assertIn("--sumo-output e2: the map has no such detector", told)
+        self.assertFalse((self.folder / "out").exists())
+
+    def test_a_folder_without_every_second(self):
+        value = {"map": MAPPING, "signals": [], "dawdle": 0, "every": 10, "period": 900}
+        self.write("setting.json", json.dumps(value))
+        self.write("trips.csv", ",".join(TRIPS) + "\nv,0,30,30,4,26,2,0,arrived\nw,1,,,4,,2,0,cell\n")
+        with gzip.open(self.folder / "lanes.jsonl.gz", "wt") as file:
+            file.write('{"clock":10,"lanes":[]}\n')
+        with self.assertRaisesRegex(Fault, "need a run with --every 1"):
+            write_from_folder(read_folder(self.folder), ["fcd"], str(self.folder))
+
+
+@needs_simulator
+class OfARun(Case):
+    """The corridor in its first ten minutes, looked at in every second by a run that repeats it."""
+
+    @classmethod
+    def setUpClass(cls):
+        cls.made = Case()
+        cls.made.setUp()
+        cls.addClassCleanup(cls.made.doCleanups)
+        cls.base = cls.made.folder
+        extra = cls.made.write("detectors.add.xml", DETECTORS)
+        network, routes = CORRIDOR / "corridor.net.xml.gz", CORRIDOR / "corridor.rou.xml"
+        run, mapped = cls.base / "run.jsonl", cls.base / "map.json"
+        cls.made.tool("import", network, extra, "--routes", routes, "-o", run, "--map", mapped)
+        words = ("--map", mapped, "--until", 600, "--period", 300, "--program", PROGRAM)
+        # Few calls, so that the seconds are shared out to several further runs.
+        sumo = ("--calls", 20_000, "--sumo-output", ",".join(KINDS))
+        cls.made.tool("run", run, *words, "--out", cls.base / "out", *sumo)
+        cls.made.tool("run", run, *words, "--out", cls.base / "polled", "--every", 1)
+        cls.sumo, cls.out = cls.base / "out/sumo", read_folder(cls.base / "out")
+
+    def rows(self, kind, tag):
+        return [element.attrib for element in ElementTree.parse(self.sumo / f"{kind}.xml").getroot().iter(tag)]
+
+    def test_trips_are_those_of_the_table(self):
+        trips = {row["id"]: row for row in self.out.trips() if row["arrival"]}
+        told = {row["id"]: row for row in self.rows("tripinfo", "tripinfo")}
+        self.assertEqual(trips.keys(), told.keys())
+        self.assertGreater(len(trips), 200)
+        for name, row in told.items():
+            self.assertEqual(float(row["duration"]) + float(row["departDelay"]), float(trips[name]["duration"]))
+            self.assertEqual(float(row["arrival"]), float(trips[name]["arrival"]))
+
+    def test_edges_are_those_of_the_table(self):
+        table = {(float(row["begin"]), row["edge"]): row for row in read_table(f"{self.out.path}/edges.csv", EDGES)}
+        seen = 0
+        for interval in ElementTree.parse(self.sumo / "edgedata.xml").getroot():
+            for edge in interval:
+                row = table[float(interval.get("begin")), edge.get("id")]
+                self.assertEqual(int(edge.get("left")) + int(edge.get("arrived")), int(row["left"]))
+                self.assertEqual(int(edge.get("entered")) + int(edge.get("departed")), int(row["entered"]))
+                seen += int(row["left"])
+        self.assertGreater(seen, 900)
+
+    def test_detectors_are_those_of_the_tables(self):
+        loops = {(float(row["begin"]), row["id"]): row for row in read_table(f"{self.out.path}/detectors.csv", LOOPS)}
+        rows = self.rows("e1", "interval")
+        self.assertEqual(len(rows), 4)
+        for row in rows:
+            table = loops[float(row["begin"]), row["id"]]
+            self.assertEqual(row["nVehContrib"], table["vehicles"])
+            self.assertEqual(f"{float(row['occupancy']):.1f}", table["occupancy_percent"])
+            # The loop counts cells of 7.5 m a second.
+            self.assertAlmostEqual(float(row["speed"]) * 3.6, float(table["mean_speed_kmh"]), delta=1.0)
+        areas = read_table(f"{self.out.path}/areas.csv", AREAS)
+        for row, table in zip(self.rows("e2", "interval"), areas, strict=True):
+            self.assertAlmostEqual(float(row["meanVehicleNumber"]), float(table["mean_vehicles"]), delta=0.25)
+
+    def test_the_summary_is_that_of_the_table(self):
+        steps = {float(row["time"]): row for row in self.rows("summary", "step")}
+        for row in read_table(f"{self.out.path}/summary.csv", SUMMARY):
+            step = steps[float(row["time"]) - 1]
+            self.assertEqual(int(step["running"]), int(row["on_cells"]) + int(row["in_buffers"]))
+            self.assertEqual(step["arrived"], row["arrived"])
+
+    def test_a_folder_with_every_second_gives_the_same(self):
+        os.mkdir(self.folder / "again")
+        write_from_folder(read_folder(self.base / "polled"), KINDS, str(self.folder / "again"))
+        for kind in KINDS:
+            again, there = self.folder / f"again/{kind}.xml", self.sumo / f"{kind}.xml"
+            self.assertEqual(again.read_text(), there.read_text(), kind)
+
+    @needs_package("libxml2-utils", shutil.which("xmllint"))
+    @needs_package("sumo", (SUMO / "data/xsd").is_dir())
+    def test_they_are_valid_by_the_schemas_of_sumo(self):
+        shutil.copytree(SUMO / "data/xsd", self.folder / "xsd")
+        summary = self.folder / "xsd/summary_file.xsd"  # SUMO 1.15 names a type in it that it does not define
+        summary.write_text(summary.read_text().replace('"nonNegativeFloat"', '"nonNegativeFloatType"'))
+        for kind in KINDS:
+            schema, output = self.folder / f"xsd/{SCHEMAS[kind]}.xsd", self.sumo / f"{kind}.xml"
+            words = ["xmllint", "--nonet", "--noout", "--schema", schema, output]
+            done = subprocess.run(words, capture_output=True, text=True, check=False)
+            self.assertEqual(done.returncode, 0, done.stderr)
+
+    @needs_sumo_tools
+    @needs_package("python3-matplotlib", draws())
+    def test_scripts_of_sumo(self):
+        """Each runs unchanged, ends with status 0, makes its file and says what it should."""
+        network = self.folder / "net.xml"
+        network.write_bytes(gzip.decompress((CORRIDOR / "corridor.net.xml.gz").read_bytes()))
+        kinds = {**{kind: self.sumo / f"{kind}.xml" for kind in KINDS}, "net": network}
+        arrived = len(self.rows("tripinfo", "tripinfo"))
+        for line, made, told in SCRIPTS:
+            with self.subTest(line):
+                script, *words = line.format(**kinds).split()
+                done = subprocess.run(
+                    ["/usr/bin/python3", SUMO / "tools" / script, *words],
+                    cwd=self.folder,
+                    env={**os.environ, "SUMO_HOME": str(SUMO), "MPLBACKEND": "Agg"},
+                    capture_output=True,
+                    text=True,
+                    check=False,
+                )
+                self.assertEqual((done.returncode, "Traceback" in done.stderr), (0, False), done.stderr + done.stdout)
+                self.assertIn(told.format(arrived=arrived), done.stdout)
+                self.assertTrue(not made or (self.folder / made).stat().st_size > 100)
+
+
+if __name__ == "__main__":
+    unittest.main()

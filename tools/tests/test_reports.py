@@ -1,0 +1,186 @@
+"""The report of runs: differences by hand, what the page says, and how Chromium shows and prints it."""
+import html
+import json
+import re
+import shutil
+import subprocess
+import unittest
+
+from support import MAP, PROGRAM, TOOLS, Case, needs_package, needs_simulator
+from streetsim.junctions.rows import APPROACHES, JUNCTIONS, MOVEMENTS
+from streetsim.reports.comparing import paired, total_delay
+from streetsim.reports.drawing import COLOURS, anchor, queue_picture
+from streetsim.reports.reading import read_runs
+from streetsim.run.tables import TRIPS, write_table
+
+CHROMIUM = shutil.which("chromium") or shutil.which("chromium-browser")
+CORRIDOR = TOOLS / "examples/corridor"
+LOST = {"vehicles": 10, "vehicles_per_hour": 40, "stopped_delay_s": 5.0, "stops_per_vehicle": 0.5}
+QUEUED = {"queue_50_m": 7.5, "queue_95_m": 15.0, "queue_max_m": 22.5, "storage_m": 75.0}
+WARNINGS = ["ignored: 3 x stops", "warning: 2 <turns> & more", "skipped: 4 vehicles: no route", "1 light"]
+# How many pixels of a picture have each colour.
+COUNT = """import json, sys
+from PIL import Image
+image = Image.open(sys.argv[1]).convert("RGB")
+print(json.dumps({"#%02x%02x%02x" % colour: count for count, colour in image.getcolors(1 << 24)}))"""
+
+
+def has_pillow():
+    words = ["/usr/bin/python3", "-c", "import PIL"]
+    return subprocess.run(words, capture_output=True, check=False).returncode == 0
+
+
+class Numbers(unittest.TestCase):
+    def test_paired_differences(self):
+        """Changes of -2, -4 and -3 s: mean -3, deviation 1, quantile of two degrees of freedom 4.303."""
+        one = paired({1: 10.0, 2: 12.0, 3: 11.0, 9: 99.0}, {1: 8.0, 2: 8.0, 3: 8.0})
+        self.assertEqual((one.before, one.after, one.change, one.seeds), (11.0, 8.0, -3.0, 3))
+        self.assertAlmostEqual(one.half, 4.303 / 3**0.5)
+        self.assertTrue(one.is_sure())
+        self.assertEqual(paired({1: 1.0}, {1: 3.0}).told(), "+2.0")
+        self.assertIsNone(paired({1: 1.0}, {2: 1.0}))
+
+    def test_queues(self):
+        """Bars of 480 pixels for the longest: 75 of 150 m are 240."""
+        picture = queue_picture([("a", 30, 75, 150, 150), ("b", 0, 0, 0, 75)])
+        self.assertIn('width="240.0" height="12" fill="#9ecae1"', picture)
+        self.assertIn("30, 75, 150 of 150 m, fills the edge", picture)
+        self.assertEqual(picture.count("fills"), 1)
+
+    def test_places_in_the_page(self):
+        self.assertEqual(anchor('a "1"'), "junction-a-20--22-1-22-")
+
+
+class Given(Case):
+    """Two plans of two seeds each, written by hand: delays of 90 and 94 s, then 30 and 32 s, at one junction."""
+
+    def setUp(self):
+        super().setUp()
+        for name, delays in (("before", (90.0, 94.0)), ("after", (30.0, 32.0))):
+            for seed, delay in enumerate(delays, 1):
+                self.write_folder(f"{name}/seed-{seed}", seed, delay)
+
+    def write_folder(self, name, seed, delay, doubts=()):
+        folder = self.folder / name
+        folder.mkdir(parents=True)
+        made = {"run": "x.jsonl", "seed": seed, "start": 0, "until": 1800, "vehicles": 2, "program": "abc"}
+        setting = {"map": {**MAP, "warnings": WARNINGS}, "signals": [], "dawdle": 170, "every": 10, "period": 900}
+        (folder / "setting.json").write_text(json.dumps({**setting, "made": made, "not_trusted": list(doubts)}))
+        (folder / "trips.csv").write_text(",".join(TRIPS) + f"\nv,0,{100 + seed},{100 + seed},4,26,2,0,arrived\n")
+        rows = {**LOST, **QUEUED, "control_delay_s": delay, "error_s": "", "saturation_flow": 1760, "capacity_per_hour": 800}
+        rows.update(junction="B", control="signals", approach="a", to="b", movement="T", v_c=0.05, los="?")
+        for table, columns in (("movements", MOVEMENTS), ("approaches", APPROACHES), ("junctions", JUNCTIONS)):
+            rows.update(begin=0, end=900)
+            first = [rows[column] for column in columns]
+            rows.update(begin=900, end=1800)
+            later = [{**rows, "vehicles_per_hour": 30}[column] for column in columns]
+            write_table(f"{folder}/{table}.csv", columns, [first, later])
+
+    def page(self, *words):
+        path = self.folder / "page.html"
+        self.tool("report", *words, "-o", path)
+        return path
+
+    def plans(self):
+        return self.folder / "before", self.folder / "after"
+
+
+class Pages(Given):
+    def test_means_over_seeds(self):
+        runs = read_runs(str(self.folder / "before"))
+        row = runs.rows["movements", 0, 900]["B", "a", "b"]
+        self.assertEqual((row.delay, row.letter(), list(runs.folders)), (92.0, "F", [1, 2]))
+        self.assertEqual(total_delay(runs.rows["junctions", 0, 900].values()), {1: 90.0, 2: 94.0})
+        self.assertEqual((runs.busiest(), runs.trips()), ((0, 900), {1: 101.0, 2: 102.0}))
+
+    def test_what_the_page_says(self):
+        text = re.sub("<[^>]*>", " ", self.page(*self.plans()).read_text().partition("<main")[2])
+        text = html.unescape(re.sub(r"\s+", " ", text))
+        for told in (
+            "nothing speaks against this run",
+            "mean control delay of a junction, s 92.0 31.0 -61.0 ± 12.7",  # changes of -60 and -62, quantile 12.706
+            "B 92.0 31.0 -61.0 ± 12.7 F to C",
+            "Junction B: 31.0 s C , 40 vehicles an hour, signals",
+            "program SHA-256 abc",
+            "0:00:00 to 0:30:00, seeds 1, 2, dawdle 170",
+            "2 <turns> & more",
+            "8, 15, 22 of 75 m",
+        ):
+            self.assertIn(told, text)
+        places = [text.index(told) for told in ("no route", "2 <turns>", "3 x stops", "1 light")]
+        self.assertEqual(places, sorted(places))
+
+    def test_nothing_from_outside_and_no_dead_link(self):
+        text = self.page(*self.plans()).read_text()
+        self.assertFalse(re.search(r"https?:|src=\"(?!data:)|@import|<link|<script|@[A-Z]+@", text))
+        self.assertEqual(set(re.findall(r'href="#([^"]+)"', text)) - set(re.findall(r' id="([^"]+)"', text)), set())
+
+    def test_equal_runs_give_equal_bytes(self):
+        self.assertEqual(self.page(*self.plans()).read_bytes(), self.page(*self.plans()).read_bytes())
+
+    def test_doubts(self):
+        self.write_folder("bad", 1, 20.0, ["nobody <arrived>"])
+        text = self.page(self.folder / "bad").read_text()
+        self.assertIn("bad: not to be trusted<ul><li>seed 1: nobody &lt;arrived&gt;</li>", text)
+        self.assertNotIn("Before and after", text)
+
+    def test_faults(self):
+        plans = self.plans()
+        (plans[0] / "seed-1/movements.csv").unlink()
+        for words, told in (
+            ((plans[0],), "no movements.csv: a report needs streetsim-run --junctions"),
+            ((self.folder / "no",), "no folder that streetsim-run wrote"),
+            ((plans[1], "--begin", "5"), "--begin 5: no interval begins there, of 0, 900"),
+            ((plans[1],) * 3, "a report is of one run, or of two"),
+        ):
+            with self.subTest(told):
+                self.assertIn(told, self.tool("report", *words, "-o", self.folder / "x.html", status=2)[1])
+        self.assertFalse((self.folder / "x.html").exists())
+
+
+@needs_package("chromium", CHROMIUM)
+class InABrowser(Given):
+    def chromium(self, page, *words):
+        usual = ["--headless", "--no-sandbox", "--disable-gpu", f"--user-data-dir={self.folder}/profile"]
+        words = [CHROMIUM, *usual, *words, f"file://{page}"]
+        return subprocess.run(words, capture_output=True, text=True, check=True).stdout
+
+    @needs_package("python3-matplotlib", has_pillow())
+    def test_a_picture_of_it(self):
+        """The colours of the letters that the page has, dark ones in white writing, and none of the others in the map."""
+        page = self.page(self.folder / "before")
+        self.chromium(page, "--window-size=1000,1400", f"--screenshot={self.folder}/shot.png")
+        words = ["/usr/bin/python3", "-c", COUNT, self.folder / "shot.png"]
+        counts = json.loads(subprocess.run(words, capture_output=True, check=True).stdout)
+        seen = {letter: counts.get(colour, 0) for letter, colour in COLOURS.items()}
+        # Each letter stands in the legend once; F also on the junction, on its approach in the map, and in the tables.
+        self.assertTrue(all(count > 50 for count in seen.values()), seen)
+        self.assertGreater(seen["F"], 4 * max(count for letter, count in seen.items() if letter != "F"))
+
+    def test_it_prints(self):
+        """On paper there is no navigation, and the page is one or two sheets."""
+        page = self.page(*self.plans())
+        self.chromium(page, f"--print-to-pdf={self.folder}/page.pdf", "--print-to-pdf-no-header")
+        content = (self.folder / "page.pdf").read_bytes()
+        self.assertEqual(content[:5], b"%PDF-")
+        sheets = max(int(count) for count in re.findall(rb"/Count (\d+)", content))
+        self.assertIn(sheets, range(1, 6))
+
+
+@needs_simulator
+class Whole(Case):
+    def test_the_corridor(self):
+        run, mapped, out = self.folder / "run.jsonl", self.folder / "map.json", self.folder / "out"
+        network, routes = CORRIDOR / "corridor.net.xml.gz", CORRIDOR / "corridor.rou.xml"
+        self.tool("import", network, "--routes", routes, "-o", run, "--map", mapped)
+        words = (run, "--map", mapped, "--until", 600, "--program", PROGRAM, "--out", out)
+        self.tool("run", *words, "--seeds", "1-2", "--junctions", "600")
+        told = self.tool("report", out, "-o", self.folder / "page.html")[0]
+        self.assertIn("page.html: 5 junctions", told)
+        text = (self.folder / "page.html").read_text()
+        self.assertEqual(len(re.findall(r'<h3 id="junction-J[1-5]">', text)), 5)
+        self.assertIn("SHA-256 ", text)
+
+
+if __name__ == "__main__":
+    unittest.main()

@@ -1,0 +1,367 @@
+"""streetsim-route: shortest ways and passing times by hand, an equilibrium that is known, bad input, interrupts, equal bytes."""
+import csv
+import gzip
+import json
+import os
+import signal
+import subprocess
+import unittest
+import xml.etree.ElementTree as ElementTree
+from array import array
+
+from clusters import ClusterCase, needs_distributed
+from support import DATA, PROGRAM, TOOLS, Case, lane, needs_simulator, net
+from streetsim.routes.costs import Costs, Table, costs_of, flat_costs, nothing_observed
+from streetsim.routes.graph import END, Graph
+from streetsim.routes.passes import Passes, Sight
+from streetsim.routes.router import FAR, Found, Router, Wish, parts_of
+from streetsim.routes.search import changes, gap_of
+from streetsim.routes.seconds import reds
+from streetsim.run.mapping import Map, MapLink
+
+# From a to d by b or by c; from b to c as well. Nobody may go from c to d's twin e.
+GRAPH = Graph("abcde", [("a", "b"), ("a", "c"), ("b", "d"), ("c", "d"), ("b", "e")], {name: (name, name + "'") for name in "abcde"})
+
+
+def way(edge, following=None):
+    return GRAPH.movement_of["abcde".index(edge), END if following is None else "abcde".index(following)]
+
+
+def costs_with(seconds, slices=4, width=100):
+    """Costs of 10 s, but for some movements that have their own means."""
+    means = [10.0] * len(GRAPH.movements)
+    for movement, own in seconds.items():
+        means[movement] = array("d", own)
+    return Costs(width, slices, means)
+
+
+class Routing(unittest.TestCase):
+    def test_shortest_way_by_the_clock(self):
+        # By b: 10, then 90 s in the first two slices and 10 s later; by c: 10, then 30 s at all times.
+        router = Router(GRAPH, costs_with({way("b", "d"): [90, 90, 10, 10], way("c", "d"): [30] * 4}))
+        a, d = GRAPH.number["a"], GRAPH.number["d"]
+        self.assertEqual(router.search(a, d, 0.0), (tuple(map(GRAPH.number.get, "acd")), 10 + 30 + 10))
+        self.assertEqual(router.search(a, d, 300.0), (tuple(map(GRAPH.number.get, "abd")), 10 + 10 + 10))
+
+    def test_turns_that_are_missing(self):
+        router = Router(GRAPH, flat_costs(GRAPH, [10.0] * len(GRAPH.movements)))
+        c, e = GRAPH.number["c"], GRAPH.number["e"]
+        self.assertEqual(router.search(c, e, 0.0), ((), FAR))
+
+    def test_an_edge_that_is_shut_for_a_time(self):
+        costs, number = costs_with({way("c", "d"): [30] * 4}), GRAPH.number
+        router = Router(GRAPH, costs, {number["b"]: [(0, 150)]})
+        # Who sets out at 100 s would come to b at 110.
+        self.assertEqual(router.search(number["a"], number["d"], 100.0)[0], tuple(map(number.get, "acd")))
+        self.assertEqual(router.search(number["a"], number["d"], 160.0)[0], tuple(map(number.get, "abd")))
+        both = Router(GRAPH, costs, {number[name]: [(0, 150)] for name in "bc"})
+        self.assertEqual(both.search(number["a"], number["d"], 100.0), ((), FAR))
+
+    def test_a_trip_of_one_edge(self):
+        router = Router(GRAPH, costs_with({way("a"): [20] * 4}))
+        found = router.found(Wish(7, 0, 0, 50.0, (0,)))
+        self.assertEqual((found.path, found.least, found.own), ((0,), 20, 20))
+
+    def test_straight_lines_between_slices(self):
+        # Middles of slices at 50, 150, 250 and 350 s; five parts of 20 s, each with the value of its middle.
+        table = Table(costs_with({0: [10, 20, 40, 40]}))
+        self.assertEqual([table.at(0, clock) for clock in (0, 55, 95, 150, 205, 399, 9999)], [10, 10, 14, 20, 32, 40, 40])
+
+    def test_parts_hold_each_wish_once(self):
+        wishes = [Wish(at, 0, at % 3, 0.0, ()) for at in range(10)]
+        for count in (1, 2, 4, 20):
+            parts = parts_of(wishes, count)
+            self.assertLessEqual(len(parts), count)
+            self.assertEqual(sorted(wish.trip for part in parts for wish in part), list(range(10)))
+
+
+class Seconds(unittest.TestCase):
+    def test_reds_round_a_cycle(self):
+        # Green in the seconds 2, 3 and 5 of 8: red for 6, 7, 0, 1, and for 4.
+        self.assertEqual(reds(0b101100, 8), [4, 1])
+        self.assertEqual(reds(0, 8), [8])
+        self.assertEqual(reds(0xFF, 8), [])
+
+    def test_costs_of_what_was_observed(self):
+        # Of 5 vehicles on a-b three lost 20 s and two nothing: mean delay of the edge 60 / (5 + 1) = 10 s, of the movement
+        # (60 + 2 * 10) / (5 + 2). On a-c nobody was seen: (0 + 2 * 10) / (0 + 2).
+        observed = nothing_observed(len(GRAPH.movements), 2)
+        for seconds in (30, 30, 30, 10, 10):
+            observed.add(way("a", "b"), 0, seconds)
+        costs = costs_of(GRAPH, [10.0] * len(GRAPH.movements), observed, 300)
+        self.assertAlmostEqual(costs.means[way("a", "b")][0], 10 + 80 / 7)
+        self.assertAlmostEqual(costs.means[way("a", "c")][0], 10 + 10)
+        self.assertEqual(costs.means[way("b", "d")], 10.0)
+
+    def test_costs_do_not_fall_faster_than_time_goes_by(self):
+        observed = nothing_observed(len(GRAPH.movements), 3)
+        for _ in range(98):
+            observed.add(way("a", "b"), 0, 1000)
+        means = costs_of(GRAPH, [10.0] * len(GRAPH.movements), observed, 300).means[way("a", "b")]
+        self.assertEqual([round(first - second, 6) for first, second in zip(means, means[1:])], [270, 270])
+
+    def test_who_changes(self):
+        found = [Found(at, (0,), 100.0, 100.0 + gain) for at, gain in enumerate((0, 40, 0.4, 10, 20))]
+        self.assertEqual([one.trip for one in changes(found, 0.4)], [1, 4])
+        self.assertEqual([one.trip for one in changes(found, 1.0)], [1, 3, 4])
+        self.assertAlmostEqual(gap_of(found), 70.4 / 500)
+        self.assertEqual(gap_of([]), 0.0)
+
+
+class PassingTimes(unittest.TestCase):
+    """Two links of 10 cells at 1 cell a second, and a stay of 2 s between them."""
+
+    def setUp(self):
+        links = [MapLink(name, (0,), at, at + 1, 10, 1, 75.0, ()) for at, name in enumerate("abd")]
+        self.map = Map([["", 0, 0, 2]] * 4, links, [], [], [], {}, [])
+        delays = {way("a", "b"): [12 + 30] * 4, way("b", "d"): [12 + 10] * 4}
+        self.passes = Passes(GRAPH, self.map, costs_with(delays), 0.0, 60)
+
+    def test_driven_freely(self):
+        # Seen on the third link's fifth second: 12 + 12 + 5 s after the departure.
+        self.assertEqual(self.passes.clocks([0, 1, 2], 100, [Sight(129, 2, 5.0, 1)], None), [100, 112, 124])
+
+    def test_what_was_lost_is_dealt_out_by_what_is_expected(self):
+        # 20 s were lost; 30 s were expected on the first and 10 on the second link.
+        self.assertEqual(self.passes.clocks([0, 1, 2], 100, [Sight(149, 2, 5.0, 1)], None), [100, 112 + 15, 124 + 20])
+
+    def test_arrivals(self):
+        self.assertEqual(self.passes.clocks([0, 1, 2], 100, [], 134), [100, 112, 124])
+        self.assertEqual(self.passes.clocks([0, 1, 2], 100, [], None), [])
+
+    def test_who_waited_to_depart(self):
+        # Not seen at 120 and 180, and 4 s from the begin of its first link at 240.
+        self.assertEqual(self.passes.clocks([0, 1, 2], 100, [Sight(240, 0, 4.0, 1)], None), [236])
+
+
+def two_ways(light="", cycle=""):
+    """From a to b over a short way with a light, and over one of 900 m."""
+    ends = {"in": ("W", "A"), "short": ("A", "B"), "far": ("A", "M"), "long": ("M", "B"), "out": ("B", "E")}
+    metres = {"in": 300.0, "short": 300.0, "far": 450.0, "long": 450.0, "out": 300.0}
+    edges = [(name, *ends[name], [lane(name, 0, metres[name])]) for name in ends]
+    ways = [("in", 0, "short", 0, ""), ("in", 0, "far", 0, ""), ("far", 0, "long", 0, ""), ("long", 0, "out", 0, "")]
+    return net(edges, [*ways, ("short", 0, "out", 0, light)], cycle)
+
+
+def lit(*phases):
+    shown = "".join(f'<phase duration="{duration}" state="{state}"/>' for duration, state in phases)
+    return two_ways('tl="B" linkIndex="0"', f'<tlLogic id="B" type="static" programID="0" offset="0">{shown}</tlLogic>')
+
+
+def ring():
+    """A ring of four short edges; at each corner one leads in, one out, and one goes to the third corner from it."""
+    edges, ways = [], []
+    for here, there, third in zip("ABCD", "BCDA", "DABC"):
+        edges += [(here + there, here, there, [lane(here + there, 0, 37.5)]), (f"in{here}", f"I{here}", here, [lane(f"in{here}", 0, 150.0)])]
+        edges += [(f"out{here}", here, f"O{here}", [lane(f"out{here}", 0, 150.0)]), (f"far{here}", here, third, [lane(f"far{here}", 0, 900.0)])]
+        ways += [(f"in{here}", 0, here + there, 0, ""), (f"in{here}", 0, f"far{here}", 0, ""), (f"far{here}", 0, f"out{third}", 0, "")]
+        ways += [(third + here, 0, here + there, 0, ""), (third + here, 0, f"out{here}", 0, "")]
+    return net(sorted(edges, key=lambda edge: edge[0][:2] != "in"), ways)
+
+
+def ring_trips(number, end):
+    flows = (
+        f'<flow id="{here}" begin="0" end="{end}" number="{number}" from="in{here}" to="out{third}"/>' for here, third in zip("ABCD", "DABC")
+    )
+    return f"<routes>{''.join(flows)}</routes>"
+
+
+def flow(number, end, more=""):
+    return f'<routes><flow id="f" begin="0" end="{end}" number="{number}" from="in" to="out" {more}/></routes>'
+
+
+@needs_simulator
+class Commands(Case):
+    def given(self, network, trips):
+        self.net, self.trips = self.write("x.net.xml", network), self.write("x.trips.xml", trips)
+
+    def words(self, *words, out="out"):
+        return [self.net, "--trips", self.trips, "-o", self.folder / f"{out}.rou.xml", "--out", self.folder / out,
+                "--program", PROGRAM, "--jobs", 1, *words]  # fmt: skip
+
+    def route(self, *words, out="out", status=0):
+        return self.tool("route", *self.words(*words, out=out), status=status)
+
+    def table(self, name, out="out"):
+        with open(self.folder / out / name, encoding="utf-8") as file:
+            return list(csv.DictReader(file))
+
+    def routes(self, out="out"):
+        """The ways of the vehicles, by name."""
+        root = ElementTree.parse(self.folder / f"{out}.rou.xml").getroot()
+        return {vehicle.get("id"): vehicle.find("route").get("edges").split() for vehicle in root.iter("vehicle")}
+
+    def files(self, out="out"):
+        """All bytes that were written."""
+        written = sorted(path for path in (self.folder / out).iterdir())
+        return [path.name for path in written], [path.read_bytes() for path in (self.folder / f"{out}.rou.xml", *written)]
+
+    def check_refused(self, told, *words):
+        _, said = self.route(*words, status=2)
+        self.assertEqual(len(said.splitlines()), 1, said)
+        self.assertIn(told, said)
+        self.assertEqual([path for path in self.folder.iterdir() if path.name.startswith(("out", ".out", "run"))], [])
+
+
+class Equilibria(Commands):
+    def test_two_ways(self):
+        """720 vehicles an hour on a short way whose green of 15 s lets 16.35 / 2.07 = 7.9 pass in 60 s, and less its hidden
+        begin: at most 474 an hour take it in equilibrium, and as many as it lets pass, since the other way is 46 s longer."""
+        self.given(lit((15, "G"), (45, "r")), flow(720, 3600))
+        told, said = self.route("--gap", 0.08)
+        short = sum("short" in edges for edges in self.routes().values())
+        self.assertTrue(330 <= short <= 500, short)
+        gaps = [float(row["relative_gap"]) for row in self.table("iterations.csv")]
+        self.assertLess(min(gaps), 0.08)
+        self.assertRegex(told, r"mean trip [\d.]+ s, gap [\d.]+ % by 3 seeds that the search did not see; routes of iteration \d+\n")
+        self.assertRegex(said, r"0: mean trip [\d.]+ s, gap [\d.]+ %, \d+ of 720 change, 0 rescues\n")
+        setting = json.loads((self.folder / "out/setting.json").read_text())
+        self.assertEqual((setting["arrived"], setting["check"]), (720, "101-103"))
+        means = [float(row["mean_trip_s"]) for row in self.table("check.csv")]
+        self.assertAlmostEqual(setting["mean_trip_s"], sum(means) / 3, delta=0.01)
+        counted = sum(float(row["vehicles"]) for row in self.table("movements.csv") if (row["edge"], row["next_edge"]) == ("short", "out"))
+        self.assertAlmostEqual(counted, short, delta=1)
+        self.assertEqual(len(self.table("trips.csv")), 720)
+
+    def test_a_start_that_locks(self):
+        """Who comes into the ring goes first, and all go round three quarters of it: it fills up and stands. Ways of 900 m lead
+        round it."""
+        self.given(ring(), ring_trips(150, 720))
+        self.route("--until", 2400, "--iterations", 7, "--gap", 0.05, status=1)
+        rows, setting = self.table("iterations.csv"), json.loads((self.folder / "out/setting.json").read_text())
+        self.assertLess(int(rows[0]["arrived"]), 300)
+        self.assertEqual((setting["arrived"], setting["rescues"]), (600, [0, 0, 0]))
+        self.assertLess(setting["mean_trip_s"], 120)
+
+    def test_a_light_that_is_never_green(self):
+        self.given(lit((60, "r")), flow(60, 600))
+        self.route()
+        self.assertEqual({tuple(edges) for edges in self.routes().values()}, {("in", "far", "long", "out")})
+
+    def test_status_1_where_the_gap_is_not_reached(self):
+        self.given(lit((15, "G"), (45, "r")), flow(300, 900))
+        told, _ = self.route("--gap", 0, "--iterations", 1, status=1)
+        self.assertIn(": the gap of 0 % is not reached; routes of iteration", told)
+        self.assertEqual(len(self.routes()), 300)
+
+    def test_one_trip_and_trips_of_one_edge(self):
+        self.given(two_ways(), '<routes><trip id="t" depart="5" from="in" to="out"/></routes>')
+        self.route()
+        self.assertEqual(self.routes(), {"t": ["in", "short", "out"]})
+        self.given(two_ways(), '<routes><trip id="t" depart="5" from="in" to="in"/><trip id="u" depart="5" from="out" to="out"/></routes>')
+        self.route()
+        self.assertEqual(self.routes(), {"t": ["in"], "u": ["out"]})
+
+    def test_routes_that_are_given(self):
+        edges = "in far long out"
+        self.given(two_ways(), f'<routes><vehicle id="v" depart="0"><route edges="{edges}"/></vehicle></routes>')
+        self.route("--iterations", 0, status=1)
+        self.assertEqual(self.routes(), {"v": edges.split()})
+        self.route("--iterations", 0, "--anew")
+        self.assertEqual(self.routes(), {"v": ["in", "short", "out"]})
+
+    def test_the_run_is_that_of_streetsim_import(self):
+        types = '<vType id="truck" length="12"/>'
+        self.given(lit((15, "G"), (45, "r")), flow(100, 600, 'type="truck"').replace("<routes>", f"<routes>{types}"))
+        self.route("--iterations", 2, "--run", self.folder / "a.jsonl", "--map", self.folder / "a.json", "--gap", 1)
+        self.tool("import", self.net, "--routes", self.folder / "out.rou.xml", "-o", self.folder / "b.jsonl", "--map", self.folder / "b.json")
+        self.assertEqual((self.folder / "a.jsonl").read_bytes(), (self.folder / "b.jsonl").read_bytes())
+
+
+class BadInput(Commands):
+    def test_trips(self):
+        for trips, told in (
+            ('<trip id="t" depart="0" from="out" to="in"/>', "trip 't': no way from out to in"),
+            ('<trip id="t" depart="0" from="in" to="x"/>', "<trip 't'>: the network has no edge 'x'"),
+            ('<trip id="t" depart="0" from="in"/>', "<trip 't'>: a trip needs from and to"),
+            ('<trip id="t" depart="0" fromTaz="1" toTaz="2"/>', "let od2trips or duarouter choose edges"),
+            ('<trip id="t" depart="0" from="in" to="out" via="far"/>', "via is not routed here"),
+            ('<trip id="t" depart="soon" from="in" to="out"/>', "depart='soon' cannot be read"),
+            ('<person id="p" depart="0"><personTrip from="in" to="out"/></person>', "persons are not routed here"),
+            ('<trip id="t" depart="0" from="in" to="out"/>' * 2, "two vehicles are named 't'"),
+            ("", "no trip that can drive"),
+        ):
+            with self.subTest(told):
+                self.given(two_ways(), f"<routes>{trips}</routes>")
+                self.check_refused(told)
+
+    def test_more_trips_than_a_run_has_calls_for(self):
+        self.given(two_ways(), flow(1_000_000, 86_400))
+        self.check_refused("1,000,000 trips, and a run has calls for fewer than 500,000, as each takes two")
+
+    def test_words(self):
+        self.given(two_ways(), flow(10, 60))
+        for words, told in (
+            (("--run", self.folder / "run.jsonl"), "--run and --map are given together or not at all"),
+            (("--seeds", "100-102"), "--seeds 100-102 and --check 101-103 overlap"),
+            (("--until", 20), "--until 20: the last trip departs at 54 s"),
+            (("--program", self.folder / "none"), "none: no program that can be run"),
+            (("--classes", "tank"), "SUMO has no vehicle class 'tank'"),
+            (("--map", self.trips, "--run", self.folder / "run.jsonl"), "--map names a file that is read"),
+        ):
+            with self.subTest(told):
+                self.check_refused(told, *words)
+        self.check_refused("--share: '2' is not 0 to 1", "--share", 2)
+
+
+class Ends(Commands):
+    def begun(self):
+        """A search that has ended its first iteration."""
+        self.given(lit((15, "G"), (45, "r")), flow(720, 3600))
+        words = [TOOLS / "streetsim-route", *self.words("--gap", 0)]
+        search = subprocess.Popen(list(map(str, words)), stdout=subprocess.PIPE, stderr=subprocess.PIPE, text=True)
+        self.assertTrue(search.stderr.readline().startswith("0: mean trip"))
+        return search
+
+    def test_ctrl_c_ends_with_the_best_so_far(self):
+        search = self.begun()
+        os.kill(search.pid, signal.SIGINT)
+        told, _ = search.communicate(timeout=60)
+        self.assertEqual(search.returncode, 1)
+        self.assertIn("is not reached; routes of iteration", told)
+        self.assertLess(len(self.table("iterations.csv")), 5)
+        self.assertEqual(len(self.routes()), 720)
+
+    def test_a_signal_leaves_nothing(self):
+        search = self.begun()
+        os.kill(search.pid, signal.SIGTERM)
+        search.communicate(timeout=60)
+        self.assertNotEqual(search.returncode, 0)
+        self.assertEqual([path for path in self.folder.iterdir() if path.name.startswith(("out", ".out"))], [])
+
+
+class EqualBytes(Commands):
+    TRIPS = flow(300, 900)
+
+    def test_for_any_number_of_jobs(self):
+        self.given(lit((15, "G"), (45, "r")), self.TRIPS)
+        for jobs in (1, 2, 4):
+            self.route("--jobs", jobs, "--iterations", 3, "--gap", 0.2, "--seeds", "1-2", out=f"out{jobs}")
+        self.assertEqual(self.files("out2"), self.files("out1"))
+        self.assertEqual(self.files("out4"), self.files("out1"))
+
+
+@needs_simulator
+@needs_distributed
+class OnACluster(ClusterCase, Commands):
+    def test_a_worker_is_killed(self):
+        port, workers = self.cluster()
+        self.net, self.trips = DATA / "town.net.xml.gz", self.folder / "town.trips.xml"
+        self.tool_trips()
+        more = ("--iterations", 2, "--gap", 1, "--until", 4000)
+        self.route(*more, out="alone")
+        words = self.words(*more, "--cluster", f"127.0.0.1:{port}", out="killed")
+        self.kill_worker_during(workers[0], [TOOLS / "streetsim-route", *words])
+        self.assertEqual(self.files("killed"), self.files("alone"))
+
+    def tool_trips(self):
+        """A fifth of the town's vehicles as trips."""
+        with gzip.open(DATA / "town.rou.xml.gz") as file:
+            vehicles = list(ElementTree.parse(file).getroot().iter("vehicle"))[::5]
+        ends = ((one.get("id"), one.get("depart"), one.find("route").get("edges").split()) for one in vehicles)
+        rows = (f'<trip id="{name}" depart="{depart}" from="{edges[0]}" to="{edges[-1]}"/>' for name, depart, edges in ends)
+        self.trips.write_text(f"<routes>{''.join(rows)}</routes>", encoding="utf-8")
+
+
+if __name__ == "__main__":
+    unittest.main()

@@ -1,0 +1,91 @@
+"""Whether a run is to be trusted: what is said of runs that are not, and over whom means are."""
+import json
+import unittest
+from collections import namedtuple
+
+from support import MAP, NUMBERED, PROGRAM, RED, Case, needs_simulator
+from streetsim.run import trust
+from streetsim.run.folder import NAME
+from streetsim.run.mapping import map_from
+from streetsim.run.runs import Line, Run
+
+Census = namedtuple("Census", "clock waiting")
+
+
+def row(depart, arrival="", free=10.0):
+    """A row of trips.csv."""
+    return "v", depart, arrival, arrival - depart if arrival != "" else "", f"{free:.1f}", "", 2, 0, ""
+
+
+class Marks(unittest.TestCase):
+    def trips(self, *rows, clock=1000):
+        return trust.trips_at(clock, 0, rows)
+
+    def test_means_and_over_whom(self):
+        """Trips of 20 and 40 s; two are under way for 100 and 300 s; one departs after the end."""
+        made = self.trips(row(0, 20), row(10, 50), row(900), row(700), row(1000))
+        told = "5 vehicles, 2 arrived, mean trip 30.0 s of these, 200.0 s to date of 2 under way"
+        self.assertEqual(made.told(), told)
+        self.assertEqual(self.trips(row(0, 20)).told(), "1 vehicles, 1 arrived, mean trip 20.0 s")
+        self.assertEqual(self.trips(row(0)).told(), "1 vehicles, 0 arrived, no trip, 1000.0 s to date of 1 under way")
+
+    def test_rescues(self):
+        """Above one in a hundred, and more than one."""
+        for vehicles, rescues, told in ((100, 1, []), (100, 2, ["2 rescues of 100 vehicles"]), (1, 1, []), (300, 3, [])):
+            self.assertEqual(list(trust.of_rescues(self.trips(*vehicles * [row(0, 20)]), rescues)), told)
+
+    def test_who_had_the_time_to_arrive(self):
+        """More than a tenth; who departs within the free-flow time before the end had not the time."""
+        on_time, late, short = 9 * [row(0, 990)], row(970), row(995)
+        self.assertEqual(list(trust.of_arrivals(self.trips(*on_time, late, *9 * [short]))), [])
+        told = list(trust.of_arrivals(self.trips(*on_time, late, late)))
+        self.assertEqual(told, ["2 of 11 vehicles that had the time to arrive have not"])
+
+    def test_a_locked_network(self):
+        """Nobody arrives for 600 s, though somebody should have for as long; not where nobody is due."""
+        self.assertEqual(
+            list(trust.of_arrivals(self.trips(row(0, 400), row(390)))),
+            ["the network is locked: nobody has arrived for 600 s, and 1 should have"],
+        )
+        self.assertEqual(list(trust.of_arrivals(self.trips(row(0, 400), row(380, free=900.0)))), [])
+
+    def test_queues_at_entries(self):
+        made = self.trips(*100 * [row(0, 20)])
+        self.assertEqual(list(trust.of_entries(made, [Census(60, 5)])), [])
+        told = list(trust.of_entries(made, [Census(60, 5), Census(120, 6), Census(180, 2)]))
+        self.assertEqual(told, ["6 vehicles waited to enter at 120 s, and are in no queue or count"])
+
+    def test_lengths(self):
+        """Street a has 75 m and 10 cells, b 10 cells for 50 m: over both 20 % more than in SUMO, over a alone as many."""
+        mapping = map_from("map", {**MAP, "links": [MAP["links"][0], [*MAP["links"][1][:6], 50.0, MAP["links"][1][7]]]})
+        for plan, told in (([0], []), ([0, 1], ["routes are 20 % longer here than in SUMO, as edges are whole cells: most of all b"])):
+            run = Run("run", Line(1, "", {}), enters=[Line(2, "", {"plan": plan, "depart": 0})])
+            self.assertEqual(list(trust.of_lengths(self.trips(row(0, 20)), run, mapping)), told)
+
+
+@needs_simulator
+class Runs(Case):
+    def run_tool(self, *lines, until=1200, more=()):
+        run = self.write("run.jsonl", "".join(json.dumps(line) + "\n" for line in ({"cmd": "load", **NUMBERED}, *lines)))
+        words = [run, "--map", self.write("map.json", json.dumps(MAP)), "--program", PROGRAM, "--until", until, *more]
+        told, _ = self.tool("run", *words, "--out", self.folder / "out")
+        return told.splitlines()
+
+    def test_red_for_ever(self):
+        enter = {"cmd": "enter", "plan": [0, 1], "lane": 0, "depart": 0}
+        told = self.run_tool(RED, enter, more=["--rescue", 0])
+        why = "the network is locked: nobody has arrived for 1,200 s, and 1 should have"
+        self.assertEqual(told, ["1 vehicles, 0 arrived, no trip, 1200.0 s to date of 1 under way, 0 rescues", f"not to be trusted: {why}"])
+        self.assertEqual(json.loads((self.folder / "out" / NAME).read_text())["not_trusted"], [why])
+        told = self.run_tool(RED, enter, more=["--rescue", 0, "--seeds", "3-4"])
+        self.assertEqual(told[1], f"seed 3: not to be trusted: {why}")
+        self.assertEqual(told[-1], "not to be trusted: seeds 3, 4")
+
+    def test_a_run_to_be_trusted(self):
+        told = self.run_tool({"cmd": "enter", "plan": [0, 1], "lane": 0, "depart": 0})
+        self.assertEqual(len(told), 1)
+        self.assertEqual(json.loads((self.folder / "out" / NAME).read_text())["not_trusted"], [])
+
+
+if __name__ == "__main__":
+    unittest.main()

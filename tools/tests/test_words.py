@@ -1,0 +1,77 @@
+"""The words of the commands: faults in one line, times and lists as SUMO reads them, and output that cannot be written."""
+import json
+import subprocess
+import unittest
+
+from support import MAP, NUMBERED, PROGRAM, TOOLS, Case, needs_simulator
+from streetsim.cli.words import Parser, files_of, listed, time_within, within
+from streetsim.files import Fault, read_json
+
+ENTER = {"cmd": "enter", "plan": [0, 1], "lane": 0, "depart": 0}
+
+
+class Words(Case):
+    def test_faults_are_one_line(self):
+        for tool, words in (
+            ("import", ["x.net.xml"]),
+            ("run", ["x.jsonl", "--map", "m", "--out", "o", "--until", "soon"]),
+            ("run", ["x.jsonl", "--map", "m", "--out", "o", "--until", 9, "--colour", "red"]),
+            ("plot", ["kites", "out"]),
+            ("play", ["out", "-o", "x.html", "--first", "x"]),
+            ("compare", ["out"]),
+            ("signals", ["x"]),
+            ("study", []),
+        ):
+            with self.subTest(tool=tool, words=words):
+                told, said = self.tool(tool, *words, status=2)
+                self.assertEqual((told, said.count("\n"), said.split(": ")[0]), ("", 1, f"streetsim-{tool}"))
+                self.assertTrue(said.endswith(f"(what may be given: streetsim-{tool} --help)\n"), said)
+
+    def test_times(self):
+        time = time_within(0, 100_000)
+        told = [time(text) for text in ("90", "90.0", "01:00:00", "00:01:30", "1:00:00:01")]
+        self.assertEqual(told, [90, 90, 3600, 90, 86_401])
+        made = Parser(prog="x")
+        made.add_argument("--until", type=time_within(1, 86_400))
+        for text in ("0", "1.5", "24:00:01", "soon", "1:2:3:4:5", "nan"):
+            with self.subTest(text), self.assertRaisesRegex(Fault, f"--until: '{text}' is not 1 to 86,400 s"):
+                made.parse_args(["--until", text])
+
+    def test_lists(self):
+        self.assertEqual(listed(" A B,C ,D"), ["A", "B", "C", "D"])
+        made = Parser(prog="x")
+        made.add_argument("--n", type=within(1, 3))
+        self.assertEqual(made.parse_args(["--n", "3"]).n, 3)
+        comma = self.write("a,b.xml", "")
+        self.assertEqual(files_of([comma, "c.xml,d.xml", "e.xml"]), [comma, "c.xml", "d.xml", "e.xml"])
+
+
+@needs_simulator
+class Runs(Case):
+    def words(self, *more):
+        run = self.write("run.jsonl", f"{json.dumps({'cmd': 'load', **NUMBERED})}\n{json.dumps(ENTER)}\n")
+        mapping = self.write("map.json", json.dumps({**MAP, "cars": ["v"]}))
+        return [run, "--map", mapping, "--program", PROGRAM, "--out", self.folder / "out", *more]
+
+    def test_times_and_lists_of_a_run(self):
+        self.tool("run", *self.words("--until", "00:01:00", "--close", "b_0:0-75:00:00:10-00:00:50", "--edges", "a,b"))
+        self.assertEqual((self.folder / "out/summary.csv").read_text().splitlines()[-1].split(",")[0], "60")
+        self.assertEqual(read_json(self.folder / "out/setting.json", ["every"])["every"], 10)
+        _, said = self.tool("run", *self.words("--until", 60, "--edges", "a,z"), status=2)
+        self.assertEqual(said, "streetsim-run: --edges: the map has no edge 'z'\n")
+
+    def test_times_of_a_study(self):
+        self.words()
+        text = 'run = "run.jsonl"\nmap = "map.json"\nuntil = "00:01:00"\nseeds = "1"\n[variant.given]\n'
+        words = [self.write("study.toml", text), "--program", PROGRAM, "--jobs", 1, "--out", self.folder / "out"]
+        self.assertRegex(self.tool("study", *words)[0], "given: mean trip [0-9.]+ s")
+
+    def test_standard_output_that_is_full(self):
+        for words in ([TOOLS / "streetsim-run", *self.words("--until", 60)], [TOOLS / "streetsim-run", "--help"]):
+            with open("/dev/full", "w") as full:
+                done = subprocess.run(list(map(str, words)), stdout=full, stderr=subprocess.PIPE, text=True, check=False)
+            self.assertEqual((done.returncode, done.stderr), (2, "streetsim-run: standard output: No space left on device\n"))
+
+
+if __name__ == "__main__":
+    unittest.main()

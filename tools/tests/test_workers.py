@@ -1,0 +1,134 @@
+"""Steps shared by threads: with more vehicles in cells than a step of one thread has, the replies have equal bytes for each number
+of workers, and threads beside the first are seen at work."""
+import json
+import subprocess
+import threading
+import time
+import unittest
+from pathlib import Path
+
+from support import PROGRAM, needs_simulator
+
+# Above this number of vehicles in cells a step is shared (docs/LINES.md).
+SHARED_FROM = 30_000
+NODES = 512
+LANES = (0, 1)
+CELLS = 120
+CARS = 46_000
+SECONDS = 300
+
+
+def links_of_town():
+    """Two streets from each node, to the next node and to the seventh after it: [id, from, to, lanes, length, limit]."""
+    ends = [(node, (node + ahead) % NODES) for node in range(NODES) for ahead in (1, 7)]
+    return [[link, begin, end, 2, CELLS, 3 + link % 3] for link, (begin, end) in enumerate(ends)]
+
+
+def next_links(link):
+    """The links that follow one."""
+    return [2 * link[2], 2 * link[2] + 1]
+
+
+def load_of_town():
+    links = links_of_town()
+    # From each lane to the same lane of both streets that follow; so a vehicle may stay in its lane.
+    turns = [[link[0], lane, after, lane] for link in links for after in next_links(link) for lane in LANES]
+    nodes = [[node, 1 + node % 3, 1 + node % 5] for node in range(NODES)]
+    return {"cmd": "load", "nodes": nodes, "links": links, "turns": turns, "zone": 12, "dawdle": 150, "change": 400, "seed": 46}
+
+
+def enter_of(links, car):
+    """A vehicle of one to four cells; half of its plan goes straight on."""
+    plan = [car * 5 % len(links)]
+    for at in range(5):
+        plan.append(next_links(links[plan[-1]])[(car >> at) & 1])
+    return {"cmd": "enter", "plan": plan, "lane": car % 2, "depart": car // 1_000, "size": 1 + car % 7 % 4}
+
+
+def settings_of(links):
+    """Signals at every fourth node, closed cells and detectors."""
+    for node in range(0, NODES, 4):
+        green = [[link[0], lane, after] for link in links if link[2] == node for after in next_links(link) for lane in LANES]
+        yield {"cmd": "signal", "node": node, "offset": node % 20, "phases": [[9, green[: len(green) // 2]], [11, green[len(green) // 2 :]]]}
+    for link in range(0, len(links), 40):
+        yield {"cmd": "close", "link": link, "lane": link // 40 % 2, "first": 60, "last": 69}
+    for link in range(0, len(links), 16):
+        yield {"cmd": "meter", "link": link, "lane": link // 16 % 2, "cell": 30 + link % 50, "period": 10}
+
+
+def asked_of(links):
+    """All lanes, detectors and some vehicles."""
+    yield from ({"cmd": "lane", "link": link[0], "lane": lane} for link in links for lane in LANES)
+    yield from ({"cmd": "read", "meter": meter} for meter in range(len(links) // 16))
+    yield from ({"cmd": "vehicle", "car": car} for car in range(0, CARS, 23))
+    yield {"cmd": "count"}
+
+
+def session_of_town():
+    """Vehicles enter until the town is full; then some are taken out, and roads are opened again."""
+    links = links_of_town()
+    yield load_of_town()
+    yield from settings_of(links)
+    yield from (enter_of(links, car) for car in range(CARS))
+    yield {"cmd": "advance", "steps": 180}
+    yield from asked_of(links)
+    yield from ({"cmd": "takeout", "car": car} for car in range(0, CARS, 31))
+    yield from ({"cmd": "reopen", "link": link, "lane": link // 40 % 2, "first": 60, "last": 69} for link in range(0, len(links), 80))
+    yield {"cmd": "advance", "steps": 20}
+    yield from asked_of(links)
+
+
+class Watch(threading.Thread):
+    """Looks again and again at the threads of a process; `seen` are those that had time on a processor, but for the first one."""
+
+    def __init__(self, process):
+        super().__init__()
+        self.process, self.seen = process, set()
+
+    def run(self):
+        while self.process.poll() is None:
+            self.look()
+            time.sleep(0.0005)
+
+    def look(self):
+        for task in Path(f"/proc/{self.process.pid}/task").glob("*/schedstat"):
+            try:
+                nanoseconds = int(task.read_text().split()[0])
+            except (OSError, IndexError):
+                continue
+            if nanoseconds and int(task.parent.name) != self.process.pid:
+                self.seen.add(task.parent.name)
+
+
+@needs_simulator
+class Workers(unittest.TestCase):
+    def served(self, workers, lines):
+        """The replies with so many workers, and how many threads were seen at work beside the first."""
+        words = [PROGRAM, "--workers", str(workers), "--calls", "200000"]
+        with subprocess.Popen(words, stdin=subprocess.PIPE, stdout=subprocess.PIPE) as process:
+            watch = Watch(process)
+            watch.start()
+            replies, _ = process.communicate(lines, timeout=SECONDS)
+            watch.join()
+        self.assertEqual(process.returncode, 0)
+        return replies, len(watch.seen)
+
+    def test_equal_bytes_and_more_than_one_thread(self):
+        commands = list(session_of_town())
+        lines = "".join(json.dumps(command, separators=(",", ":")) + "\n" for command in commands).encode()
+        alone, threads = self.served(1, lines)
+        self.assertEqual(threads, 0)
+        replies = [json.loads(line) for line in alone.splitlines()]
+        self.assertEqual(len(replies), len(commands))
+        self.assertEqual([reply for reply in replies if "error" in reply], [])
+        counts = [reply["cells"] for reply in replies if "admitted" in reply]
+        self.assertGreater(min(counts), SHARED_FROM)
+        for workers in (2, 4, 64):
+            with self.subTest(workers=workers):
+                told, threads = self.served(workers, lines)
+                self.assertGreater(threads, 0)
+                self.assertEqual(told, alone)
+
+
+if __name__ == "__main__":
+    unittest.main()

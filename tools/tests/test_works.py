@@ -1,0 +1,186 @@
+"""Road works: parallel links are joint for the run, and what cannot be had is said."""
+import csv
+import json
+import os
+import unittest
+from collections import Counter
+
+from support import PROGRAM, Case, lane, needs_simulator, net
+import streetsim.traci as traci
+from streetsim.files import Fault
+from streetsim.run.mapping import read_map
+from streetsim.run.runs import read_run
+from streetsim.run.works import shut_links, sites_of, with_works, works_of
+from streetsim.scenario import Scenario
+from streetsim.sumo.net import Edge
+from streetsim.sumo.net import Lane as SumoLane
+from streetsim.sumo.network import parallel
+
+
+def fan(lanes):
+    """A street z of some lanes into one a of as many, of which each lane leads to an edge of its own: to0, to1, .."""
+    count = range(lanes)
+    edges = [(name, *ends, [lane(name, at, metres) for at in count]) for name, ends, metres in (("z", "YA", 150), ("a", "AB", 300))]
+    edges += [(f"to{at}", "B", f"C{at}", [lane(f"to{at}", 0, 150)]) for at in count]
+    turns = [("z", at, "a", at, "") for at in count] + [("a", at, f"to{at}", 0, "") for at in count]
+    return net(edges, turns)
+
+
+def flows(lanes, hourly):
+    """600 s of vehicles to each end."""
+    each = "".join(f'<flow id="f{at}" begin="0" end="600" vehsPerHour="{hourly}"><route edges="z a to{at}"/></flow>' for at in range(lanes))
+    return f"<routes>{each}</routes>"
+
+
+class Groups(unittest.TestCase):
+    def groups(self, lanes, closing):
+        edge = Edge("a", "A", "B", 1, [SumoLane(at, 13.9, 300.0, []) for at in range(lanes)])
+        following = {("a", at): {f"to{at}"} for at in range(lanes)}
+        return [[one.index for one in group] for group in parallel(edge, following, {("a", at): set() for at in range(lanes)}, closing)]
+
+    def test_closed_beside_open(self):
+        for lanes, closing, expected in (
+            (2, {}, [[0], [1]]),
+            (2, {0}, [[0, 1]]),
+            (3, {0}, [[0, 1], [2]]),
+            (3, {2}, [[0], [1, 2]]),
+            (3, {0, 1}, [[0], [1, 2]]),
+            (4, {1, 2}, [[0, 1], [2, 3]]),
+        ):
+            self.assertEqual(self.groups(lanes, closing), expected, (lanes, closing))
+
+
+@needs_simulator
+class Works(Case):
+    def imported(self, lanes=2, hourly=300, more=()):
+        self.write("x.net.xml", fan(lanes))
+        self.write("x.rou.xml", flows(lanes, hourly))
+        words = [self.folder / "x.net.xml", "--routes", self.folder / "x.rou.xml", *more]
+        self.tool("import", *words, "-o", self.folder / "run.jsonl", "--map", self.folder / "map.json", "--strict")
+        return self.folder / "run.jsonl", self.folder / "map.json"
+
+    def run_with(self, run, mapped, *closed, status=0):
+        """What is said, and the mean trip of those who arrived, and how many did."""
+        words = [word for text in closed for word in ("--close", text)]
+        words += ["--until", 1200, "--rescue", 0, "--out", self.folder / "out", "--program", PROGRAM]
+        told = self.tool("run", run, "--map", mapped, *words, status=status)[1]
+        if status:
+            return told
+        with open(self.folder / "out/trips.csv", encoding="utf-8") as file:
+            trips = [int(row["duration"]) for row in csv.DictReader(file) if row["duration"]]
+        return told, sum(trips) / len(trips), len(trips)
+
+    def test_parallel_links(self):
+        """One open lane of 1,600 an hour takes 600, so that works cost some seconds, and not the time until they end."""
+        run, mapped = self.imported()
+        _, mean, arrived = self.run_with(run, mapped)
+        told, closed, still = self.run_with(run, mapped, "a_0:100-200:60-1200")
+        self.assertEqual((arrived, still), (100, 100))
+        self.assertLess(abs(closed - mean), 10)
+        self.assertIn("edges a", told)
+        # From its begin on: who comes on the closed lane leaves it in the first cells.
+        self.assertLess(abs(self.run_with(run, mapped, "a_1:0-300:60-1200")[1] - mean), 10)
+
+    def test_three_lanes(self):
+        """Of three lanes two are closed: one is joint with the open one, and who has the other takes a turn before."""
+        run, mapped = self.imported(lanes=3)
+        _, mean, _ = self.run_with(run, mapped)
+        _, closed, arrived = self.run_with(run, mapped, "a_0:100-200:60-1200", "a_1:100-200:60-1200")
+        self.assertEqual(arrived, 150)
+        self.assertLess(abs(closed - mean), 15)
+
+    def test_who_goes_round(self):
+        """Plans change of those alone who may come while the works last, 400 s; it takes 11 s and more to get there."""
+        run, mapped = self.imported(lanes=3)
+        works = [works_of(f"a_{at}:100-200:0-400", read_map(mapped)) for at in (0, 1)]
+        made, mapping, _ = with_works(read_run(run), read_map(mapped), mapped, works)
+        shut = set(shut_links(sites_of(works, mapping), mapping))
+        self.assertEqual([mapping.links[link].lanes for link in shut], [(0,)])
+        through = Counter(line.command["depart"] < 380 for line in made.enters if shut & set(line.command["plan"]))
+        self.assertEqual(through[True], 0)
+        self.assertGreater(through[False], 10)
+
+    def test_all_lanes(self):
+        run, mapped = self.imported()
+        told = self.run_with(run, mapped, "a_0:100-200:60-300", "a_1:150-250:200-400")[0]
+        self.assertIn("edge a: all lanes are closed between 200 and 300 s; nobody takes another way, so who of the 100 vehicles", told)
+        told = self.run_with(run, mapped, "to0_0:50-100:60-300")[0]
+        self.assertIn("edge to0: its only lane is closed between 60 and 300 s", told)
+
+    def test_beyond_the_end(self):
+        run, mapped = self.imported()
+        for text in ("a_0:5000-6000:0-900", "a_0:200-310:0-900"):
+            self.assertIn(f"--close '{text}': the lane ends at 300 m", self.run_with(run, mapped, text, status=2))
+        self.assertIn("--close 'a_0:0-9:1200-1300': begins after --until", self.run_with(run, mapped, "a_0:0-9:1200-1300", status=2))
+
+    def test_joint_from_the_start(self):
+        run, mapped = self.imported(more=("--joint", "a"))
+        told, _, arrived = self.run_with(run, mapped, "a_0:100-200:60-1200")
+        self.assertEqual((told, arrived), ("", 100))
+        for names, words in (("x", "the import has no edge or lane 'x'"), ("to0", "edge 'to0' has one lane, and none beside it")):
+            told = self.tool("import", self.folder / "x.net.xml", "--joint", names, "-o", run, "--map", mapped, status=2)[1]
+            self.assertIn(words, told)
+
+    def test_what_cannot_be_imported_anew(self):
+        run, mapped = self.imported()
+        with open(run, "a", encoding="utf-8") as file:
+            file.write('{"cmd":"signal","node":1,"offset":0,"phases":[],"at":9}\n')
+        told = self.run_with(run, mapped, "a_0:100-200:60-900", status=2)
+        self.assertIn("run.jsonl: has changed since it was imported. Run streetsim-import with --joint a_0", told)
+        run, mapped = self.imported()
+        self.write("x.rou.xml", flows(2, 400))
+        self.assertIn("x.rou.xml: has changed", self.run_with(run, mapped, "a_0:100-200:60-900", status=2))
+        content = json.loads(mapped.read_text(encoding="utf-8"))
+        mapped.write_text(json.dumps({**content, "sources": {}}), encoding="utf-8")
+        self.assertIn("does not name the files", self.run_with(run, mapped, "a_0:100-200:60-900", status=2))
+
+    def test_study(self):
+        """The base is joint too, so that the difference is that of the works."""
+        self.imported()
+        study = 'run = "run.jsonl"\nmap = "map.json"\nuntil = 1200\nseeds = "1-2"\n[variant.given]\n[variant.works]\nclose = ["a_0:100-200:60-1200"]\n'
+        _, told = self.tool("study", self.write("study.toml", study), "--out", self.folder / "out", "--program", PROGRAM)
+        self.assertEqual(told.count("joint for this run"), 2)
+        with open(self.folder / "out/differences.csv", encoding="utf-8") as file:
+            given, works = csv.DictReader(file)
+        self.assertLess(float(works["difference"]), 10)
+        self.assertGreater(float(works["mean_trip_s"]), float(given["mean_trip_s"]))
+
+    def test_scenario(self):
+        run, mapped = self.imported()
+        with Scenario(run, mapped, PROGRAM) as sim:
+            with self.assertRaisesRegex(ValueError, r"cannot be closed.*Scenario\(\.\., joint=\['a_0'\]\)"):
+                sim.close("a_0")
+            with self.assertRaisesRegex(ValueError, "ends at 150 m"):
+                sim.close("z_0", 150)
+            sim.close("to0_0")
+        with Scenario(run, mapped, PROGRAM, joint=["a"]) as sim:
+            sim.close("a_0")
+            sim.simulationStep(1200)
+            self.assertEqual(sim.simulation.getMinExpectedNumber(), 0)
+
+    def test_scenario_of_another_import(self):
+        run, mapped = self.imported()
+        os.remove(self.folder / "x.net.xml")
+        with self.assertRaisesRegex(Fault, "--joint a"):
+            Scenario(run, mapped, PROGRAM, joint=["a"])
+
+    def traced(self, *more):
+        os.environ["STREETSIM_PROGRAM"] = PROGRAM
+        self.addCleanup(lambda: traci.isLoaded() and traci.close())
+        traci.start(["sumo", "-n", self.write("x.net.xml", fan(2)), "-r", self.write("x.rou.xml", flows(2, 300)), *more])
+
+    def test_traci(self):
+        self.traced()
+        with self.assertRaisesRegex(traci.TraCIException, r"cannot be closed.*traci\.start\(\[\.\., '--joint', 'a_0'\]\)"):
+            traci.lane.setDisallowed("a_0", ["passenger"])
+        traci.edge.setDisallowed("a", ["passenger"])
+        traci.close()
+        self.traced("--joint", "a")
+        traci.simulationStep(60)
+        traci.lane.setDisallowed("a_0", ["passenger"])
+        traci.simulationStep(1200)
+        self.assertEqual(traci.simulation.getMinExpectedNumber(), 0)
+
+
+if __name__ == "__main__":
+    unittest.main()
