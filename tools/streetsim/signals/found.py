@@ -70,7 +70,9 @@ def draw(words, town, plan, path):
     """The ways of the vehicles along --edges under a plan, with the signals."""
     run = replace(town.run, first=town.first_lines(plan))
     settings = Settings(until=min(words.last + 1, words.until), every=1, rescue=0, edges=tuple(listed(words.edges)))
-    serving = argparse.Namespace(run=words.run, program=words.program, workers=1)
+    serving = argparse.Namespace(
+        run=words.run, program=words.program, workers=1, rounds=0, sumo_output=(), junctions=None
+    )
     with tempfile.TemporaryDirectory() as folder:
         one_run(serving, run, town.mapping, settings, folder, lambda *_: None, 1)
         figure = plots.draw_corridor(plots.drawing(), read_folder(folder), words)
