@@ -60,6 +60,7 @@ class Map:
     yields: list = field(default_factory=list)  # who gives way without a light: Waiting
     links_of: dict = field(default_factory=dict)  # edge: links
     sources: dict = field(default_factory=dict)  # the files of the import, as sumo.sources keeps them
+    kinds: dict = field(default_factory=dict)  # of the vehicles, as sumo.demand.kinds_of
 
     def __post_init__(self):
         for number, link in enumerate(self.links):
@@ -90,6 +91,7 @@ class Map:
             "yields": [one.written() for one in self.yields],
             "detectors": [list(asdict(detector).values()) for detector in self.detectors],
             "sources": self.sources,
+            "vehicles": self.kinds,
         }
 
 
@@ -116,6 +118,7 @@ def map_of(network, lights, names, report):
         options=options,
         warnings=list(report.lines()),
         yields=network.yields,
+        kinds=network.kinds,
     )
 
 
@@ -129,7 +132,8 @@ def map_from(path, value):
         detectors = [Detector(*detector) for detector in value.get("detectors", ())]
         links, turns = [MapLink(*link) for link in value["links"]], [MapTurn(*turn) for turn in value["turns"]]
         more = {"detectors": detectors, "yields": waiting_of(value.get("yields", ()))}
-        more |= {"sources": value.get("sources", {}), **{key: value[key] for key in KEYS if key not in ("links", "turns")}}
+        more |= {"sources": value.get("sources", {}), "kinds": value.get("vehicles", {})}
+        more |= {key: value[key] for key in KEYS if key not in ("links", "turns")}
         return Map(links=links, turns=turns, **more)
     except (KeyError, TypeError, ValueError) as fault:
         raise Fault(f"{path}: not a map that streetsim-import wrote: {fault}") from None

@@ -2,7 +2,7 @@
 import math
 import random
 from collections import Counter
-from dataclasses import dataclass
+from dataclasses import astuple, dataclass
 
 from .. import limits
 from ..files import Fault, attribute, elements, seconds, told
@@ -26,6 +26,7 @@ class Vehicle:
     depart: float  # seconds
     edges: tuple
     type: str
+    route: str = ""  # the name of its route; none where the route stands in the vehicle
 
 
 class Demand:
@@ -82,7 +83,7 @@ class Demand:
         self.note_ignored(element)
         edges = self.edges(path, element, inner) if inner is not None else None
         for name, depart in departs:
-            vehicle = Vehicle(name, depart, edges, element.get("type"))
+            vehicle = Vehicle(name, depart, edges, element.get("type"), "" if inner is not None else element.get("route"))
             self.vehicles.append(vehicle)
             if edges is None:
                 self.later.append((vehicle, told(path, element), element.get("route")))
@@ -122,8 +123,8 @@ class Demand:
 
 
 def enters(vehicles, net, network, sizes, report):
-    """Enter commands and the names of their vehicles; vehicles that can not drive are counted by reason."""
-    commands, names, used = [], [], Counter()
+    """Enter commands and their vehicles; vehicles that can not drive are counted by reason."""
+    commands, driven, used = [], [], Counter()
     for vehicle in vehicles:
         plan, why = plan_of(vehicle, net, network)
         if plan is None:
@@ -135,8 +136,19 @@ def enters(vehicles, net, network, sizes, report):
         command = {"cmd": "enter", "plan": list(plan), "lane": lane, "depart": max(0, math.ceil(vehicle.depart))}
         size = sizes.of(vehicle.type) if network.options.sizes else 1
         commands.append({**command, "size": size} if size > 1 else command)
-        names.append(vehicle.name)
-    return commands, names
+        driven.append(vehicle)
+    return commands, driven
+
+
+def kinds_of(driven, types):
+    """The types that files tell, and by vehicle its type and the name of its route, as a map keeps them."""
+    names = list(types.kinds)
+    place = {name: at for at, name in enumerate(names)}
+    return {
+        "types": [[name, *astuple(types.kinds[name])] for name in names],
+        "type": [place.get(vehicle.type, 0) for vehicle in driven],
+        "route": [vehicle.route for vehicle in driven] if any(vehicle.route for vehicle in driven) else [],
+    }
 
 
 def plan_of(vehicle, net, network):

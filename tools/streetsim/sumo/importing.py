@@ -9,7 +9,7 @@ from ..cli.words import Parser, files_of, listed, time_within, within
 from ..files import Fault, place_of, refuse_equal, whole_file
 from ..run.mapping import map_of
 from .conflicts import conflicts_of
-from .demand import Demand, enters
+from .demand import Demand, enters, kinds_of
 from .detectors import placed
 from .net import CLASSES, read_additional, read_net
 from .network import Network, Options
@@ -165,14 +165,15 @@ def converted(net, types, vehicles, options, report):
     found = movements(net, network, flows, report)
     network.equivalents = equivalents(one for junction in found.values() for one in junction.values())
     sizes = Sizes(types)
-    entered, names = enters(vehicles, net, network, sizes, report)
+    entered, driven = enters(vehicles, net, network, sizes, report)
+    network.kinds = kinds_of(driven, types)
     network.open_beside_works()
     sizes.tell(report)
     warn_of_rules(net, network, report)
     made = signals(net, network, found, report)
     lights = [[light, command["node"]] for light, command in made]
     network.yields = conflicts_of(net, network, flows)
-    return network, lights, [network.load(), *(command for _, command in made), *entered], names
+    return network, lights, [network.load(), *(command for _, command in made), *entered], [vehicle.name for vehicle in driven]
 
 
 def refuse_over_limits(network, load, names):

@@ -91,6 +91,7 @@ class Network:
         self.equivalents = {}  # (edge, next edge): in how many others' place a vehicle counts that waits for a gap
         self.joined = set()
         self.yields = []  # conflicts.Waiting
+        self.kinds = {}  # of the vehicles, as demand.kinds_of
 
     def add_connections(self, net, report):
         """Of several connections from one lane to one next link the one to the same lane counts, else the lowest."""

@@ -1,6 +1,7 @@
 """Reads SUMO vehicle types and gives their vehicles sizes: how many cells each takes."""
 import random
 from collections import Counter, defaultdict
+from dataclasses import dataclass
 
 from .. import limits
 from ..files import Fault, at_least_zero, attribute, number, told
@@ -29,18 +30,29 @@ READ = {"id", "length", "minGap", "vClass", "probability", "probabilities", "vTy
 TAGS = ("vType", "vTypeDistribution")
 
 
+@dataclass(slots=True, frozen=True)
+class Kind:
+    """A vehicle type."""
+
+    vclass: str = "passenger"
+    length: float = USUAL[0]  # metres
+    gap: float = USUAL[1]  # metres to the one ahead when both stand
+    speed: float | None = None  # metres a second at most, where the type tells it
+
+
 def weights_of(text):
     return [at_least_zero(number)(part) for part in text.split()]
 
 
 class Types:
-    """The vehicle types that files tell: the metres of road that a vehicle takes with the gap ahead of it; and the
+    """The vehicle types that files tell, with the metres of road that a vehicle takes with the gap ahead of it; and the
     distributions, from which the type of each vehicle is drawn."""
 
     def __init__(self, seed, report):
         self.report = report
         self.metres = {DEFAULT: sum(USUAL), "DEFAULT_TAXITYPE": sum(USUAL)}
         self.metres["DEFAULT_BIKETYPE"] = sum(BY_CLASS["bicycle"])
+        self.kinds = {DEFAULT: Kind()}  # by name; those that files tell, and the usual one
         self.mixes = {}  # distribution: types and their weights
         self.draws = random.Random(f"types {seed}")
         self.unknown = set()
@@ -57,7 +69,9 @@ class Types:
             length = attribute(path, element, "length", at_least_zero(number))
         if element.get("minGap"):
             gap = attribute(path, element, "minGap", at_least_zero(number))
+        speed = attribute(path, element, "maxSpeed", at_least_zero(number)) if element.get("maxSpeed") else None
         self.metres[attribute(path, element, "id")] = length + gap
+        self.kinds[element.get("id")] = Kind(element.get("vClass") or "passenger", length, gap, speed)
         for name in set(element.keys()) - READ:
             self.report.ignored[f"{name} of vTypes"] += 1
 
