@@ -85,7 +85,7 @@ class Demand(Case):
 
     def test_faults_name_file_and_element(self):
         for text, words in (
-            ('<trip id="t" depart="0" from="a" to="b"/>', r"r0.rou.xml: <trip 't'> has no route; let SUMO's duarouter"),
+            ('<trip id="t" depart="0" from="a" to="b"/>', r"r0.rou.xml: <trip 't'> has no route: streetsim-import --trips FILE"),
             (
                 '<vehicle id="v" depart="0"><route edges="a z"/></vehicle>',
                 r"r0.rou.xml: <vehicle 'v'>: the network has no edge 'z'",

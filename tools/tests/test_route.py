@@ -17,7 +17,8 @@ from streetsim.routes.passes import Passes, Sight
 from streetsim.routes.router import FAR, Found, Router, Wish, parts_of
 from streetsim.routes.search import changes, gap_of
 from streetsim.routes.seconds import reds
-from streetsim.run.mapping import Map, MapLink
+from streetsim.run.mapping import Map, MapLink, read_map
+from streetsim.run.runs import read_run
 
 # From a to d by b or by c; from b to c as well. Nobody may go from c to d's twin e.
 GRAPH = Graph("abcde", [("a", "b"), ("a", "c"), ("b", "d"), ("c", "d"), ("b", "e")], {name: (name, name + "'") for name in "abcde"})
@@ -266,6 +267,57 @@ class Equilibria(Commands):
         self.route("--iterations", 2, "--run", self.folder / "a.jsonl", "--map", self.folder / "a.json", "--gap", 1)
         self.tool("import", self.net, "--routes", self.folder / "out.rou.xml", "-o", self.folder / "b.jsonl", "--map", self.folder / "b.json")
         self.assertEqual((self.folder / "a.jsonl").read_bytes(), (self.folder / "b.jsonl").read_bytes())
+
+
+class Imports(Case):
+    """streetsim-import --trips"""
+
+    def imported(self, trips, *more, network=None, status=0):
+        """The edges of each vehicle by name, what is said, and the paths of run and map."""
+        paths = self.folder / "run.jsonl", self.folder / "map.json"
+        words = [self.write("x.net.xml", network or lit((15, "G"), (45, "r"))), "--trips", self.write("x.trips.xml", trips), *more]
+        _, said = self.tool("import", *words, "-o", paths[0], "--map", paths[1], status=status)
+        if status == 2:
+            return {}, said, paths
+        mapping = read_map(paths[1])
+        plans = [line.command["plan"] for line in read_run(paths[0]).enters]
+        return {name: [mapping.links[link].edge for link in plan] for name, plan in zip(mapping.cars, plans, strict=True)}, said, paths
+
+    def test_few_take_the_short_way(self):
+        """The mean wait at the light is 45 * 46 / 120 = 17 s, and the other way is 46 s longer."""
+        edges, _, _ = self.imported(flow(60, 3600), "--strict")
+        self.assertEqual({tuple(way) for way in edges.values()}, {("in", "short", "out")})
+        self.assertEqual(len(edges), 60)
+
+    def test_many_go_on_both_ways(self):
+        """The light lets 425 an hour pass by 1,700 and its share of green."""
+        edges, _, _ = self.imported(flow(1200, 3600))
+        short = sum("short" in way for way in edges.values())
+        self.assertTrue(300 <= short <= 900, short)
+
+    def test_routes_that_are_given_stay(self):
+        given = '<routes><route id="r" edges="in far long out"/><vehicle id="v" depart="3" route="r"/><trip id="t" depart="3" from="in" to="out"/></routes>'
+        edges, _, paths = self.imported(given)
+        self.assertEqual(edges, {"v": ["in", "far", "long", "out"], "t": ["in", "short", "out"]})
+        self.assertEqual(read_map(paths[1]).kinds["route"], ["r", ""])
+
+    def test_no_way(self):
+        trips = '<routes><trip id="t" depart="0" from="out" to="in"/><trip id="u" depart="0" from="in" to="out"/></routes>'
+        edges, said, _ = self.imported(trips, "--strict", status=1)
+        self.assertEqual(list(edges), ["u"])
+        self.assertIn("skipped: 1 vehicles: no way from where the trip begins to where it ends", said)
+
+    @needs_simulator
+    def test_road_works_import_the_trips_anew(self):
+        ends = {"in": ("W", "A", 2), "b": ("A", "B", 1), "c": ("A", "C", 1)}
+        edges = [(name, begin, end, [lane(name, at, 300.0) for at in range(count)]) for name, (begin, end, count) in ends.items()]
+        fork = net(edges, [("in", 0, "b", 0, ""), ("in", 1, "c", 0, "")])
+        trips = '<routes><trip id="b" depart="0" from="in" to="b"/><trip id="c" depart="0" from="in" to="c"/></routes>'
+        _, _, (run, mapped) = self.imported(trips, network=fork)
+        words = [run, "--map", mapped, "--until", 900, "--close", "in_0:100-200:0-900", "--out", self.folder / "out", "--program", PROGRAM]
+        told, said = self.tool("run", *words)
+        self.assertIn("joint for this run", said)
+        self.assertIn("2 vehicles, 2 arrived", told)
 
 
 class BadInput(Commands):

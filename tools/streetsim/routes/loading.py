@@ -32,13 +32,9 @@ class Loaded:
 class Town:
     """A network and its vehicle types, read once."""
 
-    def __init__(self, net_path: str, additional: Sequence[str], options: Options, report: Report) -> None:
-        self.options, self.report = options, report
-        self.net: SumoNet = read_net(net_path, options.classes, report)
-        self.types = Types(options.seed, report)
-        for path in additional:
-            read_additional(path, self.net, self.types, report)
-        self.graph: Graph = graph_of_net(self.net)
+    def __init__(self, net: SumoNet, types: Types, options: Options) -> None:
+        self.net, self.types, self.options = net, types, options
+        self.graph: Graph = graph_of_net(net)
 
     @property
     def dawdle(self) -> float:
@@ -66,6 +62,13 @@ class Town:
         made = [command for _, command in signals(self.net, network, {}, report)]
         mapping = map_of(network, [], [], report)
         return self.free(mapping, made), capacities(self.graph, mapping, made)
+
+
+def read_town(net_path: str, additional: Sequence[str], options: Options, report: Report) -> Town:
+    net, types = read_net(net_path, options.classes, report), Types(options.seed, report)
+    for path in additional:
+        read_additional(path, net, types, report)
+    return Town(net, types, options)
 
 
 def lines_of(commands: Sequence[dict]) -> list[Line]:

@@ -124,8 +124,13 @@ class Router:
         return Found(wish.trip, path, least, self.own(wish))
 
 
+def in_order(wishes: Sequence[Wish]) -> list[Wish]:
+    """Wishes by target, so that each is searched backwards once."""
+    return sorted(wishes, key=lambda wish: (wish.target, wish.trip))
+
+
 def parts_of(wishes: Sequence[Wish], count: int) -> list[list[Wish]]:
     """The wishes in so many parts at most, by target, so that few targets are searched backwards twice."""
-    order = sorted(wishes, key=lambda wish: (wish.target, wish.trip))
+    order = in_order(wishes)
     size = max(1, -(-len(order) // count))
     return [order[at : at + size] for at in range(0, len(order), size)]

@@ -17,7 +17,7 @@ from ..study.seeds import seeds_of
 from ..study.sessions import digest_of
 from ..sumo.importing import add_options, converted, options_of, write_run
 from ..sumo.report import Report
-from .loading import Town
+from .loading import Town, read_town
 from .results import NAME, write_results
 from .search import STILL, Asked, Iteration, Judged, Search
 from .team import Team, team
@@ -120,7 +120,7 @@ def check_words(words: argparse.Namespace) -> None:
 
 def job_of(words: argparse.Namespace) -> Job:
     report = Report()
-    town = Town(words.net, words.additional, options_of(words), report)
+    town = read_town(words.net, words.additional, options_of(words), report)
     trips = read_trips(words.trips, town.net, town.graph, town.types, town.options, report)
     if words.anew:
         for trip in trips.all:

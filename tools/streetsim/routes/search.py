@@ -9,7 +9,7 @@ from .. import limits
 from .costs import Costs, costs_of, flat_costs, mean_of
 from .loading import Loaded, Town
 from .router import FAR, Found, Path, Wish
-from .start import first_ways
+from .start import first_ways, no_way
 from .team import Team
 from .trips import Trip
 from .watching import Ground, Outcome
@@ -100,7 +100,8 @@ class Search:
         """Gives first ways to the trips that have none."""
         if any(not trip.path for trip in self.trips):
             free, capacity = self.town.empty()
-            first_ways(self.town.graph, self.trips, free, capacity, seed, self.team.search)
+            if lost := first_ways(self.town.graph, self.trips, free, capacity, seed, self.team.search):
+                raise no_way(self.town.graph, lost[0])
 
     def improve(self, asked: Asked) -> None:
         """Searches; the trips then have the ways of the iteration with the least gap."""

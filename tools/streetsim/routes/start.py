@@ -22,24 +22,40 @@ Searching = Callable[[Sequence[Wish], Costs], Iterable[Found]]
 
 def first_ways(
     graph: Graph, trips: Sequence[Trip], free: Sequence[float], capacity: Sequence[float], seed: int, search: Searching
-) -> None:
-    """Gives each trip that has no way its first one. capacity: vehicles an hour, of each movement."""
+) -> list[Trip]:
+    """Gives each trip that has no way its first one; gives those for which there is none. capacity: vehicles an hour, of each
+    movement."""
     wanting = [at for at, trip in enumerate(trips) if not trip.path]
     random.Random(f"start {seed}").shuffle(wanting)
     hours = max(LEAST_HOURS, (trips[-1].depart - trips[0].depart) / 3600)
-    volume = [0] * len(graph.movements)
+    given, volume, lost = volumes(graph, trips), [0] * len(graph.movements), []
     for part in range(PARTS):
         mine = wanting[part::PARTS]
-        hourly = [count * PARTS / part / hours if part else 0.0 for count in volume]
+        hourly = [(count + (own * PARTS / part if part else 0.0)) / hours for count, own in zip(given, volume, strict=True)]
         seconds = delayed(graph, free, [flow / most for flow, most in zip(hourly, capacity, strict=True)])
         wishes = [Wish(at, trips[at].origin, trips[at].target, trips[at].depart, ()) for at in mine]
         for found in search(wishes, flat_costs(graph, seconds)):
             trip = trips[found.trip]
-            if not found.path:
-                raise Fault(f"trip {trip.name!r}: no way from {graph.edges[trip.origin]} to {graph.edges[trip.target]}")
             trip.path = found.path
+            if not found.path:
+                lost.append(trip)
             for way in pairwise(found.path):
                 volume[graph.movement_of[way]] += 1
+    return lost
+
+
+def volumes(graph: Graph, trips: Iterable[Trip]) -> list[int]:
+    """How many trips have each movement on their ways. What is no movement of the graph (a change between lanes that an import adds)
+    is left out."""
+    found = [0] * len(graph.movements)
+    for way in (way for trip in trips for way in pairwise(trip.path)):
+        if way in graph.movement_of:
+            found[graph.movement_of[way]] += 1
+    return found
+
+
+def no_way(graph: Graph, trip: Trip) -> Fault:
+    return Fault(f"trip {trip.name!r}: no way from {graph.edges[trip.origin]} to {graph.edges[trip.target]}")
 
 
 def delayed(graph: Graph, free: Sequence[float], loads: Sequence[float]) -> list[float]:

@@ -31,6 +31,7 @@ class Trip:
     path: Path
     entry: float
     changes: bool = True  # whether it may take another way
+    route: str = ""  # the name of the route that it was given
 
 
 class TripDemand(Demand):
@@ -107,7 +108,7 @@ def read_trips(paths: Iterable[str], net: SumoNet, graph: Graph, types: Types, o
             continue
         path = () if one.name in demand.without else tuple(graph.number[name] for name in one.edges)
         ends = graph.number[one.edges[0]], graph.number[one.edges[-1]]
-        found.append(Trip(one.name, one.depart, *ends, one.type, path, one.depart))
+        found.append(Trip(one.name, one.depart, *ends, one.type, path, one.depart, route=one.route))
     if not found:
         raise Fault(f"{', '.join(paths)}: no trip that can drive")
     return Trips(found, demand.told_types)

@@ -159,7 +159,7 @@ def joint(run: Run, mapping: Map, map_path: str, names: list[str]) -> tuple[Run,
         options = Options(**{**known, "joint": (*known.get("joint", ()), *names)})
         with Slow(f"importing {sources.net} anew"):
             report = Report()
-            made = convert(sources.net, sources.additional, sources.routes, options, report)
+            made = convert(sources.net, sources.additional, sources.routes, options, report, sources.trips)
             lines, mapping = run_and_map(made, report)
     except Fault as fault:
         raise Fault(

@@ -17,7 +17,7 @@ NOT_DRIVEN = {
     "container": "a container",
     "containerFlow": "a flow of containers",
 }
-ROUTED_FIRST = "has no route; let SUMO's duarouter compute routes first"
+ROUTED_FIRST = "has no route: streetsim-import --trips FILE finds one for each, or streetsim-route"
 
 
 @dataclass(slots=True)

@@ -32,6 +32,14 @@ def parser():
         help="additional files with signal programs, of which the last of a light counts, and vehicle types",
     )
     made.add_argument("--routes", nargs="+", default=[], metavar="FILE", help="vehicles, flows and routes (.rou.xml)")
+    made.add_argument(
+        "--trips",
+        nargs="+",
+        default=[],
+        metavar="FILE",
+        help="trips, and flows with from and to: each gets the way that is shortest with the waits at signals and the volumes so "
+        "far (better ways: streetsim-route)",
+    )
     made.add_argument("-o", "--output", required=True, help="the run: lines of JSON (.jsonl, .jsonl.gz)")
     made.add_argument("--map", required=True, help="the map of names to write (.json)")
     made.add_argument("--strict", action="store_true", help="end with status 1 where vehicles were skipped")
@@ -108,13 +116,13 @@ def options_of(words):
 
 def main(arguments):
     words = parser().parse_args(arguments)
-    words.additional, words.routes = files_of(words.additional), files_of(words.routes)
-    refuse_equal({"-o": words.output, "--map": words.map}, [words.net, *words.additional, *words.routes])
+    words.additional, words.routes, words.trips = map(files_of, (words.additional, words.routes, words.trips))
+    sources = Sources(words.net, words.additional, words.routes, words.trips)
+    refuse_equal({"-o": words.output, "--map": words.map}, sources.paths())
     place_of(words.output), place_of(words.map)
     report, options = Report(), options_of(words)
-    sources = Sources(words.net, words.additional, words.routes)
     with Slow(f"importing {words.net}"):
-        made = convert(sources.net, sources.additional, sources.routes, options, report)
+        made = convert(sources.net, sources.additional, sources.routes, options, report, sources.trips)
     mapping = write_run(words.output, words.map, made, report, sources)
     print(*report.lines(), sep="\n", end="\n" if any(report.lines()) else "", file=sys.stderr)
     print(
@@ -146,12 +154,16 @@ def run_and_map(made, report):
     return lines, mapping
 
 
-def convert(net_path, additional, routes, options, report):
+def convert(net_path, additional, routes, options, report, trips=()):
     """The network, its lights, the commands of the run and the names of its vehicles."""
     net = read_net(net_path, options.classes, report)
     types = Types(options.seed, report)
     for path in additional:
         read_additional(path, net, types, report)
+    if trips:
+        from ..routes.imported import vehicles_with_ways  # which stands on this module
+
+        return converted(net, types, vehicles_with_ways(net, types, [*routes, *trips], options, report), options, report)
     demand = Demand(net, types, options.seed, report)
     for path in routes:
         demand.read(path)

@@ -13,9 +13,10 @@ class Sources:
     net: str
     additional: list = field(default_factory=list)
     routes: list = field(default_factory=list)
+    trips: list = field(default_factory=list)
 
     def paths(self) -> list[str]:
-        return [self.net, *self.additional, *self.routes]
+        return [self.net, *self.additional, *self.routes, *self.trips]
 
     def written(self, map_path: str, lines: Iterable[str]) -> dict:
         """What a map keeps of them: paths beside the map, sums of their bytes, and the sum of the run's lines."""
@@ -24,6 +25,7 @@ class Sources:
             "net": beside(self.net),
             "additional": list(map(beside, self.additional)),
             "routes": list(map(beside, self.routes)),
+            "trips": list(map(beside, self.trips)),
             "sums": list(map(sum_of, self.paths())),
             "run": sum_of_lines(lines),
         }
@@ -34,7 +36,8 @@ def sources_of(kept: dict, map_path: str, run_path: str) -> Sources:
     if not kept:
         raise Fault(f"{map_path}: does not name the files that it was imported from")
     beside = partial(os.path.join, os.path.dirname(os.path.realpath(map_path)))
-    sources = Sources(beside(kept["net"]), list(map(beside, kept["additional"])), list(map(beside, kept["routes"])))
+    lists = (list(map(beside, kept.get(name, ()))) for name in ("additional", "routes", "trips"))
+    sources = Sources(beside(kept["net"]), *lists)
     for path, known in zip(sources.paths(), kept["sums"], strict=True):
         if sum_of(path) != known:
             raise Fault(f"{path}: has changed since it was imported")
