@@ -1,6 +1,7 @@
 """Files in and out: XML read element by element, outputs written whole or not at all."""
 import contextlib
 import gzip
+import io
 import json
 import math
 import os
@@ -11,19 +12,34 @@ import zlib
 
 from .halves import half_file, half_folder, is_half
 
+GZIP = b"\x1f\x8b"  # with which a gzip file begins
+
 
 class Fault(Exception):
     """What is wrong with an input, in one line. The tools print it and end with status 2."""
 
 
 def open_text(path, mode="r"):
-    """Opens a text file; gzip where the name ends with .gz (without time or name inside, so that equal runs give equal
-    bytes)."""
-    if not str(path).endswith(".gz"):
-        return open(path, mode, encoding="utf-8", newline="")
+    """Opens a text file. What is read is gzip by its content, and may begin with a byte order mark; what is written is
+    gzip where the name ends with .gz (without time or name inside, so that equal runs give equal bytes)."""
     if mode == "r":
-        return gzip.open(path, "rt", encoding="utf-8")
-    return ZippedText(path, mode)
+        return io.TextIOWrapper(open_bytes(path), encoding="utf-8-sig", newline="")
+    if str(path).endswith(".gz"):
+        return ZippedText(path, mode)
+    return open(path, mode, encoding="utf-8", newline="")
+
+
+def open_bytes(path):
+    """Opens a file of bytes to read; gzip by its first bytes, whatever its name, as SUMO does."""
+    return gzip.open(path) if is_gzip(path) else open(path, "rb")
+
+
+def is_gzip(path):
+    """Whether a file is gzip; a pipe, which is read once, by its name."""
+    if os.path.exists(path) and not os.path.isfile(path):
+        return str(path).endswith(".gz")
+    with open(path, "rb") as file:
+        return file.read(2) == GZIP
 
 
 class ZippedText:
@@ -65,7 +81,7 @@ def reading(path):
 def elements(path, roots):
     """The children of the root of an XML file, each whole, one after another; the root must have one of the given
     names, where any are given."""
-    with reading(path), gzip.open(path) if str(path).endswith(".gz") else open(path, "rb") as file:
+    with reading(path), open_bytes(path) as file:
         depth = 0
         for event, element in ElementTree.iterparse(file, ("start", "end")):
             depth += 1 if event == "start" else -1

@@ -11,7 +11,7 @@ import tomllib
 from .. import limits, program
 from ..cli.progress import Meanwhile, Slow
 from ..cli.words import Parser, whole_seconds
-from ..files import Fault, reading, whole_folder
+from ..files import Fault, open_text, reading, whole_folder
 from ..pictures import plots
 from ..run.mapping import read_map
 from ..run.tables import write_table
@@ -90,8 +90,8 @@ def main(arguments):
 
 def read_study(path, simulator):
     """A study, with its variants as bytes; the paths in it are beside it."""
-    with reading(path), open(path, "rb") as file:
-        value = load_toml(path, file)
+    with reading(path), open_text(path) as file:
+        value = load_toml(path, file.read())
     refuse_unknown(path, value, KEYS, "key")
     for key in ("run", "map", "until", "seeds", "variant"):
         if key not in value:
@@ -112,9 +112,9 @@ def read_study(path, simulator):
     return Study(until, seeds, base, made)
 
 
-def load_toml(path, file):
+def load_toml(path, text):
     try:
-        return tomllib.load(file)
+        return tomllib.loads(text)
     except tomllib.TOMLDecodeError as fault:
         raise Fault(f"{path}: not TOML: {fault}") from None
 
