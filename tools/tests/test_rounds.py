@@ -1,9 +1,18 @@
 """Whole runs in which a minor street gives way without a light."""
+import csv
 import json
 import random
 import unittest
+from types import SimpleNamespace
+from unittest import mock
 
+from clusters import ClusterCase, needs_distributed
 from support import PROGRAM, Case, lane, needs_simulator
+from streetsim.files import Fault
+from streetsim.signals import found
+from streetsim.signals.town import Reading, read_town
+from streetsim.study import giving
+from streetsim.study.studying import read_study
 
 LAST = 4500  # seconds; counted from 600 on
 
@@ -105,6 +114,125 @@ class Minor(Rounds):
         _, told = self.tool("run", *files, "--program", PROGRAM, status=2)
         self.assertEqual(told.count("\n"), 1)
         self.assertIn("not a map that streetsim-import wrote", told)
+
+
+def lit():
+    """The junction, and behind it a light L at B, where a street g joins on its own green."""
+    program = '<tlLogic id="L" type="static" programID="0" offset="0"><phase duration="30" state="Gr"/><phase duration="20" state="rG"/></tlLogic>'
+    text = junction().replace('<edge id="s"', f'<edge id="f" from="B" to="E">{lane("f", 0, 300.0)}</edge><edge id="g" from="G" to="B">{lane("g", 0, 300.0)}</edge><edge id="s"')
+    text = text.replace('<junction id="A"', program + "".join(f'<junction id="{name}" type="dead_end" x="0" y="0"/>' for name in "EG") + '<junction id="A"')
+    text = text.replace('<junction id="B" type="dead_end" x="0" y="0"/>', '<junction id="B" type="traffic_light" x="0" y="0"><request index="0" response="00"/><request index="1" response="00"/></junction>')
+    ways = (("e", 0), ("g", 1))
+    return text.replace("</net>", "".join(f'<connection from="{edge}" to="f" fromLane="0" toLane="0" tl="L" linkIndex="{at}" state="M"/>' for edge, at in ways) + "</net>")
+
+
+def ways(departs):
+    """The demand of (second, edges), by second."""
+    vehicles = (f'<vehicle id="{edges[0]}.{at}" depart="{at}"><route edges="{edges}"/></vehicle>' for at, edges in sorted(departs))
+    return f"<routes>{''.join(vehicles)}</routes>"
+
+
+class Many(Rounds):
+    """Words for studies and searches of the street, whose minor vehicles wait."""
+
+    def setUp(self):
+        super().setUp()
+        departs = [(4 * at, "w e f") for at in range(30)] + [(7 * at, "s e f") for at in range(12)] + [(9 * at, "g f") for at in range(12)]
+        self.imported(lit(), ways(departs))
+
+    def table(self, name, out):
+        with open(self.folder / out / name, encoding="utf-8") as file:
+            return list(csv.DictReader(file))
+
+    def study(self, *words, out="out", more=""):
+        text = f'run = "run.jsonl"\nmap = "map.json"\nuntil = 600\nseeds = "1-2"\n{more}\n[variant.given]\n[variant.calm]\ndawdle = 0\n'
+        path = self.write("study.toml", text)
+        return self.tool("study", path, "--program", PROGRAM, "--out", self.folder / out, *words)
+
+    def signals(self, *words, out="found", status=0):
+        files = [self.folder / "run.jsonl", "--map", self.folder / "map.json", "--plans", self.folder / "net.net.xml"]
+        words = ["--until", 600, "--budget", 30, "--check", "101-103", "--program", PROGRAM, *words]
+        return self.tool("signals", *files, "-o", self.folder / f"{out}.add.xml", "--out", self.folder / out, *words, status=status)
+
+
+class ManyRuns(Many):
+    def test_a_study_is_as_streetsim_run_says(self):
+        told, _ = self.study("--jobs", 1)
+        self.run_it("--until", 600, "--rescue", 0, "--seeds", "1-2", name="runs")
+        mine = [row for row in self.table("runs.csv", "out") if row["variant"] == "given"]
+        for one, other in zip(mine, self.table("seeds.csv", "runs"), strict=True):
+            self.assertEqual((one["arrived"], f"{float(other['mean_trip_s']):.3f}"), ("54", one["mean_trip_s"]))
+            setting = self.setting(f"runs/seed-{one['seed']}")["yielding"]
+            self.assertEqual((int(one["junctions_giving_way"]), int(one["signal_lines"])), (1, setting["lines"]))
+        self.assertIn("1 junctions without a light give way by some ", told)
+
+    def test_a_study_is_the_same_for_any_jobs_and_without_rounds_nobody_waits(self):
+        self.study("--jobs", 1, out="one")
+        self.study("--jobs", 3, out="three")
+        for name in ("runs.csv", "differences.csv"):
+            self.assertEqual((self.folder / "one" / name).read_bytes(), (self.folder / "three" / name).read_bytes())
+        told, _ = self.study("--rounds", 0, out="nobody")
+        self.study(more="rounds = 0", out="written")
+        self.assertNotIn("give way", told)
+        self.assertEqual(self.table("runs.csv", "nobody"), self.table("runs.csv", "written"))
+        for one, other in zip(self.table("runs.csv", "one"), self.table("runs.csv", "nobody"), strict=True):
+            self.assertGreater(float(one["mean_trip_s"]), float(other["mean_trip_s"]) + 5)
+
+    def test_rounds_of_a_study_that_are_none(self):
+        for value in ("11", "-1", '"2"', "true"):
+            with self.subTest(value), self.assertRaisesRegex(Fault, "rounds = .* is not 0 to 10"):
+                text = f'run = "run.jsonl"\nmap = "map.json"\nuntil = 600\nseeds = "1"\nrounds = {value}\n[variant.given]\n'
+                read_study(self.write("study.toml", text), PROGRAM)
+
+    def test_too_few_calls_are_told_before_any_run(self):
+        with mock.patch.object(giving, "most_calls", lambda _: 120), self.assertRaisesRegex(Fault, "calls.*: with --rounds 0 nobody gives way"):
+            text = 'run = "run.jsonl"\nmap = "map.json"\nuntil = 600\nseeds = "1"\n[variant.given]\n'
+            read_study(self.write("study.toml", text), PROGRAM)
+
+    def test_a_search_makes_gaps_for_what_it_finds(self):
+        _, told = self.signals("--jobs", 1)
+        self.assertRegex(told, r"1 junctions without a light give way by \d+ signal lines under the given plan; for the plan found these are made anew")
+        self.signals("--jobs", 3, out="three")
+        self.signals("--rounds", 0, out="nobody")
+        trip = {out: self.table("before-after.csv", out)[0] for out in ("found", "three", "nobody")}
+        self.assertEqual((self.folder / "found.add.xml").read_bytes(), (self.folder / "three.add.xml").read_bytes())
+        self.assertEqual(trip["found"], trip["three"])
+        self.assertGreater(float(trip["found"]["before"]), float(trip["nobody"]["before"]) + 5)
+        # The report's runs are those of streetsim-run with the plan found, its rounds and the seeds of the report.
+        net, routes = self.folder / "net.net.xml", self.folder / "demand.rou.xml"
+        words = [net, self.folder / "found.add.xml", "--routes", routes]
+        self.tool("import", *words, "-o", self.folder / "run.jsonl", "--map", self.folder / "map.json")
+        self.run_it("--until", 600, "--rescue", 0, "--seeds", "101-103", name="after")
+        means = [float(row["mean_trip_s"]) for row in self.table("seeds.csv", "after")]
+        self.assertAlmostEqual(float(trip["found"]["after"]), sum(means) / 3, delta=0.001)
+
+    def test_pictures_of_plans_have_their_gaps(self):
+        files = [str(self.folder / name) for name in ("run.jsonl", "map.json", "net.net.xml")]
+        town = read_town(Reading(*files[:2], files[2:], 600, PROGRAM, 5, (), 2))
+        words = SimpleNamespace(run=files[0], program=PROGRAM, until=600, last=300, first=0, edges="w,e", rounds=2)
+        drawn = []
+
+        def draw(_, folder, __):
+            with open(f"{folder.path}/setting.json", encoding="utf-8") as file:
+                drawn.append(json.load(file)["yielding"])
+
+        with mock.patch.multiple(found.plots, drawing=mock.DEFAULT, save=mock.DEFAULT, draw_corridor=draw):
+            found.draw(words, town, town.plan, "x.png")
+        self.assertEqual((drawn[0]["rounds"], drawn[0]["junctions"]), (2, 1))
+        self.assertGreater(drawn[0]["lines"], 0)
+
+
+@needs_distributed
+class InCluster(ClusterCase, Many):
+    def test_a_cluster_gives_the_same(self):
+        port, _ = self.cluster()
+        for out, words in (("one", ("--jobs", 1)), ("both", ("--cluster", f"127.0.0.1:{port}"))):
+            self.study(*words, out=out)
+            self.signals(*words, out=f"{out}-found")
+        for name in ("runs.csv", "differences.csv"):
+            self.assertEqual((self.folder / "one" / name).read_bytes(), (self.folder / "both" / name).read_bytes())
+        for name in ("one-found/before-after.csv", "one-found.add.xml"):
+            self.assertEqual((self.folder / name).read_bytes(), (self.folder / name.replace("one", "both")).read_bytes())
 
 
 class Capacity(Rounds):

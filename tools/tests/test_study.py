@@ -80,7 +80,7 @@ class Tables(Studies):
     def test_bad_input(self):
         one = "[variant.given]\n"
         for study, told in (
-            (self.text(more='color = "red"'), "unknown key 'color'; known are base, map, run, seeds, until, variant"),
+            (self.text(more='color = "red"'), "unknown key 'color'; known are base, map, rounds, run, seeds, until, variant"),
             (self.text(more='base = "old"'), "base = 'old': there is no variant of this name; there are given, wave, closed"),
             (self.text(variants=one + 'speed = 3\n'), "variant 'given': unknown key 'speed'"),
             (self.text(variants=one + "dawdle = 1001\n"), "variant 'given': dawdle = 1001 is not 0 to 1,000"),

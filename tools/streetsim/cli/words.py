@@ -8,6 +8,9 @@ from typing import NoReturn
 from ..files import Fault, seconds
 
 
+ROUNDS, MOST_ROUNDS = 2, 10  # before a run that counts
+
+
 class Parser(argparse.ArgumentParser):
     """A parser for which wrong words are a Fault, one line without the usage."""
 
@@ -50,6 +53,18 @@ def whole_seconds(text: str) -> int | None:
 def listed(text: str) -> list[str]:
     """The names of a list, with spaces or commas between; neither stands in a name of SUMO's."""
     return [name for name in re.split(r"[\s,]+", text) if name]
+
+
+def add_rounds(made: argparse.ArgumentParser, default: int | None = ROUNDS, usual: str = "default %(default)s") -> None:
+    """The word that says by how many rounds vehicles give way without a light."""
+    made.add_argument(
+        "--rounds",
+        type=within(0, MOST_ROUNDS),
+        default=default,
+        metavar="N",
+        help=f"runs before the one that counts, by which those who give way without a light find gaps ({usual}; "
+        "0: nobody gives way)",
+    )
 
 
 def files_of(words: Iterable[str]) -> list[str]:

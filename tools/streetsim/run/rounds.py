@@ -93,24 +93,38 @@ def asking_of(budget, most):
 def giving_way(run, mapping, settings, rounds, serving, tell):
     """The run with signals by which its vehicles give way without a light, and what they are. `serving` starts the program,
     `tell` gets the clock and the last census."""
+    try:
+        lines, yielding = gaps_of(run, mapping, settings, rounds, serving, tell)
+    except Fault as fault:
+        return run, Yielding(why_not=str(fault))
+    return with_lines(run, lines), yielding
+
+
+def gaps_of(run, mapping, settings, rounds, serving, tell):
+    """The signal lines by which the vehicles of a run give way without a light, (clock, line), and what they are; a Fault
+    where the calls do not suffice. `serving` and `tell` are as those of giving_way."""
     if not rounds or not mapping.yields:
-        return run, Yielding()
+        return [], Yielding()
     places = places_of(mapping)
     asked = Settings(settings.until, rescue=settings.rescue, calls=settings.calls)
     made, yielding, count = run, Yielding(rounds), expected_lines(run, mapping)
-    try:
-        for _ in range(rounds):
-            with serving() as sim:
-                one = Round(sim, made, mapping, asked, places, tell)
-                refuse_too_many(run, count, settings, mapping, one.most)
-                lines = gap_lines(mapping, one.record(), run.start())
-            yielding.every = one.records.asking.every
-            made, count = with_lines(run, lines), len(lines)
-        refuse_too_many(run, count, settings, mapping, one.most)
-    except Fault as fault:
-        return run, Yielding(why_not=str(fault))
+    for _ in range(rounds):
+        with serving() as sim:
+            one = Round(sim, made, mapping, asked, places, tell)
+            refuse_too_many(run, count, settings, mapping, one.most)
+            lines = gap_lines(mapping, one.record(), run.start())
+        yielding.every = one.records.asking.every
+        made, count = with_lines(run, lines), len(lines)
+    refuse_too_many(run, count, settings, mapping, one.most)
     yielding.lines, yielding.junctions = count, len({line.command["node"] for _, line in lines})
-    return made, yielding
+    return lines, yielding
+
+
+def refuse_too_few_calls(run, mapping, settings, most):
+    """Refuses rounds for which so many calls (0: any number) do not suffice, of the plans alone: before any run."""
+    places = places_of(mapping)
+    asking_of(Budget(run, settings, places, places, ()), most)
+    refuse_too_many(run, expected_lines(run, mapping), settings, mapping, most)
 
 
 def places_of(mapping):

@@ -1,16 +1,12 @@
 """streetsim-run: runs a file and writes its tables."""
-import contextlib
-import json
 import os
 import sys
 import time
-from dataclasses import replace
 from functools import partial
 from statistics import fmean
 
 from .. import limits, program
-from ..cli.words import Parser, listed, time_within, within
-from ..client import Client, NoReply, ProgramEnded, Refused, Starved
+from ..cli.words import Parser, add_rounds, listed, time_within, within
 from ..files import Fault, whole_file, whole_folder
 from ..junctions.reporting import write_junctions
 from ..outputs.watching import watch
@@ -25,7 +21,8 @@ from .folder import NAME, write_setting
 from .mapping import read_map
 from .record import Recorder, Repeater, Settings
 from .rounds import giving_way
-from .runs import read_run
+from .runs import read_run, with_load
+from .serving import serving as serve
 from .works import with_works, works_of
 
 
@@ -95,14 +92,7 @@ def parser():
         metavar="KINDS",
         help=f"also write SUMO's own output files into DIR/sumo: of {','.join(KINDS)}",
     )
-    made.add_argument(
-        "--rounds",
-        type=within(0, 10),
-        default=2,
-        metavar="N",
-        help="runs before the one that counts, by which those who give way without a light find gaps (default %(default)s; "
-        "0: nobody gives way)",
-    )
+    add_rounds(made)
     made.add_argument(
         "--junctions",
         nargs="?",
@@ -214,6 +204,7 @@ def one_run(words, run, mapping, settings, folder, tell, jobs):
         "arrived": len(made.durations),
         "mean_trip_s": fmean(made.durations) if made.durations else None,
         "rescues": rescues,
+        "yielding": yielding,
         "notes": told,
         "told": ", ".join(filter(None, (made.told(), f"{rescues:,} rescues", yielding.told()))),
         "doubts": doubts,
@@ -240,14 +231,9 @@ def report(figures, name):
         print(f"{name}{trust.verdict(figures['doubts'])}")
 
 
-@contextlib.contextmanager
 def serving(words):
     """The program of a run; what it refuses is a Fault."""
-    try:
-        with Client(words.program, words.workers) as sim:
-            yield sim
-    except (Refused, Starved, NoReply, ProgramEnded) as fault:
-        raise Fault(f"{words.run}: {fault}") from None
+    return serve(words.program, words.run, words.workers)
 
 
 def count_further(words, run, mapping, settings, first, jobs):
@@ -283,8 +269,7 @@ def notes(records, settings):
 
 def seeded(run, seed):
     """The run with another seed."""
-    command = {**run.load.command, "seed": seed}
-    return replace(run, load=replace(run.load, command=command, text=json.dumps(command, separators=(",", ":"))))
+    return with_load(run, seed=seed)
 
 
 def run_seeds(words, run, mapping, settings):

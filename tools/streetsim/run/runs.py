@@ -1,7 +1,7 @@
 """Run files: lines of commands, in order. A line may say with "at" at which clock it is sent (streetsim ignores that
 field)."""
 import json
-from dataclasses import dataclass, field
+from dataclasses import dataclass, field, replace
 from itertools import accumulate
 
 from ..files import Fault, open_text, reading
@@ -54,6 +54,12 @@ def run_of(path, lines):
     run.timed.sort(key=lambda pair: pair[0])
     run.needed = list(accumulate((line.command["depart"] for line in reversed(run.enters)), min))[::-1]
     return run
+
+
+def with_load(run, **values):
+    """The run with other values of its load."""
+    command = {**run.load.command, **values}
+    return replace(run, load=replace(run.load, command=command, text=json.dumps(command, separators=(",", ":"))))
 
 
 def line_of(path, number, text):

@@ -71,10 +71,12 @@ def draw(words, town, plan, path):
     run = replace(town.run, first=town.first_lines(plan))
     settings = Settings(until=min(words.last + 1, words.until), every=1, rescue=0, edges=tuple(listed(words.edges)))
     serving = argparse.Namespace(
-        run=words.run, program=words.program, workers=1, rounds=0, sumo_output=(), junctions=None
+        run=words.run, program=words.program, workers=1, rounds=words.rounds, sumo_output=(), junctions=None
     )
     with tempfile.TemporaryDirectory() as folder:
-        one_run(serving, run, town.mapping, settings, folder, lambda *_: None, 1)
+        made = one_run(serving, run, town.mapping, settings, folder, lambda *_: None, 1)
+        if made["yielding"].why_not:
+            print(f"warning: {path}: {made['yielding'].told()}", file=sys.stderr)
         figure = plots.draw_corridor(plots.drawing(), read_folder(folder), words)
         plots.save(figure, path)
 

@@ -5,7 +5,7 @@ from statistics import fmean, stdev
 
 from .. import limits, program
 from ..cli.progress import Meanwhile, Slow, Stopping
-from ..cli.words import Parser, files_of, listed, time_within, within
+from ..cli.words import Parser, add_rounds, files_of, listed, time_within, within
 from ..files import Fault, place_of, refuse_equal
 from ..pictures import plots
 from ..run.folder import Folder
@@ -16,7 +16,7 @@ from .formulas import critical_cycle, streets_of
 from .found import compared, tell, write_found
 from .plans import LEAST
 from .search import Search, search_plan
-from .town import Reading, Runner, read_town
+from .town import Reading, Runner, read_town, sessions_of
 
 CHANGES = ("offsets", "splits", "cycle")
 STEP = 10  # seconds from one cycle that is proposed to the next
@@ -41,6 +41,7 @@ def parser():
     )
     made.add_argument("--until", required=True, type=time_within(1, limits.CLOCK), metavar="S", help="the clock at the end of a run")
     add_search(made)
+    add_rounds(made)
     add_machines(made)
     made.add_argument("--edges", default="", help="draw the ways of the vehicles along these edges, before and after")
     made.add_argument("--first", type=time_within(0, limits.CLOCK), metavar="S", help="the first second drawn (default: a third of the run)")
@@ -99,13 +100,20 @@ def main(arguments):
     words.program = program.find_program(words.program)
     with Slow(f"reading {words.run}"):
         town = read_town(
-            Reading(words.run, words.map, words.plans, words.until, words.program, words.least, listed(words.keep))
+            Reading(
+                *(words.run, words.map, words.plans, words.until, words.program, words.least, listed(words.keep)),
+                words.rounds,
+            )
         )
     check_cycles(words, town, cycles)
     check_pictures(words, town)
+    tried = tried_seeds(check)
     with machines(words.jobs, words.cluster, [town.session]) as workers:
+        known = sorted({*tried, *(seeds_of(words.seeds, "--seeds") if words.seeds else ())})
+        sessions = sessions_of(town, known, Runner(workers, town))
+    with machines(words.jobs, words.cluster, sessions) as workers:
         runner = Runner(workers, town)
-        seeds = search_seeds(words, runner, check)
+        seeds = search_seeds(words, runner, tried)
         search, stopped = searched(words, runner, changed, cycles, seeds)
         before, after = (runner.outcomes(plan, check) for plan in (town.plan, search.best[1]))
     rows = compared(town, before, after)
@@ -165,9 +173,13 @@ def check_pictures(words, town):
         raise Fault(f"--first {words.first}, --last {words.last}: must rise, and end with the run at {words.until} s")
 
 
-def search_seeds(words, runner, check):
+def tried_seeds(check):
+    """The seeds with which the given plan is run to tell how many a search needs: none of the report's."""
+    return [seed for seed in range(1, TRIED + len(check) + 1) if seed not in check][:TRIED]
+
+
+def search_seeds(words, runner, tried):
     """The seeds of the search: those given, else as many as runs of the given plan say; these are told."""
-    tried = [seed for seed in range(1, TRIED + len(check) + 1) if seed not in check][:TRIED]
     means = list(runner.means([runner.town.plan], tried))
     needed = seeds_for(means)
     seeds = seeds_of(words.seeds, "--seeds") if words.seeds else tried[:needed]

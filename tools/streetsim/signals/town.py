@@ -2,18 +2,19 @@
 import json
 import sys
 from collections import namedtuple
-from dataclasses import dataclass
+from dataclasses import dataclass, field
 
 from ..files import Fault
 from ..run.mapping import Map, read_map
 from ..run.running import fits
 from ..run.runs import Line, Run, read_run
-from ..study.sessions import Session, outcome, session_of, vehicle_seconds
+from ..study.giving import gaps, giving_session, outcome_giving_way, with_gaps
+from ..study.sessions import Session, vehicle_seconds
 from ..sumo.report import some
 from .light_lines import LightLines, read_plans
 from .plans import light_of, why_kept
 
-Reading = namedtuple("Reading", "run map plans until program least keep")  # what the user says of it
+Reading = namedtuple("Reading", "run map plans until program least keep rounds", defaults=(0,))  # what the user says of it
 
 
 @dataclass(slots=True)
@@ -24,6 +25,7 @@ class Town:
     plan: dict  # the one given, of these
     lines: LightLines
     session: Session
+    giving: dict = field(default_factory=dict)  # seed: the place of a session with its gaps, where vehicles give way
 
     def signals(self, plan):
         """The signal lines of a plan."""
@@ -59,7 +61,7 @@ def read_town(reading):
     net = read_plans(reading.plans, mapping)
     lights, plan = searched_lights(reading, run, mapping, net)
     nodes = frozenset(node for light, node in mapping.signals if light in lights)
-    session = session_of(reading.program, run, reading.until, nodes)
+    session = giving_session(reading.program, run, mapping, reading.until, reading.rounds, nodes)
     town = Town(run, mapping, lights, plan, LightLines(net, run, mapping), session)
     warn_of_others(reading, town)
     return town
@@ -111,14 +113,34 @@ class Runner:
         self.workers, self.town, self.cars = workers, town, len(town.session.departs)
 
     def means(self, plans, seeds):
-        """For each plan and seed, in order, the mean trip."""
+        """For each plan and seed, in order, the mean trip; minor streets have the gaps that were found for the given plan."""
         for seconds in self.ordered(vehicle_seconds, plans, seeds):
             yield seconds / self.cars
 
     def outcomes(self, plan, seeds):
-        """For each seed, what the plan gives exactly."""
-        return list(self.ordered(outcome, [plan], seeds))
+        """For each seed, what the plan gives exactly, with gaps of its own."""
+        return list(self.ordered(outcome_giving_way, [plan], seeds, {}))
 
-    def ordered(self, function, plans, seeds):
+    def gaps(self, seeds):
+        """For each seed, the signal lines of minor streets under the given plan, and what they are."""
+        return list(self.ordered(gaps, [self.town.plan], seeds, {}))
+
+    def ordered(self, function, plans, seeds, places=None):
+        """What a function gives for each plan and seed; each seed's session stands at a place of its own, or at the first."""
+        places = self.town.giving if places is None else places
         made = ((self.town.signals(plan), seed) for plan in plans for seed in seeds)
-        return self.workers.ordered([(f"the run with seed {seed}", function, 0, signals, seed) for signals, seed in made])
+        tasks = [(f"the run with seed {seed}", function, places.get(seed, 0), signals, seed) for signals, seed in made]
+        return self.workers.ordered(tasks)
+
+
+def sessions_of(town, seeds, runner):
+    """The sessions of a search, of which the first makes its own gaps; the others have those of some seeds."""
+    sessions = [town.session]
+    if town.session.giving is None:
+        return sessions
+    for seed, (lines, yielding) in zip(seeds, runner.gaps(seeds), strict=True):
+        town.giving[seed] = len(sessions)
+        sessions.append(with_gaps(town.session, lines))
+    told = f"{yielding.junctions:,} junctions without a light give way by {yielding.lines:,} signal lines"
+    print(f"{told} under the given plan; for the plan found these are made anew", file=sys.stderr)
+    return sessions

@@ -33,6 +33,7 @@ class Session:
     clocks: tuple  # at which vehicles are counted: the start and the end, and between
     counting: bytes  # the steps, with counts
     asking: bytes  # the steps, and then a question for each of these vehicles
+    giving: object = None  # what rounds need by which vehicles give way without a light: giving.Giving
 
 
 @dataclass(frozen=True, slots=True)
@@ -42,6 +43,8 @@ class Outcome:
     digest: str  # SHA-256 of all replies
     arrived: int
     seconds: int  # of all vehicles, from the wished departure to the arrival
+    junctions: int = 0  # without a light, at which vehicles give way
+    lines: int = 0  # signals by which they do
 
 
 @functools.cache
@@ -87,20 +90,21 @@ def counted_clocks(run, until, calls):
     """The clocks at which vehicles are counted, as often as so many calls allow."""
     start, timed = run.start(), {clock for clock, _ in run.timed if run.start() < clock < until}
     for every in INTERVALS:
-        clocks = tuple(sorted({*range(start, until, every), *timed, until}))
-        if 2 * len(clocks) <= calls:
-            return clocks
+        clocks = {*range(start, until, every), until}
+        if 2 * len(clocks) + len(timed - clocks) <= calls:
+            return tuple(sorted(clocks))
     raise Fault(f"{run.path}: a run of {len(run.enters):,} vehicles up to {until:,} s takes more calls than the program allows")
 
 
 def steps(clocks, timed, counted):
-    """The steps from clock to clock, what is sent at these, and a line after each advance."""
-    clocks = sorted({*clocks, *(clock for clock, _ in timed if clocks[0] < clock < clocks[-1])})
+    """The steps from clock to clock, what is sent meanwhile, and a line at each clock but the first."""
+    told, clocks = set(clocks), sorted({*clocks, *(clock for clock, _ in timed if clocks[0] < clock < clocks[-1])})
     sent = {clock: b"" for clock in clocks}
     for clock, line in timed:
         sent[max(clock, clocks[0])] += line.text.encode() + b"\n"
     parts = (
-        sent[begin] + b'{"cmd":"advance","steps":%d}\n' % (end - begin) + counted for begin, end in pairwise(clocks)
+        sent[begin] + b'{"cmd":"advance","steps":%d}\n' % (end - begin) + (counted if end in told else b"")
+        for begin, end in pairwise(clocks)
     )
     return b"".join(parts)
 

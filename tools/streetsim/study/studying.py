@@ -10,7 +10,7 @@ import tomllib
 
 from .. import limits, program
 from ..cli.progress import Meanwhile, Slow
-from ..cli.words import Parser, whole_seconds
+from ..cli.words import MOST_ROUNDS, ROUNDS, Parser, add_rounds, whole_seconds
 from ..files import Fault, open_text, reading, whole_folder
 from ..pictures import plots
 from ..run.mapping import read_map
@@ -20,14 +20,14 @@ from ..signals.light_lines import LightLines, read_plans
 from ..signals.planning import add_machines
 from ..signals.plans import light_of
 from ..signals.town import Reading, lights_of, read_pair
+from .giving import giving_session, outcome_giving_way
 from .machines import machines
 from .seeds import paired, runs_needed, seeds_of, unpaired
-from .sessions import outcome, session_of
 
 LAST = "differences.csv"
-KEYS = {"run", "map", "until", "seeds", "base", "variant"}
+KEYS = {"run", "map", "until", "seeds", "base", "rounds", "variant"}
 VARIANT = {"run", "map", "plans", "close", "dawdle"}
-RUNS = ("variant", "seed", "arrived", "mean_trip_s", "total_s", "digest")
+RUNS = ("variant", "seed", "arrived", "mean_trip_s", "total_s", "junctions_giving_way", "signal_lines", "digest")
 DIFFERENCES = (
     *("variant", "mean_trip_s", "difference", "half_width_95_paired", "half_width_95_unpaired", "runs"),
     *("runs_needed_paired", "runs_needed_unpaired"),
@@ -50,6 +50,7 @@ def parser():
     )
     made.add_argument("study", help="the study (.toml)")
     add_machines(made)
+    add_rounds(made, None, f"default: rounds of the study, else {ROUNDS}")
     made.add_argument(
         "--precision",
         type=percent,
@@ -77,7 +78,7 @@ def main(arguments):
         raise Fault(f"{words.out}: exists and is no folder")
     words.program = program.find_program(words.program)
     with Slow(f"reading {words.study}"):
-        study = read_study(words.study, words.program)
+        study = read_study(words.study, words.program, words.rounds)
     results = run_all(words, study)
     rows = differences(study, results, words.precision)
     with whole_folder(words.out, LAST) as folder:
@@ -85,11 +86,12 @@ def main(arguments):
         write_table(f"{folder}/{LAST}", DIFFERENCES, map(written, rows))
         draw(study, rows, f"{folder}/differences.png")
     tell(study, rows)
+    tell_giving_way(results)
     return 0
 
 
-def read_study(path, simulator):
-    """A study, with its variants as bytes; the paths in it are beside it."""
+def read_study(path, simulator, rounds=None):
+    """A study, with its variants as bytes; the paths in it are beside it; rounds: in place of those that it names."""
     with reading(path), open_text(path) as file:
         value = load_toml(path, file.read())
     refuse_unknown(path, value, KEYS, "key")
@@ -106,6 +108,10 @@ def read_study(path, simulator):
     base = value.get("base", next(iter(variants)))
     if base not in variants:
         raise Fault(f"{path}: base = {base!r}: there is no variant of this name; there are {', '.join(variants)}")
+    named = value.get("rounds", ROUNDS)
+    if type(named) is not int or not 0 <= named <= MOST_ROUNDS:
+        raise Fault(f"{path}: rounds = {named!r} is not 0 to {MOST_ROUNDS}")
+    value["rounds"] = named if rounds is None else rounds
     seeds = seeds_of(value["seeds"], f"{path}: seeds")
     lanes = joint_lanes(path, value)
     made = {name: read_variant(f"{path}: variant {name!r}", path, value, one, lanes, simulator) for name, one in variants.items()}
@@ -152,11 +158,11 @@ def read_variant(where, path, study, variant, joint, simulator):
     print(*(f"{where}: {text}" for text in told), sep="\n", end="\n" if told else "", file=sys.stderr)
     load = {"dawdle": variant["dawdle"]} if "dawdle" in variant else {}
     if "plans" not in variant:
-        return session_of(simulator, run, study["until"], **load), b""
+        return giving_session(simulator, run, mapping, study["until"], study["rounds"], **load), b""
     plans = list(map(beside, variant["plans"]))
     signals = signals_of(Reading(run_path, map_path, plans, study["until"], simulator, 0, ()), run, mapping)
     nodes = frozenset(node for _, node in mapping.signals)
-    return session_of(simulator, run, study["until"], nodes, **load), signals
+    return giving_session(simulator, run, mapping, study["until"], study["rounds"], nodes, **load), signals
 
 
 def check_types(where, value):
@@ -188,7 +194,7 @@ def run_all(words, study):
     meanwhile, results = Meanwhile("runs", total), {}
     with machines(words.jobs, words.cluster, sessions) as workers:
         tasks = [
-            (f"variant {name!r}, seed {seed}", outcome, place, signals, seed)
+            (f"variant {name!r}, seed {seed}", outcome_giving_way, place, signals, seed)
             for place, (name, (_, signals)) in enumerate(study.variants.items())
             for seed in study.seeds
         ]
@@ -210,7 +216,7 @@ def means_of(study, results, name):
 def run_rows(study, results):
     for name, outcomes in results.items():
         for seed, one, mean in zip(study.seeds, outcomes, means_of(study, results, name), strict=True):
-            yield name, seed, one.arrived, f"{mean:.3f}", one.seconds, one.digest
+            yield name, seed, one.arrived, f"{mean:.3f}", one.seconds, one.junctions, one.lines, one.digest
 
 
 def differences(study, results, precision):
@@ -271,3 +277,11 @@ def tell(study, rows):
         if needed is not None and needed > runs:
             line += f"; the wanted precision needs {needed:,} runs"
         print(line)
+
+
+def tell_giving_way(results):
+    """Prints at how many junctions vehicles give way without a light, and by how many lines in the mean of the runs."""
+    outcomes = [one for found in results.values() for one in found]
+    if any(one.lines for one in outcomes):
+        junctions, lines = max(one.junctions for one in outcomes), fmean(one.lines for one in outcomes)
+        print(f"{junctions:,} junctions without a light give way by some {lines:,.0f} signal lines in each run")

@@ -1,0 +1,16 @@
+"""A program that serves a run."""
+import contextlib
+from collections.abc import Iterator
+
+from ..client import Client, NoReply, ProgramEnded, Refused, Starved
+from ..files import Fault
+
+
+@contextlib.contextmanager
+def serving(program: str, path: str, workers: int = 1) -> Iterator[Client]:
+    """The program on the run of a file; what it refuses is a Fault."""
+    try:
+        with Client(program, workers) as sim:
+            yield sim
+    except (Refused, Starved, NoReply, ProgramEnded) as fault:
+        raise Fault(f"{path}: {fault}") from None
