@@ -1,9 +1,12 @@
 """A run under SUMO's names and units (metres, metres a second, seconds), with TraCI's calls where one fits."""
+import warnings
 from heapq import heappop, heappush
 
 from . import limits
-from .client import Client
+from .cli.words import ROUNDS
+from .client import Client, read_reply
 from .run.mapping import read_map
+from .run.rounds import giving_way_to_scripts
 from .run.runs import read_run
 from .run.works import why_parallel, with_works
 from .sumo.net import Program
@@ -44,10 +47,16 @@ class Part:
 
 class Scenario:
     """A running simulation of a run file and its map: its network, signals and vehicles are loaded at once. Edges or lanes
-    that are to be closed later are told as joint, where they are not yet so in the import."""
+    that are to be closed later are told as joint, where they are not yet so in the import. Where vehicles of the file give
+    way without a light, so many rounds of the run come first; `yielding` says what they gave. Those that a script adds wait for
+    nobody's gaps but the file's, and nobody of the file waits for them."""
 
-    def __init__(self, run, mapping, program=None, workers=1, joint=()):
+    def __init__(self, run, mapping, program=None, workers=1, joint=(), rounds=ROUNDS):
         source, self.map, _ = with_works(read_run(run), read_map(mapping), mapping, (), joint)
+        source, self.yielding = giving_way_to_scripts(source, self.map, rounds, program, workers)
+        if self.yielding.why_not:
+            warnings.warn(self.yielding.told(), stacklevel=2)
+        self.timed, self.sent = source.timed, 0
         self.client = Client(program, workers)
         self.clock = source.start()
         self.cars, self.plans, self.sizes = {}, {}, {}  # by name: number, links, cells
@@ -55,9 +64,7 @@ class Scenario:
         self.going = {}  # number: name, of vehicles that may be on their way
         self.routes, self.detectors = {}, {}
         self.lane_of = {self.map.lane_name(link, lane): (link, lane) for link, lane in self.map.lanes()}
-        for reply in self.client.batch(line.text for line in [source.load, *source.first]):
-            if isinstance(reply, Exception):
-                raise reply
+        self.send(line.text.encode() + b"\n" for line in [source.load, *source.first])
         names = iter(self.map.cars)
         for line in source.enters:
             command, name = line.command, next(names, f"#{len(self.cars)}")
@@ -80,7 +87,22 @@ class Scenario:
         """One step, or all steps until a time in seconds."""
         target = max(self.clock + 1, int(time))
         while self.clock < target:
-            self.clock = self.client.advance(min(limits.STEPS, target - self.clock))
+            self.clock = self.client.advance(min(limits.STEPS, self.send_timed(target) - self.clock))
+
+    def send_timed(self, target):
+        """Sends the lines that are due; gives the clock at which the next one is, at most a target."""
+        due = []
+        while self.sent < len(self.timed) and self.timed[self.sent][0] <= self.clock:
+            due.append(self.timed[self.sent][1].text.encode() + b"\n")
+            self.sent += 1
+        self.send(due)
+        return min(target, self.timed[self.sent][0]) if self.sent < len(self.timed) else target
+
+    def send(self, lines):
+        """Sends lines of the run; raises what is refused."""
+        for reply in map(read_reply, self.client.exchange(lines)):
+            if isinstance(reply, Exception):
+                raise reply
 
     def enter(self, name, plan, lane, depart, size=1):
         if name in self.cars:

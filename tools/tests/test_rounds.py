@@ -3,12 +3,17 @@ import csv
 import json
 import random
 import unittest
+import warnings
+from contextlib import redirect_stderr
+from io import StringIO
 from types import SimpleNamespace
 from unittest import mock
 
 from clusters import ClusterCase, needs_distributed
 from support import PROGRAM, Case, lane, needs_simulator
+import streetsim.traci as traci
 from streetsim.files import Fault
+from streetsim.scenario import Scenario
 from streetsim.signals import found
 from streetsim.signals.town import Reading, read_town
 from streetsim.study import giving
@@ -233,6 +238,72 @@ class InCluster(ClusterCase, Many):
             self.assertEqual((self.folder / "one" / name).read_bytes(), (self.folder / "both" / name).read_bytes())
         for name in ("one-found/before-after.csv", "one-found.add.xml"):
             self.assertEqual((self.folder / name).read_bytes(), (self.folder / name.replace("one", "both")).read_bytes())
+
+
+class Scripts(Rounds):
+    """The street under scripts: who comes from s at 50 waits for 30 vehicles that go first."""
+
+    def setUp(self):
+        super().setUp()
+        self.imported(junction(), routes([*((4 * at, "w") for at in range(30)), (50, "s")]))
+        self.run_it("--until", 600, "--rescue", 0)
+        self.end = 50 + self.trips()["s.50"]
+        self.files = self.folder / "run.jsonl", self.folder / "map.json", PROGRAM
+
+    def arrival(self, sim):
+        """The clock at which the minor vehicle has arrived."""
+        while sim.vehicle.where("s.50").state != "arrived":
+            sim.simulationStep()
+        return sim.clock
+
+    def test_a_scenario_gives_way_as_streetsim_run_does(self):
+        with warnings.catch_warnings():
+            warnings.simplefilter("error")
+            with Scenario(*self.files) as sim:
+                self.assertEqual(self.arrival(sim), self.end)
+                self.assertEqual((sim.yielding.rounds, sim.yielding.junctions), (2, 1))
+            with Scenario(*self.files) as sim:
+                sim.simulationStep(self.end - 1)
+                self.assertNotEqual(sim.vehicle.where("s.50").state, "arrived")
+            with Scenario(*self.files, rounds=0) as sim:
+                self.assertLess(self.arrival(sim), 110)
+                self.assertEqual(sim.yielding.lines, 0)
+
+    def test_a_scenario_warns_where_calls_do_not_suffice(self):
+        with mock.patch("streetsim.client.most_calls", lambda _: 260):
+            with self.assertWarnsRegex(UserWarning, r"nobody gives way without a light: the run needs some \d+ calls .* takes 260"):
+                sim = Scenario(*self.files)
+            with sim:
+                sim.simulationStep(110)
+                self.assertEqual(sim.vehicle.where("s.50").state, "arrived")
+
+    def started(self, *words):
+        """When the minor vehicle arrives under a script, and what is told at the start."""
+        with mock.patch.dict("os.environ", STREETSIM_PROGRAM=PROGRAM), redirect_stderr(StringIO()) as said:
+            traci.start(["sumo", "-n", str(self.folder / "net.net.xml"), "-r", str(self.folder / "demand.rou.xml"), *words])
+        self.addCleanup(lambda: traci.isLoaded() and traci.close())
+        for clock in range(1, 600):
+            traci.simulationStep()
+            if "s.50" in traci.simulation.getArrivedIDList():
+                traci.close()
+                return clock, said.getvalue()
+        return None, said.getvalue()
+
+    def test_a_script_for_traci_gives_way_and_says_so(self):
+        clock, told = self.started()
+        self.assertEqual(clock, self.end)
+        self.assertRegex(told, "1 junctions without a light give way by \\d+ signal lines, in the gaps of the vehicles of the route files")
+        clock, told = self.started("--rounds", "0")
+        self.assertLess(clock, 110)
+        self.assertNotIn("give way by", told)
+        with self.assertRaisesRegex(traci.FatalTraCIError, "--rounds 11: is not 0 to 10"):
+            self.started("--rounds", "11")
+
+    def test_a_script_for_traci_says_where_calls_do_not_suffice(self):
+        with mock.patch("streetsim.run.rounds.refuse_too_many", side_effect=Fault("too few calls")):
+            clock, told = self.started()
+        self.assertLess(clock, 110)
+        self.assertEqual(told.splitlines()[-1], "warning: nobody gives way without a light: too few calls")
 
 
 class Capacity(Rounds):

@@ -2,6 +2,7 @@
 has signals that are green in the gaps between those who go first. As who waits changes who comes when, this is repeated."""
 from collections import Counter
 from dataclasses import dataclass, replace
+from functools import partial
 from itertools import pairwise
 from operator import itemgetter
 
@@ -11,7 +12,9 @@ from .budget import INTERVALS, MINUTE, Asking, Budget
 from .gaps import gap_lines
 from .passings import Passings
 from .record import Recorder, Settings
+from .serving import serving
 
+HOUR = 3600  # seconds
 COARSEST = 120  # seconds between polls: with longer ones passings are not known well enough
 
 
@@ -90,26 +93,26 @@ def asking_of(budget, most):
     raise Fault(f"its rounds need more than the {most:,} calls that the program takes")
 
 
-def giving_way(run, mapping, settings, rounds, serving, tell):
-    """The run with signals by which its vehicles give way without a light, and what they are. `serving` starts the program,
+def giving_way(run, mapping, settings, rounds, start, tell):
+    """The run with signals by which its vehicles give way without a light, and what they are. `start` starts the program,
     `tell` gets the clock and the last census."""
     try:
-        lines, yielding = gaps_of(run, mapping, settings, rounds, serving, tell)
+        lines, yielding = gaps_of(run, mapping, settings, rounds, start, tell)
     except Fault as fault:
         return run, Yielding(why_not=str(fault))
     return with_lines(run, lines), yielding
 
 
-def gaps_of(run, mapping, settings, rounds, serving, tell):
+def gaps_of(run, mapping, settings, rounds, start, tell):
     """The signal lines by which the vehicles of a run give way without a light, (clock, line), and what they are; a Fault
-    where the calls do not suffice. `serving` and `tell` are as those of giving_way."""
+    where the calls do not suffice. `start` and `tell` are as those of giving_way."""
     if not rounds or not mapping.yields:
         return [], Yielding()
     places = places_of(mapping)
     asked = Settings(settings.until, rescue=settings.rescue, calls=settings.calls)
     made, yielding, count = run, Yielding(rounds), expected_lines(run, mapping)
     for _ in range(rounds):
-        with serving() as sim:
+        with start() as sim:
             one = Round(sim, made, mapping, asked, places, tell)
             refuse_too_many(run, count, settings, mapping, one.most)
             lines = gap_lines(mapping, one.record(), run.start())
@@ -125,6 +128,14 @@ def refuse_too_few_calls(run, mapping, settings, most):
     places = places_of(mapping)
     asking_of(Budget(run, settings, places, places, ()), most)
     refuse_too_many(run, expected_lines(run, mapping), settings, mapping, most)
+
+
+def giving_way_to_scripts(run, mapping, rounds, program=None, workers=1):
+    """The run of a script with signals by which the vehicles of its file give way without a light, and what they are. As its
+    end is not known, rounds end when all have arrived, or an hour after the last departure; nobody is rescued."""
+    last = max((line.command["depart"] for line in run.enters), default=run.start())
+    settings = Settings(min(limits.CLOCK, max(last, run.start()) + HOUR), rescue=0)
+    return giving_way(run, mapping, settings, rounds, partial(serving, program, run.path, workers), lambda *_: None)
 
 
 def places_of(mapping):

@@ -7,7 +7,7 @@ from ..files import Fault
 
 
 @contextlib.contextmanager
-def serving(program: str, path: str, workers: int = 1) -> Iterator[Client]:
+def serving(program: str | None, path: str, workers: int = 1) -> Iterator[Client]:
     """The program on the run of a file; what it refuses is a Fault."""
     try:
         with Client(program, workers) as sim:

@@ -216,7 +216,7 @@ def warn_of_rules(net, network, report):
             )
     minor = sum(connection.state in "m=" and not connection.light for connection in net.connections)
     if minor:
-        report.warn(f"{minor} connections have to give way in SUMO; here those that routes use do, by the rounds of streetsim-run")
+        report.warn(f"{minor} connections have to give way in SUMO; here those that routes use do, by rounds before each run")
     if network.joined:
         report.warn(f"{len(network.joined)} turns between parallel links added for routes that change between them")
     split = sum(len(links) > 1 for links in network.links_of.values())

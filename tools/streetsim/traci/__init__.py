@@ -9,6 +9,7 @@ from contextlib import redirect_stderr
 from io import StringIO
 from pathlib import Path
 
+from ..cli.words import ROUNDS
 from ..client import ProgramEnded, Refused
 from ..files import Fault, whole_file
 from ..sumo import importing
@@ -49,8 +50,22 @@ def open_session(folder, options):
     words += [word for name in sorted(IMPORTED & options.keys()) for word in (f"--{name}", options[name])]
     with redirect_stderr(StringIO()) as said:
         importing.main(words)
-    tell(said.getvalue(), options)
-    return Session(folder, [options["net-file"], *additional])
+    said = said.getvalue()
+    try:
+        session = Session(folder, [options["net-file"], *additional], int(options.get("rounds", ROUNDS)))
+        said += told_of(session.yielding)
+    finally:
+        tell(said, options)
+    return session
+
+
+def told_of(yielding):
+    """What there is to say of giving way without a light."""
+    if yielding.why_not:
+        return f"warning: {yielding.told()}\n"
+    if not yielding.lines:
+        return ""
+    return f"{yielding.told()}, in the gaps of the vehicles of the route files; those that the script adds are in no gaps\n"
 
 
 def tell(said, options):

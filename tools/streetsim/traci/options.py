@@ -1,6 +1,7 @@
 """The words of SUMO's command line: what is done by them here, what they do not change here, and what is refused."""
 import re
 
+from ..cli.words import MOST_ROUNDS
 from ..files import Fault
 from ..sumo.configuration import SYNONYMS, read_configuration
 from .errors import FatalTraCIError
@@ -12,7 +13,7 @@ SHORT = {
     **{"-g": "gui-settings-file", "-Q": "quit-on-end", "-G": "game", "-d": "delay", "-B": "breakpoints", "-D": "demo"},
     **{"-T": "disable-textures", "-C": "save-configuration"},
 }
-INPUTS = {"configuration-file", "net-file", "route-files", "additional-files", "step-length", "time-to-teleport"}
+INPUTS = {"configuration-file", "net-file", "route-files", "additional-files", "step-length", "time-to-teleport", "rounds"}
 LOGS = ("log", "message-log", "error-log")  # files that get what the import says
 IMPORTED = {"seed", "begin", "classes", "joint", "turns", "sizes", "dawdle", "change", "zone", "residence", "buffer"}
 IMPORTED |= {"permissive"}
@@ -86,6 +87,8 @@ def check_option(name: str, value: str):
     on = value.lower() not in ("false", "0", "no", "off", "f")
     if name == "step-length" and not is_one(value):
         raise FatalTraCIError(f"--step-length {value}: steps are of one second")
+    if name == "rounds" and not (value.isdecimal() and int(value) <= MOST_ROUNDS):
+        raise FatalTraCIError(f"--rounds {value}: is not 0 to {MOST_ROUNDS}")
     if name in REFUSED and on and not (name == "scale" and is_one(value)):
         raise FatalTraCIError(f"--{name} {value}: streetsim has nothing for it; {REFUSED[name]}")
     if OUTPUT.fullmatch(name) and value not in NOWHERE and on:

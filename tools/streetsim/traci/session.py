@@ -6,6 +6,7 @@ from ..client import Client, Full, Lane, Short, line_of, read_reply
 from ..files import attribute, elements, number, seconds
 from ..run.mapping import read_map
 from ..run.record import EMPTY
+from ..run.rounds import giving_way_to_scripts
 from ..run.runs import read_run
 from ..scenario import Scenario, TrafficLight
 from ..sumo.yielding import GREEN, PERMISSIVE
@@ -88,8 +89,10 @@ class Loop:
 class Session(Scenario):
     """A running simulation. Vehicles enter the program when they depart, so that what waits for later is not told."""
 
-    def __init__(self, folder, net, program=None):
-        self.map, self.source = read_map(folder / "map.json"), read_run(folder / "run.jsonl")
+    def __init__(self, folder, net, rounds, program=None):
+        self.map = read_map(folder / "map.json")
+        self.source, self.yielding = giving_way_to_scripts(read_run(folder / "run.jsonl"), self.map, rounds, program)
+        self.timed, self.sent = self.source.timed, 0
         self.client = Endless(program)
         self.clock = self.source.start()
         self.cars, self.plans, self.sizes = {}, {}, {}  # by name: number, links, cells
@@ -110,8 +113,7 @@ class Session(Scenario):
         self.lights, self.speeds = read_lights(net, self)
         self.turns_at = {}  # by light: what turns_of gives
         self.loops = {name: Loop([], -1.0) for name, one in self.detectors.items() if one.kind == "e1"}
-        for line in [self.source.load, *self.source.first]:
-            self.ask(line.text.encode() + b"\n")
+        self.send(line.text.encode() + b"\n" for line in [self.source.load, *self.source.first])
 
     def ask(self, line):
         """The reply to one line; what is refused is a FatalTraCIError."""
@@ -120,6 +122,10 @@ class Session(Scenario):
         if isinstance(reply, Exception):
             raise FatalTraCIError(f"streetsim refused {line[:60].decode()!r}: {reply}")
         return reply
+
+    def send(self, lines):
+        for line in lines:
+            self.ask(line)
 
     def close(self):
         self.client.close()
@@ -154,7 +160,7 @@ class Session(Scenario):
                 raise FatalTraCIError(f"streetsim refused a vehicle: {reply}")
         self.before = self.places if self.places is not None else {}
         while self.clock < target:
-            reply = self.ask(b'{"cmd":"advance","steps":%d}\n' % (target - self.clock))
+            reply = self.ask(b'{"cmd":"advance","steps":%d}\n' % (self.send_timed(target) - self.clock))
             self.clock = reply.clock if isinstance(reply, Short) else reply
         self.places = None
         if self.followed:
