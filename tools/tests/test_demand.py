@@ -12,7 +12,8 @@ class Demand(Case):
     def enters(self, *routes, report=None, **options):
         net = self.write("x.net.xml", FORK)
         paths = [self.write(f"r{at}.rou.xml", f"<routes>{text}</routes>") for at, text in enumerate(routes)]
-        _, _, commands, names = convert(net, [], paths, Options(**options), report or Report())
+        self.network, _, commands, names = convert(net, [], paths, Options(**options), report or Report())
+        self.commands = commands
         return [
             (name, command["depart"])
             for name, command in zip(names, (command for command in commands if command["cmd"] == "enter"), strict=True)
@@ -70,7 +71,7 @@ class Demand(Case):
             '<vehicle id="x" depart="0" departPos="5"><route edges="b c"/><stop lane="a_0"/></vehicle>'
             '<person id="p" depart="0"/><vehicle id="y" depart="triggered"><route edges="a"/></vehicle>'
         )
-        self.assertEqual(self.enters(text, report=report, strict_turns=True), [])
+        self.assertEqual(self.enters(text, report=report, strict_turns=True, ignore_route_errors=True), [])
         self.assertEqual(
             list(report.lines()),
             [
@@ -82,6 +83,35 @@ class Demand(Case):
                 "skipped: 1 vehicles: two edges of the route have no connection",
             ],
         )
+
+    def test_distributions_of_routes(self):
+        # 2 of 3 by weights: of 3,000 vehicles 2,000, with a standard deviation of 26.
+        flow = '<flow id="f" begin="0" end="3000" period="1" route="d"/>'
+        told = '<routeDistribution id="d"><route edges="a b" probability="2"/><route edges="a c"/></routeDistribution>'
+        named = '<route id="r" edges="a b"/><route id="s" edges="a c"/><routeDistribution id="d" routes="r s" probabilities="2 1"/>'
+        for text in (told, named):
+            self.assertEqual(len(self.enters(text + flow)), 3000)
+            ends = [command["plan"][-1] for command in self.commands if command["cmd"] == "enter"]
+            self.assertTrue(1890 < ends.count(2) < 2110, ends.count(2))
+        self.assertEqual(self.network.kinds["route"][0], "r")
+        inside = '<routeDistribution last="0"><route edges="a b" probability="0"/><route cost="9" edges="a c"/></routeDistribution>'
+        self.assertEqual(self.enters(f'<vehicle id="v" depart="1">{inside}</vehicle>'), [("v", 1)])
+        self.assertEqual(self.network.kinds["route"], ["!v#1"])
+        both = '<route id="r" edges="a b"/><routeDistribution id="d"><route refId="r"/></routeDistribution>'
+        self.assertEqual(self.enters(f'{both}<vehicle id="v" depart="1" route="d"/>'), [("v", 1)])
+
+    def test_an_end_leaves_out_who_departs_then(self):
+        report = Report()
+        flow = '<flow id="f" begin="0" end="10" period="2"><route edges="a b"/></flow>'
+        self.assertEqual(self.enters(flow, report=report, end=4), [("f.0", 0), ("f.1", 2)])
+        self.assertIn("3 vehicles that depart at the end, 4 s, or later are left out", list(report.lines()))
+
+    def test_demand_in_additional_files(self):
+        net, more = self.write("x.net.xml", FORK), self.write("m.add.xml", '<additional><route id="r" edges="a b"/></additional>')
+        routes = self.write("r.rou.xml", '<routes><vehicle id="v" depart="1" route="r"/></routes>')
+        for additional, files in (([more], [routes]), ([more, routes], [])):
+            _, _, _, names = convert(net, additional, files, Options(), Report())
+            self.assertEqual(names, ["v"])
 
     def test_faults_name_file_and_element(self):
         for text, words in (
@@ -101,6 +131,15 @@ class Demand(Case):
             ('<flow id="f" end="9" period="-1"><route edges="a"/></flow>', r"<flow 'f'>: period='-1' cannot be read"),
             ('<vehicle id="v" depart="0"><route edges="a"/></vehicle>' * 2, r"two vehicles are named 'v'"),
             ('<vehicle id="v" depart="0"><route', r"r0.rou.xml: not XML"),
+            ('<vehicle id="v" depart="-5"><route edges="a"/></vehicle>', r"<vehicle 'v'>: depart='-5' cannot be read"),
+            ('<flow id="f" begin="9" end="0" period="1"><route edges="a"/></flow>', r"'f'>: ends at 0 s, before it begins at 9 s"),
+            (
+                '<flow id="f" begin="1" end="2" period="1"><route edges="a b c"/></flow>',
+                "vehicle 'f.0': the network has no connection from edge 'b' to edge 'c'",
+            ),
+            ('<routeDistribution id="d"/>', r"<routeDistribution 'd'>: a distribution without a route"),
+            ('<routeDistribution id="d" routes="q"/>', r"<routeDistribution 'd'>: there is no route 'q'"),
+            ('<routeDistribution id="d"><route edges="a z"/></routeDistribution>', r"'d'>: the network has no edge 'z'"),
         ):
             with self.subTest(text), self.assertRaisesRegex(Fault, words):
                 self.enters(text)

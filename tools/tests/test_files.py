@@ -177,7 +177,7 @@ class Words(Case):
     def test_import(self):
         network, routes = self.write("x.net.xml", STREET), '<routes><vehicle id="v" depart="0"><route edges="a"/></vehicle></routes>'
         self.assertIn("SUMO has no vehicle class 'foo'; it has private", self.refused(network, "--classes", "passenger,foo"))
-        told = self.refused(network, self.write("x.rou.xml", routes))
+        told = self.refused(network, self.write("x.rou.xml", routes), "--trips", self.write("y.rou.xml", "<routes/>"))
         self.assertIn("x.rou.xml: <vehicle 'v'> in an additional file: give files of routes after --routes", told)
         same = self.folder / "same.json"
         self.assertIn("-o and --map name the same file", self.refused(network, "-o", same, "--map", same))

@@ -215,8 +215,8 @@ class Tool(Case):
 
     def test_strict(self):
         broken = '<routes><vehicle id="v" depart="0"><route edges="b c"/></vehicle></routes>'
-        self.assertIn("skipped: 1 vehicles", self.run_tool(FORK, broken, status=0))
-        self.run_tool(FORK, broken, more=["--strict"], status=1)
+        self.assertIn("skipped: 1 vehicles", self.run_tool(FORK, broken, more=["--ignore-route-errors"], status=0))
+        self.run_tool(FORK, broken, more=["--ignore-route-errors", "--strict"], status=1)
 
     def test_map(self):
         self.run_tool(FORK, '<routes><vehicle id="v" depart="0"><route edges="a c"/></vehicle></routes>', status=0)

@@ -44,6 +44,7 @@ class TripDemand(Demand):
 
     def read(self, path: str) -> None:
         readers = {"route": self.read_route, "vehicle": self.read_vehicle, "flow": self.read_flow, "trip": self.read_vehicle}
+        readers["routeDistribution"] = self.read_mix
         for element in elements(path, ["routes", "trips", "additional", "add"]):
             if element.tag in PERSONS:
                 raise Fault(f"{told(path, element)}: persons are not routed here; take them out, or compute their cars' trips with duarouter")
@@ -62,7 +63,7 @@ class TripDemand(Demand):
         if 2 * count >= limits.CALLS:
             most = limits.CALLS // 2
             raise Fault(f"{path}: {count:,} trips, and a run has calls for fewer than {most:,}, as each takes two")
-        if element.find("route") is not None or element.get("route") is not None:
+        if element.get("route") is not None or any(element.find(name) is not None for name in ("route", "routeDistribution")):
             super().add(path, element, departures)
             return
         ends = self.ends(path, element)
@@ -77,8 +78,6 @@ class TripDemand(Demand):
         """The edges where a trip begins and ends."""
         if element.get("via"):
             raise Fault(f"{told(path, element)}: via is not routed here; compute this route with duarouter")
-        if element.find("routeDistribution") is not None:
-            raise Fault(f"{told(path, element)}: a routeDistribution is not read here; let duarouter draw its routes")
         if element.get("from") is None or element.get("to") is None:
             taz = " (fromTaz and toTaz name districts: let od2trips or duarouter choose edges)" if element.get("fromTaz") else ""
             raise Fault(f"{told(path, element)}: a trip needs from and to{taz}")
@@ -102,7 +101,7 @@ def read_trips(paths: Iterable[str], net: SumoNet, graph: Graph, types: Types, o
     for path in paths:
         demand.read(path)
     found = []
-    for one in demand.finish():
+    for one in demand.finish(options.end):
         if why := reason_against(one, net, options.begin):
             report.skipped[why] += 1
             continue

@@ -3,10 +3,12 @@ import math
 import random
 from collections import Counter
 from dataclasses import astuple, dataclass
+from itertools import pairwise
 
 from .. import limits
-from ..files import Fault, attribute, elements, seconds, told
+from ..files import Fault, at_least_zero, attribute, elements, seconds, told
 from .flows import departs
+from .types import weights_of
 
 READ = {"id", "type", "depart", "route", "edges", "begin", "end"}
 READ |= {"number", "period", "probability", "vehsPerHour", "perHour"}
@@ -18,6 +20,10 @@ NOT_DRIVEN = {
     "containerFlow": "a flow of containers",
 }
 ROUTED_FIRST = "has no route: streetsim-import --trips FILE finds one for each, or streetsim-route"
+
+
+class Unrouted(Fault):
+    """A trip, or a flow between two edges, where routes are asked for."""
 
 
 @dataclass(slots=True)
@@ -34,35 +40,69 @@ class Demand:
 
     def __init__(self, net, types, seed, report):
         self.net, self.types, self.report = net, types, report
-        self.draws = random.Random(seed)
+        self.draws, self.choices = random.Random(seed), random.Random(f"routes {seed}")
         self.routes = {}  # name: edges
+        self.mixes = {}  # distribution of routes: names and weights
         self.vehicles = []
         self.later = []  # (vehicle, file and element, route's name): routes may be told after the vehicles
 
     def read(self, path):
+        for element in elements(path, ["routes", "additional", "add"]):
+            self.read_element(path, element)
+
+    def read_element(self, path, element):
+        """An element of a file of routes, which may also stand in an additional file."""
         readers = {
             "route": self.read_route,
+            "routeDistribution": self.read_mix,
             "vehicle": self.read_vehicle,
             "flow": self.read_flow,
             "vType": self.types.read,
             "vTypeDistribution": self.types.read,
         }
-        for element in elements(path, ["routes", "additional", "add"]):
-            if element.tag == "trip":
-                raise Fault(f"{told(path, element)} {ROUTED_FIRST}")
-            if element.tag in NOT_DRIVEN:
-                self.report.skipped[f"{NOT_DRIVEN[element.tag]}, which streetsim does not have"] += 1
-            elif element.tag in readers:
-                readers[element.tag](path, element)
-            else:
-                self.report.ignored[f"<{element.tag}> of route files"] += 1
+        if element.tag == "trip":
+            raise Unrouted(f"{told(path, element)} {ROUTED_FIRST}")
+        if element.tag in NOT_DRIVEN:
+            self.report.skipped[f"{NOT_DRIVEN[element.tag]}, which streetsim does not have"] += 1
+        elif element.tag in readers:
+            readers[element.tag](path, element)
+        else:
+            self.report.ignored[f"<{element.tag}> of route files"] += 1
 
     def read_route(self, path, element):
         name = attribute(path, element, "id")
         self.note_ignored(element)
-        if name in self.routes:
+        if name in self.routes or name in self.mixes:
             raise Fault(f"{told(path, element)}: a second route of this name")
         self.routes[name] = self.edges(path, element, element)
+
+    def read_mix(self, path, element):
+        name = attribute(path, element, "id")
+        if name in self.routes or name in self.mixes:
+            raise Fault(f"{told(path, element)}: a second route of this name")
+        self.mixes[name] = self.mix(path, element, element, name)
+
+    def mix(self, path, owner, element, name):
+        """The names of the routes of a distribution and their weights; a route without a name is called by its place, as
+        SUMO does."""
+        names, weights = (element.get("routes") or "").split(), []
+        shares = attribute(path, element, "probabilities", weights_of) if element.get("probabilities") else []
+        weights += [shares[place] if place < len(shares) else 1.0 for place in range(len(names))]
+        for place, inner in enumerate(element.iter("route")):
+            own = inner.get("refId") or inner.get("id") or f"{name}#{place}"
+            if not inner.get("refId"):
+                self.routes[own] = self.edges(path, owner, inner)
+            names.append(own)
+            weights += attribute(path, inner, "probability", weights_of) if inner.get("probability") else [1.0]
+        if unknown := [one for one in names if one not in self.routes]:
+            raise Fault(f"{told(path, owner)}: there is no route {unknown[0]!r}")
+        if not names or sum(weights) <= 0:
+            raise Fault(f"{told(path, owner)}: a distribution without a route")
+        return names, weights
+
+    def drawn(self, name):
+        """The route that a vehicle takes: the one that is named, or one of the distribution that is named."""
+        return self.choices.choices(*self.mixes[name])[0] if name in self.mixes else name
 
     def edges(self, path, owner, route):
         """The edges of a route, each of which the network must have."""
@@ -77,16 +117,20 @@ class Demand:
 
     def add(self, path, element, departs):
         """Vehicles of an element, one for each (name, depart)."""
-        inner = element.find("route")
-        if inner is None and (element.find("routeDistribution") is not None or element.get("route") is None):
-            raise Fault(f"{told(path, element)} {ROUTED_FIRST}")
+        inner, mix = element.find("route"), element.find("routeDistribution")
+        if inner is None and mix is None and element.get("route") is None:
+            raise Unrouted(f"{told(path, element)} {ROUTED_FIRST}")
         self.note_ignored(element)
+        route = "" if inner is not None else element.get("route")
+        if mix is not None:
+            route = f"!{element.get('id')}"
+            self.mixes[route] = self.mix(path, element, mix, route)
         edges = self.edges(path, element, inner) if inner is not None else None
         for name, depart in departs:
-            vehicle = Vehicle(name, depart, edges, element.get("type"), "" if inner is not None else element.get("route"))
+            vehicle = Vehicle(name, depart, edges, element.get("type"), route)
             self.vehicles.append(vehicle)
             if edges is None:
-                self.later.append((vehicle, told(path, element), element.get("route")))
+                self.later.append((vehicle, told(path, element)))
 
     def note_ignored(self, element):
         """Counts what has no effect: stops, and all attributes but those that are read."""
@@ -99,7 +143,8 @@ class Demand:
         if text in ("triggered", "containerTriggered", "now", "split", "begin"):
             self.report.skipped[f"depart={text!r} is no time"] += 1
         else:
-            self.add(path, element, [(attribute(path, element, "id"), attribute(path, element, "depart", seconds))])
+            depart = attribute(path, element, "depart", at_least_zero(seconds))
+            self.add(path, element, [(attribute(path, element, "id"), depart)])
 
     def read_flow(self, path, element):
         name = attribute(path, element, "id")
@@ -107,19 +152,23 @@ class Demand:
             path, element, [(f"{name}.{at}", depart) for at, depart in enumerate(departs(path, element, self.draws))]
         )
 
-    def finish(self):
-        """All vehicles, each with its route and its type, in order of departure and file."""
-        for vehicle, where, name in self.later:
-            if name not in self.routes:
-                raise Fault(f"{where}: there is no route {name!r}")
-            vehicle.edges = self.routes[name]
+    def finish(self, end=None):
+        """All vehicles that depart before an end, each with its route and its type, in order of departure and file."""
+        for vehicle, where in self.later:
+            vehicle.route = self.drawn(vehicle.route)
+            if vehicle.route not in self.routes:
+                raise Fault(f"{where}: there is no route {vehicle.route!r}")
+            vehicle.edges = self.routes[vehicle.route]
         names = Counter(vehicle.name for vehicle in self.vehicles)
         double = next((name for name, count in names.items() if count > 1), None)
         if double is not None:
             raise Fault(f"two vehicles are named {double!r}")
         for vehicle in self.vehicles:
             vehicle.type = self.types.drawn(vehicle.type)
-        return sorted(self.vehicles, key=lambda vehicle: vehicle.depart)
+        before = [vehicle for vehicle in self.vehicles if end is None or vehicle.depart < end]
+        if after := len(self.vehicles) - len(before):
+            self.report.notes.append(f"{after:,} vehicles that depart at the end, {end:,} s, or later are left out")
+        return sorted(before, key=lambda vehicle: vehicle.depart)
 
 
 def enters(vehicles, net, network, sizes, report):
@@ -162,4 +211,18 @@ def plan_of(vehicle, net, network):
     if vehicle.depart > limits.CLOCK:
         return None, f"departs after {limits.CLOCK:,} s"
     plan = network.route(vehicle.edges)
-    return plan, None if plan else "two edges of the route have no connection"
+    return plan, None if plan else why_no_way(vehicle, net, network)
+
+
+def why_no_way(vehicle, net, network):
+    """Why a route has no way, where the network has one that is not for the classes; else a Fault, as in SUMO."""
+    pairs = pairwise(vehicle.edges)
+    source, target = next((pair for pair in pairs if pair not in network.movements and pair not in net.closed_ways), ("", ""))
+    if not source:
+        return "two edges of the route have no connection for the classes"
+    if network.options.ignore_route_errors:
+        return "two edges of the route have no connection"
+    raise Fault(
+        f"vehicle {vehicle.name!r}: the network has no connection from edge {source!r} to edge {target!r}, which follow each "
+        "other in its route (--ignore-route-errors leaves such vehicles out)"
+    )

@@ -10,9 +10,11 @@ DAY = 86_400.0
 
 def departs(path, element, draws):
     """Seconds, rising: begin + k * period while below the end; of a probability, or of period="exp(rate)", by draws."""
-    begin = optional(path, element, "begin", seconds, 0.0)
+    begin = optional(path, element, "begin", at_least_zero(seconds), 0.0)
     most = optional(path, element, "number", at_least_zero(int), None)
     end = optional(path, element, "end", seconds, DAY if most is None else math.inf)
+    if end < begin:
+        raise Fault(f"{told(path, element)}: ends at {end:g} s, before it begins at {begin:g} s")
     times = islice(moments(path, element, begin, end, most, draws), limits.VEHICLES + 1 if most is None else most)
     found = list(islice(takewhile(lambda time: time < end, times), limits.VEHICLES + 1))
     if len(found) > limits.VEHICLES:

@@ -29,7 +29,7 @@ def parser():
     made.add_argument(
         "additional",
         nargs="*",
-        help="additional files with signal programs, of which the last of a light counts, and vehicle types",
+        help="additional files with signal programs, of which the last of a light counts, vehicle types, detectors, and demand",
     )
     made.add_argument("--routes", nargs="+", default=[], metavar="FILE", help="vehicles, flows and routes (.rou.xml)")
     made.add_argument(
@@ -78,6 +78,14 @@ def add_options(made):
         metavar="S",
         help="the clock at the start; vehicles before it are skipped",
     )
+    made.add_argument(
+        "--end", type=time_within(0, limits.CLOCK), metavar="S", help="leave out vehicles that depart at this time or later"
+    )
+    made.add_argument(
+        "--ignore-route-errors",
+        action="store_true",
+        help="leave out vehicles whose route has edges without a connection, and count them",
+    )
     for name, most, words in (
         ("dawdle", 1000, "chance of slowing down, of 1,000"),
         ("change", 1000, "chance of changing lane, of 1,000"),
@@ -107,7 +115,7 @@ def options_of(words):
     unknown = [name for name in classes if name not in CLASSES]
     if unknown:
         raise Fault(f"--classes: SUMO has no vehicle class {unknown[0]!r}; it has {', '.join(CLASSES)}")
-    names = ("dawdle", "change", "zone", "seed", "residence", "buffer", "permissive", "begin")
+    names = ("dawdle", "change", "zone", "seed", "residence", "buffer", "permissive", "begin", "end", "ignore_route_errors")
     given = {name: getattr(words, name) for name in names}
     given.update(strict_turns=words.turns == "strict", sizes=words.sizes == "on")
     given["joint"] = tuple(listed(words.joint))
@@ -158,16 +166,16 @@ def convert(net_path, additional, routes, options, report, trips=()):
     """The network, its lights, the commands of the run and the names of its vehicles."""
     net = read_net(net_path, options.classes, report)
     types = Types(options.seed, report)
+    demand = None if trips else Demand(net, types, options.seed, report)
     for path in additional:
-        read_additional(path, net, types, report)
+        read_additional(path, net, types, report, demand)
     if trips:
         from ..routes.imported import vehicles_with_ways  # which stands on this module
 
         return converted(net, types, vehicles_with_ways(net, types, [*routes, *trips], options, report), options, report)
-    demand = Demand(net, types, options.seed, report)
     for path in routes:
         demand.read(path)
-    return converted(net, types, demand.finish(), options, report)
+    return converted(net, types, demand.finish(options.end), options, report)
 
 
 def converted(net, types, vehicles, options, report):

@@ -6,7 +6,7 @@ from .detectors import KINDS, read_detector
 from .types import TAGS
 
 INNER = ("internal", "walkingarea", "crossing")
-DEMAND = ("route", "vehicle", "flow", "trip")
+DEMAND = ("route", "routeDistribution", "vehicle", "flow", "trip", "person", "personFlow", "container", "containerFlow")
 # SUMO's vehicle classes.
 CLASSES = (
     *("private", "emergency", "authority", "army", "vip", "passenger", "hov", "taxi", "bus", "coach", "delivery"),
@@ -61,6 +61,7 @@ class SumoNet:
     dropped: set = field(default_factory=set)  # edges without a lane for the classes
     closed_lanes: int = 0  # lanes that are not for the classes
     connections: list = field(default_factory=list)  # between kept lanes
+    closed_ways: set = field(default_factory=set)  # (edge, edge) of those that are not for the classes
     roundabouts: set = field(default_factory=set)  # edges
     programs: dict = field(default_factory=dict)  # light: Program, the last loaded
     detectors: list = field(default_factory=list)  # of additional files
@@ -110,8 +111,9 @@ def read_net(path, classes, report):
     return net
 
 
-def read_additional(path, net, types, report):
-    """Signal programs and vehicle types of an additional file; all else there is counted as ignored."""
+def read_additional(path, net, types, report, demand=None):
+    """Signal programs, vehicle types and detectors of an additional file, and vehicles, flows and routes for a demand where
+    one is given; all else there is counted as ignored."""
     for element in elements(path, ["additional", "add", "routes", "tlLogics"]):
         if element.tag == "tlLogic":
             read_program(path, element, net, ())
@@ -119,6 +121,8 @@ def read_additional(path, net, types, report):
             types.read(path, element)
         elif element.tag in KINDS:
             net.detectors += filter(None, [read_detector(path, element, report)])
+        elif element.tag in DEMAND and demand is not None:
+            demand.read_element(path, element)
         elif element.tag in DEMAND:
             raise Fault(f"{told(path, element)} in an additional file: give files of routes after --routes")
         else:
@@ -177,6 +181,7 @@ def read_connection(path, element, net, classes):
         if edge not in net.edges and edge not in net.dropped and not edge.startswith(":"):
             raise Fault(f"{told(path, element)}: the network has no edge {edge!r}")
     if source not in net.edges or target not in net.edges or not allows(element, classes):
+        net.closed_ways.add((source, target))
         return
     if net.edges[source].end != net.edges[target].begin:
         raise Fault(f"{told(path, element)}: edge {target!r} does not begin where this one ends")
@@ -198,6 +203,8 @@ def read_connection(path, element, net, classes):
                 net.inner_speeds.get(inner),
             )
         )
+    else:
+        net.closed_ways.add((source, target))
 
 
 def request_of(inner):

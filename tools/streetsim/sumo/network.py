@@ -29,6 +29,8 @@ class Options:
     permissive: float | None = None  # by the flows
     begin: int = 0
     sizes: bool = True  # of vehicles, by their types; else one cell each
+    end: int | None = None  # vehicles that depart then or later are left out
+    ignore_route_errors: bool = False  # leaves out vehicles whose route has edges without a connection
     joint: tuple = ()  # edges, or lanes by SUMO's names, whose lanes are to be joint with the ones beside them
 
 
