@@ -7,6 +7,7 @@ import subprocess
 import sys
 import time
 import unittest
+import xml.etree.ElementTree as ElementTree
 from contextlib import redirect_stderr
 from io import StringIO
 from pathlib import Path
@@ -17,9 +18,11 @@ from streetsim.scenario import TrafficLight
 from streetsim.run.compare import geh
 from streetsim.traci import constants as tc
 from streetsim.traci.options import OUTPUT, SHORT, check_option
-from streetsim.traci.session import Endless, Light
+from streetsim.traci.lights import Light
+from streetsim.traci.session import Endless
 
-SCRIPTS = TOOLS / "examples/traci"
+SCRIPTS, ACTUATED = TOOLS / "examples/traci", TOOLS / "examples/actuated"
+USERS = DATA / "traci"  # scripts of users, for SUMO's traci
 SUMO = Path("/usr/share/sumo")
 WAITING = ("Could not connect to TraCI server", "Retrying in")  # SUMO's traci, while sumo starts
 needs_traci = needs_package("sumo-tools", (SUMO / "tools/traci").exists())
@@ -141,7 +144,9 @@ class Vehicles(Started):
         self.start()
         for call, told in (
             (lambda: traci.vehicle.setSpeed("v", 3), "vehicle.setSpeed is not here: speeds follow the rules alone"),
-            (lambda: traci.gui.screenshot("View #0", "x.png"), "traci.gui is not here"),
+            (lambda: traci.gui.screenshot("View #0", "x.png"), "gui.screenshot is not here"),
+            (lambda: traci.vehicle.getCO2Emission("v"), "vehicle.getCO2Emission is not here: emissions are not reckoned"),
+            (lambda: traci.person.getIDList(), "traci.person is not here"),
         ):
             with self.assertRaisesRegex(traci.TraCIException, told):
                 call()
@@ -175,11 +180,11 @@ class Vehicles(Started):
         self.write("x.rou.xml", ROUTES)
         self.write("x.add.xml", '<routes><vType id="truck" length="12"/></routes>')
         inputs = '<net value="x.net.xml"/><route-files v="x.rou.xml"/><additional-files>x.add.xml</additional-files>'
-        text = f'<c>{inputs}<tripinfo-output value="old.xml"/></c>'
+        text = f'<c>{inputs}<vehroute-output value="old.xml"/></c>'
         words = ["sumo", "-c", self.write("x.sumo.cfg", text), "-W"]
-        with self.assertRaisesRegex(traci.FatalTraCIError, "--tripinfo-output old.xml: not written here; leave it out, or give"):
+        with self.assertRaisesRegex(traci.FatalTraCIError, "--vehroute-output old.xml: not written here .* leave it out, or give"):
             traci.start(words)
-        traci.start([*words, "--tripinfo-output", "/dev/null"])
+        traci.start([*words, "--vehroute-output", "/dev/null"])
         traci.simulationStep(60)
         self.assertEqual(traci.vehicle.getIDList(), ("later",))
 
@@ -187,7 +192,7 @@ class Vehicles(Started):
         """Outputs are refused by name, and so is what SUMO does not know."""
         given = ["sumo", "-n", self.write("x.net.xml", SIGNALLED), "-r", self.write("x.rou.xml", ROUTES)]
         for words, told in (
-            (["--summary-output", "s.xml"], "--summary-output s.xml: not written here"),
+            (["--emission-output", "s.xml"], "--emission-output s.xml: not written here"),
             (["--save-state.times", "60"], "--save-state.times 60: not written here"),
             (["--no-such-option"], "No option with the name 'no-such-option' exists."),
             (["-Z"], "No option with the name 'Z' exists."),
@@ -221,6 +226,184 @@ class Vehicles(Started):
             traci.start(["sumo", "-n", self.write("x.net.xml", text), "--classes", classes, "-W"])
             self.assertEqual(set(traci.lane.getIDList()), lanes)
             traci.close()
+
+    def test_types_and_routes_of_the_files(self):
+        """What the files say of a vehicle, and what of it SUMO's words call; a vehicle is added on a route of the file."""
+        routes = '''<routes><vType id="lorry" vClass="truck" length="12" maxSpeed="20"/><route id="way" edges="a b"/>
+<vehicle id="l" type="lorry" depart="0" route="way"/><vehicle id="own" depart="3"><route edges="a c"/></vehicle></routes>'''
+        self.start(routes=routes)
+        self.steps(3)
+        self.assertEqual((traci.vehicle.getTypeID("l"), traci.vehicle.getVehicleClass("l")), ("lorry", "truck"))
+        self.assertEqual((traci.vehicle.getRouteID("l"), traci.vehicle.getRouteID("own")), ("way", "!own"))
+        self.assertEqual((traci.vehicle.getMaxSpeed("l"), traci.vehicle.getAllowedSpeed("l")), (20.0, 13.89))
+        self.assertEqual(traci.vehicletype.getIDList(), ("DEFAULT_VEHTYPE", "lorry"))
+        self.assertEqual((traci.vehicletype.getLength("lorry"), traci.vehicletype.getMinGap("lorry")), (12.0, 2.5))
+        traci.vehicle.add("new", "way", typeID="lorry")
+        self.steps(10)
+        self.assertEqual((traci.vehicle.getLength("new"), traci.vehicle.getRouteID("new")), (12.5, "way"))
+        self.assertIn("way", traci.route.getIDList())
+        self.assertEqual(traci.route.getEdges("way"), ("a", "b"))
+        with self.assertRaisesRegex(traci.TraCIException, "type 'none' is not known"):
+            traci.vehicle.add("x", "way", typeID="none")
+
+    def test_ahead_and_behind(self):
+        """At red one stands behind the other: 5 m of a vehicle and no free cell between them; what lies ahead is told in metres."""
+        self.start(routes=ROUTES.replace('depart="50"', 'depart="4"').replace("a c", "a b"))
+        traci.trafficlight.setRedYellowGreenState("L", "rr")
+        self.steps(40)
+        self.assertEqual(traci.vehicle.getLeader("later"), ("v", 0.0))
+        self.assertIsNone(traci.vehicle.getLeader("v"))
+        self.assertEqual((traci.vehicle.getFollower("v"), traci.vehicle.getFollower("later")), (("later", 0.0), ("", -1.0)))
+        self.assertEqual(traci.vehicle.getNextTLS("v"), (("L", 0, 0.0, "r"),))
+        self.assertEqual(traci.vehicle.getNextTLS("later"), (("L", 0, 7.5, "r"),))
+        self.assertEqual((traci.vehicle.getDrivingDistance("v", "b", 30), traci.vehicle.getDrivingDistance("v", "a", 10)), (30.0, tc.INVALID_DOUBLE_VALUE))
+        self.assertEqual((traci.vehicle.getDistance("v"), traci.vehicle.getAngle("v")), (67.5, 90.0))
+        self.assertFalse(traci.vehicle.isStopped("v"))
+        lost = traci.vehicle.getTimeLoss("v")
+        self.steps(10)
+        self.assertEqual((traci.vehicle.getTimeLoss("v"), traci.vehicle.getAcceleration("v")), (lost + 10, 0.0))
+
+    def test_links_and_junctions(self):
+        self.start()
+        traci.simulationStep()
+        self.assertEqual([link[0] for link in traci.lane.getLinks("a_0")], ["b_0"])
+        self.assertEqual((traci.lane.getLinkNumber("a_0"), traci.lane.getShape("a_0")), (1, ((0.0, 0.0), (75.0, 0.0))))
+        self.assertIn("b", {link.edge for link in traci.junction.now().map.links})
+        node = traci.junction.now().map.nodes[traci.junction.now().map.links[0].end][0]
+        traci.junction.subscribeContext(node, tc.CMD_GET_VEHICLE_VARIABLE, 1000, [tc.VAR_SPEED])
+        self.assertEqual(traci.junction.getContextSubscriptionResults(node), {"v": {tc.VAR_SPEED: 0.0}})
+        self.assertEqual(traci.junction.getAllContextSubscriptionResults(), {node: {"v": {tc.VAR_SPEED: 0.0}}})
+        traci.junction.subscribeContext(node, tc.CMD_GET_VEHICLE_VARIABLE, 5, [tc.VAR_SPEED])
+        self.assertEqual(traci.junction.getContextSubscriptionResults(node), {})
+        with self.assertRaisesRegex(traci.NotHere, "nothing is looked for, but of vehicles"):
+            traci.junction.subscribeContext(node, 0xAA, 30)
+        traci.junction.unsubscribeContext(node, tc.CMD_GET_VEHICLE_VARIABLE, 30)
+        self.assertEqual(traci.junction.getContextSubscriptionResults(node), {})
+
+    def test_parameters(self):
+        self.start()
+        traci.vehicle.setParameter("v", "owner", "post")
+        self.assertEqual((traci.vehicle.getParameter("v", "owner"), traci.vehicle.getParameter("v", "none")), ("post", ""))
+        self.assertEqual(traci.vehicle.getParameterWithKey("v", "owner"), ("owner", "post"))
+        with self.assertRaisesRegex(traci.NotHere, "a model of SUMO's"):
+            traci.vehicle.setParameter("v", "device.rerouting.period", "10")
+
+    def test_other_ways(self):
+        """One that has not departed, and one on its link, which is taken out at the node and goes on under its name."""
+        self.start()
+        traci.vehicle.setRoute("later", ["a", "b"])
+        self.assertEqual(traci.vehicle.getRoute("later"), ("a", "b"))
+        self.steps(3)
+        traci.vehicle.changeTarget("v", "c")
+        self.assertEqual((traci.vehicle.getRoute("v"), traci.vehicle.getRouteIndex("v")), (("a", "c"), 0))
+        roads, arrived = [], []
+        for _ in range(120):
+            traci.simulationStep()
+            arrived += traci.simulation.getArrivedIDList()
+            self.assertNotIn("v", traci.simulation.getDepartedIDList())
+            roads += [traci.vehicle.getRoadID("v")] if "v" in traci.vehicle.getIDList() else []
+        self.assertEqual((arrived, traci.simulation.getMinExpectedNumber()), (["v", "later"], 0))
+        self.assertEqual([road for road in dict.fromkeys(roads) if not road.startswith(":")], ["a", "c"])
+        with self.assertRaisesRegex(traci.TraCIException, "Vehicle 'v' is not known"):
+            traci.vehicle.setRoute("v", ["a", "b"])
+
+    def test_ways_by_travel_times(self):
+        self.start()
+        stage = traci.simulation.findRoute("a", "c")
+        self.assertEqual((stage.edges, stage.length), (("a", "c"), 150.0))
+        traci.edge.adaptTraveltime("c", 400)
+        self.assertEqual(traci.edge.getAdaptedTraveltime("c", 0), 400.0)
+        self.assertGreater(traci.simulation.findRoute("a", "c").travelTime, 400)
+        self.assertEqual(traci.simulation.getDistanceRoad("a", 10, "c", 5, True), 70.0)
+        with self.assertRaisesRegex(traci.TraCIException, "No way from edge 'b' to edge 'c'"):
+            traci.simulation.findRoute("b", "c")
+        with self.assertRaisesRegex(traci.TraCIException, "must begin with the edge 'a'"):
+            traci.vehicle.setRoute("later", ["b"])
+
+    def test_states(self):
+        """What follows a state is the same, in this run and in another one that loads it."""
+
+        def trace():
+            seen = []
+            for _ in range(60):
+                traci.simulationStep()
+                seen.append([(name, traci.vehicle.getPosition(name), traci.vehicle.getWaitingTime(name)) for name in traci.vehicle.getIDList()])
+                seen.append((traci.simulation.getTime(), traci.trafficlight.getPhase("L"), traci.simulation.getArrivedIDList()))
+            return seen
+
+        self.start()
+        traci.trafficlight.setPhaseDuration("L", 40)
+        self.steps(20)
+        path = str(self.folder / "state.json")
+        traci.simulation.saveState(path)
+        first = trace()
+        traci.simulation.loadState(path)
+        self.assertEqual(traci.simulation.getTime(), 20)
+        self.assertEqual(trace(), first)
+        traci.close()
+        self.start()
+        traci.simulation.loadState(path)
+        self.assertEqual(trace(), first)
+        with self.assertRaisesRegex(traci.TraCIException, "not a state"):
+            traci.simulation.loadState(self.write("x.json", "{}"))
+
+    def test_steps_into_the_past_are_none_and_listeners_are_told(self):
+        class Listener(traci.StepListener):
+            def __init__(self):
+                self.times = []
+
+            def step(self, t=0):
+                self.times.append(traci.simulation.getTime())
+                return len(self.times) < 2
+
+        self.start()
+        listener = Listener()
+        self.assertEqual(traci.addStepListener(listener), 1)
+        traci.simulationStep(10)
+        traci.simulationStep(3)
+        self.assertEqual(traci.simulation.getTime(), 10)
+        traci.simulationStep()
+        self.assertEqual(listener.times, [10.0, 10.0])
+        self.assertFalse(traci.removeStepListener(1))
+
+    def test_labels(self):
+        words = ["sumo", "-n", self.write("x.net.xml", SIGNALLED), "-r", self.write("x.rou.xml", ROUTES), "-W"]
+        traci.start(words, label="one")
+        connection = traci.getConnection("one")
+        connection.simulationStep()
+        self.assertEqual((connection.simulation.getTime(), traci.getLabel()), (1.0, "one"))
+        with self.assertRaisesRegex(traci.TraCIException, "'two' is not known"):
+            traci.getConnection("two")
+        connection.close()
+        self.assertFalse(traci.isLoaded())
+
+    def test_what_nothing_shows(self):
+        self.start()
+        with redirect_stderr(StringIO()) as said:
+            traci.gui.setZoom("View #0", 500)
+            traci.gui.trackVehicle("View #0", "v")
+            traci.vehicle.setColor("v", (255, 0, 0, 255))
+        self.assertEqual(said.getvalue().count("shows nothing here"), 1)
+        self.assertEqual(traci.vehicle.getColor("v"), (255, 0, 0, 255))
+
+    def test_outputs(self):
+        """Tripinfo and summary of two vehicles, one of which a script sends another way; half a file is none."""
+        words = ["sumo", "-n", self.write("x.net.xml", SIGNALLED), "-r", self.write("x.rou.xml", ROUTES), "-W"]
+        for kind in ("tripinfo", "summary", "fcd"):
+            words += [f"--{kind}-output", str(self.folder / f"{kind}.xml")]
+        traci.start([*words, "--output-prefix", "my-"])
+        self.steps(3)
+        traci.vehicle.setRoute("v", ["a", "c"])
+        while traci.simulation.getMinExpectedNumber() > 0:
+            traci.simulationStep()
+        self.assertFalse((self.folder / "my-tripinfo.xml").exists())
+        end = int(traci.simulation.getTime())
+        traci.close()
+        trips = {one.get("id"): one for one in ElementTree.parse(self.folder / "my-tripinfo.xml").getroot()}
+        self.assertEqual({name: one.get("arrivalLane") for name, one in trips.items()}, {"v": "c_0", "later": "c_0"})
+        self.assertEqual({float(one.get("depart")) for one in trips.values()}, {0.0, 50.0})
+        steps = ElementTree.parse(self.folder / "my-summary.xml").getroot()
+        self.assertEqual((len(steps), steps[-1].get("arrived")), (end, "2"))
 
     def test_more_calls_than_one_run_has(self):
         """A run of 40 calls is begun anew each time that they are used up, and comes to the same."""
@@ -274,7 +457,7 @@ class Lights(Started):
             (traci.trafficlight.getProgram("L"), traci.trafficlight.getRedYellowGreenState("L"), traci.trafficlight.getNextSwitch("L")),
             ("mine", "GG", 8.0),
         )
-        [shown] = traci.trafficlight.getAllProgramLogics("L")
+        shown, *_ = traci.trafficlight.getAllProgramLogics("L")
         self.assertEqual([(phase.duration, phase.state) for phase in shown.phases], [(20, "rr"), (8, "GG")])
 
     def test_what_is_shown_is_driven(self):
@@ -356,10 +539,12 @@ class Scripts(Case):
     """The scripts of examples/traci, over streetsim and over SUMO's own traci: the line that imports is all that differs."""
 
     def run_script(self, name, *words, sumo=False):
-        path = SCRIPTS / f"{name}.py"
+        path = SCRIPTS / f"{name}.py" if (SCRIPTS / f"{name}.py").exists() else USERS / f"{name}.py"
         text = path.read_text()
         if sumo:
             text = text.replace("import streetsim.traci as traci", "import traci").replace("from streetsim.traci import", "from traci import")
+        else:
+            text = re.sub("^import traci(.constants)?( as .*)?$", lambda line: f"import streetsim.traci{line[1] or ''}{line[2] or ' as traci'}", text, flags=re.MULTILINE)
         run = f"exec(compile({text!r}, {str(path)!r}, 'exec'), {{'__name__': '__main__', '__file__': {str(path)!r}}})"
         paths = SUMO / "tools" if sumo else TOOLS
         variables = {**os.environ, "PYTHONPATH": str(paths), "SUMO_HOME": str(SUMO), "STREETSIM_PROGRAM": PROGRAM}
@@ -374,6 +559,73 @@ class Scripts(Case):
         vehicles, mean = re.fullmatch(r"(\d+) vehicles, mean trip (.*) s", line).groups()
         self.assertEqual(int(vehicles), 980)
         return float(mean)
+
+    def cross(self, demand="cross", share=1.0):
+        """The words of a cross: its network, an hour's demand or a share of it, and loops."""
+        text = (ACTUATED / "cross.rou.xml" if demand == "cross" else USERS / f"{demand}.rou.xml").read_text()
+        text = re.sub('vehsPerHour="(.*?)"', lambda rate: f'vehsPerHour="{float(rate[1]) * share:g}"', text)
+        return ["-n", ACTUATED / "cross.net.xml.gz", "-r", self.write("x.rou.xml", text), "-a", SCRIPTS / "cross.add.xml"]
+
+    def compare(self, name, *words, within=0.15):
+        """The means that a script of users' prints, here and in SUMO; gives what it says here."""
+        (here, _), (there, _) = (self.run_script(name, *words, sumo=sumo) for sumo in (False, True))
+        (count, mean), (counted, theirs) = (map(float, told[0].split()) for told in (here, there))
+        self.assertAlmostEqual(count / counted, 1, delta=0.02)
+        self.assertAlmostEqual(mean / theirs, 1, delta=within, msg=f"{here} {there}")
+        return here, there
+
+    @needs_sumo
+    @needs_traci
+    def test_tutorial_as_in_sumo(self):
+        """With 60 % of the demand: with all of it the script leaves the main street too little green, and SUMO's own mean trip
+        jumps by a quarter if the demand changes by a tenth."""
+        self.compare("tutorial", self.folder / "trips.xml", *self.cross(share=0.6))
+
+    @needs_sumo
+    @needs_traci
+    def test_bus_priority_as_in_sumo(self):
+        (here, there) = self.compare("bus_priority", *self.cross("bus"))
+        (buses, mean), (counted, theirs) = (map(float, told[1].split()) for told in (here, there))
+        self.assertEqual((buses, counted), (30, 30))
+        self.assertAlmostEqual(mean / theirs, 1, delta=0.15)
+
+    @needs_sumo
+    @needs_traci
+    def test_learning_as_in_sumo(self):
+        (here, there) = self.compare("learning", *self.cross(share=0.6))
+        near, theirs = (float(told[1].split()[0]) for told in (here, there))
+        self.assertAlmostEqual(near / theirs, 1, delta=0.15)
+
+    def test_speed_advice_is_not_here(self):
+        with self.assertRaisesRegex(AssertionError, "NotHere: vehicle.setSpeed is not here: speeds follow the rules alone"):
+            self.run_script("speed_advice", *self.cross())
+
+    @needs_sumo
+    @needs_traci
+    def test_max_pressure_as_in_sumo_and_as_fast(self):
+        """The first 600 s of the grid; the time is that of the whole script, each of whose steps may set all lights."""
+        words = ["600", "-n", *self.grid("-r")]
+        (here, seconds), (there, theirs) = (self.run_script("max_pressure", *words, sumo=sumo) for sumo in (False, True))
+        (count, mean), (counted, other) = (map(float, told[0].split()) for told in (here, there))
+        self.assertAlmostEqual(count / counted, 1, delta=0.1)
+        self.assertAlmostEqual(mean / other, 1, delta=0.15, msg=f"{here} {there}")
+        self.assertLess(seconds, theirs)
+
+    @needs_sumo
+    @needs_traci
+    def test_diversion_as_in_sumo(self):
+        """SUMO refuses ways of others that a closed lane cuts, if it is not told to go on."""
+        words = ["C2C3", "1500", "-n", *self.grid("-r"), "--ignore-route-errors"]
+        there, _ = self.run_script("diversion", "reroute", *words, sumo=True)
+        for mode in ("reroute", "route"):
+            here, _ = self.run_script("diversion", mode, *words, "--joint", "C2C3_0")
+            (count, mean), (counted, theirs) = (map(float, told[0].split()) for told in (here, there))
+            self.assertAlmostEqual(count / counted, 1, delta=0.1)
+            self.assertAlmostEqual(mean / theirs, 1, delta=0.15, msg=f"{mode} {counted}")
+
+    def grid(self, between):
+        """The grid's network, a word, and its demand."""
+        return DATA / "grid.net.xml.gz", between, DATA / "grid.rou.xml.gz"
 
     def test_actuated(self):
         self.assertLess(self.mean_trip(), self.mean_trip("fixed"))

@@ -32,7 +32,7 @@ class Vehicle:
     depart: float  # seconds
     edges: tuple
     type: str
-    route: str = ""  # the name of its route; none where the route stands in the vehicle
+    route: str = ""  # the name of its route, as SUMO has it; none where the route stands in the vehicle
 
 
 class Demand:
@@ -126,6 +126,7 @@ class Demand:
             route = f"!{element.get('id')}"
             self.mixes[route] = self.mix(path, element, mix, route)
         edges = self.edges(path, element, inner) if inner is not None else None
+        route = element.get("route") if inner is None else f"!{element.get('id')}" if element.tag == "flow" else ""
         for name, depart in departs:
             vehicle = Vehicle(name, depart, edges, element.get("type"), route)
             self.vehicles.append(vehicle)

@@ -5,29 +5,36 @@ the program that STREETSIM_PROGRAM names. Steps are of one second. What streetsi
 """
 import sys
 import tempfile
-from contextlib import redirect_stderr
-from io import StringIO
 from pathlib import Path
 
-from ..cli.words import ROUNDS
 from ..client import ProgramEnded, Refused
-from ..files import Fault, whole_file
-from ..sumo import importing
+from ..files import Fault
 from . import constants
-from .domains import Edge, InductionLoop, Lane, LaneArea, Route, Simulation, TrafficLight, Vehicle
 from .errors import FatalTraCIError, NotHere, TraCIException
-from .options import IMPORTED, LOGS, options_of, warnings_of
-from .session import Session
+from .listeners import StepListener
+from .opening import open_session
+from .options import options_of
+from .quiet import GUI, SHAPES, Quiet
+from .roads import Edge, InductionLoop, Junction, Lane, LaneArea
+from .simulation import Route, Simulation
+from .trafficlights import TrafficLight
+from .vehicles import Vehicle, VehicleType
 
-__all__ = ["FatalTraCIError", "NotHere", "TraCIException", "close", "constants", "isLoaded", "load", "simulationStep", "start"]
+__all__ = [
+    *("FatalTraCIError", "NotHere", "StepListener", "TraCIException", "addStepListener", "close", "constants", "getConnection"),
+    *("getLabel", "getVersion", "hasGUI", "isLibsumo", "isLibtraci", "isLoaded", "load", "removeStepListener", "setOrder"),
+    *("simulationStep", "start", "switch"),
+]
 
 _running = []
+_label = ["default"]
 
 
 def start(cmd, port=None, numRetries=None, label="default", verbose=False, *_, **__):
-    """Starts a run, of the words of SUMO's command line: -c, or -n, -r and -a, --seed and --begin, and those of
-    streetsim-import (--classes, --dawdle, --joint, ..). What the import warns of is told on standard error, and what other
-    options of SUMO's do not do here. Gives the version, as SUMO does."""
+    """Starts a run, of the words of SUMO's command line: -c, or -n, -r and -a, --seed and --begin, the outputs
+    --tripinfo-output, --summary-output, --fcd-output and --queue-output, and the words of streetsim-import (--classes, --dawdle,
+    --joint, ..). What the import warns of is told on standard error, and what other options of SUMO's do not do here. Gives the
+    version, as SUMO does."""
     if _running:
         raise TraCIException("a run is under way: close() it first; there is one at a time")
     options = options_of(list(cmd)[1:])
@@ -36,46 +43,8 @@ def start(cmd, port=None, numRetries=None, label="default", verbose=False, *_, *
             _running.append(open_session(Path(folder), options))
         except (Fault, Refused, ProgramEnded) as fault:
             raise FatalTraCIError(str(fault)) from None
+    _label[0] = label
     return getVersion()
-
-
-def open_session(folder, options):
-    """Imports what the options name, and starts the program."""
-    names = ("route-files", "additional-files")
-    routes, additional = ([part.strip() for part in options.get(name, "").split(",") if part.strip()] for name in names)
-    if not options.get("net-file"):
-        raise FatalTraCIError("no network: give -n NET or -c CONFIGURATION")
-    words = [options["net-file"], *additional, "-o", f"{folder}/run.jsonl", "--map", f"{folder}/map.json"]
-    words += ["--routes", *routes] if routes else []
-    words += [word for name in sorted(IMPORTED & options.keys()) for word in (f"--{name}", options[name])]
-    with redirect_stderr(StringIO()) as said:
-        importing.main(words)
-    said = said.getvalue()
-    try:
-        session = Session(folder, [options["net-file"], *additional], int(options.get("rounds", ROUNDS)))
-        said += told_of(session.yielding)
-    finally:
-        tell(said, options)
-    return session
-
-
-def told_of(yielding):
-    """What there is to say of giving way without a light."""
-    if yielding.why_not:
-        return f"warning: {yielding.told()}\n"
-    if not yielding.lines:
-        return ""
-    return f"{yielding.told()}, in the gaps of the vehicles of the route files; those that the script adds are in no gaps\n"
-
-
-def tell(said, options):
-    """Tells what the import said and what options do not do here: on standard error, and in the files of --log."""
-    said = "".join(f"warning: {text}\n" for text in warnings_of(options)) + said
-    if options.get("no-warnings", "false").lower() not in ("", "true", "1", "yes", "on", "t"):
-        sys.stderr.write(said)
-    for path in {options[name] for name in LOGS if options.get(name)}:
-        with whole_file(path) as file:
-            file.write(said)
 
 
 def _now():
@@ -85,15 +54,18 @@ def _now():
 
 
 def simulationStep(step=0):
-    """One step, or all steps until a time in seconds."""
-    _now().step(step)
+    """One step, or all steps until a time in seconds; none where that is over."""
+    session = _now()
+    session.step(step)
+    session.listeners.step(step)
 
 
 def close(wait=True):
     session = _now()
     _running.clear()
     for domain in _domains:
-        domain.subscribed.clear()
+        domain.forget()
+    session.listeners.clean_up()
     session.close()
 
 
@@ -112,10 +84,56 @@ def getVersion():
     return 20, "streetsim"
 
 
-simulation, vehicle, route = Simulation(_now), Vehicle(_now), Route(_now)
-lane, edge, trafficlight = Lane(_now), Edge(_now), TrafficLight(_now)
+def getLabel():
+    """The label of the run."""
+    _now()
+    return _label[0]
+
+
+def switch(label):
+    """The run of a label; there is one at a time."""
+    if not _running or label != _label[0]:
+        raise TraCIException(f"connection '{label}' is not known.")
+
+
+def getConnection(label="default"):
+    """The run of a label, with all domains and calls of this module."""
+    switch(label)
+    return sys.modules[__name__]
+
+
+def addStepListener(listener):
+    """Calls listener.step(time) after each simulationStep, as long as it gives True; gives its number."""
+    return _now().listeners.add(listener)
+
+
+def removeStepListener(listenerID):
+    return _now().listeners.remove(listenerID)
+
+
+def setOrder(order):
+    """A run has one client, and so no order."""
+
+
+def hasGUI():
+    return False
+
+
+def isLibsumo():
+    return False
+
+
+def isLibtraci():
+    return False
+
+
+simulation, vehicle, vehicletype, route = Simulation(_now), Vehicle(_now), VehicleType(_now), Route(_now)
+lane, edge, junction, trafficlight = Lane(_now), Edge(_now), Junction(_now), TrafficLight(_now)
 inductionloop, lanearea = InductionLoop(_now), LaneArea(_now)
-_domains = (simulation, vehicle, route, lane, edge, trafficlight, inductionloop, lanearea)
+gui, poi, polygon = Quiet("gui", GUI), Quiet("poi", SHAPES), Quiet("polygon", SHAPES)
+_domains = (simulation, vehicle, vehicletype, route, lane, edge, junction, trafficlight, inductionloop, lanearea, gui, poi, polygon)
+for _domain in (vehicle, lane, edge, junction, inductionloop, lanearea):
+    _domain.vehicles = vehicle
 
 
 def __getattr__(name):

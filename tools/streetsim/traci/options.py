@@ -5,6 +5,7 @@ from ..cli.words import MOST_ROUNDS
 from ..files import Fault
 from ..sumo.configuration import SYNONYMS, read_configuration
 from .errors import FatalTraCIError
+from .writing import SERVED
 
 SHORT = {
     **{"-c": "configuration-file", "-n": "net-file", "-r": "route-files", "-a": "additional-files", "-b": "begin"},
@@ -13,7 +14,8 @@ SHORT = {
     **{"-g": "gui-settings-file", "-Q": "quit-on-end", "-G": "game", "-d": "delay", "-B": "breakpoints", "-D": "demo"},
     **{"-T": "disable-textures", "-C": "save-configuration"},
 }
-INPUTS = {"configuration-file", "net-file", "route-files", "additional-files", "step-length", "time-to-teleport", "rounds"}
+INPUTS = {"configuration-file", "net-file", "route-files", "additional-files", "step-length", "time-to-teleport", "output-prefix"}
+INPUTS |= {"rounds"}
 LOGS = ("log", "message-log", "error-log")  # files that get what the import says
 IMPORTED = {"seed", "begin", "classes", "joint", "turns", "sizes", "dawdle", "change", "zone", "residence", "buffer"}
 IMPORTED |= {"permissive"}
@@ -35,7 +37,7 @@ REFUSED = {
 }
 # SUMO's further options and their families.
 KNOWN = re.compile(
-    r"weight.*|load-state\..*|junction-taz|output-prefix|(netstate-dump|save-state|[\w-]+-output)\..*|step-method\.ballistic"
+    r"weight.*|load-state\..*|junction-taz|(netstate-dump|save-state|[\w-]+-output)\..*|step-method\.ballistic"
     r"|extrapolate-departpos|lateral-resolution|no-internal-links|ignore-.*|collision\..*|max-.*|scale-suffix"
     r"|time-to-(teleport\..*|impatience)|startup-wait-threshold|(sloppy|eager|emergency)-insert|random-depart-offset"
     r"|lanechange\..*|tls\..*|railsignal.*|default\..*|overhead-wire\..*|emergencydecel\..*|parking\..*|use-stop-ended"
@@ -91,8 +93,9 @@ def check_option(name: str, value: str):
         raise FatalTraCIError(f"--rounds {value}: is not 0 to {MOST_ROUNDS}")
     if name in REFUSED and on and not (name == "scale" and is_one(value)):
         raise FatalTraCIError(f"--{name} {value}: streetsim has nothing for it; {REFUSED[name]}")
-    if OUTPUT.fullmatch(name) and value not in NOWHERE and on:
-        raise FatalTraCIError(f"--{name} {value}: not written here; leave it out, or give --{name} /dev/null")
+    if OUTPUT.fullmatch(name) and name not in SERVED and value not in NOWHERE and on:
+        told = ", ".join(f"--{served}" for served in SERVED)
+        raise FatalTraCIError(f"--{name} {value}: not written here ({told} are); leave it out, or give --{name} /dev/null")
     known = name in INPUTS or name in IMPORTED or name in REFUSED or name in LOGS
     if not (known or OUTPUT.fullmatch(name) or SILENT.fullmatch(name) or KNOWN.fullmatch(name)):
         raise FatalTraCIError(f"No option with the name '{name}' exists.")

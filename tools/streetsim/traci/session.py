@@ -1,20 +1,21 @@
 """A run under TraCI: what stands where after each step, what the lights show, and a program whose calls do not end."""
-from dataclasses import dataclass, field
+from dataclasses import dataclass
 
 from .. import limits
 from ..client import Client, Full, Lane, Short, line_of, read_reply
-from ..files import attribute, elements, number, seconds
 from ..run.mapping import read_map
 from ..run.record import EMPTY
 from ..run.rounds import giving_way_to_scripts
 from ..run.runs import read_run
 from ..scenario import Scenario, TrafficLight
+from ..sumo.types import DEFAULT, Kind
 from ..sumo.yielding import GREEN, PERMISSIVE
 from .errors import FatalTraCIError, TraCIException
+from .lights import CONSTANT, check_phases, check_state, turns_to
+from .listeners import Listeners
+from .rerouting import Ways
 
 ASKING = (b'{"cmd":"lane"', b'{"cmd":"vehicle"', b'{"cmd":"count"', b'{"cmd":"read"')
-STATES = "rRyYgGsSuUoO"
-CONSTANT = 600  # seconds of a phase that is shown until the next is set
 
 
 class Endless(Client):
@@ -36,10 +37,13 @@ class Endless(Client):
     def renew(self):
         if 2 * len(self.changes) > self.calls:
             raise Full()
-        changes = self.changes
+        self.repeat(self.changes)
+
+    def repeat(self, changes):
+        """Starts the program anew and brings it to where these lines bring it."""
         self.close()
         super().__init__(*self.words)
-        self.used = len(changes)
+        self.changes, self.used = list(changes), len(changes)
         for _ in super().exchange(changes):
             pass
 
@@ -55,30 +59,6 @@ class Place:
 
 
 @dataclass(slots=True)
-class Light:
-    """What a light shows: phases of (seconds, state) over and over, of which the first began at a clock."""
-
-    phases: list
-    begin: float
-    program: str
-    links: list = field(default_factory=list)  # by index: (lane, next lane) of each connection
-    states: int = 0  # how many letters a state has
-
-    def at(self, clock):
-        """The index of the phase, and the seconds that are left of it."""
-        place = (clock - self.begin) % sum(duration for duration, _ in self.phases)
-        for index, (duration, _) in enumerate(self.phases):
-            if place < duration:
-                return index, duration - place
-            place -= duration
-        return 0, self.phases[0][0]
-
-    def starts(self, index):
-        """When a phase begins, after the first one's begin."""
-        return sum(duration for duration, _ in self.phases[:index])
-
-
-@dataclass(slots=True)
 class Loop:
     """What an induction loop saw in the last step."""
 
@@ -89,8 +69,8 @@ class Loop:
 class Session(Scenario):
     """A running simulation. Vehicles enter the program when they depart, so that what waits for later is not told."""
 
-    def __init__(self, folder, net, rounds, program=None):
-        self.map = read_map(folder / "map.json")
+    def __init__(self, folder, facts, options, rounds=0, program=None):
+        self.map, self.facts, self.options = read_map(folder / "map.json"), facts, options
         self.source, self.yielding = giving_way_to_scripts(read_run(folder / "run.jsonl"), self.map, rounds, program)
         self.timed, self.sent = self.source.timed, 0
         self.client = Endless(program)
@@ -98,19 +78,31 @@ class Session(Scenario):
         self.cars, self.plans, self.sizes = {}, {}, {}  # by name: number, links, cells
         self.names = []  # by number
         self.known = dict(zip(self.map.cars, range(len(self.map.cars))))  # names of the run file
+        self.kinds = {name: Kind(*rest) for name, *rest in self.map.kinds.get("types", ())} or {DEFAULT: Kind()}
+        self.kind_of, self.route_of = {}, {}  # by name, of those that a script adds
+        self.starts = []  # by number: (link, lane) on which it departs
+        self.wishes = {}  # by name: the plan of one that has not departed and is to take another way
         self.routes, self.detectors = {}, {one.name: one for one in self.map.detectors}
         self.lane_of = {self.map.lane_name(link, lane): (link, lane) for link, lane in self.map.lanes()}
         self.polls = [(place, line_of({"cmd": "lane", "link": place[0], "lane": place[1]})) for place in self.map.lanes()]
         self.entered = 0  # of the run's vehicles
         self.places = None  # by number, of those on their way at the clock; none where it was not asked
         self.on_lane = {}  # by (link, lane): numbers, from the stop line
+        self.frame = []  # (link, lane, cells, numbers in the buffer) of each lane where anybody is
         self.before = {}  # the places a step earlier
-        self.seen, self.departed, self.gone = set(), [], {}  # of the last step; gone: by name the step of its end
-        self.arrived = []
-        self.waiting, self.waited = {}, {}  # by number: seconds of standing, now and in all
+        self.seen, self.departed, self.gone = set(), [], {}  # departed: in the last step; gone: by name the step of its end
+        self.arrived, self.loaded = [], []  # loaded: names of those that were told in the last step
+        self.waiting, self.waited, self.lost = {}, {}, {}  # by number: seconds of standing, now and in all; seconds lost
+        self.travelled = {}  # by number: metres of the links behind it
+        self.pending, self.held = {}, {}  # by number: links after the next node; the place of who enters anew there
         self.followed = False  # whether each step is looked at
         self.timers = []  # (clock, light, index): phases that a script has set to end then
-        self.lights, self.speeds = read_lights(net, self)
+        self.writer = None  # of SUMO's output files
+        self.ways = None  # what router() gives
+        self.turns_by_link = {}  # what turns_from gives
+        self.parameters = {}  # that scripts keep with objects
+        self.listeners = Listeners()
+        self.lights = self.lights_here()
         self.turns_at = {}  # by light: what turns_of gives
         self.loops = {name: Loop([], -1.0) for name, one in self.detectors.items() if one.kind == "e1"}
         self.send(line.text.encode() + b"\n" for line in [self.source.load, *self.source.first])
@@ -128,7 +120,21 @@ class Session(Scenario):
             self.ask(line)
 
     def close(self):
+        if self.writer is not None:
+            self.writer.close()
         self.client.close()
+
+    def lights_here(self):
+        """The lights that control lanes which were kept, each with its connections by index."""
+        here, links = {light for light, _ in self.map.signals}, {}
+        for lane, fact in self.facts.lanes.items():
+            for one in fact.links:
+                links.setdefault(one.light, {})[one.index] = (lane, one.target, one.via)
+        lights = {name: light for name, light in self.facts.lights.items() if name in here}
+        for name, light in lights.items():
+            light.states = len(light.phases[0][1])
+            light.links = [links.get(name, {}).get(index) for index in range(light.states)]
+        return lights
 
     def close_lane(self, name, command):
         """Closes a lane, or opens it again."""
@@ -139,8 +145,8 @@ class Session(Scenario):
     # Steps
 
     def step(self, target=0.0):
-        """One step, or all steps until a time."""
-        target = max(self.clock + 1, int(target))
+        """One step, or all steps until a time; none where that is over."""
+        target = int(target) if target else self.clock + 1
         while self.clock < target:
             self.advance(self.clock + 1 if self.followed or self.timers else min(target, self.clock + limits.STEPS))
 
@@ -148,16 +154,7 @@ class Session(Scenario):
         for clock, light, index in [timer for timer in self.timers if timer[0] <= self.clock]:
             self.timers.remove((clock, light, index))
             self.show_phase(light, index)
-        enters, run = [], self.source
-        while self.entered < len(run.enters) and run.needed[self.entered] < target:
-            line = run.enters[self.entered]
-            name = self.map.cars[self.entered] if self.entered < len(self.map.cars) else f"#{self.entered}"
-            self.note_entered(name, line.command["plan"], line.command.get("size", 1))
-            enters.append(line.text.encode() + b"\n")
-            self.entered += 1
-        for reply in map(read_reply, self.client.exchange(enters)):
-            if isinstance(reply, Exception):
-                raise FatalTraCIError(f"streetsim refused a vehicle: {reply}")
+        self.enter_due(target)
         self.before = self.places if self.places is not None else {}
         while self.clock < target:
             reply = self.ask(b'{"cmd":"advance","steps":%d}\n' % (self.send_timed(target) - self.clock))
@@ -165,18 +162,100 @@ class Session(Scenario):
         self.places = None
         if self.followed:
             self.look()
+            if self.writer is not None:
+                self.writer.step(self.clock, self.frame, self.held, self.arrived)
+            self.turn_off()
 
-    def note_entered(self, name, plan, size):
+    def enter_due(self, target):
+        """Tells the program of the file's vehicles that depart before a clock."""
+        enters, run = [], self.source
+        self.loaded = []
+        while self.entered < len(run.enters) and run.needed[self.entered] < target:
+            command = run.enters[self.entered].command
+            name = self.map.cars[self.entered] if self.entered < len(self.map.cars) else f"#{self.entered}"
+            self.entered += 1
+            if name in self.gone:
+                continue
+            if plan := self.wishes.pop(name, None):
+                command = {**command, "plan": list(plan), "lane": self.lane_of_plan(plan)}
+            self.note_entered(name, command)
+            enters.append(line_of(command))
+        for reply in map(read_reply, self.client.exchange(enters)):
+            if isinstance(reply, Exception):
+                raise FatalTraCIError(f"streetsim refused a vehicle: {reply}")
+
+    def note_entered(self, name, command):
         if name in self.cars:
             raise TraCIException(f"Vehicle '{name}' exists already.")
-        self.cars[name], self.plans[name], self.sizes[name] = len(self.names), tuple(plan), size
+        self.cars[name], self.plans[name], self.sizes[name] = len(self.names), tuple(command["plan"]), command.get("size", 1)
+        self.starts.append((command["plan"][0], command["lane"]))
         self.names.append(name)
+        self.loaded.append(name)
+        if self.writer is not None:
+            self.writer.expect(self.cars[name], name, command["depart"], self.kind(name))
 
     def enter(self, name, plan, lane, depart, size=1):
         """A vehicle that a script adds."""
-        self.note_entered(name, plan, size)
         command = {"cmd": "enter", "plan": list(plan), "lane": lane, "depart": depart}
-        self.ask(line_of({**command, "size": size} if size > 1 else command))
+        command = {**command, "size": size} if size > 1 else command
+        self.note_entered(name, command)
+        self.ask(line_of(command))
+
+    def lane_of_plan(self, plan):
+        """The first lane from which a plan can be driven."""
+        turns = (turn.lane for turn in self.map.turns if len(plan) > 1 and (turn.link, turn.next) == tuple(plan[:2]))
+        return next(turns, 0)
+
+    def route(self, name):
+        """The links of a route of the files or of route.add."""
+        if name not in self.routes:
+            try:
+                return self.plan(list(self.facts.routes[name]))
+            except ValueError as fault:
+                raise TraCIException(f"Route '{name}': {fault}") from None
+        return self.routes[name]
+
+    def cells_of(self, kind):
+        """The cells that a vehicle of a type takes."""
+        metres = self.kinds[kind].length + self.kinds[kind].gap
+        return max(1, min(limits.SIZE, int(metres / limits.CELL_METRES + 0.5))) if self.map.options.get("sizes", True) else 1
+
+    def waiting_to_depart(self):
+        """Numbers of those that would have departed."""
+        return [car for name, car in self.cars.items() if car not in self.seen and name not in self.gone]
+
+    def metres_a_second(self, car):
+        return self.places[car].speed * limits.CELL_METRES
+
+    def turn(self, link, following, lane):
+        """A turn from a link to the next one that a light controls, from a lane where one is named; none where none does."""
+        found = [turn for turn in self.turns_from(link) if turn.next == following and turn.light in self.lights]
+        return next((turn for turn in found if turn.lane == lane), found[0] if found else None)
+
+    def next_lane(self, link, lane, following):
+        """The lane of the next link to which a turn leads."""
+        found = [turn for turn in self.turns_from(link) if turn.next == following]
+        return next((turn.next_lane for turn in found if turn.lane == lane), found[0].next_lane if found else 0)
+
+    def turns_from(self, link):
+        if not self.turns_by_link:
+            for turn in self.map.turns:
+                self.turns_by_link.setdefault(turn.link, []).append(turn)
+        return self.turns_by_link.get(link, ())
+
+    def router(self):
+        """Shortest ways by what is known at the clock."""
+        self.follow()
+        if self.ways is None:
+            self.ways = Ways(self)
+        return self.ways
+
+    def kind(self, name):
+        """The name of a vehicle's type."""
+        if name in self.kind_of or name not in self.known:
+            return self.kind_of.get(name, DEFAULT)
+        place, types = self.map.kinds.get("type", ()), self.map.kinds.get("types", ())
+        return types[place[self.known[name]]][0] if self.known[name] < len(place) else DEFAULT
 
     def follow(self):
         """Looks at each step from now on, and at this one. Who departed before the first look is told by the place alone."""
@@ -191,12 +270,22 @@ class Session(Scenario):
         place = self.places[car]
         return place.cell == 0 and not place.speed and place.link == self.plans[self.names[car]][0]
 
+    def look_again(self):
+        """After a state was loaded: nothing is known of the step before."""
+        self.places, self.before, self.departed, self.arrived, self.loaded = None, {}, [], [], []
+        seen, waiting, waited, lost = set(self.seen), dict(self.waiting), dict(self.waited), dict(self.lost)
+        self.look()
+        self.seen, self.waiting, self.waited, self.lost, self.departed = seen | set(self.places), waiting, waited, lost, []
+
     def look(self):
         """What stands where at the clock, and what has changed since the last look."""
-        self.places, self.on_lane = {}, {}
+        self.places, self.on_lane, self.frame = {}, {}, []
         for (place, _), text in zip(self.polls, self.client.exchange(line for _, line in self.polls), strict=True):
             if text != EMPTY:
-                self.note_lane(place, read_reply(text))
+                reply = read_reply(text)
+                self.note_lane(place, reply)
+                self.frame.append((*place, reply.cells, [car for car, *_ in reply.buffer]))
+        self.note_held()
         self.departed = [car for car in self.places if car not in self.seen]
         self.seen.update(self.departed)
         self.note_gone([car for car in self.before if car not in self.places])
@@ -221,11 +310,74 @@ class Session(Scenario):
             if reply.state == "arrived":
                 self.arrived.append(car)
 
+    def note_held(self):
+        """Who was taken out at a node to go another way is there until seen on its next link."""
+        for car in [car for car in self.held if car in self.places]:
+            del self.held[car]
+        self.places.update(self.held)
+
     def note_waiting(self):
         standing = [car for car, place in self.places.items() if not place.speed]
         self.waiting = {car: self.waiting.get(car, 0) + 1 for car in standing}
         for car in standing:
             self.waited[car] = self.waited.get(car, 0) + 1
+        dawdle = self.source.load.command.get("dawdle", 0) / 1000
+        for car, place in self.places.items():
+            free = self.map.links[place.link].limit - dawdle
+            self.lost[car] = self.lost.get(car, 0.0) + 1 - place.speed / free
+            before = self.before.get(car)
+            if before is not None and before.link != place.link:
+                self.travelled[car] = self.travelled.get(car, 0.0) + self.map.links[before.link].metres
+
+    # Other ways
+
+    def replan(self, name, links):
+        """A vehicle goes on along other links, of which the first is the one where it is or departs; who is on a link takes
+        the other way at the node behind it."""
+        car = self.cars.get(name)
+        if car is None:
+            self.wishes[name] = links
+            return
+        place = self.follow().places.get(car)
+        if place is None:
+            self.enter_anew(car, links, self.lane_of_plan(links))
+        else:
+            at = self.plans[name].index(place.link)
+            self.plans[name] = (*self.plans[name][: at + 1], *links[1:])
+            self.pending[car] = place.link, links[1:]
+            self.turn_off()
+
+    def turn_off(self):
+        """Those in a buffer who are to take another way behind it are taken out, and enter on the next link of that."""
+        for car, (link, links) in list(self.pending.items()):
+            place = self.places.get(car)
+            if place is None or place.link != link:
+                del self.pending[car]
+            elif place.cell is None and car not in self.held:
+                del self.pending[car]
+                self.enter_anew(car, links, self.lane_of_plan(links), place)
+
+    def enter_anew(self, car, links, lane, place=None):
+        """Takes a vehicle out, and enters it anew: it has another number, and is the same one for all calls."""
+        name, new = self.names[car], len(self.names)
+        self.ask(b'{"cmd":"takeout","car":%d}\n' % car)
+        command = {"cmd": "enter", "plan": list(links), "lane": lane, "depart": self.clock}
+        size = self.sizes[name]
+        self.ask(line_of({**command, "size": size} if size > 1 else command))
+        self.cars[name] = new
+        self.names.append(name)
+        self.starts.append((links[0], lane))
+        if self.writer is not None:
+            self.writer.rename(car, new)
+        if place is None:
+            self.plans[name] = tuple(links)
+            return
+        self.seen.add(new)
+        self.places.pop(car)
+        self.places[new] = self.held[new] = Place(place.link, place.lane, None, 0)
+        for noted in (self.waiting, self.waited, self.lost, self.travelled):
+            if car in noted:
+                noted[new] = noted.pop(car)
 
     def note_loops(self):
         for name, loop in self.loops.items():
@@ -259,16 +411,13 @@ class Session(Scenario):
         light.begin = self.clock - light.starts(index)
         self.send_light(name, light)
 
-    def show_program(self, name, phases, index, program):
+    def show_program(self, name, phases, index, program, names=()):
         """Shows other phases from the begin of one of them."""
         light = self.light(name)
-        for duration, state in phases:
-            check_state(name, state, light.states)
-            if not duration > 0:
-                raise TraCIException(f"Traffic light '{name}': a phase of {duration} s")
+        check_phases(name, phases, light.states)
         if not 0 <= index < len(phases):
             raise TraCIException(f"Traffic light '{name}' has no phase {index}")
-        light.phases, light.program = list(phases), program
+        light.phases, light.program, light.names = list(phases), program, list(names)
         self.timers = [timer for timer in self.timers if timer[1] != name]
         self.show_phase(name, index)
 
@@ -303,41 +452,3 @@ class Session(Scenario):
             nodes = [node for light, node in self.map.signals if light == name]
             self.turns_at[name] = [(node, [*turns_to(node, name, self.map)]) for node in nodes]
         return self.turns_at[name]
-
-
-def turns_to(node, light, mapping):
-    for turn in mapping.turns:
-        if mapping.links[turn.link].end == node:
-            yield turn.link, turn.lane, turn.next, turn.index if turn.light == light else None
-
-
-def check_state(name, state, length):
-    wrong = [letter for letter in state if letter not in STATES]
-    if wrong:
-        raise TraCIException(f"Traffic light '{name}': {wrong[0]!r} is no state of a signal")
-    if len(state) != length:
-        raise TraCIException(f"Traffic light '{name}' has {length} signals, the state {state!r} has {len(state)}")
-
-
-def read_lights(paths, session):
-    """The lights of a network and of additional files, the last program of each, and the speeds of the lanes."""
-    lights, speeds, links = {}, {}, {}
-    for path in paths:
-        for element in elements(path, None):
-            if element.tag == "tlLogic":
-                phases = [(attribute(path, one, "duration", seconds), attribute(path, one, "state")) for one in element.iter("phase")]
-                offset = seconds(element.get("offset") or "0")
-                lights[attribute(path, element, "id")] = Light(phases, offset, element.get("programID", "0"))
-            elif element.tag == "connection" and element.get("tl"):
-                ends = tuple(f"{element.get(edge)}_{element.get(lane)}" for edge, lane in (("from", "fromLane"), ("to", "toLane")))
-                links.setdefault(element.get("tl"), {})[attribute(path, element, "linkIndex", int)] = (*ends, element.get("via", ""))
-            elif element.tag == "edge":
-                speeds.update({attribute(path, lane, "id"): attribute(path, lane, "speed", number) for lane in element.iter("lane")})
-    here = {light for light, _ in session.map.signals}
-    for name, light in list(lights.items()):
-        if name not in here:
-            del lights[name]
-            continue
-        light.states = len(light.phases[0][1])
-        light.links = [links.get(name, {}).get(index) for index in range(light.states)]
-    return lights, speeds

@@ -1,0 +1,76 @@
+"""Opens a run of the words of SUMO's command line."""
+from __future__ import annotations
+
+import os
+import sys
+from collections.abc import Mapping
+from contextlib import redirect_stderr
+from io import StringIO
+from pathlib import Path
+
+from ..cli.words import ROUNDS
+from ..files import whole_file
+from ..sumo import importing
+from .errors import FatalTraCIError
+from .options import IMPORTED, LOGS, NOWHERE, warnings_of
+from .session import Session
+from .street_facts import Facts, read_facts
+from .writing import SERVED, Writer
+
+Options = Mapping[str, str]
+PERIOD = 900  # seconds of the rows of edgeData without a period
+
+
+def open_session(folder: Path, options: Options) -> Session:
+    """Imports what the options name, and starts the program."""
+    names = ("route-files", "additional-files")
+    routes, additional = ([part.strip() for part in options.get(name, "").split(",") if part.strip()] for name in names)
+    if not options.get("net-file"):
+        raise FatalTraCIError("no network: give -n NET or -c CONFIGURATION")
+    words = [options["net-file"], *additional, "-o", f"{folder}/run.jsonl", "--map", f"{folder}/map.json"]
+    words += ["--routes", *routes] if routes else []
+    words += [word for name in sorted(IMPORTED & options.keys()) for word in (f"--{name}", options[name])]
+    with redirect_stderr(StringIO()) as said:
+        importing.main(words)
+    told = said.getvalue()
+    try:
+        facts = read_facts(options["net-file"], additional, routes)
+        session = Session(folder, facts, options, int(options.get("rounds", ROUNDS)))
+        told += told_of(session.yielding)
+    finally:
+        tell(told, options)
+    paths = output_paths(options, facts)
+    if paths:
+        session.writer = Writer(paths, session, int(facts.edgedata[0][1]) or PERIOD if facts.edgedata else PERIOD)
+        session.follow()
+    return session
+
+
+def told_of(yielding) -> str:
+    """What there is to say of giving way without a light."""
+    if yielding.why_not:
+        return f"warning: {yielding.told()}\n"
+    if not yielding.lines:
+        return ""
+    return f"{yielding.told()}, in the gaps of the vehicles of the route files; those that the script adds are in no gaps\n"
+
+
+def output_paths(options: Options, facts: Facts) -> dict[str, str]:
+    """By kind the output files that are asked for: by options, and the first edgeData of additional files."""
+    prefix, paths = options.get("output-prefix", ""), {}
+    for name, kind in SERVED.items():
+        if options.get(name, NOWHERE[0]) not in NOWHERE:
+            paths[kind] = options[name]
+    if facts.edgedata and facts.edgedata[0][0] not in NOWHERE:
+        paths["edgedata"] = facts.edgedata[0][0]
+    return {kind: os.path.join(os.path.dirname(path), prefix + os.path.basename(path)) for kind, path in paths.items()}
+
+
+def tell(said: str, options: Options) -> None:
+    """Tells what the import said and what options do not do here: on standard error, and in the files of --log."""
+    said = "".join(f"warning: {text}\n" for text in warnings_of(options)) + said
+    if options.get("no-warnings", "false").lower() not in ("", "true", "1", "yes", "on", "t"):
+        sys.stderr.write(said)
+    for path in {options[name] for name in LOGS if options.get(name)}:
+        with whole_file(path) as file:
+            file.write(said)

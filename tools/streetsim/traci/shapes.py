@@ -1,0 +1,54 @@
+"""Lines of points, in metres."""
+from __future__ import annotations
+
+from collections.abc import Sequence
+from itertools import pairwise
+from math import atan2, degrees, hypot
+
+Point = tuple[float, float]
+
+
+def lengths(line: Sequence[Point]) -> list[float]:
+    return [hypot(bx - ax, by - ay) for (ax, ay), (bx, by) in pairwise(line)]
+
+
+def along(line: Sequence[Point], share: float) -> Point:
+    """The point at a share of the length of a line."""
+    at, rest = segment_at(line, share)
+    if at is None:
+        return float(line[-1][0]), float(line[-1][1])
+    (ax, ay), (bx, by) = line[at], line[at + 1]
+    return ax + (bx - ax) * rest, ay + (by - ay) * rest
+
+
+def heading(line: Sequence[Point], share: float) -> float:
+    """The direction at a share of the length of a line, in degrees clockwise from north."""
+    at, _ = segment_at(line, share)
+    (ax, ay), (bx, by) = line[at if at is not None else -2], line[at + 1 if at is not None else -1]
+    return degrees(atan2(bx - ax, by - ay)) % 360
+
+
+def segment_at(line: Sequence[Point], share: float) -> tuple[int | None, float]:
+    """The part of a line in which a share of its length lies, and the share of that part; no part behind its end."""
+    left = share * sum(lengths(line))
+    for at, size in enumerate(lengths(line)):
+        if left <= size and size:
+            return at, left / size
+        left -= size
+    return None, 0.0
+
+
+def nearest(point: Point, line: Sequence[Point]) -> tuple[float, float]:
+    """How far a point is from a line of points or from a single one, and how far along the line that is."""
+    (x, y), passed, best = point, 0.0, (hypot(point[0] - line[0][0], point[1] - line[0][1]), 0.0)
+    for ((ax, ay), (bx, by)), size in zip(pairwise(line), lengths(line), strict=True):
+        if size:
+            share = min(1.0, max(0.0, ((x - ax) * (bx - ax) + (y - ay) * (by - ay)) / size**2))
+            far = hypot(ax + (bx - ax) * share - x, ay + (by - ay) * share - y)
+            best = min(best, (far, passed + share * size))
+        passed += size
+    return best
+
+
+def distance(point: Point, line: Sequence[Point]) -> float:
+    return nearest(point, line)[0]

@@ -1,0 +1,226 @@
+"""TraCI's simulation and routes."""
+from __future__ import annotations
+
+import sys
+from dataclasses import dataclass
+from math import hypot
+
+from . import constants as tc
+from .domain import Domain
+from .errors import NotHere, TraCIException
+from .saving import load_state, save_state
+from .shapes import along, nearest
+
+
+@dataclass
+class Stage:
+    """A part of a way, as SUMO's scripts read it."""
+
+    type: int = tc.INVALID_INT_VALUE
+    vType: str = ""
+    line: str = ""
+    destStop: str = ""
+    edges: tuple[str, ...] = ()
+    travelTime: float = tc.INVALID_DOUBLE_VALUE
+    cost: float = tc.INVALID_DOUBLE_VALUE
+    length: float = tc.INVALID_DOUBLE_VALUE
+    intended: str = ""
+    depart: float = tc.INVALID_DOUBLE_VALUE
+    departPos: float = tc.INVALID_DOUBLE_VALUE
+    arrivalPos: float = tc.INVALID_DOUBLE_VALUE
+    description: str = ""
+
+
+class Simulation(Domain):
+    kind, name = "Simulation", "simulation"
+    variables = {
+        tc.VAR_TIME: "getTime",
+        tc.VAR_LOADED_VEHICLES_NUMBER: "getLoadedNumber",
+        tc.VAR_LOADED_VEHICLES_IDS: "getLoadedIDList",
+        tc.VAR_DEPARTED_VEHICLES_NUMBER: "getDepartedNumber",
+        tc.VAR_DEPARTED_VEHICLES_IDS: "getDepartedIDList",
+        tc.VAR_ARRIVED_VEHICLES_NUMBER: "getArrivedNumber",
+        tc.VAR_ARRIVED_VEHICLES_IDS: "getArrivedIDList",
+        tc.VAR_MIN_EXPECTED_VEHICLES: "getMinExpectedNumber",
+        tc.VAR_PENDING_VEHICLES: "getPendingVehicles",
+    }
+    first = (tc.VAR_DEPARTED_VEHICLES_IDS,)
+
+    def subjects(self):
+        return ("",)
+
+    # Time and vehicles
+
+    def getTime(self):
+        return float(self.now().clock)
+
+    def getCurrentTime(self):
+        """Milliseconds."""
+        return self.now().clock * 1000
+
+    def getDeltaT(self):
+        return 1.0
+
+    def getEndTime(self):
+        """The end that the words name, which ends nothing under a script; -1 where none do."""
+        return float(self.now().options.get("end", -1.0))
+
+    def getScale(self):
+        return 1.0
+
+    def getOption(self, option):
+        """What the words or the configuration say of an option of SUMO's."""
+        if option not in self.now().options:
+            raise TraCIException(f"Option '{option}' was not given.")
+        return self.now().options[option]
+
+    def getLoadedIDList(self):
+        """Vehicles that the last step told the program: those that would depart in it, and those that were added."""
+        return tuple(self.now().loaded)
+
+    def getLoadedNumber(self):
+        return len(self.now().loaded)
+
+    def getDepartedIDList(self):
+        session = self.now().follow()
+        return tuple(session.names[car] for car in session.departed)
+
+    def getDepartedNumber(self):
+        return len(self.now().follow().departed)
+
+    def getArrivedIDList(self):
+        session = self.now().follow()
+        return tuple(session.names[car] for car in session.arrived)
+
+    def getArrivedNumber(self):
+        return len(self.now().follow().arrived)
+
+    def getPendingVehicles(self):
+        """Vehicles that would have departed and wait for room."""
+        session = self.now().follow()
+        return tuple(session.names[car] for car in session.waiting_to_depart())
+
+    def getMinExpectedNumber(self):
+        """Vehicles that have not ended."""
+        session = self.now()
+        census = session.ask(b'{"cmd":"count"}\n')
+        return len(session.source.enters) - session.entered + census.admitted - census.arrived - census.taken
+
+    def none(self):
+        """Under a script nobody teleports; nobody collides, brakes in an emergency, parks or stops, and there are no persons."""
+        return 0
+
+    def nobody(self):
+        return ()
+
+    getStartingTeleportNumber = getEndingTeleportNumber = getCollidingVehiclesNumber = none
+    getEmergencyStoppingVehiclesNumber = getStopStartingVehiclesNumber = getStopEndingVehiclesNumber = none
+    getParkingStartingVehiclesNumber = getParkingEndingVehiclesNumber = none
+    getDepartedPersonNumber = getArrivedPersonNumber = none
+    getStartingTeleportIDList = getEndingTeleportIDList = getCollidingVehiclesIDList = getCollisions = nobody
+    getEmergencyStoppingVehiclesIDList = getStopStartingVehiclesIDList = getStopEndingVehiclesIDList = nobody
+    getParkingStartingVehiclesIDList = getParkingEndingVehiclesIDList = nobody
+    getDepartedPersonIDList = getArrivedPersonIDList = nobody
+
+    # Places and ways
+
+    def getNetBoundary(self):
+        """The lower left and the upper right corner."""
+        return self.now().facts.boundary
+
+    def convert2D(self, edgeID, pos, laneIndex=0, toGeo=False):
+        """The point of a place on a lane."""
+        if toGeo:
+            raise NotHere("simulation.convert2D: degrees are not here; streetsim-export writes them")
+        lane = self.lane(edgeID, laneIndex)
+        return along(lane.shape, min(1.0, max(0.0, pos / lane.metres)))
+
+    def convertRoad(self, x, y, isGeo=False, vClass="ignoring"):
+        """(edge, metres from its begin, lane) of the lane that is nearest to a point."""
+        if isGeo:
+            raise NotHere("simulation.convertRoad: degrees are not here")
+        session = self.now()
+        shapes = {name: session.facts.lanes[name].shape for name in session.lane_of}
+        lane = min(shapes, key=lambda name: nearest((x, y), shapes[name])[0])
+        edge, _, index = lane.rpartition("_")
+        return edge, nearest((x, y), shapes[lane])[1], int(index)
+
+    def lane(self, edge, index):
+        self.check(f"{edge}_{index}", self.now().lane_of)
+        return self.now().facts.lanes[f"{edge}_{index}"]
+
+    def getDistance2D(self, x1, y1, x2, y2, isGeo=False, isDriving=False):
+        """Metres between two points, as the crow flies or (isDriving) from lane to lane."""
+        if isGeo:
+            raise NotHere("simulation.getDistance2D: degrees are not here")
+        if not isDriving:
+            return hypot(x2 - x1, y2 - y1)
+        (edge1, pos1, _), (edge2, pos2, _) = self.convertRoad(x1, y1), self.convertRoad(x2, y2)
+        return self.getDistanceRoad(edge1, pos1, edge2, pos2, True)
+
+    def getDistanceRoad(self, edgeID1, pos1, edgeID2, pos2, isDriving=False):
+        """The same between two places on edges; on the shortest way junctions have no length."""
+        if not isDriving:
+            return self.getDistance2D(*self.convert2D(edgeID1, pos1), *self.convert2D(edgeID2, pos2))
+        if edgeID1 == edgeID2 and pos1 <= pos2:
+            return pos2 - pos1
+        return self.now().router().metres(edgeID1, edgeID2) - pos1 - (self.lane(edgeID2, 0).metres - pos2)
+
+    def findRoute(self, fromEdge, toEdge, vType="", depart=-1.0, routingMode=0):
+        """The way between two edges that is shortest by the travel times of now."""
+        edges, seconds = self.now().router().way(fromEdge, toEdge)
+        metres = sum(self.lane(edge, self.now().map.links[self.now().map.links_of[edge][0]].lanes[0]).metres for edge in edges)
+        return Stage(tc.STAGE_DRIVING, vType, edges=edges, travelTime=seconds, cost=seconds, length=metres)
+
+    # States
+
+    def saveState(self, fileName):
+        """Writes the state to a file of streetsim's own, which loadState reads."""
+        save_state(self.now(), fileName)
+
+    def loadState(self, fileName):
+        """Brings the run to a state that was saved in a run of the same files."""
+        load_state(self.now(), fileName)
+
+    def writeMessage(self, msg):
+        print(msg, file=sys.stderr)
+
+    # Subscriptions
+
+    def subscribe(self, varIDs=None, begin=None, end=None):
+        self.note("", varIDs)
+
+    def unsubscribe(self):
+        self.subscribed.clear()
+
+    def getSubscriptionResults(self):
+        return {variable: getattr(self, self.variables[variable])() for variable in self.subscribed.get("", ())}
+
+    def getAllSubscriptionResults(self):
+        return {"": self.getSubscriptionResults()} if self.subscribed else {}
+
+
+class Route(Domain):
+    kind, name = "Route", "route"
+    variables = {tc.VAR_EDGES: "getEdges"}
+    first = (tc.VAR_EDGES,)
+
+    def getIDList(self):
+        """Routes of the files that have a name, and those of route.add."""
+        return tuple({**self.now().facts.routes, **self.now().routes})
+
+    def add(self, name, edges):
+        session = self.now()
+        if name in session.routes or name in session.facts.routes:
+            raise TraCIException(f"Route '{name}' exists already.")
+        try:
+            session.routes[name] = session.plan(list(edges))
+        except ValueError as fault:
+            raise TraCIException(f"Route '{name}': {fault}") from None
+
+    def getEdges(self, name):
+        self.check(name, self.getIDList())
+        session = self.now()
+        if name in session.facts.routes:
+            return session.facts.routes[name]
+        return tuple(session.map.links[link].edge for link in session.routes[name])

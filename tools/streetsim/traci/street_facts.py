@@ -1,0 +1,121 @@
+"""What a network and its additional and route files tell, and a run's map does not: widths and classes of lanes, names of
+streets, connections, junctions, the programs of lights, routes by name."""
+from __future__ import annotations
+
+from collections.abc import Sequence
+from dataclasses import dataclass, field
+
+from ..files import attribute, elements, number, seconds
+from .lights import Light
+
+Point = tuple[float, float]
+WIDTH = 3.2  # metres of a lane, where a file has none
+INSIDE = "internal"  # the function of the edges in a junction
+
+
+@dataclass(slots=True)
+class Connection:
+    """A way from a lane to a next one, as SUMO's lane.getLinks has it."""
+
+    target: str  # the next lane
+    via: str  # the lane inside the junction
+    direction: str
+    state: str  # without a light
+    light: str
+    index: int
+
+
+@dataclass(slots=True)
+class LaneFacts:
+    speed: float  # metres a second
+    metres: float
+    width: float
+    allowed: tuple[str, ...]
+    disallowed: tuple[str, ...]
+    shape: tuple[Point, ...]
+    links: list[Connection] = field(default_factory=list)
+
+
+@dataclass(slots=True)
+class Junction:
+    place: Point
+    shape: tuple[Point, ...]
+
+
+@dataclass(slots=True)
+class Facts:
+    """Of the files of a run."""
+
+    lanes: dict[str, LaneFacts] = field(default_factory=dict)
+    inside: dict[str, float] = field(default_factory=dict)  # metres of the lanes inside junctions
+    streets: dict[str, str] = field(default_factory=dict)  # by edge
+    junctions: dict[str, Junction] = field(default_factory=dict)
+    lights: dict[str, Light] = field(default_factory=dict)
+    offsets: dict[tuple[str, str], float] = field(default_factory=dict)  # by light and program: when its first phase begins
+    boundary: tuple[Point, Point] = ((0.0, 0.0), (0.0, 0.0))
+    routes: dict[str, tuple[str, ...]] = field(default_factory=dict)
+    edgedata: list[tuple[str, float]] = field(default_factory=list)  # file and period, as additional files ask for them
+
+    def read_edge(self, path: str, element) -> None:
+        edge = attribute(path, element, "id")
+        for lane in element.iter("lane"):
+            name, metres = attribute(path, lane, "id"), attribute(path, lane, "length", number)
+            if element.get("function") == INSIDE:
+                self.inside[name] = metres
+                continue
+            allowed, disallowed = (tuple((lane.get(word) or "").split()) for word in ("allow", "disallow"))
+            speed, width = attribute(path, lane, "speed", number), number(lane.get("width") or str(WIDTH))
+            self.lanes[name] = LaneFacts(speed, metres, width, allowed, disallowed, points(lane.get("shape")))
+            self.streets[edge] = element.get("name") or ""
+
+    def read_connection(self, element) -> None:
+        source, target = (f"{element.get(edge)}_{element.get(lane)}" for edge, lane in (("from", "fromLane"), ("to", "toLane")))
+        if source in self.lanes:
+            marks = (element.get(name) or "" for name in ("via", "dir", "state", "tl"))
+            self.lanes[source].links.append(Connection(target, *marks, int(element.get("linkIndex") or -1)))
+
+    def read_light(self, path: str, element) -> None:
+        """The last program of a light is the one that runs; the others can be chosen."""
+        phases = [(attribute(path, one, "duration", seconds), attribute(path, one, "state")) for one in element.iter("phase")]
+        if not phases:
+            return
+        names = [one.get("name") or "" for one in element.iter("phase")]
+        name, program = attribute(path, element, "id"), element.get("programID") or "0"
+        light = Light(phases, seconds(element.get("offset") or "0"), program, names=names)
+        self.offsets[name, program] = light.begin
+        light.programs = {**(self.lights[name].programs if name in self.lights else {}), program: (phases, names)}
+        self.lights[name] = light
+
+
+def points(text: str | None) -> tuple[Point, ...]:
+    return tuple((float(x), float(y)) for x, y, *_ in (part.split(",") for part in (text or "").split()))
+
+
+def read_facts(net: str, additional: Sequence[str], routes: Sequence[str]) -> Facts:
+    facts = Facts()
+    for path in (net, *additional):
+        for element in elements(path, None):
+            read_element(facts, path, element)
+    for path in (*additional, *routes):
+        for element in elements(path, None):
+            if element.tag == "route" and element.get("id"):
+                facts.routes[element.get("id")] = tuple((element.get("edges") or "").split())
+    return facts
+
+
+def read_element(facts: Facts, path: str, element) -> None:
+    if element.tag == "edge":
+        facts.read_edge(path, element)
+    elif element.tag == "connection":
+        facts.read_connection(element)
+    elif element.tag == "junction" and element.get("type") != INSIDE:
+        place = attribute(path, element, "x", number), attribute(path, element, "y", number)
+        facts.junctions[attribute(path, element, "id")] = Junction(place, points(element.get("shape")))
+    elif element.tag == "tlLogic":
+        facts.read_light(path, element)
+    elif element.tag == "location" and element.get("convBoundary"):
+        left, low, right, high = map(float, element.get("convBoundary").split(","))
+        facts.boundary = (left, low), (right, high)
+    elif element.tag == "edgeData" and element.get("file"):
+        period = element.get("period") or element.get("freq") or "0"
+        facts.edgedata.append((element.get("file"), seconds(period)))

@@ -1,0 +1,151 @@
+"""TraCI's traffic lights."""
+from __future__ import annotations
+
+from dataclasses import dataclass, field
+
+from . import constants as tc
+from .domain import Domain
+from .errors import TraCIException
+from .lights import CONSTANT
+
+
+@dataclass
+class Phase:
+    duration: float
+    state: str
+    minDur: float = -1.0
+    maxDur: float = -1.0
+    next: tuple = ()
+    name: str = ""
+
+
+@dataclass
+class Logic:
+    programID: str
+    type: int
+    currentPhaseIndex: int
+    phases: list = field(default_factory=list)
+    subParameter: dict = field(default_factory=dict)
+
+    def getPhases(self):
+        return self.phases
+
+
+class TrafficLight(Domain):
+    kind, name = "Traffic light", "trafficlight"
+    Phase, Logic = Phase, Logic
+    variables = {
+        tc.TL_RED_YELLOW_GREEN_STATE: "getRedYellowGreenState",
+        tc.TL_PHASE_DURATION: "getPhaseDuration",
+        tc.TL_CONTROLLED_LANES: "getControlledLanes",
+        tc.TL_CURRENT_PHASE: "getPhase",
+        tc.TL_CURRENT_PROGRAM: "getProgram",
+        tc.TL_NEXT_SWITCH: "getNextSwitch",
+    }
+    first = (tc.TL_CURRENT_PHASE,)
+
+    def getIDList(self):
+        return tuple(sorted(self.now().lights))
+
+    def at(self, name):
+        light = self.now().light(name)
+        return light, *light.at(self.now().clock)
+
+    def getRedYellowGreenState(self, name):
+        light, index, _ = self.at(name)
+        return light.phases[index][1]
+
+    def getPhase(self, name):
+        return self.at(name)[1]
+
+    def getPhaseDuration(self, name):
+        light, index, _ = self.at(name)
+        return float(light.phases[index][0])
+
+    def getNextSwitch(self, name):
+        """The time at which the phase ends."""
+        timers = [clock for clock, light, _ in self.now().timers if light == name]
+        return float(min(timers)) if timers else float(self.now().clock + self.at(name)[2])
+
+    def getProgram(self, name):
+        return self.now().light(name).program
+
+    def getControlledLanes(self, name):
+        """The lane of each signal, by its index."""
+        return tuple(link[0] if link else "" for link in self.now().light(name).links)
+
+    def getControlledLinks(self, name):
+        """For each signal [(lane, next lane, lane inside the junction)]."""
+        return tuple([link] if link else [] for link in self.now().light(name).links)
+
+    def getAllProgramLogics(self, name):
+        """The program that runs, and those of the files that do not, from their first phase."""
+        light, index, _ = self.at(name)
+        others = ((program, *told) for program, told in light.programs.items() if program != light.program)
+        return logic(light.program, light.phases, light.names, index), *(logic(*told, 0) for told in others)
+
+    getCompleteRedYellowGreenDefinition = getAllProgramLogics
+
+    def getPhaseName(self, name):
+        light, index, _ = self.at(name)
+        return light.names[index] if index < len(light.names) else ""
+
+    def setPhaseName(self, name, text):
+        light, index, _ = self.at(name)
+        light.names = [*light.names, *[""] * (len(light.phases) - len(light.names))]
+        light.names[index] = str(text)
+
+    def setPhase(self, name, index):
+        light, session = self.now().light(name), self.now()
+        if not 0 <= index < len(light.phases):
+            raise TraCIException(f"Traffic light '{name}' has no phase {index}")
+        session.timers = [timer for timer in session.timers if timer[1] != name]
+        session.show_phase(name, index)
+
+    def setPhaseDuration(self, name, seconds):
+        """The phase ends so many seconds from now; the next ones last as in the program."""
+        session, (light, index, _) = self.now(), self.at(name)
+        if not seconds >= 0:
+            raise TraCIException(f"Traffic light '{name}': a phase of {seconds} s")
+        session.timers = [timer for timer in session.timers if timer[1] != name]
+        ends = session.clock + max(0, round(seconds))
+        session.timers.append((ends, name, (index + 1) % len(light.phases)))
+        session.set_light(name, [(CONSTANT, light.phases[index][1].replace("g", "G"))], 0)
+
+    def setRedYellowGreenState(self, name, state):
+        self.now().hold(name, state)
+
+    def setLinkState(self, name, index, state):
+        """One signal of the light as it is now, and so until the next call that sets it."""
+        shown = self.getRedYellowGreenState(name)
+        if not 0 <= index < len(shown):
+            raise TraCIException(f"Traffic light '{name}' has no signal {index}")
+        self.now().hold(name, shown[:index] + state + shown[index + 1 :])
+
+    def setProgram(self, name, programID):
+        """A program of the files or one that was set before, as far as its cycle is at this clock."""
+        light, session = self.now().light(name), self.now()
+        if programID not in light.programs:
+            raise TraCIException(f"Traffic light '{name}' has no program {programID!r}")
+        phases, names = light.programs[programID]
+        session.show_program(name, phases, 0, programID, names)
+        light.begin = session.facts.offsets.get((name, programID), 0.0)
+        session.send_light(name, light)
+
+    def setProgramLogic(self, name, logic):
+        """A whole program, from the begin of its current phase."""
+        phases = [(float(phase.duration), phase.state) for phase in logic.phases]
+        if not phases:
+            raise TraCIException(f"Traffic light '{name}': a program without phases")
+        names = [phase.name for phase in logic.phases]
+        self.now().show_program(name, phases, logic.currentPhaseIndex, logic.programID, names)
+        self.now().light(name).programs[logic.programID] = phases, names
+
+    setCompleteRedYellowGreenDefinition = setProgramLogic
+
+
+def logic(program: str, phases, names, index: int) -> Logic:
+    """A program as scripts read it; phases last as long as they are told, so the least and the longest time are that."""
+    named = [*names, *[""] * (len(phases) - len(names))]
+    told = (Phase(duration, state, duration, duration, (), name) for (duration, state), name in zip(phases, named, strict=True))
+    return Logic(program, 0, index, tuple(told))
