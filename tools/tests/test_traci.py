@@ -209,6 +209,7 @@ class Vehicles(Started):
         skipped = '<vehicle id="bus" depart="1"><route edges="a b c"/></vehicle></routes>'
         words = ["sumo", "-n", self.write("x.net.xml", SIGNALLED), "-r", self.write("x.rou.xml", ROUTES.replace("</routes>", skipped))]
         words += ["--time-to-teleport", "-1", "--lateral-resolution", "0.8", "--no-step-log", "true", "--end", "90"]
+        words += ["--ignore-route-errors"]
         for more, told in (([], True), (["--no-warnings"], False)):
             with redirect_stderr(StringIO()) as said:
                 traci.start([*words, *more, "--log", str(self.folder / "log.txt"), "--classes", "passenger"])

@@ -30,6 +30,7 @@ def open_session(folder: Path, options: Options) -> Session:
     words = [options["net-file"], *additional, "-o", f"{folder}/run.jsonl", "--map", f"{folder}/map.json"]
     words += ["--routes", *routes] if routes else []
     words += [word for name in sorted(IMPORTED & options.keys()) for word in (f"--{name}", options[name])]
+    words += ["--ignore-route-errors"] if is_on(options.get("ignore-route-errors", "false")) else []
     with redirect_stderr(StringIO()) as said:
         importing.main(words)
     told = said.getvalue()
@@ -66,10 +67,15 @@ def output_paths(options: Options, facts: Facts) -> dict[str, str]:
     return {kind: os.path.join(os.path.dirname(path), prefix + os.path.basename(path)) for kind, path in paths.items()}
 
 
+def is_on(value: str) -> bool:
+    """Whether an option of yes or no is on; without a value it is."""
+    return value.lower() in ("", "true", "1", "yes", "on", "t")
+
+
 def tell(said: str, options: Options) -> None:
     """Tells what the import said and what options do not do here: on standard error, and in the files of --log."""
     said = "".join(f"warning: {text}\n" for text in warnings_of(options)) + said
-    if options.get("no-warnings", "false").lower() not in ("", "true", "1", "yes", "on", "t"):
+    if not is_on(options.get("no-warnings", "false")):
         sys.stderr.write(said)
     for path in {options[name] for name in LOGS if options.get(name)}:
         with whole_file(path) as file:

@@ -15,7 +15,7 @@ SHORT = {
     **{"-T": "disable-textures", "-C": "save-configuration"},
 }
 INPUTS = {"configuration-file", "net-file", "route-files", "additional-files", "step-length", "time-to-teleport", "output-prefix"}
-INPUTS |= {"rounds"}
+INPUTS |= {"rounds", "ignore-route-errors"}
 LOGS = ("log", "message-log", "error-log")  # files that get what the import says
 IMPORTED = {"seed", "begin", "classes", "joint", "turns", "sizes", "dawdle", "change", "zone", "residence", "buffer"}
 IMPORTED |= {"permissive"}
