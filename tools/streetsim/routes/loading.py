@@ -4,11 +4,12 @@ from __future__ import annotations
 import json
 from array import array
 from collections.abc import Sequence
-from dataclasses import dataclass
+from dataclasses import dataclass, replace
 
 from ..files import Fault
 from ..run.mapping import Map, map_of
 from ..run.runs import Line, Run, run_of
+from ..run.works import closed, lanes_to_join, works_of
 from ..sumo.importing import converted, refuse_over_limits
 from ..sumo.net import SumoNet, read_additional, read_net
 from ..sumo.network import Network, Options
@@ -35,6 +36,7 @@ class Town:
     def __init__(self, net: SumoNet, types: Types, options: Options) -> None:
         self.net, self.types, self.options = net, types, options
         self.graph: Graph = graph_of_net(net)
+        self.works: tuple[str, ...] = ()  # as streetsim-run --close takes them
 
     @property
     def dawdle(self) -> float:
@@ -42,15 +44,27 @@ class Town:
 
     def loaded(self, trips: Sequence[Trip]) -> Loaded:
         """The run of trips that have ways. Permissive greens and the choice of lanes follow the routes, so it is imported anew."""
-        report = Report()
-        network, lights, commands, names = converted(self.net, self.types, vehicles_of(trips, self.graph), self.options, report)
+        run, mapping = self.imported(trips, ())
+        if self.works:
+            run, mapping = self.with_works(trips, run, mapping)
+        return Loaded(run, mapping, self.free(mapping, [line.command for line in run.first]))
+
+    def imported(self, trips: Sequence[Trip], joint: Sequence[str]) -> tuple[Run, Map]:
+        """The run and its map, with some further lanes joint."""
+        report, options = Report(), replace(self.options, joint=(*self.options.joint, *joint))
+        network, lights, commands, names = converted(self.net, self.types, vehicles_of(trips, self.graph), options, report)
         if report.skipped:
             raise Fault(f"skipped: {', '.join(f'{count} vehicles: {why}' for why, count in sorted(report.skipped.items()))}")
-        mapping = map_of(network, lights, names, report)
         lines = lines_of(commands)
         refuse_over_limits(network, lines[0].text, names)
-        run = run_of("the routes", lines)
-        return Loaded(run, mapping, self.free(mapping, [line.command for line in run.first]))
+        return run_of("the routes", lines), map_of(network, lights, names, report)
+
+    def with_works(self, trips: Sequence[Trip], run: Run, mapping: Map) -> tuple[Run, Map]:
+        """The run and its map with the town's works."""
+        works = [works_of(text, mapping) for text in self.works]
+        if names := lanes_to_join(works, mapping):
+            run, mapping = self.imported(trips, names)
+        return closed(run, mapping, works)
 
     def free(self, mapping: Map, commands: Sequence[dict]) -> array:
         return free_seconds(self.graph, mapping, commands, self.dawdle)

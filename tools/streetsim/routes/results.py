@@ -2,13 +2,15 @@
 from __future__ import annotations
 
 import json
+from collections import Counter
 from collections.abc import Iterator, Sequence
 from statistics import fmean
 
 from ..files import whole_file
 from ..run.tables import interval, write_table
 from .costs import mean_of
-from .graph import END
+from .diverting import Diverted
+from .graph import END, Graph
 from .loading import Town
 from .search import Iteration, Judged
 from .trips import Trip
@@ -20,6 +22,7 @@ ITERATIONS = (
 )
 CHECK = ("seed", "mean_trip_s", "arrived", "rescues")
 MOVEMENTS = ("begin", "end", "edge", "next_edge", "vehicles", "mean_s", "free_s")
+FLOWS = ("edge", "case", "trips", "more_than_before")
 TRIPS = ("id", "depart", "edges", "may_change", "mean_trip_s", "way_s", "shortest_s")
 
 
@@ -69,6 +72,14 @@ def trip_rows(trips: Sequence[Trip], judged: Judged) -> Iterator[tuple]:
         found = searched.get(at)
         ways = (f"{found.own:.1f}", f"{found.least:.1f}") if found and found.path else ("", "")
         yield trip.name, f"{trip.depart:.2f}", len(trip.path), int(trip.changes), mean, *ways
+
+
+def flow_rows(graph: Graph, all_: Sequence[Diverted]) -> Iterator[tuple]:
+    """For each edge how many trips have it on their ways, before and with each share of drivers who know of the works."""
+    flows = [Counter(edge for trip in one.trips for edge in set(trip.path)) for one in all_]
+    for edge, name in enumerate(graph.edges):
+        for one, flow in zip(all_, flows, strict=True):
+            yield name, one.label, flow[edge], flow[edge] - flows[0][edge]
 
 
 def figures(judged: Judged) -> dict:

@@ -45,19 +45,11 @@ class Router:
         self.target, self.bounds = END, [FAR]
 
     def arcs_of(self, edge: int) -> list[tuple[int, array]]:
-        """The next edges of an edge, each with the costs of going there; what is shut then costs too much."""
+        """The next edges of an edge, each with the costs of going there."""
         made = self.arcs[edge]
         if made is None:
-            ways = ((following, self.table.row(movement)) for following, movement in self.graph.out[edge])
-            made = [(following, self.without(row, self.shut[following]) if following in self.shut else row) for following, row in ways]
-            self.arcs[edge] = made
+            made = self.arcs[edge] = [(following, self.table.row(movement)) for following, movement in self.graph.out[edge]]
         return made
-
-    def without(self, row: array, times: Sequence[tuple[float, float]]) -> array:
-        """Costs of a movement without those by which its next edge is reached while it is shut."""
-        part = self.table.costs.part
-        reached = (part * (at + 0.5) + seconds if part < FAR else 0.0 for at, seconds in enumerate(row))
-        return array("d", [FAR if any(begin <= clock < end for begin, end in times) else row[at] for at, clock in enumerate(reached)])
 
     def bounds_to(self, target: int) -> list[float]:
         """The least seconds from the begin of each edge to that of the target."""
@@ -80,7 +72,7 @@ class Router:
 
     def search(self, origin: int, target: int, clock: float) -> tuple[Path, float]:
         """The path that is shortest from a clock on, and its seconds to the end of the target; no path where there is none."""
-        bounds, inverse, last = self.bounds_to(target), self.table.inverse, self.table.last
+        bounds, inverse, last, shut = self.bounds_to(target), self.table.inverse, self.table.last, self.shut
         best, before = {origin: clock}, {}
         heap = [(clock + bounds[origin], -clock, origin)] if bounds[origin] < FAR else []  # of equal ones the farthest first
         while heap:
@@ -95,7 +87,7 @@ class Router:
                 part = last
             for following, row in self.arcs_of(edge):
                 then = now + row[part]
-                if then < best.get(following, FAR):
+                if then < best.get(following, FAR) and not (following in shut and self.opened(following, then) > then):
                     best[following] = then
                     before[following] = edge
                     heappush(heap, (then + bounds[following], -then, following))
@@ -112,8 +104,26 @@ class Router:
         """When each edge of a path is reached, and its end."""
         found, movement_of = [clock], self.graph.movement_of
         for way in pairwise((*path, END)):
-            found.append(found[-1] + self.table.at(movement_of[way], found[-1]))
+            reached = found[-1] + self.table.at(movement_of[way], found[-1])
+            found.append(self.opened(way[1], reached) if self.shut else reached)
         return found
+
+    def opened(self, edge: int, clock: float) -> float:
+        """When one may enter an edge that is reached at a clock."""
+        return next((end for begin, end in self.shut.get(edge, ()) if begin <= clock < end), clock)
+
+    def met(self, path: Path, clock: float) -> int | None:
+        """The place of the first edge of a path that is reached while it is shut, if any."""
+        if self.shut.keys().isdisjoint(path):
+            return None
+        if self.opened(path[0], clock) != clock:
+            return 0
+        clocks, movement_of = self.clocks(path, clock), self.graph.movement_of
+        for at, way in enumerate(pairwise(path)):
+            reached = clocks[at] + self.table.at(movement_of[way], clocks[at])
+            if self.opened(way[1], reached) != reached:
+                return at + 1
+        return None
 
     def own(self, wish: Wish) -> float:
         """The seconds of the path that a trip has."""

@@ -2,6 +2,7 @@
 from __future__ import annotations
 
 import argparse
+import json
 import os
 import sys
 from collections.abc import Sequence
@@ -10,18 +11,20 @@ from statistics import fmean
 
 from .. import limits, program
 from ..cli.progress import Slow, Stopping
-from ..cli.words import Parser, files_of, time_within, within
-from ..files import Fault, place_of, refuse_equal, whole_folder
+from ..cli.words import Parser, files_of, listed, time_within, within
+from ..files import Fault, place_of, refuse_equal, whole_file, whole_folder
+from ..run.tables import write_table
 from ..signals.planning import add_machines
 from ..study.seeds import seeds_of
 from ..study.sessions import digest_of
-from ..sumo.importing import add_options, converted, options_of, write_run
+from ..sumo.importing import add_options, options_of
 from ..sumo.report import Report
+from .diverting import SHARES, Diverted, closing_of, diverted, give_ways, placed, share_rows
 from .loading import Town, read_town
-from .results import NAME, write_results
+from .results import FLOWS, NAME, flow_rows, write_results
 from .search import STILL, Asked, Iteration, Judged, Search
 from .team import Team, team
-from .trips import Trips, read_trips, vehicles_of, write_routes
+from .trips import Trips, read_trips, write_routes
 from .watching import Ground
 
 AFTER = 7200  # seconds that a run may last after the last departure
@@ -44,6 +47,7 @@ def parser() -> argparse.ArgumentParser:
     made.add_argument("--map", help="the map of that run (.json)")
     made.add_argument("--out", required=True, metavar="DIR", help="the folder for tables")
     add_search(made)
+    add_works(made)
     add_machines(made)
     add_options(made)
     return made
@@ -65,6 +69,28 @@ def add_search(made: argparse.ArgumentParser) -> None:
     made.add_argument(
         "--check", default="101-103", metavar="FIRST-LAST", help="seeds by which the routes are judged, which the search does not see (default %(default)s)"
     )
+
+
+def add_works(made: argparse.ArgumentParser) -> None:
+    """The words that say what is closed, and who knows of it."""
+    made.add_argument(
+        "--close",
+        action="extend",
+        nargs="+",
+        default=[],
+        metavar="LANE:METRES-METRES:S-S",
+        help="road works, as of streetsim-run; where all lanes of an edge are closed, those who know of it take another way from their begin on, "
+        "and the others turn off before it",
+    )
+    made.add_argument(
+        "--knowing", type=shares_of, metavar="SHARES", help="of drivers who know of the works, with commas between: each is tried (default 1)"
+    )
+    made.add_argument("--sign", nargs="+", default=[], metavar="EDGE", help="edges on which the others are told (default: the last before the works)")
+    made.add_argument("--before", metavar="FILE", help="routes without the works (.rou.xml; default: those of --trips, or else they are searched first)")
+
+
+def shares_of(text: str) -> list[float]:
+    return list(dict.fromkeys(share_of(part) for part in listed(text)))
 
 
 def share_of(text: str) -> float:
@@ -95,10 +121,10 @@ def main(arguments: Sequence[str]) -> int:
     check_words(words)
     with Slow(f"reading {words.net}"):
         job = job_of(words)
-    with team(job.ground, words.jobs, words.cluster) as workers:
-        search, judged = found_routes(job, workers)
-    write(job, search, judged)
-    return tell(job, search, judged)
+    with team(job.ground, words.jobs, words.cluster) as workers, Stopping() as stopping:
+        all_ = found_routes(job, workers, stopping)
+    write(job, all_)
+    return max([tell(job, one, all_[0]) for one in all_[len(all_) > 1 :]])
 
 
 def check_words(words: argparse.Namespace) -> None:
@@ -107,12 +133,16 @@ def check_words(words: argparse.Namespace) -> None:
         raise Fault("--run and --map are given together or not at all")
     outputs = {"-o": words.output, "--run": words.run, "--map": words.map}
     given = {name: path for name, path in outputs.items() if path is not None}
-    refuse_equal(given, [words.net, *words.additional, *words.trips])
+    refuse_equal(given, [words.net, *words.additional, *words.trips, *([words.before] if words.before else [])])
     for path in given.values():
         if not os.path.isdir(os.path.dirname(place_of(path))):
             raise Fault(f"{path}: there is no folder {os.path.dirname(place_of(path))}")
     if os.path.exists(words.out) and not os.path.isdir(words.out):
         raise Fault(f"{words.out}: exists and is no folder")
+    for name in ("knowing", "sign", "before"):
+        if getattr(words, name) and not words.close:
+            raise Fault(f"--{name} is of road works: give --close too")
+    words.knowing = words.knowing or [1.0]
     if set(seeds_of(words.seeds, "--seeds")) & set(seeds_of(words.check, "--check")):
         raise Fault(f"--seeds {words.seeds} and --check {words.check} overlap: routes must not be judged by what they were found by")
     words.program = program.find_program(words.program)
@@ -125,6 +155,8 @@ def job_of(words: argparse.Namespace) -> Job:
     if words.anew:
         for trip in trips.all:
             trip.path = ()
+    if words.before:
+        give_ways(trips.all, read_trips([words.before], town.net, town.graph, town.types, town.options, Report()), words.before)
     print(*report.lines(), sep="\n", end="\n" if any(report.lines()) else "", file=sys.stderr)
     last = int(trips.all[-1].depart)
     until = min(limits.CLOCK, last + AFTER) if words.until is None else words.until
@@ -135,54 +167,77 @@ def job_of(words: argparse.Namespace) -> Job:
     return Job(words, town, trips, ground, asked, seeds_of(words.check, "--check"))
 
 
-def found_routes(job: Job, workers: Team) -> tuple[Search, Judged]:
-    """The search, after which the trips have their routes, and these judged by the check seeds."""
-    count = len(job.trips.all)
-    with Stopping() as stopping:
+def found_routes(job: Job, workers: Team, stopping: Stopping) -> list[Diverted]:
+    """What was found, judged by the check seeds: without works, and with them for each share of drivers who know of them."""
+    words, count = job.words, len(job.trips.all)
 
-        def told(iteration: Iteration) -> bool:
-            print(iteration.line(count), file=sys.stderr, flush=True)
-            return stopping.asked
+    def told(label: str, iteration: Iteration) -> bool:
+        print(f"{label}{iteration.line(count)}", file=sys.stderr, flush=True)
+        return stopping.asked
 
-        search = Search(job.town, job.ground, job.trips.all, workers, told)
+    search = Search(job.town, job.ground, job.trips.all, workers, lambda one: told("before, " if words.close else "", one))
+    given = words.close and all(trip.path for trip in job.trips.all)
+    if not given:
         search.start(job.asked.seeds[0])
         search.improve(job.asked)
-    return search, search.judged(job.check)
+    judged = search.judged(job.check)
+    before = Diverted(None, job.trips.all, search, judged)
+    if not words.close:
+        return [before]
+    closing = closing_of(words.close, words.sign, job.town.graph, search, judged)
+    return [before, *diverted(search, judged, closing, words.close, job.asked, job.check, words.knowing, told)]
 
 
-def write(job: Job, search: Search, judged: Judged) -> None:
-    words = job.words
-    write_routes(words.output, job.trips, job.town.graph)
-    if words.run:
-        report = Report()
-        vehicles = vehicles_of(job.trips.all, job.town.graph)
-        write_run(words.run, words.map, converted(job.town.net, job.town.types, vehicles, job.town.options, report), report)
-    setting = {
-        "net": words.net,
-        "additional": words.additional,
-        "trips": words.trips,
-        "until": job.ground.until,
-        "slice": words.slice,
-        "iterations": words.iterations,
-        "gap": words.gap,
-        "share": words.share,
-        "seeds": words.seeds,
-        "check": words.check,
-        "iteration": search.best.number,
-    }
+def write(job: Job, all_: Sequence[Diverted]) -> None:
+    words, many = job.words, len(all_) > 2
+    for one in all_[len(all_) > 1 :]:
+        write_routes(placed(words.output, one.share, many), Trips(list(one.trips), job.trips.types), job.town.graph)
+        if words.run:
+            write_run_of(job, one, placed(words.run, one.share, many), placed(words.map, one.share, many))
     with whole_folder(words.out, NAME) as folder:
-        write_results(folder, job.town, job.trips.all, search.iterations, judged, setting)
+        for one in all_[len(all_) > 1 :]:
+            place = f"{folder}/{one.label.replace(' ', '-')}" if many else folder
+            os.makedirs(place, exist_ok=True)
+            write_results(place, job.town, one.trips, one.search.iterations, one.judged, setting_of(job, one))
+        if words.close:
+            write_routes(f"{folder}/before.rou.xml", job.trips, job.town.graph)
+            write_table(f"{folder}/knowing.csv", SHARES, share_rows(all_))
+            write_table(f"{folder}/flows.csv", FLOWS, flow_rows(job.town.graph, all_))
+        if many:
+            with whole_file(f"{folder}/{NAME}") as file:
+                json.dump({**setting_of(job, all_[0]), "knowing": words.knowing}, file, indent=1)
 
 
-def tell(job: Job, search: Search, judged: Judged) -> int:
+def write_run_of(job: Job, one: Diverted, run_path: str, map_path: str) -> None:
+    """The run of found routes, as streetsim-import makes it, and with works their lines."""
+    loaded = one.search.town.loaded(one.trips)
+    run, mapping = loaded.run, loaded.mapping
+    timed = [json.dumps({"at": clock, **line.command}, separators=(",", ":")) for clock, line in run.timed]
+    with whole_file(run_path) as file, whole_file(map_path) as mapped:
+        file.writelines(f"{text}\n" for text in (run.load.text, *(line.text for line in run.first), *timed, *(line.text for line in run.enters)))
+        json.dump(mapping.written(), mapped, separators=(",", ":"))
+
+
+def setting_of(job: Job, one: Diverted) -> dict:
+    words = job.words
+    names = ("net", "additional", "trips", "slice", "iterations", "gap", "share", "seeds", "check")
+    setting = {name: getattr(words, name) for name in names} | {"until": job.ground.until, "iteration": one.search.best.number}
+    if words.close:
+        setting |= {"close": words.close, "knowing": one.share, "sign": words.sign, "before": words.before}
+    return setting
+
+
+def tell(job: Job, one: Diverted, before: Diverted) -> int:
     """Says what was found and what speaks against it; gives the status."""
-    for text in warnings(job, search, judged):
-        print(f"warning: {text}", file=sys.stderr)
-    reached = judged.gap <= job.words.gap
-    mean, runs = fmean(one.mean for one in judged.outcomes), len(judged.outcomes)
+    label = f"{one.label}: " * (one.share is not None)
+    for text in warnings(job, one.search, one.judged):
+        print(f"warning: {label}{text}", file=sys.stderr)
+    reached = one.judged.gap <= job.words.gap
+    mean, runs = fmean(one.means()), len(one.judged.outcomes)
     print(
-        f"mean trip {mean:.1f} s, gap {100 * judged.gap:.2f} % by {runs} seed{'s' * (runs > 1)} that the search did not see"
-        f"{'' if reached else f': the gap of {100 * job.words.gap:g} % is not reached'}; routes of iteration {search.best.number}"
+        f"{label}mean trip {mean:.1f} s{f' ({mean - fmean(before.means()):+.1f} s by the works)' * bool(label)}, "
+        f"gap {100 * one.judged.gap:.2f} % by {runs} seed{'s' * (runs > 1)} that the search did not see"
+        f"{'' if reached else f': the gap of {100 * job.words.gap:g} % is not reached'}; routes of iteration {one.search.best.number}"
     )
     return 0 if reached else 1
 
@@ -194,6 +249,6 @@ def warnings(job: Job, search: Search, judged: Judged) -> list[str]:
         told.append(f"{count - arrived:,} of {count:,} trips have not arrived at {job.ground.until:,} s (--until)")
     if rescues > MOST_RESCUES * count:
         told.append(f"{rescues:,} rescues of {count:,} trips: the network locks in part, and the gap says little")
-    if search.iterations[-1].number - search.best.number >= STILL and judged.gap > job.words.gap:
+    if search.iterations and search.iterations[-1].number - search.best.number >= STILL and judged.gap > job.words.gap:
         told.append(f"the gap does not fall any more: the least was seen in iteration {search.best.number}")
     return told

@@ -6,6 +6,7 @@ from dataclasses import dataclass, field
 from statistics import fmean
 
 from .. import limits
+from .closing import Closing, turn_off
 from .costs import Costs, costs_of, flat_costs, mean_of
 from .loading import Loaded, Town
 from .router import FAR, Found, Path, Wish
@@ -90,8 +91,17 @@ class Judged:
 class Search:
     """A search for the ways of some trips in a town. told: hears of each iteration, and says whether the user asks for an end."""
 
-    def __init__(self, town: Town, ground: Ground, trips: Sequence[Trip], team: Team, told: Callable[[Iteration], bool]) -> None:
-        self.town, self.ground, self.trips, self.team, self.told = town, ground, trips, team, told
+    def __init__(
+        self,
+        town: Town,
+        ground: Ground,
+        trips: Sequence[Trip],
+        team: Team,
+        told: Callable[[Iteration], bool],
+        closing: Closing | None = None,
+    ) -> None:
+        """closing: the works of the town, if it has any."""
+        self.town, self.ground, self.trips, self.team, self.told, self.closing = town, ground, trips, team, told, closing
         self.iterations: list[Iteration] = []
         self.best = Best()
         self.expected: Costs | None = None
@@ -117,6 +127,8 @@ class Search:
             if back and not last:
                 self.best.give_to(self.trips)
                 found = self.searched(costs)
+            if number < asked.iterations and self.turn_off(costs):
+                last = False
             share = max(LEAST_SHARE, share / 2 if back else share)
             changing = [] if last else changes(found, share)
             share = share if back else share * SLOWER
@@ -143,7 +155,14 @@ class Search:
         wishes = [
             Wish(at, trip.origin, trip.target, trip.entry, trip.path) for at, trip in enumerate(self.trips) if trip.changes
         ]
-        return self.team.search(wishes, costs)
+        return self.team.search(wishes, costs, self.closing.shut if self.closing else None)
+
+    def turn_off(self, costs: Costs, strict: bool = False) -> int:
+        """Those who would wait before works turn off before them; of those who may change a search finds better ways yet."""
+        if self.closing is None:
+            return 0
+        trips = self.trips if strict else [trip for trip in self.trips if not trip.changes]
+        return turn_off(trips, self.closing, self.town.graph, costs, strict)
 
     def judged(self, seeds: Sequence[int]) -> Judged:
         """The present ways by seeds of which the search knows nothing."""

@@ -76,12 +76,15 @@ def with_works(
     if names:
         run, mapping = joint(run, mapping, map_path, names)
         told.append(f"joint for this run, so that vehicles change lane: edges {some(sorted(edges_of(names, mapping)))}")
+    run, _ = closed(run, mapping, works)
+    return run, mapping, told + list(all_closed(run, mapping, shut_links(sites_of(works, mapping), mapping)))
+
+
+def closed(run: Run, mapping: Map, works: list[Works]) -> tuple[Run, Map]:
+    """The run with works on a map whose lanes are joint where they must be, and that map."""
     sites = sites_of(works, mapping)
     timed = sorted([*run.timed, *(line for site in sites for line in lines_of(site))], key=lambda pair: pair[0])
-    run = replace(run, timed=timed)
-    shut = shut_links(sites, mapping)
-    run = round_works(run, mapping, shut)
-    return run, mapping, told + list(all_closed(run, mapping, shut))
+    return round_works(replace(run, timed=timed), mapping, shut_links(sites, mapping)), mapping
 
 
 def sites_of(works: Iterable[Works], mapping: Map) -> list[Site]:

@@ -1,0 +1,85 @@
+"""Road works as a router sees them: when edges are shut, who knows of it, and where the others turn off."""
+from __future__ import annotations
+
+import random
+from collections.abc import Collection, Iterable, Sequence
+from dataclasses import dataclass
+
+from ..files import Fault
+from ..run.freeflow import FreeFlow
+from ..run.mapping import Map
+from ..run.works import Works, shut_links, sites_of
+from .costs import Costs, flat_costs
+from .graph import Graph
+from .router import Path, Router, Shut
+from .trips import Trip
+
+
+@dataclass(frozen=True, slots=True)
+class Closing:
+    """signs: edges on which those who do not know of the works are told of them; free: seconds of movements without traffic."""
+
+    shut: Shut
+    signs: frozenset[int]
+    free: Sequence[float]
+
+
+def shut_edges(works: Iterable[Works], graph: Graph, mapping: Map, dawdle: float) -> dict[int, list[tuple[float, float]]]:
+    """The times in which an edge is not to be entered: while all its lanes are closed, and so shortly before that one would not come
+    past the works."""
+    driving, links = FreeFlow(mapping, dawdle).driving, shut_links(sites_of(works, mapping), mapping)
+    found = {}
+    for edge in dict.fromkeys(mapping.links[link].edge for link in links):
+        times = [(0, float("inf"))]
+        for link in mapping.links_of[edge]:
+            times = common(times, links.get(link, []))
+        before = max(driving[link] for link in mapping.links_of[edge])
+        if times:
+            found[graph.number[edge]] = [(first - before, last) for first, last in times]
+    return found
+
+
+def common(one: Iterable[tuple], other: Collection[tuple]) -> list[tuple]:
+    """The times that are in both."""
+    both = [(max(first, begin), min(last, end)) for first, last in one for begin, end in other]
+    return [(first, last) for first, last in both if first < last]
+
+
+def knows(name: str, share: float, seed: int) -> bool:
+    """Whether the driver of a trip knows of the works; whoever does with a share does with each greater one."""
+    return random.Random(f"knowing {seed} {name}").random() < share
+
+
+def turn_off(trips: Iterable[Trip], closing: Closing, graph: Graph, costs: Costs, strict: bool) -> int:
+    """Those who would come to a shut edge turn off before it, and go on by the way that is shortest without traffic; gives how many
+    do. strict: where there is no way that is a Fault, and else they wait."""
+    router, free = Router(graph, costs, closing.shut), Router(graph, flat_costs(graph, closing.free), closing.shut)
+    turned = 0
+    for trip in trips:
+        place = router.met(trip.path, trip.entry)
+        if place is None:
+            continue
+        path = way_round(trip, place, closing.signs, router, free)
+        if not path and strict:
+            raise Fault(f"trip {trip.name!r} {why_not(trip, place, graph)}")
+        turned += bool(path)
+        trip.path = path or trip.path
+    return turned
+
+
+def way_round(trip: Trip, shut: int, signs: Collection[int], router: Router, free: Router) -> Path:
+    """The way of a trip that turns off on its first edge with a sign, or at the last crossing before the shut edge; none: empty."""
+    clocks = router.clocks(trip.path[:shut], trip.entry)
+    signed = (at for at in range(shut) if trip.path[at] in signs)
+    for at in (*signed, *reversed(range(shut))):
+        rest, _ = free.search(trip.path[at], trip.target, clocks[at])
+        if rest and not set(rest[1:]) & set(trip.path[:at]):
+            return trip.path[:at] + rest
+    return ()
+
+
+def why_not(trip: Trip, place: int, graph: Graph) -> str:
+    edge = graph.edges[trip.path[place]]
+    if place == 0 or place == len(trip.path) - 1:
+        return f"{'ends' if place else 'begins'} on edge {edge!r} while it is closed: take it out, or change the times of the works"
+    return f"has no way round edge {edge!r} while it is closed"

@@ -1,0 +1,102 @@
+"""Ways round road works: the ways without them, and for each share of drivers who know of the works those with them."""
+from __future__ import annotations
+
+import copy
+import dataclasses
+import os
+from collections.abc import Callable, Iterator, Sequence
+from dataclasses import dataclass
+from statistics import fmean
+
+from ..files import Fault
+from ..run.works import works_of
+from ..study.seeds import interval
+from .closing import Closing, knows, shut_edges
+from .graph import Graph
+from .search import Asked, Iteration, Judged, Search
+from .trips import Trip, Trips
+
+SHARES = (
+    *("knowing", "trips_that_know", "mean_trip_s", "difference_s", "half_width_95_s", "relative_gap", "arrived", "rescues"),
+    "trips_that_change",
+)
+
+
+@dataclass(frozen=True, slots=True)
+class Diverted:
+    """What a share of drivers who know of the works gave; without works: no share."""
+
+    share: float | None
+    trips: Sequence[Trip]
+    search: Search
+    judged: Judged
+
+    @property
+    def label(self) -> str:
+        return "before" if self.share is None else f"knowing {self.share:g}"
+
+    def means(self) -> list[float]:
+        return [one.mean for one in self.judged.outcomes]
+
+
+def placed(path: str, share: float | None, many: bool) -> str:
+    """Where an output of a share goes: where there are several shares, their number stands before the ending."""
+    if not many:
+        return path
+    folder, name = os.path.split(path)
+    stem, dot, ending = name.partition(".")
+    return os.path.join(folder, f"{stem}-{share:g}{dot}{ending}")
+
+
+def give_ways(trips: Sequence[Trip], before: Trips, where: str) -> None:
+    """Gives trips the ways that they have in another file."""
+    ways = {trip.name: trip for trip in before.all}
+    for trip in trips:
+        found = ways.get(trip.name)
+        if found is None or not found.path:
+            raise Fault(f"{where}: no route of {trip.name!r}")
+        if (found.path[0], found.path[-1]) != (trip.origin, trip.target):
+            raise Fault(f"{where}: the route of {trip.name!r} does not go from where it begins to where it ends")
+        trip.path = found.path
+
+
+def closing_of(texts: Sequence[str], signs: Sequence[str], graph: Graph, before: Search, judged: Judged) -> Closing:
+    mapping = judged.loaded.mapping
+    works = [works_of(text, mapping) for text in texts]
+    if late := [one.text for one in works if one.first >= before.ground.until]:
+        raise Fault(f"--close {late[0]!r}: begins after the end of the runs, {before.ground.until:,} s")
+    if unknown := [name for name in signs if name not in graph.number]:
+        raise Fault(f"--sign: the network has no edge {unknown[0]!r}")
+    shut = shut_edges(works, graph, mapping, before.town.dawdle)
+    return Closing(shut, frozenset(graph.number[name] for name in signs), judged.loaded.free)
+
+
+def diverted(
+    before: Search, judged: Judged, closing: Closing, texts: Sequence[str], asked: Asked, check: range, shares: Sequence[float],
+    told: Callable[[str, Iteration], bool],
+) -> Iterator[Diverted]:  # fmt: skip
+    """What each share of drivers who know of the works gives; all begin with the ways before."""
+    town = copy.copy(before.town)
+    town.works = tuple(texts)
+    for share in shares:
+        trips = [dataclasses.replace(trip, changes=knows(trip.name, share, asked.seeds[0])) for trip in before.trips]
+        label = f"knowing {share:g}, "
+        search = Search(town, before.ground, trips, before.team, lambda one, label=label: told(label, one), closing)
+        search.turn_off(judged.observed, strict=True)
+        search.improve(asked)
+        yield Diverted(share, trips, search, search.judged(check))
+
+
+def share_rows(all_: Sequence[Diverted]) -> Iterator[tuple]:
+    """A row for the ways without works, and one for each share, with its difference to these by equal seeds."""
+    before = all_[0]
+    for one in all_:
+        apart = [there - here for here, there in zip(before.means(), one.means(), strict=True)]
+        difference, half = (None, None) if one is before else interval(apart)
+        changed = sum(own.path != other.path for own, other in zip(one.trips, before.trips, strict=True))
+        yield (
+            *("" if one.share is None else f"{one.share:g}", sum(trip.changes for trip in one.trips) if one is not before else ""),
+            *(f"{fmean(one.means()):.3f}", *("" if value is None else f"{value:.3f}" for value in (difference, half))),
+            *(f"{one.judged.gap:.5f}", min(run.arrived for run in one.judged.outcomes), sum(run.rescues for run in one.judged.outcomes)),
+            changed,
+        )

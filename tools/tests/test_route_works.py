@@ -1,0 +1,120 @@
+"""streetsim-route with road works: who knows of them, where the others turn off, and what is written."""
+import csv
+import json
+import unittest
+
+from support import needs_simulator
+from test_route import Commands, flow, two_ways
+from streetsim.files import Fault
+from streetsim.routes.closing import Closing, common, knows, turn_off
+from streetsim.routes.costs import flat_costs
+from streetsim.routes.graph import Graph
+from streetsim.routes.trips import Trip
+
+# From p to z over q, r and x; q also leads to w and z, and p to y and z.
+GRAPH = Graph(
+    "pqrxwyz",
+    [("p", "q"), ("q", "r"), ("r", "x"), ("x", "z"), ("q", "w"), ("w", "z"), ("p", "y"), ("y", "z")],
+    {name: (name, name + "'") for name in "pqrxwyz"},
+)
+FREE = [10.0] * len(GRAPH.movements)
+X = GRAPH.number["x"]
+
+
+def numbers(names):
+    return tuple(map(GRAPH.number.get, names))
+
+
+class TurningOff(unittest.TestCase):
+    def turned(self, entry=0.0, names="pqrxz", signs="", shut=(0, 1000)):
+        path = numbers(names)
+        trip = Trip("t", entry, path[0], path[-1], "", path, entry)
+        turn_off([trip], Closing({X: [shut]}, frozenset(numbers(signs)), FREE), GRAPH, flat_costs(GRAPH, FREE), True)
+        return trip.path
+
+    def test_at_the_last_crossing(self):
+        self.assertEqual(self.turned(), numbers("pqwz"))
+
+    def test_at_a_sign(self):
+        self.assertEqual(self.turned(signs="p"), numbers("pyz"))
+
+    def test_those_alone_who_come_meanwhile(self):
+        # x is reached after 30 s.
+        self.assertEqual(self.turned(shut=(31, 1000)), numbers("pqrxz"))
+        self.assertEqual(self.turned(entry=970.0), numbers("pqrxz"))
+        self.assertEqual(self.turned(entry=969.0), numbers("pqwz"))
+
+    def test_no_way_round(self):
+        for names, told in (("pqrx", "'t' ends on edge 'x' while it is closed"), ("xz", "begins on edge 'x'"), ("rxz", "has no way round edge 'x'")):
+            with self.assertRaisesRegex(Fault, told):
+                self.turned(names=names)
+
+    def test_times_in_common(self):
+        self.assertEqual(common([(0, 10), (20, 30)], [(5, 25)]), [(5, 10), (20, 25)])
+
+    def test_who_knows_does_so_with_each_greater_share(self):
+        some, more = ({name for name in map(str, range(1000)) if knows(name, share, 1)} for share in (0.3, 0.6))
+        self.assertLess(some, more)
+        self.assertTrue(250 < len(some) < 350 and 550 < len(more) < 650, (len(some), len(more)))
+
+
+@needs_simulator
+class WithWorks(Commands):
+    WORKS = ("--close", "short_0:100-200:120-900", "--iterations", 2, "--gap", 1)
+
+    def test_each_share_of_those_who_know(self):
+        """The short way is reached some 24 s after the departure."""
+        self.given(two_ways(), flow(60, 1200))
+        told, said = self.route(*self.WORKS, "--knowing", "0,0.5,1")
+        for share in ("0", "0.5", "1"):
+            ways = self.routes(f"out-{share}")
+            for at in range(60):
+                if 120 <= 20 * at <= 840 or not 80 <= 20 * at <= 900:
+                    expected = "far" if 120 <= 20 * at <= 840 else "short"
+                    self.assertIn(expected, ways[f"f.{at}"], (share, at))
+        rows = self.table("knowing.csv")
+        self.assertEqual([row["knowing"] for row in rows], ["", "0", "0.5", "1"])
+        self.assertEqual([row["arrived"] for row in rows], ["60"] * 4)
+        self.assertEqual([rows[1]["trips_that_know"], rows[3]["trips_that_know"]], ["0", "60"])
+        self.assertGreater(float(rows[1]["difference_s"]), 10)
+        self.assertIn("knowing 0.5: mean trip", told)
+        self.assertIn("before, 0: mean trip", said)
+        self.assertEqual({row["arrived"] for row in self.table("check.csv", "out/knowing-1")}, {"60"})
+        flows = {(row["edge"], row["case"]): int(row["trips"]) for row in self.table("flows.csv")}
+        self.assertEqual((flows["short", "before"], flows["far", "before"]), (60, 0))
+        self.assertEqual(flows["far", "knowing 1"] + flows["short", "knowing 1"], 60)
+
+    def test_the_run_has_the_works(self):
+        self.given(two_ways(), flow(20, 600))
+        self.route(*self.WORKS, "--run", self.folder / "a.jsonl", "--map", self.folder / "a.json")
+        words = [self.folder / "a.jsonl", "--map", self.folder / "a.json", "--until", 1500, "--out", self.folder / "b"]
+        told, _ = self.tool("run", *words)
+        self.assertIn("20 vehicles, 20 arrived", told)
+        lines = [json.loads(line) for line in (self.folder / "a.jsonl").read_text().splitlines()]
+        self.assertEqual([(one["at"], one["cmd"]) for one in lines if "at" in one], [(120, "close"), (900, "reopen")])
+
+    def test_ways_before_that_are_given(self):
+        self.given(two_ways(), flow(10, 100))
+        before = self.write("before.rou.xml", "<routes>" + "".join(
+            f'<vehicle id="f.{at}" depart="{10 * at}"><route edges="in far long out"/></vehicle>' for at in range(10)) + "</routes>")
+        self.route(*self.WORKS, "--knowing", 0, "--before", before)
+        self.assertEqual({tuple(way) for way in self.routes().values()}, {("in", "far", "long", "out")})
+
+    def test_refused(self):
+        self.given(two_ways(), flow(10, 100))
+        for words, told in (
+            (("--knowing", 0.5), "--knowing is of road works: give --close too"),
+            (("--close", "none_0:1-2:3-4"), "the map has no lane 'none_0'"),
+            (("--close", "short_0:100-200:0-900", "--sign", "none"), "--sign: the network has no edge 'none'"),
+            (("--close", "out_0:100-200:0-900", "--iterations", 0), "ends on edge 'out' while it is closed"),
+        ):
+            with self.subTest(told):
+                _, said = self.route(*words, status=2)
+                self.assertIn(told, said)
+
+
+del Commands  # whose own tests stand in test_route
+
+
+if __name__ == "__main__":
+    unittest.main()
