@@ -1,9 +1,9 @@
 """streetsim-route with road works: who knows of them, where the others turn off, and what is written."""
-import csv
+import importlib.util
 import json
 import unittest
 
-from support import needs_simulator
+from support import needs_package, needs_simulator
 from test_route import Commands, flow, two_ways
 from streetsim.files import Fault
 from streetsim.routes.closing import Closing, common, knows, turn_off
@@ -62,6 +62,7 @@ class TurningOff(unittest.TestCase):
 class WithWorks(Commands):
     WORKS = ("--close", "short_0:100-200:120-900", "--iterations", 2, "--gap", 1)
 
+    @needs_package("python3-matplotlib", importlib.util.find_spec("matplotlib"))
     def test_each_share_of_those_who_know(self):
         """The short way is reached some 24 s after the departure."""
         self.given(two_ways(), flow(60, 1200))
@@ -82,6 +83,8 @@ class WithWorks(Commands):
         self.assertEqual({row["arrived"] for row in self.table("check.csv", "out/knowing-1")}, {"60"})
         flows = {(row["edge"], row["case"]): int(row["trips"]) for row in self.table("flows.csv")}
         self.assertEqual((flows["short", "before"], flows["far", "before"]), (60, 0))
+        with open(self.folder / "out/knowing-0.5/flows.png", "rb") as picture:
+            self.assertEqual(picture.read(4), b"\x89PNG")
         self.assertEqual(flows["far", "knowing 1"] + flows["short", "knowing 1"], 60)
 
     def test_the_run_has_the_works(self):

@@ -21,6 +21,7 @@ from ..sumo.importing import add_options, options_of
 from ..sumo.report import Report
 from .diverting import SHARES, Diverted, closing_of, diverted, give_ways, placed, share_rows
 from .loading import Town, read_town
+from .pictures import draw
 from .results import FLOWS, NAME, flow_rows, write_results
 from .search import STILL, Asked, Iteration, Judged, Search
 from .team import Team, team
@@ -199,6 +200,7 @@ def write(job: Job, all_: Sequence[Diverted]) -> None:
             place = f"{folder}/{one.label.replace(' ', '-')}" if many else folder
             os.makedirs(place, exist_ok=True)
             write_results(place, job.town, one.trips, one.search.iterations, one.judged, setting_of(job, one))
+            draw(place, all_[0], one)
         if words.close:
             write_routes(f"{folder}/before.rou.xml", job.trips, job.town.graph)
             write_table(f"{folder}/knowing.csv", SHARES, share_rows(all_))
