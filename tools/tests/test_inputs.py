@@ -46,5 +46,49 @@ class Bytes(Case):
         self.assertIn("/dev/stdin: not XML", said)
 
 
+CONFIGURATION = """<configuration><input><net-file value="x.net.xml"/><route-files value="a.rou.xml, b.rou.xml"/></input>
+<time><begin value="0:0:10"/><end value="60"/><step-length value="0.5"/></time><seed value="7"/>
+<tripinfo-output value="t.xml"/><no-step-log value="true"/></configuration>"""
+
+
+class Configurations(Case):
+    def imported(self, text, first, *words, status=0):
+        self.write("x.net.xml", FORK), self.write("a.rou.xml", f"<routes>{first}</routes>")
+        self.write("b.rou.xml", '<routes><vehicle id="late" depart="60"><route edges="a c"/></vehicle></routes>')
+        self.write("x.sumocfg", text)
+        outputs = ("-o", self.folder / "r.jsonl", "--map", self.folder / "m.json")
+        return self.tool("import", "-c", self.folder / "x.sumocfg", *outputs, *words, status=status)[1]
+
+    def test_a_configuration(self):
+        text = '<vehicle id="soon" depart="9"><route edges="a b"/></vehicle><vehicle id="v" depart="12"><route edges="a b"/></vehicle>'
+        said = self.imported(CONFIGURATION, text)
+        self.assertEqual(read_json(self.folder / "m.json", ["cars"])["cars"], ["v"])
+        load = read_run(self.folder / "r.jsonl").load.command
+        self.assertEqual((load["start"], load["seed"]), (10, 7))
+        for line in (
+            "warning: the configuration's step-length 0.5 is not done: steps are of one second",
+            "ignored: 1 x tripinfo-output of the configuration (streetsim-run --sumo-output writes SUMO's files)",
+            "1 vehicles that depart at the end, 60 s, or later are left out",
+            "skipped: 1 vehicles: departs before the begin",
+        ):
+            self.assertIn(line, said.splitlines())
+        self.imported(CONFIGURATION, text, "--begin", "0", "--seed", "3")
+        self.assertEqual(read_json(self.folder / "m.json", ["cars"])["cars"], ["soon", "v"])
+        self.assertEqual(read_run(self.folder / "r.jsonl").load.command["seed"], 3)
+
+    def test_trips_of_a_configuration(self):
+        said = self.imported(CONFIGURATION, '<trip id="t" depart="12" from="a" to="c"/>')
+        self.assertIn("trips have the ways that are shortest", said)
+        run, value = read_run(self.folder / "r.jsonl"), read_json(self.folder / "m.json", ["links"])
+        self.assertEqual([[value["links"][link][0] for link in line.command["plan"]] for line in run.enters], [["a", "c"]])
+
+    def test_faults(self):
+        self.assertIn("x.sumocfg: names no network (net-file)", self.imported("<c><begin value='1'/></c>", "", status=2))
+        said = self.imported("<c><n v='x.net.xml'/><net v='x.net.xml'/><begin v='soon'/></c>", "", status=2)
+        self.assertIn("--begin: 'soon' is not 0 to 1,000,000,000 s", said)
+        said = self.tool("import", "-o", self.folder / "r", "--map", self.folder / "m", status=2)[1]
+        self.assertIn("no network: give NET.net.xml, or -c FILE.sumocfg", said)
+
+
 if __name__ == "__main__":
     unittest.main()

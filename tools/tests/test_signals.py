@@ -97,10 +97,20 @@ class Signals(Case):
         [command], _ = self.made(street(phases((10.4, "G"), (10.4, "r"), (10.4, "G"))))
         self.assertEqual([duration for duration, _ in command["phases"]], [10, 12, 9])
 
-    def test_long_phase_is_cut(self):
-        [command], warnings = self.made(street(phases((10_000_000, "G"), (5, "r"))))
-        self.assertEqual([duration for duration, _ in command["phases"]], [600, 5])
-        self.assertEqual(warnings, ["light 'L': a phase of 10,000,000 s is cut to 600 s"])
+    def test_a_long_phase_is_several(self):
+        [command], warnings = self.made(street(phases((1300, "G"), (500, "r"))))
+        self.assertEqual([duration for duration, _ in command["phases"]], [600, 600, 100, 500])
+        self.assertEqual([bool(green) for _, green in command["phases"]], [True, True, True, False])
+        self.assertEqual(warnings, [])
+
+    def test_a_cycle_that_fits_in_no_plan_is_lines(self):
+        # Ten minutes of red of 10,000 s are left at the begin, as the offset is 600 s; then 5,000 s of green.
+        commands, warnings = self.made(street(phases((5_000, "G"), (10_000, "r")), offset=600))
+        self.assertEqual([command.get("at", 0) for command in commands], [0, 600, 5600, 15600, 20600, 30600, 35600, 45600, 50600, 60600, 65600, 75600, 80600])
+        self.assertEqual([bool(command["phases"][0][1]) for command in commands[:4]], [False, True, False, True])
+        self.assertEqual(warnings, ["light 'L': a cycle of 15,000 s does not fit in one plan; its phases are lines, until 86,400 s"])
+        with self.assertRaisesRegex(Fault, "light 'L': a cycle of 10,000,005 s; at most 200,000 s are read"):
+            self.made(street(phases((10_000_000, "G"), (5, "r"))))
 
     def test_never_green_and_actuated_are_warned_of(self):
         _, warnings = self.made(street(phases((10, "r")), kind="actuated"))

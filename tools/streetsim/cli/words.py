@@ -11,6 +11,9 @@ from ..files import Fault, seconds
 ROUNDS, MOST_ROUNDS = 2, 10  # before a run that counts
 
 
+FALSE = ("false", "0", "no", "off", "f")  # as SUMO reads a word that is on or off
+
+
 class Parser(argparse.ArgumentParser):
     """A parser for which wrong words are a Fault, one line without the usage."""
 

@@ -73,7 +73,7 @@ class Town:
         """Free seconds of movements, and vehicles an hour that they let pass, where no route is known yet."""
         report = Report()
         network = Network(self.net, self.options, report, {})
-        made = [command for _, command in signals(self.net, network, {}, report)]
+        made = [command for _, command in signals(self.net, network, {}, report) if "at" not in command]
         mapping = map_of(network, [], [], report)
         return self.free(mapping, made), capacities(self.graph, mapping, made)
 

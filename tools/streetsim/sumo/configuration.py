@@ -1,8 +1,12 @@
 """SUMO's configuration files: the options that they set, by their long names."""
 import os
+import re
+from collections.abc import Mapping
 from functools import partial
 
-from ..files import elements
+from ..cli.words import FALSE
+from ..files import Fault, elements
+from .report import Report
 
 FILES = ("net-file", "route-files", "additional-files")  # whose paths are beside the configuration
 SYNONYMS = {
@@ -12,6 +16,24 @@ SYNONYMS = {
     "configuration": "configuration-file",
     "tripinfo": "tripinfo-output",
     "log-file": "log",
+}
+
+# What SUMO says and shows, its speed and its looks: of no effect on what is simulated; and `end`, as under SUMO's TraCI.
+SILENT = re.compile(
+    r"end|verbose|no-warnings|no-step-log|step-log\..*|duration-log\.disable|print-options|aggregate-warnings|language|threads"
+    r"|xml-validation.*|precision.*|human-readable-time|write-license|start|quit-on-end|game.*|demo|delay|breakpoints"
+    r"|disable-textures|registry-viewport|window-.*|tracker-interval|osg-view|gui-.*|edgedata-files|remote-port|num-clients"
+    r"|save-configuration\..*|save-commented|waiting-time-memory|device\.rerouting\.threads|thread-rngs|route-steps"
+)
+OUTPUT = re.compile(r"[\w-]+-output|netstate-dump|save-(configuration|template|schema|state\.\w+)|device\.[\w.-]+\.(file|output)")
+NOWHERE = ("NUL", "NULL", "nul", "/dev/null")  # for SUMO: do not write it
+DEFAULTS = ("begin", "end", "seed", "ignore-route-errors")  # that stand for the words of the import
+DONE = {"net-file", "route-files", "additional-files", *DEFAULTS}
+HERE = {  # what a configuration asks for otherwise than it is done here, and what to do
+    "step-length": "steps are of one second",
+    "time-to-teleport": "streetsim-run --rescue says after how many seconds of standing a vehicle is taken out and entered anew",
+    "scale": "make the routes of the demand that is wanted",
+    "tls.all-off": "its lights work; a network without them is made by netconvert",
 }
 
 
@@ -28,3 +50,34 @@ def read_configuration(path: str) -> dict[str, str]:
         if name in found:
             found[name] = ",".join(beside(part.strip()) for part in found[name].split(",") if part.strip())
     return found
+
+
+def files_named(path: str, options: Mapping[str, str]) -> tuple[str, list[str], list[str]]:
+    """The network, the additional files and the files of routes that a configuration names."""
+    if not options.get("net-file"):
+        raise Fault(f"{path}: names no network (net-file)")
+    additional, routes = (
+        [part for part in options.get(name, "").split(",") if part] for name in ("additional-files", "route-files")
+    )
+    return options["net-file"], additional, routes
+
+
+def tell_options(options: Mapping[str, str], report: Report) -> None:
+    """Says of the options of a configuration that are not done here."""
+    for name, value in options.items():
+        off = value.lower() in FALSE
+        if name in DONE or SILENT.fullmatch(name) or off or (name in ("step-length", "scale") and is_one(value)):
+            continue
+        if OUTPUT.fullmatch(name):
+            report.ignored[f"{name} of the configuration (streetsim-run --sumo-output writes SUMO's files)"] += 1
+        elif name in HERE:
+            report.warn(f"the configuration's {name} {value} is not done: {HERE[name]}")
+        else:
+            report.ignored[f"{name} of the configuration"] += 1
+
+
+def is_one(value: str) -> bool:
+    try:
+        return float(value) == 1
+    except ValueError:
+        return False

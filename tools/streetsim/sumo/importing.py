@@ -5,11 +5,12 @@ from collections import Counter
 
 from .. import limits
 from ..cli.progress import Slow
-from ..cli.words import Parser, files_of, listed, time_within, within
+from ..cli.words import FALSE, Parser, files_of, listed, time_within, within
 from ..files import Fault, place_of, refuse_equal, whole_file
 from ..run.mapping import map_of
+from .configuration import DEFAULTS, files_named, read_configuration, tell_options
 from .conflicts import conflicts_of
-from .demand import Demand, enters, kinds_of
+from .demand import Demand, Unrouted, enters, kinds_of
 from .detectors import placed
 from .net import CLASSES, read_additional, read_net
 from .network import Network, Options
@@ -25,7 +26,13 @@ def parser():
         prog="streetsim-import",
         description="Makes load, signal and enter lines, and a map of the names, of a SUMO network and its routes.",
     )
-    made.add_argument("net", help="the network (.net.xml, .net.xml.gz)")
+    made.add_argument("net", nargs="?", help="the network (.net.xml, .net.xml.gz)")
+    made.add_argument(
+        "-c",
+        "--configuration",
+        metavar="FILE",
+        help="SUMO's configuration (.sumocfg): its network, files, begin, end and seed, where no words give others",
+    )
     made.add_argument(
         "additional",
         nargs="*",
@@ -122,15 +129,50 @@ def options_of(words):
     return Options(classes=classes, **given)
 
 
+def words_of(arguments):
+    """The words of a command, and the options of the configuration that they name."""
+    made = parser()
+    words = made.parse_args(arguments)
+    if not words.configuration:
+        if not words.net:
+            raise Fault("no network: give NET.net.xml, or -c FILE.sumocfg (what may be given: streetsim-import --help)")
+        return words, {}
+    options = read_configuration(words.configuration)
+    given = {name.replace("-", "_"): options[name] for name in DEFAULTS if options.get(name)}
+    if "ignore_route_errors" in given:
+        given["ignore_route_errors"] = given["ignore_route_errors"].lower() not in FALSE
+    made.set_defaults(**given)
+    words = made.parse_args(arguments)
+    net, additional, routes = files_named(words.configuration, options)
+    words.net, words.additional = words.net or net, words.additional or additional
+    words.routes = words.routes or (routes if not words.trips else [])
+    return words, options
+
+
+def read_and_converted(sources, options, report, told):
+    """What `convert` makes of the sources; those of a configuration may have trips among their routes. `told`: its options."""
+    tell_options(told, report)
+    try:
+        return convert(sources.net, sources.additional, sources.routes, options, report, sources.trips)
+    except Unrouted:
+        if not told or sources.trips:
+            raise
+    report.clear()
+    tell_options(told, report)
+    report.warn("trips have the ways that are shortest by free speed, signals and volumes, as by --trips (better ways: streetsim-route)")
+    sources.routes, sources.trips = [], sources.routes
+    return convert(sources.net, sources.additional, [], options, report, sources.trips)
+
+
 def main(arguments):
-    words = parser().parse_args(arguments)
+    words, told = words_of(arguments)
     words.additional, words.routes, words.trips = map(files_of, (words.additional, words.routes, words.trips))
     sources = Sources(words.net, words.additional, words.routes, words.trips)
     refuse_equal({"-o": words.output, "--map": words.map}, sources.paths())
     place_of(words.output), place_of(words.map)
     report, options = Report(), options_of(words)
     with Slow(f"importing {words.net}"):
-        made = convert(sources.net, sources.additional, sources.routes, options, report, sources.trips)
+        made = read_and_converted(sources, options, report, told)
     mapping = write_run(words.output, words.map, made, report, sources)
     print(*report.lines(), sep="\n", end="\n" if any(report.lines()) else "", file=sys.stderr)
     print(
@@ -187,11 +229,12 @@ def converted(net, types, vehicles, options, report):
     sizes = Sizes(types)
     entered, driven = enters(vehicles, net, network, sizes, report)
     network.kinds = kinds_of(driven, types)
+    network.last = max((command["depart"] for command in entered), default=options.begin)
     network.open_beside_works()
     sizes.tell(report)
     warn_of_rules(net, network, report)
     made = signals(net, network, found, report)
-    lights = [[light, command["node"]] for light, command in made]
+    lights = [[light, command["node"]] for light, command in made if "at" not in command]
     network.yields = conflicts_of(net, network, flows)
     return network, lights, [network.load(), *(command for _, command in made), *entered], [vehicle.name for vehicle in driven]
 

@@ -93,6 +93,7 @@ class Network:
         self.equivalents = {}  # (edge, next edge): in how many others' place a vehicle counts that waits for a gap
         self.joined = set()
         self.yields = []  # conflicts.Waiting
+        self.last = options.begin  # departure
         self.kinds = {}  # of the vehicles, as demand.kinds_of
 
     def add_connections(self, net, report):

@@ -9,6 +9,10 @@ class Report:
         self.ignored = Counter()  # what is read and has no effect
         self.skipped = Counter()  # vehicles that do not drive, by reason
 
+    def clear(self):
+        """Forgets all, where an import begins anew."""
+        self.__init__()
+
     def warn(self, text):
         if text not in self.warnings:
             self.warnings.append(text)

@@ -1,5 +1,6 @@
 """Signal commands, made of SUMO's signal programs."""
 from collections import defaultdict
+from itertools import cycle as cycle_of
 from itertools import groupby
 
 from .. import limits
@@ -8,6 +9,8 @@ from .report import some
 from .yielding import GREEN, PERMISSIVE, hidden_start, movements_of, places, runs_of, settle
 
 DEFAULT_SHARE = 0.7  # of a permissive green that is shown, where nothing is known of who gives way
+LONGEST = 200_000  # seconds of a cycle that are read
+AFTER = 86_400  # seconds after the last departure for which a program is told that does not fit in one plan
 GRAINS = (1, 2, 3, 5, 8, 12, 20)  # seconds to which greens are rounded: the first that gives few phases
 
 
@@ -67,11 +70,41 @@ def signals(net, network, movements_at, report):
             edges = {link: network.links[link].edge for link, *_ in turns}
             found = movements_at.get(junction, {}) if network.options.permissive is None else {}
             program, permissive = net.programs[known[0]], network.options.permissive
-            made.append((known[0], signal(node, turns, edges, known[0], program, permissive, report, found)))
+            own = node, turns, edges, known[0], program, permissive, report, found
+            made += [(known[0], command) for command in signal_lines(own, network.options.begin, network.last + AFTER)]
     for light in sorted({light for light, _ in made}):
         if net.programs[light].kind != "static":
             report.warn(f"light {light!r} is {net.programs[light].kind}: its listed durations are used")
     return made
+
+
+class TooLong(Fault):
+    """A program that does not fit in the phases of one plan."""
+
+
+def signal_lines(own, begin, last):
+    """The signal command of a light, of the words of `signal`; of a program that does not fit in one plan a line for each
+    phase from a begin to a last second, as a plan of one phase stays until the next."""
+    try:
+        return [signal(*own)]
+    except TooLong:
+        node, turns, _, light, program, permissive, report, found = own
+    states = each_second(light, program, report)
+    told = by_gaps(found) if found else by_share(light, turns, states, permissive)
+    greens = green_seconds(light, turns, states, told, 1)
+    report.warn(f"light {light!r}: a cycle of {len(greens):,} s does not fit in one plan; its phases are lines, until {last:,} s")
+    place, lines = (begin + round(-program.offset)) % len(greens), []
+    runs = [(green, len(list(run))) for green, run in groupby(greens[place:] + greens[:place])]
+    clock, shown = begin, None
+    for green, length in cycle_of(runs):
+        if clock > last:
+            break
+        if green != shown:
+            at = {"at": clock} if lines else {}
+            phases = [[limits.PHASE_STEPS, sorted(map(list, green))]]
+            lines.append({"cmd": "signal", "node": node, "offset": 0, "phases": phases, **at})
+        clock, shown = clock + length, green
+    return lines
 
 
 def signal(node, turns, edges, light, program, permissive, report, found=None):
@@ -79,6 +112,8 @@ def signal(node, turns, edges, light, program, permissive, report, found=None):
     links, and what was found of who gives way there; else the last share of each permissive green is shown."""
     states = each_second(light, program, report)
     check_states(light, states, [turn for *_, turn in turns])
+    if len(states) > limits.PHASES * limits.PHASE_STEPS:
+        raise TooLong(f"light {light!r}: a cycle of {len(states):,} s does not fit in {limits.PHASES} phases of {limits.PHASE_STEPS} s")
     told = by_gaps(found) if found else by_share(light, turns, states, permissive)
     for grain in GRAINS:
         phases = run_lengths(green_seconds(light, turns, states, told, grain))
@@ -91,7 +126,10 @@ def signal(node, turns, edges, light, program, permissive, report, found=None):
         report.warn(
             f"light {light!r}: still more than {limits.PHASES} phases; the shortest are joined to those before them"
         )
-        phases = joined(phases)
+        try:
+            phases = joined(phases)
+        except TooLong as fault:
+            raise TooLong(f"light {light!r}: {fault}") from None
     never = sorted(
         {
             edges[link]
@@ -113,10 +151,10 @@ def signal(node, turns, edges, light, program, permissive, report, found=None):
 def each_second(light, program, report):
     """The program's state in each second of its cycle; durations are rounded by running sum, so that the cycle stays."""
     states, clock = [], 0.0
+    if (cycle := sum(duration for duration, _ in program.phases)) > LONGEST:
+        raise Fault(f"light {light!r}: a cycle of {cycle:,.0f} s; at most {LONGEST:,} s are read: give it shorter phases")
     for duration, state in program.phases:
-        if duration > limits.PHASE_STEPS:
-            report.warn(f"light {light!r}: a phase of {duration:,.0f} s is cut to {limits.PHASE_STEPS} s")
-        clock += min(duration, limits.PHASE_STEPS)
+        clock += duration
         states += [state] * (round(clock) - len(states))
     if not states:
         raise Fault(f"light {light!r}: its cycle is no second long")
@@ -201,7 +239,7 @@ def joined(phases):
     while len(phases) > limits.PHASES:
         fitting = [at for at in range(1, len(phases)) if phases[at - 1][0] + phases[at][0] <= limits.PHASE_STEPS]
         if not fitting:
-            raise Fault(f"a signal of {len(phases)} long phases does not fit in {limits.PHASES}")
+            raise TooLong(f"a cycle of {sum(seconds for seconds, _ in phases):,} s does not fit in {limits.PHASES} phases of {limits.PHASE_STEPS} s")
         at = min(fitting, key=lambda place: phases[place][0])
         phases[at - 1 : at + 1] = [(phases[at - 1][0] + phases[at][0], phases[at - 1][1])]
     return phases

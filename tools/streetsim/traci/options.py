@@ -2,8 +2,9 @@
 import re
 
 from ..cli.words import MOST_ROUNDS
+from ..cli.words import FALSE
 from ..files import Fault
-from ..sumo.configuration import SYNONYMS, read_configuration
+from ..sumo.configuration import NOWHERE, OUTPUT, SILENT, SYNONYMS, is_one, read_configuration
 from .errors import FatalTraCIError
 from .writing import SERVED
 
@@ -19,15 +20,6 @@ INPUTS |= {"rounds", "ignore-route-errors"}
 LOGS = ("log", "message-log", "error-log")  # files that get what the import says
 IMPORTED = {"seed", "begin", "classes", "joint", "turns", "sizes", "dawdle", "change", "zone", "residence", "buffer"}
 IMPORTED |= {"permissive"}
-# What SUMO says and shows, its speed and its looks: of no effect on what is simulated; and `end`, as under SUMO's TraCI.
-SILENT = re.compile(
-    r"end|verbose|no-warnings|no-step-log|step-log\..*|duration-log\.disable|print-options|aggregate-warnings|language|threads"
-    r"|xml-validation.*|precision.*|human-readable-time|write-license|start|quit-on-end|game.*|demo|delay|breakpoints"
-    r"|disable-textures|registry-viewport|window-.*|tracker-interval|osg-view|gui-.*|edgedata-files|remote-port|num-clients"
-    r"|save-configuration\..*|save-commented|waiting-time-memory|device\.rerouting\.threads|thread-rngs|route-steps"
-)
-OUTPUT = re.compile(r"[\w-]+-output|netstate-dump|save-(configuration|template|schema|state\.\w+)|device\.[\w.-]+\.(file|output)")
-NOWHERE = ("NUL", "NULL", "nul", "/dev/null")  # for SUMO: do not write it
 # What would change the demand or the start of a run.
 REFUSED = {
     "scale": "make the routes of the demand that is wanted",
@@ -86,7 +78,7 @@ def name_of(word: str) -> str:
 
 def check_option(name: str, value: str):
     """Refuses what cannot be done: unknown options, outputs, steps of another length, what changes the demand."""
-    on = value.lower() not in ("false", "0", "no", "off", "f")
+    on = value.lower() not in FALSE
     if name == "step-length" and not is_one(value):
         raise FatalTraCIError(f"--step-length {value}: steps are of one second")
     if name == "rounds" and not (value.isdecimal() and int(value) <= MOST_ROUNDS):
@@ -99,13 +91,6 @@ def check_option(name: str, value: str):
     known = name in INPUTS or name in IMPORTED or name in REFUSED or name in LOGS
     if not (known or OUTPUT.fullmatch(name) or SILENT.fullmatch(name) or KNOWN.fullmatch(name)):
         raise FatalTraCIError(f"No option with the name '{name}' exists.")
-
-
-def is_one(value: str) -> bool:
-    try:
-        return float(value) == 1
-    except ValueError:
-        return False
 
 
 def warnings_of(options: dict[str, str]) -> list[str]:
