@@ -60,3 +60,9 @@ def report():
     from ..reports.reporting import main
 
     run_tool(main)
+
+
+def export():
+    from ..gis.exporting import main
+
+    run_tool(main)

@@ -70,20 +70,33 @@ class Runs:
         return min(volumes, key=lambda interval: (-volumes[interval], interval))
 
 
-def read_runs(path: str) -> Runs:
-    """The runs of a folder that streetsim-run wrote with --junctions, or of its seeds."""
+def read_folders(path: str) -> Runs:
+    """The runs of a folder that streetsim-run wrote, or of its seeds, without their tables."""
+    if not os.path.isdir(path):
+        raise Fault(f"{path}: no folder that streetsim-run wrote")
     places = {int(name[5:]): f"{path}/{name}" for name in sorted(os.listdir(path)) if is_seed(path, name)}
     if not places:
         folder = read_folder(path)
         folders = {folder.made.get("seed", 1): folder}
     else:
         folders = {seed: read_folder(place) for seed, place in sorted(places.items())}
-    made = Runs(os.path.basename(os.path.normpath(path)), folders)
+    return Runs(os.path.basename(os.path.normpath(path)), folders)
+
+
+def read_runs(path: str) -> Runs:
+    """The runs of a folder that streetsim-run wrote with --junctions, or of its seeds."""
+    made = read_folders(path)
     for table in TABLES:
         read_rows(made, table)
     if not made.rows:
         raise Fault(f"{path}: the junction tables have no rows")
     return made
+
+
+def read_any(path: str) -> Runs:
+    """The same, with rows where the first run has junction tables."""
+    runs = read_folders(path)
+    return read_runs(path) if os.path.exists(f"{runs.first.path}/junctions.csv") else runs
 
 
 def is_seed(path, name):

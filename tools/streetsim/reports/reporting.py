@@ -1,5 +1,4 @@
 """streetsim-report: one page of a run's junctions, and of what another plan changes."""
-import os
 import tempfile
 from html import escape
 
@@ -31,9 +30,6 @@ def main(arguments):
     if len(words.runs) > 2:
         raise Fault("a report is of one run, or of two: before and after")
     place_of(words.output)
-    for path in words.runs:
-        if not os.path.isdir(path):
-            raise Fault(f"{path}: no folder that streetsim-run wrote")
     all_runs = [read_runs(path) for path in words.runs]
     if len(all_runs) == 2 and all_runs[0].name == all_runs[1].name:
         for runs, path in zip(all_runs, words.runs, strict=True):

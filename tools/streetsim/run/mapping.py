@@ -61,6 +61,7 @@ class Map:
     links_of: dict = field(default_factory=dict)  # edge: links
     sources: dict = field(default_factory=dict)  # the files of the import, as sumo.sources keeps them
     kinds: dict = field(default_factory=dict)  # of the vehicles, as sumo.demand.kinds_of
+    location: dict = field(default_factory=dict)  # where the network lies: offset, projection
 
     def __post_init__(self):
         for number, link in enumerate(self.links):
@@ -92,6 +93,7 @@ class Map:
             "detectors": [list(asdict(detector).values()) for detector in self.detectors],
             "sources": self.sources,
             "vehicles": self.kinds,
+            "location": self.location,
         }
 
 
@@ -119,6 +121,7 @@ def map_of(network, lights, names, report):
         warnings=list(report.lines()),
         yields=network.yields,
         kinds=network.kinds,
+        location=network.location,
     )
 
 
@@ -133,6 +136,7 @@ def map_from(path, value):
         links, turns = [MapLink(*link) for link in value["links"]], [MapTurn(*turn) for turn in value["turns"]]
         more = {"detectors": detectors, "yields": waiting_of(value.get("yields", ()))}
         more |= {"sources": value.get("sources", {}), "kinds": value.get("vehicles", {})}
+        more["location"] = value.get("location", {})
         more |= {key: value[key] for key in KEYS if key not in ("links", "turns")}
         return Map(links=links, turns=turns, **more)
     except (KeyError, TypeError, ValueError) as fault:

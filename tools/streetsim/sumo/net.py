@@ -67,6 +67,7 @@ class SumoNet:
     detectors: list = field(default_factory=list)  # of additional files
     yields: dict = field(default_factory=dict)  # junction: for each request those that it gives way to
     inner_speeds: dict = field(default_factory=dict)  # lane inside a junction: metres a second
+    location: dict = field(default_factory=dict)  # where it lies on Earth, as read_location keeps it
 
 
 def shape(text):
@@ -95,13 +96,14 @@ def read_net(path, classes, report):
         "connection": read_connection,
         "roundabout": read_roundabout,
         "tlLogic": read_program,
+        "location": read_location,
     }
     for element in elements(path, ["net"]):
         if element.tag in readers:
             readers[element.tag](path, element, net, classes)
             if element.tag == "edge":
                 named.update(name for lane in element.iter("lane") for name in (lane.get("allow") or "").split())
-        elif element.tag not in ("location", "type", "request"):
+        elif element.tag not in ("type", "request"):
             report.ignored[f"<{element.tag}> of the network"] += 1
     if not net.edges:
         raise Fault(
@@ -160,6 +162,18 @@ def read_edge(path, element, net, classes):
         )
     else:
         net.dropped.add(name)
+
+
+def read_location(path, element, net, _classes):
+    """The projection, and what was added to its metres; SUMO writes "!" where there is none."""
+    offset = attribute(path, element, "netOffset", plane_point) if element.get("netOffset") else (0.0, 0.0)
+    net.location = {"offset": offset, "projection": element.get("projParameter", "!")}
+
+
+def plane_point(text):
+    """Two numbers with a comma between; a height after them is left out."""
+    x, y, *_ = (number(part) for part in text.split(","))
+    return x, y
 
 
 def read_junction(path, element, net, _classes):

@@ -70,6 +70,7 @@ class Network:
         if len(number) < len(ends):
             raise Fault(f"the network has no junction {min(ends - number.keys())!r}, where an edge begins or ends")
         self.places = [net.junctions[name] for name in self.nodes]
+        self.location = net.location
         self.links, self.links_of, self.place_of = [], {}, {}
         following, waiting = next_edges(net, flows)
         self.closing = closing_lanes(net, options.joint)

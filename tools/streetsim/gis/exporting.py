@@ -1,0 +1,120 @@
+"""streetsim-export: edges and junctions with what is known of them, for geographic information systems."""
+import json
+import os
+import shutil
+import subprocess
+import tempfile
+from collections.abc import Iterator
+
+from ..cli.words import Parser
+from ..files import Fault, place_of, whole_file, whole_path
+from ..reports.reading import Row, Runs, read_any
+from .places import Places, places_of
+from .values import Traffic, Values, intervals_of, values_of
+
+EDGE, JUNCTION = "edge", "junction"
+LAYERS = ((EDGE, "edges"), (JUNCTION, "junctions"))
+MEASURES = ("control_delay_s", "stops_per_vehicle", "queue_50_m", "queue_95_m", "queue_max_m", "storage_m", "v_c")
+FIXED = {"OGR_CURRENT_DATE": "2000-01-01T00:00:00.000Z"}  # so that equal runs give equal bytes
+
+
+def parser():
+    made = Parser(
+        prog="streetsim-export",
+        description="Writes the edges and junctions of a run with flow, speed, control delay, level of service, v/c and queues "
+        "by interval, in WGS84: GeoJSON, or a GeoPackage by GDAL's ogr2ogr. With --seeds means over the seeds.",
+    )
+    made.add_argument("run", metavar="RUN", help="a folder that streetsim-run wrote, or one with seeds")
+    made.add_argument("-o", "--output", required=True, help="the file (.geojson, .gpkg)")
+    made.add_argument("--projection", help="of a network that tells none: EPSG:25832, '+proj=utm +zone=32', ..")
+    return made
+
+
+def main(arguments):
+    words = parser().parse_args(arguments)
+    ending = os.path.splitext(words.output)[1].lower()
+    if ending not in (".geojson", ".gpkg"):
+        raise Fault(f"{words.output}: an export's name ends with .geojson or .gpkg")
+    if ending == ".gpkg" and not shutil.which("ogr2ogr"):
+        raise Fault("a GeoPackage needs ogr2ogr (Debian: apt install gdal-bin); a .geojson needs none")
+    place_of(words.output)
+    runs = read_any(words.run)
+    mapping = runs.first.mapping
+    found = list(features(runs, places_of(mapping.location, words.projection, runs.first.path)))
+    text = json.dumps({"type": "FeatureCollection", "features": found}, separators=(",", ":"))
+    (write_package if ending == ".gpkg" else write_text)(words.output, text)
+    print(told(words.output, runs, found))
+    return 0
+
+
+def told(path: str, runs: Runs, found: list) -> str:
+    """What was written, and what is missing in it."""
+    count = len(intervals_of(runs))
+    text = f"{path}: {len(found):,} rows of edges and junctions in {count} interval{'s' if count > 1 else ''}"
+    doubts = [doubt for folder in runs.folders.values() for doubt in folder.doubts]
+    more = [] if runs.rows else ["no junctions, delays, letters, v/c and queues, as the run had no --junctions"]
+    more += [f"not to be trusted: {doubts[0]}"] if doubts else []
+    return "; ".join([text, *more])
+
+
+def features(runs: Runs, places: Places) -> Iterator[dict]:
+    """Each edge and junction in each interval."""
+    mapping = runs.first.mapping
+    lines = {edge: places(mapping.links[links[len(links) // 2]].shape) for edge, links in mapping.links_of.items()}
+    points = {name: places([(x, y)])[0] for name, x, y, _ in mapping.nodes}
+    for begin, end in intervals_of(runs):
+        for edge, values in values_of(runs, begin, end).items():
+            content = {"begin": begin, "end": end, **of_edge(mapping, edge), **of_values(values)}
+            yield feature(EDGE, "LineString", lines[edge], content)
+        for (name,), row in sorted(runs.rows.get(("junctions", begin, end), {}).items()):
+            content = {"begin": begin, "end": end, "name": name, "control": row.control}
+            content["vehicles_per_hour"] = round(row.values["vehicles_per_hour"], 1)
+            yield feature(JUNCTION, "Point", points[name], {**content, **of_row(row)})
+
+
+def feature(kind: str, shape: str, coordinates: list, content: dict) -> dict:
+    return {"type": "Feature", "geometry": {"type": shape, "coordinates": coordinates}, "properties": {"kind": kind, **content}}
+
+
+def of_edge(mapping, edge: str) -> dict:
+    links = [mapping.links[link] for link in mapping.links_of[edge]]
+    ends = {"from": mapping.nodes[links[0].begin][0], "to": mapping.nodes[links[0].end][0]}
+    return {"name": edge, **ends, "lanes": sum(len(link.lanes) for link in links), "metres": round(links[0].metres, 1)}
+
+
+def of_values(values: Values) -> dict:
+    return {**of_traffic(values.traffic), **of_row(values.row)}
+
+
+def of_traffic(seen: Traffic | None) -> dict:
+    numbers = (None, None, None) if seen is None else (seen.flow, seen.speed, seen.density)
+    names = "vehicles_per_hour", "mean_speed_kmh", "density_per_km"
+    return {name: None if number is None else round(number, 1) for name, number in zip(names, numbers, strict=True)}
+
+
+def of_row(row: Row | None) -> dict:
+    """The columns of the junction tables, and the letter."""
+    numbers = {name: row.values.get(name) if row else None for name in MEASURES}
+    rounded = {name: None if number is None else round(number, 2) for name, number in numbers.items()}
+    return {**rounded, "los": row.letter() if row else None}
+
+
+def write_text(path: str, text: str) -> None:
+    with whole_file(path) as file:
+        file.write(text + "\n")
+
+
+def write_package(path: str, text: str) -> None:
+    """A layer for edges, and one for junctions where there are some."""
+    with tempfile.TemporaryDirectory() as folder:
+        source, made = f"{folder}/all.geojson", f"{folder}/all.gpkg"
+        write_text(source, text)
+        for kind, layer in LAYERS:
+            if f'"kind":"{kind}"' in text:
+                update = ["-update"] if os.path.exists(made) else []
+                words = ["ogr2ogr", "-f", "GPKG", *update, made, source, "-nln", layer, "-where", f"kind = '{kind}'"]
+                done = subprocess.run(words, capture_output=True, text=True, check=False, env={**os.environ, **FIXED})
+                if done.returncode:
+                    raise Fault(f"{path}: ogr2ogr: {(done.stderr.strip().splitlines() or ['ended'])[-1]}")
+        with whole_path(path) as half:
+            shutil.copyfile(made, half)

@@ -1,0 +1,40 @@
+"""From the metres of a network to longitude and latitude (WGS84)."""
+from collections.abc import Callable, Iterable
+
+from ..files import Fault
+
+NONE = "!"  # SUMO's word for a network without a projection
+Places = Callable[[Iterable], list]
+
+
+def places_of(location: dict, projection: str | None, path: str) -> Places:
+    """A conversion of points; projection: what the user says, in place of the map's own."""
+    try:
+        from pyproj import CRS, Transformer
+        from pyproj.exceptions import CRSError
+    except ImportError:
+        raise Fault("an export needs pyproj (Debian: apt install python3-pyproj)") from None
+    told = projection or location.get("projection", NONE)
+    if told == NONE:
+        what = "the network has no projection" if location else "the map was made by another streetsim-import: import again, or"
+        raise Fault(f"{path}: {what}: say where it lies by --projection, for example EPSG:25832 or '+proj=utm +zone=32'")
+    try:
+        system = CRS.from_user_input(told)
+    except CRSError:
+        raise Fault(f"{path}: {told!r} is no projection that pyproj knows") from None
+    to_earth = Transformer.from_crs(system, "EPSG:4326", always_xy=True)
+    x, y = location.get("offset", (0.0, 0.0))
+
+    def converted(points: Iterable) -> list:
+        xs, ys = zip(*points, strict=True)
+        found = zip(*to_earth.transform([value - x for value in xs], [value - y for value in ys]), strict=True)
+        return [on_earth(place, path, told) for place in found]
+
+    return converted
+
+
+def on_earth(place: tuple[float, float], path: str, told: str) -> list[float]:
+    """A place to 0.1 m."""
+    if not (abs(place[0]) <= 180 and abs(place[1]) <= 90):
+        raise Fault(f"{path}: {told!r} does not fit the network: it lies nowhere on Earth by it")
+    return [round(value, 7) for value in place]
