@@ -6,6 +6,7 @@ import subprocess
 from support import MAP, PROGRAM, Case, needs_package, needs_simulator
 from streetsim.gis.values import traffic_of
 from streetsim.junctions.rows import APPROACHES, JUNCTIONS, MOVEMENTS
+from streetsim.reports.drawing import COLOURS
 from streetsim.run.tables import EDGES, write_table
 from streetsim.sumo.net import read_net
 from streetsim.sumo.report import Report
@@ -148,3 +149,36 @@ class Whole(Case):
         left = [int(line.split(",")[4]) for table in counted for line in table if line.split(",")[2] == "J1J2"]
         edge = next(row for row in rows if row["name"] == "J1J2")
         self.assertAlmostEqual(edge["vehicles_per_hour"], sum(left) / 2 * 6, delta=0.05)
+
+
+@needs_package("python3-matplotlib", subprocess.run(["/usr/bin/python3", "-c", "import matplotlib, PIL"], capture_output=True, check=False).returncode == 0)
+class Maps(Given):
+    def drawn(self, what, *words):
+        path = self.folder / f"{what}.svg"
+        self.tool("plot", "map", self.folder, "--what", what, *words, "-o", path)
+        return path.read_text()
+
+    def test_each_is_drawn_with_its_units(self):
+        """The texts of an SVG stand beside its glyphs as comments; the busiest interval is the first of two alike."""
+        for what, told in (("delay", "seconds"), ("vc", "v/c"), ("flow", "vehicles/h"), ("queue", "metres"), ("los", "Level of service")):
+            with self.subTest(what):
+                text = self.drawn(what)
+                self.assertIn(told, text)
+                self.assertIn("0:00 to 0:30", text)
+
+    def test_letters_have_the_reports_colours(self):
+        """20.5 s are C on the edge and the junction, 36 s are D: besides the legend's, two marks more of that colour."""
+        for begin, letter, other in ((0, "C", "D"), (1800, "D", "C")):
+            text = self.drawn("los", "--begin", begin).lower()
+            self.assertEqual(text.count(COLOURS[letter]) - text.count(COLOURS[other]), 2)
+
+    def test_faults(self):
+        for words, told in (
+            (("--what", "delay", "--begin", 5), "--begin 5: no interval begins there, of 0, 1800"),
+            (("--begin", 0), "--begin: the map of density is of all polls"),
+        ):
+            with self.subTest(told):
+                self.assertIn(told, self.tool("plot", "map", self.folder, *words, "-o", self.folder / "x.png", status=2)[1])
+        (self.folder / "junctions.csv").unlink()
+        said = self.tool("plot", "map", self.folder, "--what", "los", "-o", self.folder / "x.png", status=2)[1]
+        self.assertIn("a map of los needs streetsim-run --junctions", said)

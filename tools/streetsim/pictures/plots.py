@@ -8,7 +8,7 @@ from ..cli.words import Parser, listed, time_within, within
 from ..files import Fault, place_of, whole_path
 from ..run.compare import read_tripinfo
 from ..run.folder import read_folder
-from . import ring, series
+from . import maps, ring, series
 
 DPI, COLOURS = 95, 64
 DATES = {"svg": {"Date": None}, "pdf": {"CreationDate": None}}  # without: equal runs give equal bytes
@@ -30,7 +30,7 @@ def parser():
     for kind, words in (
         ("corridor", "ways of the vehicles along a path over time, with red signals; run with --every 1"),
         ("fundamental", "flow over density, of the counts or of a ring (--ring)"),
-        ("map", "the streets by mean density"),
+        ("map", "the streets by density, delay, level of service, v/c, flow or queue"),
         ("queues", "queues at the stop lines over time"),
         ("arrivals", "departures and arrivals over time"),
     ):
@@ -56,6 +56,9 @@ def parser():
                 help="of the ring, cells a step (default %(default)s)",
             )
             one.add_argument("--program", help=f"for the ring: {program.HELP}")
+        if kind == "map":
+            one.add_argument("--what", choices=maps.WHAT, default="density", help="(default: %(default)s)")
+            one.add_argument("--begin", type=second, metavar="S", help="the interval shown (default: the busiest; of density all)")
         if kind == "arrivals":
             one.add_argument("--sumo", metavar="TRIPINFO", help="SUMO's trips of the same demand, drawn beside")
     return made
@@ -74,16 +77,20 @@ def main(arguments):
     draw = {
         "corridor": draw_corridor,
         "fundamental": draw_fundamental,
-        "map": draw_map,
+        "map": maps.draw,
         "queues": draw_queues,
         "arrivals": draw_arrivals,
     }[words.kind]
     if words.folder is None and not words.ring:
         raise Fault("fundamental needs a folder or --ring")
+    if words.kind == "map" and words.what == "density" and words.begin is not None:
+        raise Fault("--begin: the map of density is of all polls; it goes with --what delay, los, vc, flow and queue")
     ending_of(words.output)
     place_of(words.output)
     pyplot = drawing()
-    figure = draw(pyplot, read_folder(words.folder) if words.folder else None, words)
+    of_rows = words.kind == "map" and words.what != "density"
+    folder = words.folder if of_rows or not words.folder else read_folder(words.folder)
+    figure = draw(pyplot, folder, words)
     save(figure, words.output)
     return 0
 
@@ -208,52 +215,6 @@ def draw_fundamental(pyplot, folder, words):
     axes.set_xlim(left=0)
     axes.set_ylim(bottom=0)
     return figure
-
-
-def draw_map(pyplot, folder, _words):
-    from matplotlib.collections import LineCollection
-
-    shown = sorted(zip(series.densities(folder), folder.mapping.links, strict=True), key=lambda pair: pair[0])
-    most = next((most for most in (25, 50) if shown[-1][0] <= most), 100)
-    width, height = (max(places) - min(places) for places in zip(*(point for _, link in shown for point in link.shape)))
-    wide = width > 2 * height
-    figure, axes = pyplot.subplots(figsize=(9, 4) if wide else (9, 8))
-    axes.add_collection(LineCollection([link.shape for _, link in shown], colors="#bbbbbb", linewidths=2.5))
-    lines = LineCollection(
-        [link.shape for _, link in shown],
-        cmap="viridis_r",
-        array=[density for density, _ in shown],
-        clim=(0, most),
-        linewidths=[1 + 5 * min(density, most) / most for density, _ in shown],
-    )
-    axes.add_collection(lines)
-    axes.autoscale_view()
-    low, high = axes.get_ylim()
-    more = max(0.0, 0.2 * width - (high - low)) / 2  # a street alone would be too flat a picture
-    axes.set(
-        aspect="equal",
-        ylim=(low - more, high + more),
-        xlabel="x (m)",
-        ylabel="y (m)",
-        title="Mean density: wider and darker is denser",
-    )
-    scale_bar(axes, width)
-    beside = {"orientation": "horizontal", "pad": 0.18} if wide else {}
-    figure.colorbar(lines, ax=axes, label="vehicles/km and lane", extend="max", shrink=0.7, **beside)
-    return figure
-
-
-def scale_bar(axes, width):
-    """A bar of a round number of metres, about a fifth of the width, below all that is shown."""
-    metres = series.round_length(max(width, 1) / 5)
-    low, high = axes.get_ylim()
-    low -= 0.06 * (high - low)
-    axes.set_ylim(low, high)
-    left, _ = axes.get_xlim()
-    begin, place = left + 0.03 * max(width, 1), low + 0.03 * (high - low)
-    axes.plot((begin, begin + metres), (place, place), color="black", linewidth=4, solid_capstyle="butt")
-    text = f"{metres:g} m" if metres < 1000 else f"{metres / 1000:g} km"
-    axes.text(begin + metres / 2, place + 0.015 * (high - low), text, ha="center", va="bottom")
 
 
 def draw_queues(pyplot, folder, _words):
