@@ -123,12 +123,17 @@ class Minor(Rounds):
 
 def lit():
     """The junction, and behind it a light L at B, where a street g joins on its own green."""
-    program = '<tlLogic id="L" type="static" programID="0" offset="0"><phase duration="30" state="Gr"/><phase duration="20" state="rG"/></tlLogic>'
-    text = junction().replace('<edge id="s"', f'<edge id="f" from="B" to="E">{lane("f", 0, 300.0)}</edge><edge id="g" from="G" to="B">{lane("g", 0, 300.0)}</edge><edge id="s"')
-    text = text.replace('<junction id="A"', program + "".join(f'<junction id="{name}" type="dead_end" x="0" y="0"/>' for name in "EG") + '<junction id="A"')
-    text = text.replace('<junction id="B" type="dead_end" x="0" y="0"/>', '<junction id="B" type="traffic_light" x="0" y="0"><request index="0" response="00"/><request index="1" response="00"/></junction>')
-    ways = (("e", 0), ("g", 1))
-    return text.replace("</net>", "".join(f'<connection from="{edge}" to="f" fromLane="0" toLane="0" tl="L" linkIndex="{at}" state="M"/>' for edge, at in ways) + "</net>")
+    phases = '<phase duration="30" state="Gr"/><phase duration="20" state="rG"/>'
+    more = f'<tlLogic id="L" type="static" programID="0" offset="0">{phases}</tlLogic>'
+    for name, begin, end in (("f", "B", "E"), ("g", "G", "B")):
+        more += f'<edge id="{name}" from="{begin}" to="{end}">{lane(name, 0, 300.0)}</edge>'
+    more += "".join(f'<junction id="{name}" type="dead_end" x="0" y="0"/>' for name in "EG")
+    more += "".join(
+        f'<connection from="{edge}" to="f" fromLane="0" toLane="0" tl="L" linkIndex="{at}" state="o"/>' for at, edge in enumerate("eg")
+    )
+    requests = '<request index="0" response="00"/><request index="1" response="00"/>'
+    end, light = '<junction id="B" type="dead_end" x="0" y="0"/>', '<junction id="B" type="traffic_light" x="0" y="0">'
+    return junction().replace(end, f"{light}{requests}</junction>").replace("</net>", f"{more}</net>")
 
 
 def ways(departs):
@@ -142,8 +147,8 @@ class Many(Rounds):
 
     def setUp(self):
         super().setUp()
-        departs = [(4 * at, "w e f") for at in range(30)] + [(7 * at, "s e f") for at in range(12)] + [(9 * at, "g f") for at in range(12)]
-        self.imported(lit(), ways(departs))
+        streams = (("w e f", 4, 30), ("s e f", 7, 12), ("g f", 9, 12))  # edges, seconds between vehicles, how many
+        self.imported(lit(), ways([(every * at, edges) for edges, every, count in streams for at in range(count)]))
 
     def table(self, name, out):
         with open(self.folder / out / name, encoding="utf-8") as file:
@@ -196,7 +201,8 @@ class ManyRuns(Many):
 
     def test_a_search_makes_gaps_for_what_it_finds(self):
         _, told = self.signals("--jobs", 1)
-        self.assertRegex(told, r"1 junctions without a light give way by \d+ signal lines under the given plan; for the plan found these are made anew")
+        said = r"1 junctions without a light give way by \d+ signal lines under the given plan; for the plan found these are made anew"
+        self.assertRegex(told, said)
         self.signals("--jobs", 3, out="three")
         self.signals("--rounds", 0, out="nobody")
         trip = {out: self.table("before-after.csv", out)[0] for out in ("found", "three", "nobody")}

@@ -9,7 +9,6 @@ from dataclasses import dataclass
 
 from .signals import connections_of
 
-EQUAL = 0.8  # seconds more where nobody has a main street
 FAST = 10.0  # metres a second inside the junction: a stream that is joined like that is a fast one
 SLOW = 0.8  # of a street's speed: a junction is turned in with less
 TURNING, LOOKING = 2.3, 1.2  # seconds lost in it, and by one that goes straight on and has to look out
@@ -28,7 +27,8 @@ class Gap:
         return max(self.least, self.seconds - self.less * hourly / 1000)
 
 
-CROSSING, ENTERING, JOINING = Gap(6.2, 2.6, 3.5), Gap(7.2, 2.0, 3.5), Gap(8.4, 3.0, 5.0)  # a stream; a slow, a fast one
+CROSSING, ENTERING, JOINING = Gap(7.0, 3.6, 3.5), Gap(7.2, 2.0, 3.5), Gap(8.4, 3.0, 5.0)  # a stream; a slow, a fast one
+EQUAL = {CROSSING: Gap(7.8, 2.8, 3.5), ENTERING: Gap(8.0, 2.0, 3.5), JOINING: Gap(9.2, 3.0, 5.0)}  # nobody has a main street
 
 
 @dataclass(slots=True, frozen=True)
@@ -98,7 +98,7 @@ def foes(one, other, network):
     fast = joins and (other.speed is None or other.speed > FAST)
     gap = JOINING if fast else ENTERING if joins else CROSSING
     if one.state == EQUALS:
-        gap = Gap(round(gap.seconds + EQUAL, 1), gap.less, gap.least)
+        gap = EQUAL[gap]
     return {(link, lane, following): Foe(link, lane, following, gap, fast) for following in network.links_of[other.target]}
 
 
