@@ -64,6 +64,9 @@ class Handler(BaseHTTPRequestHandler):
     """A request: GET /TOKEN/ is the page; POST /TOKEN/PAGE/begin, lines and leave are what the page of that name sends."""
 
     protocol_version = "HTTP/1.1"
+    # An answer goes out at once and in one piece: the system else holds the second piece back for 40 ms.
+    disable_nagle_algorithm = True
+    wbufsize = -1
     server: Bridge
 
     def do_GET(self) -> None:
@@ -133,6 +136,7 @@ class Handler(BaseHTTPRequestHandler):
             self.send_header(name, value)
         self.end_headers()
         self.wfile.write(body)
+        self.wfile.flush()
 
     def log_message(self, *_arguments: object) -> None:
         """Requests are told nowhere."""
