@@ -126,9 +126,9 @@ def here_trip(name, works, closing, seeds, folder, program):
     words = [f"{name}.jsonl", "--map", f"{name}.map.json", "--until", UNTIL, "--every", 0, "--jobs", 1]
     words += ["--seeds", seeds, "--out", "here", "--program", program]
     if closing:
-        words += ["--close", works.closing()]
+        words += [f"--close={works.closing()}"]
     elif works.lanes > 1:
-        words += ["--joint", f"{works.edge}_{works.lane}"]
+        words += [f"--joint={works.edge}_{works.lane}"]
     run([TOP / "tools/streetsim-run", *words], folder)
     departs = wished(NETWORKS[name][1])
     found = []

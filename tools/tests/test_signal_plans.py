@@ -5,18 +5,24 @@ import os
 import pty
 import signal
 import subprocess
+import sys
 import time
 import unittest
 import xml.etree.ElementTree as ElementTree
 from collections import Counter
+from unittest import mock
+from unittest.mock import Mock
 
 from support import MAP, NUMBERED, PROGRAM, TOOLS, Case, lane, needs_package, needs_simulator, needs_sumo, net
 from streetsim.files import Fault
 from streetsim.signals.formulas import tree, webster_cycle
 from streetsim.signals.light_lines import LightLines, read_plans
-from streetsim.run.mapping import read_map
+from streetsim.run.mapping import map_from, read_map
 from streetsim.signals.plans import Light, Timing, light_of, spread, whole
-from streetsim.run.runs import read_run
+from streetsim.run.runs import Line, Run, read_run
+from streetsim.run.trust import of_missing
+from streetsim.signals.found import distrust, verdict
+from streetsim.signals.in_sumo import mean_trip
 from streetsim.signals.search import Search, climb, search_plan, shift_of
 from streetsim.study.seeds import runs_needed, seeds_for, seeds_of, student
 from streetsim.study.sessions import outcome, session_of, vehicle_seconds
@@ -351,6 +357,56 @@ class Tool(Searching):
         self.assertEqual(len(self.offsets()), 5)
 
 
+@needs_simulator
+class Verdicts(Searching):
+    """What the last line says, and what it rests on."""
+
+    def test_the_budget_is_named_with_the_plans(self):
+        """Three seeds a plan: of 10 simulations three plans."""
+        self.given(street(), flow("east", STREET, 20).replace("3600", "900"), "--residence", 3)
+        told, _ = self.search("--budget", 10, "--seeds", "1-3", "--check", "101-103", until=1500, status=None)
+        self.assertIn("; 9 simulations, where --budget ended the search after 3 plans\n", told)
+
+    def test_sumo_that_is_not_there(self):
+        self.given(street(), flow("east", STREET, 20).replace("3600", "900"), "--residence", 3)
+        with mock.patch.dict(os.environ, PATH="/nowhere"):
+            words = [sys.executable, TOOLS / "streetsim-signals", *self.words("--verify-sumo", until=1500)]
+            done = subprocess.run(list(map(str, words)), capture_output=True, text=True, check=False)
+        said = "streetsim-signals: --verify-sumo: SUMO is not installed here (Debian: apt install sumo)"
+        self.assertEqual((done.returncode, done.stderr.splitlines()[-1]), (2, said))
+
+    def test_both_must_say_better(self):
+        rows = {"better": (-9.0, 2.0), "worse": (7.0, 4.0), "level": (-1.0, 2.0)}
+        for here, there, told in (
+            ("better", "better", "shown to be better here and in SUMO: -9.0 s ± 2.0 here, -9.0 s ± 2.0 in SUMO"),
+            ("better", "worse", "not shown to be better in SUMO: -9.0 s ± 2.0 here, +7.0 s ± 4.0 in SUMO"),
+            ("level", "better", "not shown to be better here: -1.0 s ± 2.0 here, -9.0 s ± 2.0 in SUMO"),
+            ("level", "worse", "not shown to be better here or in SUMO: -1.0 s ± 2.0 here, +7.0 s ± 4.0 in SUMO"),
+        ):
+            found = {"here": rows[here], "in SUMO": rows[there]}
+            worse = [where for where, (difference, half) in found.items() if difference + half >= 0]
+            self.assertEqual(verdict(found, worse, Search(None, 1, 1)), told)
+
+    def test_trips_in_sumo_are_over_the_vehicles_of_the_run(self):
+        """Trips of 100 and 50 s; one that has not arrived counts from 400 to 1,000; a vehicle that the run has not is left out."""
+        trips = {"a": (0.0, 100.0), "b": (100.0, 150.0), "bicycle": (0.0, 900.0)}
+        self.assertEqual(mean_trip(trips, {"a": 0, "b": 100, "c": 400}, 1000), 250)
+
+    def test_permissive_turns_are_named(self):
+        """Somebody turns left against others: the plan rests on a formula."""
+        rows = [("mean_trip_s", 9.0, 8.0, -1.0, 0.1, 3), ("arrived", 1.0, 1.0, 0.0, 0.0, 3)]
+        run = Run("run", Line(1, "", {"dawdle": 0}), enters=[Line(2, "", {"plan": [0], "depart": 0})])
+        town = Mock(session=Mock(clocks=(0, 1000)), run=run, mapping=map_from("map", MAP), lines=Mock(permissive={"L"}))
+        told = "not to be trusted: without --verify-sumo, as turns find their gaps in oncoming traffic by formula at L"
+        self.assertEqual(distrust(town, rows, None), told)
+        self.assertEqual(distrust(town, rows, object()), "")
+
+    def test_who_has_not_arrived(self):
+        """Ten had the time; more than a tenth of them have not."""
+        self.assertEqual(of_missing({"as given": 9.0, "as found": 10.0}, 10), [])
+        self.assertEqual(of_missing({"as given": 8.0, "as found": 9.0}, 10), ["as given 2 of 10 vehicles that had the time to arrive have not"])
+
+
 def read_until(terminal, word, seconds):
     """What a terminal shows up to a word."""
     shown, end = "", time.monotonic() + seconds
@@ -366,7 +422,9 @@ class InSumo(Corridor):
     def test_offsets_of_the_corridor(self):
         """SUMO's own tlsCoordinator comes to 120.9 s there (139.3 s with the plan given)."""
         self.corridor()
-        self.search("--change", "offsets", "--edges", "WJ1 J1J2 J2J3", until=7200)
+        words = "--change", "offsets", "--edges", "WJ1 J1J2 J2J3", "--check", "101-103", "--verify-sumo"
+        said, _ = self.search(*words, until=7200)
+        self.assertRegex(said.splitlines()[-1], r"^shown to be better here and in SUMO: -[\d.]+ s ± [\d.]+ here, -[\d.]+ s ± [\d.]+ in SUMO")
         told = self.folder / "told.xml"
         words = ["-n", self.net, "-r", CORRIDOR / "corridor.rou.xml", "-a", self.folder / "out.add.xml", "--end", 7200]
         words += ["--statistic-output", told, "--duration-log.statistics", "--no-step-log", "--no-warnings"]

@@ -139,7 +139,7 @@ class Cluster(ClusterCase, Studies):
             words = ["import sys; sys.path.insert(0, sys.argv[1])", "from streetsim.study import machines, studying"]
             words += ["study = studying.read_study(sys.argv[2], sys.argv[3])"]
             words += ["import os; os.unlink(sys.argv[3])" if change == "unlink" else "open(sys.argv[3], 'ab').write(b'x')"]
-            words += ["with machines.machines(1, sys.argv[4], [one for one, _ in study.variants.values()]): pass"]
+            words += ["with machines.machines(1, sys.argv[4], [one.session for one in study.variants.values()]): pass"]
             done = subprocess.run(
                 [DEBIAN, "-c", "\n".join(words), TOOLS, study, program, f"127.0.0.1:{port}"], capture_output=True, text=True, check=False
             )

@@ -60,7 +60,7 @@ class Marks(unittest.TestCase):
         mapping = map_from("map", {**MAP, "links": [MAP["links"][0], [*MAP["links"][1][:6], 50.0, MAP["links"][1][7]]]})
         for plan, told in (([0], []), ([0, 1], ["routes are 20 % longer here than in SUMO, as edges are whole cells: most of all b"])):
             run = Run("run", Line(1, "", {}), enters=[Line(2, "", {"plan": plan, "depart": 0})])
-            self.assertEqual(list(trust.of_lengths(self.trips(row(0, 20)), run, mapping)), told)
+            self.assertEqual(list(trust.of_lengths(1000, run, mapping)), told)
 
 
 @needs_simulator

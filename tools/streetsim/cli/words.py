@@ -3,7 +3,7 @@ import argparse
 import os
 import re
 from collections.abc import Callable, Iterable
-from typing import NoReturn
+from typing import Any, NoReturn
 
 from ..files import Fault, seconds
 
@@ -15,7 +15,12 @@ FALSE = ("false", "0", "no", "off", "f")  # as SUMO reads a word that is on or o
 
 
 class Parser(argparse.ArgumentParser):
-    """A parser for which wrong words are a Fault, one line without the usage."""
+    """A parser for which wrong words are a Fault, one line without the usage. A word that begins with - and is no option
+    is a value, as many of SUMO's edges begin so."""
+
+    def __init__(self, *args: Any, **more: Any) -> None:
+        super().__init__(*args, **more)
+        self._negative_number_matcher = re.compile("-[^-]")  # what argparse takes for a value all the same
 
     def error(self, message: str) -> NoReturn:
         raise Fault(f"{message.removeprefix('argument ')} (what may be given: {self.prog} --help)")

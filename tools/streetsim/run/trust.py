@@ -2,12 +2,13 @@
 
 The marks are chosen, not measured: above them a run is of another town than the one that was asked for.
 """
-from collections.abc import Iterator, Sequence
+from collections.abc import Iterator, Mapping, Sequence
 from dataclasses import dataclass
 from itertools import compress
 from statistics import fmean
 
 from .. import limits
+from .freeflow import FreeFlow
 
 MOST_RESCUES = 0.01  # of the vehicles; one alone is none too many
 MOST_LATE = 0.1  # of those that would have arrived, were nobody in their way
@@ -60,9 +61,22 @@ def trips_at(clock: int, start: int, rows: Sequence[tuple]) -> Trips:
     )
 
 
+def due_at(clock: int, run, mapping) -> int:
+    """The vehicles of a run that would have arrived, were nobody in their way."""
+    free_flow = FreeFlow(mapping, run.load.command["dawdle"] / 1000)
+    return sum(line.command["depart"] + free_flow(line.command["plan"]) <= clock for line in run.enters)
+
+
+def of_missing(arrived: Mapping[str, float], due: int) -> list[str]:
+    """What speaks against means of several runs, by how many arrived: {what was run: vehicles}. Who has not arrived counts
+    until the end in such means."""
+    late = {name: due - count for name, count in arrived.items() if due - count > MOST_LATE * due}
+    return [f"{name} {missing:,.0f} of {due:,} vehicles that had the time to arrive have not" for name, missing in late.items()]
+
+
 def doubts(trips: Trips, rescues: int, censuses: Sequence, run, mapping) -> list[str]:
     """What speaks against a run, each in some words; nothing where it is to be trusted."""
-    return [*of_rescues(trips, rescues), *of_arrivals(trips), *of_entries(trips, censuses), *of_lengths(trips, run, mapping)]
+    return [*of_rescues(trips, rescues), *of_arrivals(trips), *of_entries(trips, censuses), *of_lengths(trips.clock, run, mapping)]
 
 
 def of_rescues(trips: Trips, rescues: int) -> Iterator[str]:
@@ -83,11 +97,11 @@ def of_entries(trips: Trips, censuses: Sequence) -> Iterator[str]:
         yield f"{worst.waiting:,} vehicles waited to enter at {worst.clock:,} s, and are in no queue or count"
 
 
-def of_lengths(trips: Trips, run, mapping) -> Iterator[str]:
+def of_lengths(clock: int, run, mapping) -> Iterator[str]:
     """Where the routes are of another length than in SUMO, as edges are whole cells."""
     here = [link.cells * limits.CELL_METRES for link in mapping.links]
     there = [link.metres for link in mapping.links]
-    plans = [line.command["plan"] for line in run.enters if line.command["depart"] < trips.clock]
+    plans = [line.command["plan"] for line in run.enters if line.command["depart"] < clock]
     metres = [sum(sum(map(lengths.__getitem__, plan)) for plan in plans) for lengths in (here, there)]
     if abs(metres[0] - metres[1]) > OTHER_LENGTH * metres[1]:
         used = {link for plan in plans for link in plan if here[link] != there[link]}

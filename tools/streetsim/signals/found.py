@@ -8,12 +8,14 @@ from statistics import fmean
 from ..cli.words import listed
 from ..files import whole_folder
 from ..pictures import plots
+from ..run import trust
 from ..run.folder import read_folder
 from ..run.freeflow import FreeFlow
 from ..run.record import Settings
 from ..run.running import one_run
 from ..run.tables import write_table
 from ..study.seeds import paired
+from ..sumo.report import some
 from .light_lines import LightLines
 from .plans import write_additional
 
@@ -23,9 +25,9 @@ LIGHTS = ("light", "cycle_before", "cycle_after", "offset_before", "offset_after
 TRIALS = ("simulations", "step", "mean_trip_s", "best_s")
 
 
-def compared(town, before, after):
+def compared(town, before, after, sumo=None):
     """The rows of before-after.csv, of runs with equal seeds: means over all vehicles; one that has not arrived counts
-    until the end."""
+    until the end. The last is of SUMO, where it was run."""
     cars, free = len(town.session.departs), free_trip(town)
     figures = {
         "mean_trip_s": lambda one: one.seconds / cars,
@@ -36,6 +38,8 @@ def compared(town, before, after):
     for name, figure in figures.items():
         values = [[figure(one) for one in outcomes] for outcomes in (before, after)]
         rows.append((name, *map(fmean, values), *paired(*values), len(before)))
+    if sumo:
+        rows.append(("sumo_mean_trip_s", fmean(sumo.before), fmean(sumo.after), *sumo.difference(), len(sumo.before)))
     return rows
 
 
@@ -81,8 +85,8 @@ def draw(words, town, plan, path):
         plots.save(figure, path)
 
 
-def tell(town, search, rows, stopped):
-    """Says what was found; gives the status, 1 where it is not shown to be better."""
+def tell(town, search, rows, stopped, sumo=None):
+    """Says what was found; gives the status, 1 where it is not shown to be better wherever it was run."""
     _, before, after, difference, half, runs = rows[0]
     for text in warnings_of(town, search.best[1]):
         print(f"warning: {text}", file=sys.stderr)
@@ -90,12 +94,42 @@ def tell(town, search, rows, stopped):
         print("stopped: the best plan found so far is written")
     print(
         f"mean trip {before:.1f} s as given, {after:.1f} s as found: {difference:+.1f} s ± {half:.1f} "
-        f"(95 % interval, {runs} seeds that the search did not see); {search.simulations:,} simulations"
+        f"(95 % interval, {runs} seeds that the search did not see); {search.simulations:,} simulations{budget_ended(search)}"
     )
-    if difference + half < 0:
-        return 0
-    print("not shown to be better")
-    return 1
+    if sumo:
+        print(sumo.told())
+    found = {"here": (difference, half), **({"in SUMO": sumo.difference()} if sumo else {})}
+    worse = [where for where, (mean, width) in found.items() if mean + width >= 0]
+    if text := "; ".join(filter(None, (verdict(found, worse, search), distrust(town, rows, sumo)))):
+        print(text)
+    return 1 if worse else 0
+
+
+def budget_ended(search):
+    """After how many plans the budget ended a search."""
+    return f", where --budget ended the search after {len(search.trials):,} plans" if search.spent else ""
+
+
+def verdict(found, worse, search):
+    """The last line: whether a plan is shown to be better, and where both were run by what."""
+    figures = ", ".join(f"{difference:+.1f} s ± {half:.1f} {where}" for where, (difference, half) in found.items())
+    if len(found) == 1:
+        return f"not shown to be better{budget_ended(search)}" if worse else ""
+    if worse:
+        return f"not shown to be better {' or '.join(worse)}: {figures}{budget_ended(search)}"
+    return f"shown to be better here and in SUMO: {figures}"
+
+
+def distrust(town, rows, sumo):
+    """The rest of the last line: why a result is not to be trusted."""
+    named = {name: values for name, *values in rows}
+    until, (given, found, *_) = town.session.clocks[-1], named["arrived"]
+    doubts = trust.of_missing({"as given": given, "as found": found}, trust.due_at(until, town.run, town.mapping))
+    doubts += trust.of_lengths(until, town.run, town.mapping)
+    if town.lines.permissive and not sumo:
+        lights = some(sorted(town.lines.permissive))
+        doubts.append(f"without --verify-sumo, as turns find their gaps in oncoming traffic by formula at {lights}")
+    return trust.verdict(doubts) if doubts else ""
 
 
 def warnings_of(town, plan):

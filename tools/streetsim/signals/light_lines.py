@@ -42,6 +42,7 @@ class LightLines:
         for turn in mapping.turns:
             self.turns[mapping.links[turn.link].end].append((turn.link, turn.lane, turn.next, turn))
         self.made = {}  # (light, durations): for each node the phases as bytes
+        self.permissive = set()  # lights at which some who drive must find gaps in a green
         self.report = Report()  # of what was made, where a light needs more phases than there may be
 
     def of(self, plan, lights):
@@ -65,6 +66,8 @@ class LightLines:
         if permissive is None and self.flows:
             connections = self.connections[junction]
             found = movements_of_junction(junction, connections, self.net, self.flows, self.limits_of, self.report)
+        if any(movement.runs and movement.foes and movement.flow for movement in found.values()):
+            self.permissive.add(name)
         turns = self.turns[node]
         edges = {link: self.mapping.links[link].edge for link, *_ in turns}
         made = signal(node, turns, edges, name, program, permissive, self.report, found)

@@ -14,6 +14,7 @@ from ..study.machines import machines
 from ..study.seeds import seeds_for, seeds_of
 from .formulas import critical_cycle, streets_of
 from .found import compared, tell, write_found
+from .in_sumo import sumo_for, verified
 from .plans import LEAST
 from .search import Search, search_plan
 from .town import Reading, Runner, read_town, sessions_of
@@ -43,6 +44,11 @@ def parser():
     add_search(made)
     add_rounds(made)
     add_machines(made)
+    made.add_argument(
+        "--verify-sumo",
+        action="store_true",
+        help="run SUMO too with the plan given and the plan found, with the seeds of --check; both must say better",
+    )
     made.add_argument("--edges", default="", help="draw the ways of the vehicles along these edges, before and after")
     made.add_argument("--first", type=time_within(0, limits.CLOCK), metavar="S", help="the first second drawn (default: a third of the run)")
     made.add_argument("--last", type=time_within(0, limits.CLOCK), metavar="S", help=f"the last second drawn (default: {DRAWN} s later)")
@@ -107,6 +113,7 @@ def main(arguments):
         )
     check_cycles(words, town, cycles)
     check_pictures(words, town)
+    in_sumo = sumo_for(words, town.mapping, town.run) if words.verify_sumo else None
     tried = tried_seeds(check)
     with machines(words.jobs, words.cluster, [town.session]) as workers:
         known = sorted({*tried, *(seeds_of(words.seeds, "--seeds") if words.seeds else ())})
@@ -116,9 +123,10 @@ def main(arguments):
         seeds = search_seeds(words, runner, tried)
         search, stopped = searched(words, runner, changed, cycles, seeds)
         before, after = (runner.outcomes(plan, check) for plan in (town.plan, search.best[1]))
-    rows = compared(town, before, after)
+    sumo = verified(in_sumo, town, search.best[1], check, words.jobs) if in_sumo else None
+    rows = compared(town, before, after, sumo)
     write_found(words, town, search, rows)
-    return tell(town, search, rows, stopped)
+    return tell(town, search, rows, stopped, sumo)
 
 
 def changes_of(words):

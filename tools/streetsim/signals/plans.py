@@ -135,12 +135,12 @@ def why_kept(name, program, asked, timed):
     return None
 
 
-def write_additional(path, lights, plan):
+def write_additional(path, lights, plan, program="streetsim"):
     """Writes a plan as SUMO and streetsim-import take it: a whole program for each light."""
     with whole_file(path) as file:
         file.write("<additional>\n")
         for name, timing in sorted(plan.items()):
-            words = f'type="static" programID="streetsim" offset="{timing.offset}"'
+            words = f'type="static" programID="{program}" offset="{timing.offset}"'
             file.write(f"    <tlLogic id={quoteattr(name)} {words}>\n")
             for duration, state in zip(timing.durations, lights[name].states, strict=True):
                 file.write(f'        <phase duration="{duration}" state="{state}"/>\n')

@@ -34,6 +34,7 @@ class Search:
     seen: dict = field(default_factory=dict)
     trials: list = field(default_factory=list)
     best: tuple = (float("inf"), None)  # value and plan
+    spent: bool = False  # the budget ended it
 
     @property
     def simulations(self):
@@ -47,14 +48,15 @@ class Search:
                 new.setdefault(key_of(plan), (step, plan))
         room = (self.budget - self.simulations) // self.seeds
         tried = list(new.items())[:room]
-        if new and not tried:
+        self.spent = len(tried) < len(new)
+        if self.spent and not tried:
             raise Ended
         with contextlib.closing(self.value([plan for _, (_, plan) in tried])) as found:
             for (key, (step, plan)), value in zip(tried, found):
                 self.note(key, step, plan, value)
                 if self.told(self):
                     raise Ended
-        if len(tried) < len(new):
+        if self.spent:
             raise Ended
         return [self.seen[key_of(plan)] for _, plan in steps]
 

@@ -13,6 +13,7 @@ from ..cli.progress import Meanwhile, Slow
 from ..cli.words import MOST_ROUNDS, ROUNDS, Parser, add_rounds, whole_seconds
 from ..files import Fault, open_text, reading, whole_folder
 from ..pictures import plots
+from ..run import trust
 from ..run.mapping import read_map
 from ..run.tables import write_table
 from ..run.works import lanes_to_join, with_works, works_of
@@ -23,6 +24,7 @@ from ..signals.town import Reading, lights_of, read_pair
 from .giving import giving_session, outcome_giving_way
 from .machines import machines
 from .seeds import paired, runs_needed, seeds_of, unpaired
+from .sessions import Session
 
 LAST = "differences.csv"
 KEYS = {"run", "map", "until", "seeds", "base", "rounds", "variant"}
@@ -35,11 +37,19 @@ DIFFERENCES = (
 
 
 @dataclass(slots=True)
+class Variant:
+    session: Session
+    signals: bytes  # lines
+    due: int  # vehicles that would have arrived at the end, were nobody in their way
+    doubts: list[str]  # what speaks against its runs before any is made
+
+
+@dataclass(slots=True)
 class Study:
     until: int
     seeds: range
     base: str
-    variants: dict  # name: (session, signal lines)
+    variants: dict[str, Variant]
 
 
 def parser():
@@ -85,8 +95,10 @@ def main(arguments):
         write_table(f"{folder}/runs.csv", RUNS, run_rows(study, results))
         write_table(f"{folder}/{LAST}", DIFFERENCES, map(written, rows))
         draw(study, rows, f"{folder}/differences.png")
-    tell(study, rows)
+    tell(rows)
     tell_giving_way(results)
+    if found := list(doubts(study, results)):
+        print(trust.verdict(found))
     return 0
 
 
@@ -148,7 +160,7 @@ def pair_of(study, variant):
 
 
 def read_variant(where, path, study, variant, joint, simulator):
-    """The session and the signal lines of a variant; joint: the lanes that are joint for works, by run and map."""
+    """A variant; joint: the lanes that are joint for works, by run and map."""
     refuse_unknown(where, variant, VARIANT, "key")
     beside = partial(os.path.join, os.path.dirname(os.path.abspath(path)))
     run_path, map_path = map(beside, pair_of(study, variant))
@@ -157,12 +169,13 @@ def read_variant(where, path, study, variant, joint, simulator):
     run, mapping, told = with_works(run, mapping, map_path, works, joint[pair_of(study, variant)])
     print(*(f"{where}: {text}" for text in told), sep="\n", end="\n" if told else "", file=sys.stderr)
     load = {"dawdle": variant["dawdle"]} if "dawdle" in variant else {}
-    if "plans" not in variant:
-        return giving_session(simulator, run, mapping, study["until"], study["rounds"], **load), b""
-    plans = list(map(beside, variant["plans"]))
-    signals = signals_of(Reading(run_path, map_path, plans, study["until"], simulator, 0, ()), run, mapping)
-    nodes = frozenset(node for _, node in mapping.signals)
-    return giving_session(simulator, run, mapping, study["until"], study["rounds"], nodes, **load), signals
+    nodes, signals, until = frozenset(), b"", study["until"]
+    if "plans" in variant:
+        plans = list(map(beside, variant["plans"]))
+        signals = signals_of(Reading(run_path, map_path, plans, until, simulator, 0, ()), run, mapping)
+        nodes = frozenset(node for _, node in mapping.signals)
+    session = giving_session(simulator, run, mapping, until, study["rounds"], nodes, **load)
+    return Variant(session, signals, trust.due_at(until, run, mapping), list(trust.of_lengths(until, run, mapping)))
 
 
 def check_types(where, value):
@@ -189,13 +202,13 @@ def signals_of(asked, run, mapping):
 
 def run_all(words, study):
     """What each variant gives with each seed, {variant: outcomes}."""
-    sessions = [session for session, _ in study.variants.values()]
+    sessions = [variant.session for variant in study.variants.values()]
     total = len(study.variants) * len(study.seeds)
     meanwhile, results = Meanwhile("runs", total), {}
     with machines(words.jobs, words.cluster, sessions) as workers:
         tasks = [
-            (f"variant {name!r}, seed {seed}", outcome_giving_way, place, signals, seed)
-            for place, (name, (_, signals)) in enumerate(study.variants.items())
+            (f"variant {name!r}, seed {seed}", outcome_giving_way, place, variant.signals, seed)
+            for place, (name, variant) in enumerate(study.variants.items())
             for seed in study.seeds
         ]
         found = workers.ordered(tasks)
@@ -209,7 +222,7 @@ def run_all(words, study):
 
 
 def means_of(study, results, name):
-    cars = len(study.variants[name][0].departs)
+    cars = len(study.variants[name].session.departs)
     return [one.seconds / cars for one in results[name]]
 
 
@@ -268,7 +281,15 @@ def draw(study, rows, path):
     plots.save(figure, path)
 
 
-def tell(study, rows):
+def doubts(study, results):
+    """What speaks against the runs of some variants."""
+    for name, variant in study.variants.items():
+        arrived = fmean(one.arrived for one in results[name])
+        yield from trust.of_missing({f"{name}:": arrived}, variant.due)
+        yield from (f"{name}: {text}" for text in variant.doubts)
+
+
+def tell(rows):
     """Prints a line for each variant."""
     for name, mean, difference, half, _, runs, needed, _ in rows:
         line = f"{name}: mean trip {mean:.1f} s"

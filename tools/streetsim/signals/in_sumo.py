@@ -1,0 +1,124 @@
+"""Plans of streetsim-signals in SUMO: the same files, demand and seeds, and trips reckoned as they are here."""
+import os
+import shutil
+import subprocess
+import tempfile
+from dataclasses import dataclass
+from statistics import fmean
+
+from ..cli.progress import Meanwhile
+from ..files import Fault, attribute, elements
+from ..run.compare import read_tripinfo
+from ..study.jobs import side_by_side
+from ..study.seeds import paired
+from ..sumo.sources import Sources, sources_of
+from .plans import write_additional
+
+PROGRAM_ID = "streetsim-verified"  # of the lights: no program of the files given may have the same
+
+
+@dataclass(slots=True)
+class Verified:
+    """Mean trips in SUMO of the plan given and the plan found, seed by seed, and who was taken out of the way."""
+
+    before: list[float]
+    after: list[float]
+    teleports: tuple[int, int]
+
+    def difference(self) -> tuple[float, float]:
+        return paired(self.before, self.after)
+
+    def told(self) -> str:
+        difference, half = self.difference()
+        moved = f", {self.teleports[0]:,} and {self.teleports[1]:,} teleports" if any(self.teleports) else ""
+        return (
+            f"in SUMO {fmean(self.before):.1f} s as given, {fmean(self.after):.1f} s as found: {difference:+.1f} s ± {half:.1f} "
+            f"(95 % interval, the same {len(self.before)} seeds{moved})"
+        )
+
+
+@dataclass(slots=True)
+class InSumo:
+    """SUMO, and the files of a run that it is given."""
+
+    program: str
+    sources: Sources
+    start: int
+    until: int
+
+    def words(self, plan: str, seed: int, trips: str, statistic: str) -> list[str]:
+        words = [self.program, "-n", self.sources.net, "-a", ",".join([*self.sources.additional, plan])]
+        words += ["-r", ",".join(self.sources.routes), "--seed", str(seed), "--begin", str(self.start), "--end", str(self.until)]
+        return [*words, "--tripinfo-output", trips, "--statistic-output", statistic, "--no-step-log", "--no-warnings"]
+
+    def trips(self, plan: str, seed: int) -> tuple[dict, int]:
+        """The trips that a plan gives, {vehicle: (wished departure, arrival)}, and the teleports."""
+        with tempfile.TemporaryDirectory() as folder:
+            trips, statistic = f"{folder}/trips.xml", f"{folder}/statistic.xml"
+            words = self.words(plan, seed, trips, statistic)
+            done = subprocess.run(words, cwd=folder, env=environment(), capture_output=True, text=True, check=False)
+            if done.returncode:
+                raise Fault(f"--verify-sumo: SUMO ended with status {done.returncode}: {first_error(done.stderr)}")
+            return read_tripinfo(trips), teleports_of(statistic)
+
+
+def environment() -> dict[str, str]:
+    """SUMO's own place, where it is Debian's and nobody says otherwise: with it SUMO checks files without the network."""
+    return {"SUMO_HOME": "/usr/share/sumo", **os.environ}
+
+
+def first_error(text: str) -> str:
+    lines = [line for line in text.splitlines() if line.strip()]
+    return next((line for line in lines if line.startswith("Error")), lines[0] if lines else "nothing on standard error")
+
+
+def teleports_of(path: str) -> int:
+    """The teleports of a statistic output."""
+    return sum(attribute(path, one, "total", int) for one in elements(path, ["statistics"]) if one.tag == "teleports")
+
+
+def sumo_for(words, mapping, run) -> InSumo:
+    """SUMO with the files of the import; refused where it is not installed, or where these are not what they were."""
+    program = shutil.which("sumo")
+    if program is None:
+        raise Fault("--verify-sumo: SUMO is not installed here (Debian: apt install sumo)")
+    sources = sources_of(mapping.sources, words.map, words.run)
+    if os.path.realpath(sources.net) != os.path.realpath(words.plans[0]):
+        raise Fault(f"--verify-sumo: {words.run} was imported from {sources.net}, and --plans begins with {words.plans[0]}")
+    known = {os.path.realpath(path) for path in sources.additional}
+    more = [path for path in words.plans[1:] if os.path.realpath(path) not in known]
+    additional, routes = (list(map(os.path.abspath, paths)) for paths in (sources.additional + more, sources.routes))
+    return InSumo(program, Sources(os.path.abspath(sources.net), additional, routes), run.start(), words.until)
+
+
+def verified(in_sumo: InSumo, town, plan, seeds, jobs: int) -> Verified:
+    """What SUMO says of the plan given and of a plan found, for each seed."""
+    enters = zip(town.mapping.cars, (line.command["depart"] for line in town.run.enters), strict=True)
+    departs = {name: depart for name, depart in enters if depart < in_sumo.until}
+
+    def run(task, told):
+        trips, teleports = in_sumo.trips(*task)
+        told(1)
+        return mean_trip(trips, departs, in_sumo.until), teleports
+
+    with tempfile.TemporaryDirectory() as folder:
+        paths = [f"{folder}/{name}.add.xml" for name in ("given", "found")]
+        for path, lights in zip(paths, (town.plan, plan), strict=True):
+            write_additional(path, town.lights, lights, PROGRAM_ID)
+        tasks = [(path, seed) for path in paths for seed in seeds]
+        meanwhile, done = Meanwhile("runs of SUMO", len(tasks)), set()
+        means, teleports = zip(*side_by_side(run, tasks, jobs, lambda place, _: meanwhile.show(add(done, place))), strict=True)
+        meanwhile.end()
+    half = len(seeds)
+    return Verified(list(means[:half]), list(means[half:]), (sum(teleports[:half]), sum(teleports[half:])))
+
+
+def add(done: set, place: int) -> int:
+    """Notes what is done; gives how many are."""
+    done.add(place)
+    return len(done)
+
+
+def mean_trip(trips: dict, departs: dict, until: int) -> float:
+    """The mean over the vehicles that the run has too; one that has not arrived counts until the end, as here."""
+    return fmean(trips[name][1] - trips[name][0] if name in trips else until - depart for name, depart in departs.items())
