@@ -364,7 +364,7 @@ class Verdicts(Searching):
     def test_the_budget_is_named_with_the_plans(self):
         """Three seeds a plan: of 10 simulations three plans."""
         self.given(street(), flow("east", STREET, 20).replace("3600", "900"), "--residence", 3)
-        told, _ = self.search("--budget", 10, "--seeds", "1-3", "--check", "101-103", until=1500, status=None)
+        told, _ = self.search("--budget", 10, "--seeds", "1-3", "--check", "101-103", until=1500)
         self.assertIn("; 9 simulations, where --budget ended the search after 3 plans\n", told)
 
     def test_sumo_that_is_not_there(self):
