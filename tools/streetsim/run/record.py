@@ -9,6 +9,7 @@ from ..files import Fault
 from .budget import MINUTE, Budget
 from .detectors import E1, E2, Areas
 from .edgedata import Edgedata, Samples
+from .ending import Ending
 from .freeflow import FreeFlow
 from .late import Late
 
@@ -24,6 +25,7 @@ class Settings:
     edges: tuple = ()  # those to poll; all where it is empty
     calls: int | None = None  # at most; none: as many as the program takes
     all_counted: bool = True  # lanes beyond those of one run's detectors are counted by further runs
+    open_end: bool = False  # until all have arrived or nobody moves; `until` is then a guess, and the end after the run
 
 
 @dataclass(slots=True)
@@ -41,6 +43,7 @@ class Records:
     rescues: Counter = field(default_factory=Counter)  # by vehicle
     rescued: list = field(default_factory=list)  # (clock, car, enter command), in the order in which they were done
     asking: object = None  # budget.Asking
+    ended: str = ""  # why a run without a last second ended
     calls: int = 0  # that were made
     clock: int = 0
 
@@ -183,6 +186,7 @@ class Recorder(Desk):
         self.polled_at = {}  # when they last were
         self.most = 0  # calls
         self.free_flow = FreeFlow(mapping, run.load.command.get("dawdle", 0) / 1000)
+        self.ending = Ending(run)
         self.late, self.ended = Late(settings.rescue), {}  # those who have ended, by vehicle of the file
         self.records.areas = Areas([one for one in detectors if one.kind == E2], self.start)
         self.areas = {(one.link, one.lane) for one in self.records.areas.detectors}
@@ -221,6 +225,9 @@ class Recorder(Desk):
         """All that is asked at a clock."""
         asking, settings = self.records.asking, self.settings
         wanted, minute = bool(asking.every) and clock % asking.every == 0, clock % MINUTE == 0
+        if settings.open_end and (minute or clock == settings.until):
+            self.take_census(clock)
+            self.ending.look(self, clock)
         sampled, ended = self.wants_samples(clock)
         rescuing = bool(settings.rescue) and minute and clock < settings.until
         if rescuing and not asking.all_watched:
@@ -237,11 +244,15 @@ class Recorder(Desk):
             self.note_lanes(clock, lanes)
         self.measure(clock, lanes, sampled, ended)
         if minute or clock == settings.until:
-            self.records.censuses.append(self.sim.count())
-            self.records.calls += 1
+            self.take_census(clock)
         if rescuing:
             self.rescue(clock, lanes, set(watched))
         self.read_meters(clock)
+
+    def take_census(self, clock):
+        if not self.records.censuses or self.records.censuses[-1].clock != clock:
+            self.records.censuses.append(self.sim.count())
+            self.records.calls += 1
 
     def spare(self, clock):
         """Calls that are left beside those that the run needs."""

@@ -2,6 +2,7 @@
 import os
 import sys
 import time
+from dataclasses import replace
 from functools import partial
 from statistics import fmean
 
@@ -17,6 +18,7 @@ from ..study.sessions import digest_of
 from . import tables, trust
 from .budget import INTERVALS, Budget
 from .detectors import area_rows, loop_rows
+from .ending import first_guess
 from .folder import NAME, write_setting
 from .mapping import read_map
 from .record import Recorder, Repeater, Settings
@@ -34,7 +36,13 @@ def parser():
     )
     made.add_argument("run", help="the run (.jsonl)")
     made.add_argument("--map", required=True, help="its map of names (.json)")
-    made.add_argument("--until", required=True, type=time_within(1, limits.CLOCK), metavar="S", help="the clock at the end")
+    made.add_argument(
+        "--until",
+        type=time_within(1, limits.CLOCK),
+        metavar="S",
+        help="the clock at the end (default: when all have arrived, no vehicle has changed its cell for longer than the longest "
+        "cycle, or the calls are spent)",
+    )
     made.add_argument(
         "--every",
         type=time_within(0, limits.CLOCK),
@@ -142,8 +150,9 @@ def main(arguments):
     run, mapping = read_run(words.run), read_map(words.map)
     if not fits(run, mapping):
         raise Fault(f"{words.map}: not the map of {words.run}, whose links are other ones")
+    open_end, words.until = words.until is None, words.until or first_guess(run)
     asked = (words.until, words.every, words.period, words.rescue, tuple(listed(words.edges)), words.calls)
-    settings = Settings(*asked, words.counted == "all")
+    settings = Settings(*asked, words.counted == "all", open_end)
     unknown = [edge for edge in settings.edges if edge not in mapping.links_of]
     if unknown:
         raise Fault(f"--edges: the map has no edge {unknown[0]!r}")
@@ -151,7 +160,7 @@ def main(arguments):
         if not any(one.kind == kind for one in mapping.detectors):
             raise Fault(f"--sumo-output {kind}: the map has no such detector")
     works = [works_of(text, mapping) for text in words.close]
-    if late := [one.text for one in works if one.first >= words.until]:
+    if late := [one.text for one in works if one.first >= words.until and not open_end]:
         raise Fault(f"--close {late[0]!r}: begins after --until {words.until}")
     run, mapping, told = with_works(run, mapping, words.map, works, listed(words.joint))
     print(*told, sep="\n", end="\n" if told else "", file=sys.stderr)
@@ -177,6 +186,7 @@ def fits(run, mapping):
 
 def one_run(words, run, mapping, settings, folder, tell, jobs):
     """One run into a folder that is there; gives its figures. `tell` gets the clock and the last census."""
+    settings = replace(settings)  # whose end the run may set
     given, (run, yielding) = run, giving_way(run, mapping, settings, words.rounds, partial(serving, words), tell)
     with whole_file(f"{folder}/lanes.jsonl.gz") as lanes_file, serving(words) as sim:
         records = Recorder(sim, run, mapping, settings, lanes_file, tell, mapping.detectors).record()
@@ -206,7 +216,7 @@ def one_run(words, run, mapping, settings, folder, tell, jobs):
         "rescues": rescues,
         "yielding": yielding,
         "notes": told,
-        "told": ", ".join(filter(None, (made.told(), f"{rescues:,} rescues", yielding.told()))),
+        "told": ", ".join(filter(None, (made.told(), f"{rescues:,} rescues", yielding.told(), records.ended))),
         "doubts": doubts,
     }
 

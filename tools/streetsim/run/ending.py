@@ -1,0 +1,73 @@
+"""When a run ends that was given no last second: all have arrived, nobody moves any more, or the calls are spent."""
+from __future__ import annotations
+
+from typing import TYPE_CHECKING
+
+from .. import limits
+
+if TYPE_CHECKING:
+    from .record import Recorder
+    from .runs import Run
+
+HOUR = 3600  # seconds: how far the end is put off
+USUAL = 7200  # seconds from the last departure to the first guess of the end
+MORE = 1.2  # calls of an hour, of those of a mean hour so far
+
+
+def first_guess(run: Run) -> int:
+    """A clock by which most runs have ended: calls are planned by it."""
+    last = max((line.command["depart"] for line in run.enters), default=0)
+    return min(limits.CLOCK, max(last, run.start()) + USUAL)
+
+
+class Ending:
+    """Looks each minute whether a run is over, and then sets its end."""
+
+    def __init__(self, run: Run) -> None:
+        signals = [line.command for line in (*run.first, *(line for _, line in run.timed)) if line.command["cmd"] == "signal"]
+        self.cycle = max((sum(duration for duration, _ in one["phases"]) for one in signals), default=0)
+        self.census: tuple | None = None  # the last one that differed from the one before it, without its clock
+        self.since = 0  # its clock
+        self.lanes: dict | None = None  # who stood where at `looked`, where the census stayed as it was for a cycle
+        self.looked = 0
+
+    def look(self, record: Recorder, clock: int) -> None:
+        census = record.records.censuses[-1]
+        if record.entered == len(record.run.enters) and census.admitted == census.arrived + census.taken:
+            self.end(record, clock, "all have arrived")
+        elif self.is_still(record, clock):
+            still = clock - self.looked
+            self.end(record, clock, f"no vehicle has changed its cell for {still:,} s, longer than the longest cycle, {self.cycle:,} s")
+        elif clock == record.settings.until:
+            self.put_off(record, clock)
+
+    def is_still(self, record: Recorder, clock: int) -> bool:
+        """Whether no vehicle has changed its cell for longer than the longest cycle, and none is to come."""
+        census = record.records.censuses[-1]
+        figures = census.admitted, census.arrived, census.taken, census.cells, census.buffers, census.waiting
+        waits = record.entered < len(record.run.enters) or record.sent < len(record.run.timed)
+        if waits or figures != self.census:
+            self.census, self.since, self.lanes = figures, clock, None
+            return False
+        if clock - self.since <= self.cycle:
+            return False
+        record.records.calls += 1
+        found = record.lanes(record.places)
+        stand = {place: ([row[:2] for row in one.cells], [row[0] for row in one.buffer]) for place, one in found.items()}
+        if stand != self.lanes:
+            self.lanes, self.looked = stand, clock
+            return False
+        return clock - self.looked > self.cycle
+
+    def put_off(self, record: Recorder, clock: int) -> None:
+        """An hour more where there are calls for it, and clocks."""
+        settings, calls = record.settings, record.records.calls
+        hour = MORE * HOUR * calls / max(1, clock - record.start)
+        if clock + HOUR > limits.CLOCK or (record.most and record.spare(clock) < hour):
+            self.end(record, clock, "the calls of the run are spent")
+        else:
+            settings.until = clock + HOUR
+
+    def end(self, record: Recorder, clock: int, why: str) -> None:
+        record.settings.until = clock
+        record.records.ended = f"ended at {clock:,} s: {why}"

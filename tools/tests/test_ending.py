@@ -1,0 +1,48 @@
+"""Runs that are given no last second: which of three ends they come to."""
+import csv
+import json
+import unittest
+
+from support import MAP, NUMBERED, PROGRAM, RED, Case, needs_simulator
+
+
+@needs_simulator
+class Endings(Case):
+    def run_lines(self, departs, *words, more=()):
+        enters = [{"cmd": "enter", "plan": [0, 1], "lane": 0, "depart": depart} for depart in departs]
+        lines = [{"cmd": "load", **NUMBERED}, *more, *enters]
+        run = self.write("run.jsonl", "".join(f"{json.dumps(line)}\n" for line in lines))
+        mapping = self.write("map.json", json.dumps({**MAP, "cars": [f"v{at}" for at in range(len(departs))]}))
+        out = self.folder / "out"
+        return self.tool("run", run, "--map", mapping, "--program", PROGRAM, "--out", out, *words)[0].splitlines()[0]
+
+    def last_clock(self):
+        with open(self.folder / "out/summary.csv", encoding="utf-8") as file:
+            return int(list(csv.reader(file))[-1][0])
+
+    def test_all_have_arrived(self):
+        # Free, 20 cells take 4 to 5 s and the node one: both have arrived before the minute that follows.
+        self.assertIn("ended at 180 s: all have arrived", self.run_lines([0, 130]))
+        self.assertEqual(self.last_clock(), 180)
+        # Beyond the first guess of the end, two hours after the last departure: a light is red until 9,000 s.
+        green = {"cmd": "signal", "node": 1, "offset": 0, "phases": [[600, [[0, 0, 1]]]], "at": 9000}
+        self.assertIn("1 arrived", told := self.run_lines([0], "--rescue", "0", more=[RED, green]))
+        self.assertIn("ended at 9,060 s: all have arrived", told)
+
+    def test_nobody_moves(self):
+        # Red for ever, whose cycle is 600 s: the census stays from 60 s on, and the cells for 601 s and more.
+        told = self.run_lines([0, 1], "--rescue", "0", more=[RED])
+        self.assertIn("0 arrived", told)
+        self.assertRegex(told, "ended at 1,[0-9]{3} s: no vehicle has changed its cell for 660 s, longer than the longest cycle, 600 s")
+
+    def test_the_calls_are_spent(self):
+        told = self.run_lines([0], "--rescue", "0", "--calls", "600", more=[{**RED, "phases": [[600, []]] * 16}])
+        self.assertRegex(told, "ended at [0-9,]+ s: the calls of the run are spent")
+
+    def test_each_seed_has_its_end(self):
+        self.assertIn("seed 1: 1 vehicles, 1 arrived", told := self.run_lines([0], "--seeds", "1-2"))
+        self.assertIn("ended at 60 s: all have arrived", told)
+
+
+if __name__ == "__main__":
+    unittest.main()
