@@ -75,13 +75,32 @@ function density(link) {
 }
 const densityColour = share => share < .02 ? "#ccc" : `hsl(${Math.round(210 - 210 * Math.min(1, share / .5))} 70% 55%)`;
 
+function drawClosed(shown) {
+  for (const link of shown) for (const lane of link.all) for (const [first, last] of lane.state?.closed ?? []) scene.drawCells(link, lane.lane, first, last, "#000");
+}
+
+// The links, from a kept picture while nothing but vehicles moves; in a far view they are coloured anew once in a round.
+let kept = null;
+function drawLinks(shown, far) {
+  const { x, y, scale, pen, canvas: { width, height } } = scene, key = [x, y, scale, width, height, far ? Math.floor(session.clock / ROUND) : "near"].join();
+  if (!playing || kept?.key !== key) {
+    kept = { key, canvas: kept?.canvas ?? element("canvas") };
+    Object.assign(kept.canvas, { width, height });
+    scene.pen = kept.canvas.getContext("2d");
+    for (const link of shown) scene.drawLink(link, far ? densityColour(density(link)) : "#ccc");
+    if (far) drawClosed(shown);
+    scene.pen = pen;
+  }
+  pen.drawImage(kept.canvas, 0, 0);
+}
+
 function draw(part) {
   if (followed !== null && cars.has(followed)) { const [link, lane, rear, front] = between(followed, part); [scene.x, scene.y] = scene.place(link, lane, (rear + front + 1) / 2 / link.cells); scene.moved = true; }
   scene.clear();
   const shown = scene.links.filter(isInView), lanes = shown.reduce((sum, link) => sum + link.lanes, 0), far = lanes > MOST_LOOKS;
-  for (const link of shown) scene.drawLink(link, far ? densityColour(density(link)) : "#ccc");
-  for (const link of shown) for (const lane of link.all) for (const [first, last] of lane.state?.closed ?? []) scene.drawCells(link, lane.lane, first, last, "#000");
+  drawLinks(shown, far);
   if (!far) {
+    drawClosed(shown);
     scene.drawCars([...cars.keys()].filter(car => isInView(cars.get(car)[0])).map(car => between(car, part)));
     for (const link of shown) { const now = greensAt(link.end); if (now) scene.drawStopLine(link, now.greens.some(([from]) => from === link.number)); }
   }
@@ -99,8 +118,11 @@ function drawPointed() {
   if (junction) scene.drawName(`junction ${junction.name}`, pointed); else if (link) scene.drawName(link.name, pointed);
 }
 
+let told = -1; // the clock that was last told
 function showTold(far) {
   const { cells = 0, buffers = 0, arrived = 0, waiting = 0 } = session.count ?? {}, still = series.at(-1)?.[2] ?? 0;
+  if (playing && told === session.clock) return;
+  told = session.clock;
   at("told").textContent = `${clockText(session.clock)}, ${cells + buffers} driving, ${still} standing, ${arrived} arrived, ${waiting} to come${far ? "; links by density" : ""}`;
   document.body.dataset.shown = JSON.stringify({ clock: session.clock, driving: cells + buffers, standing: still, arrived, seen: cars.size, closed: session.lanes.reduce((sum, lane) => sum + (lane.state?.closed.length ?? 0), 0), far });
 }
