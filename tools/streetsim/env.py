@@ -1,0 +1,169 @@
+"""An environment for learning signal control: many junctions, phases as actions, exact resets.
+
+It has the form that the field uses: `reset` gives observations, `step` takes an action for each light and gives observations,
+rewards, whether the run is over, whether its time is, and further figures; all by the names of lights. No library of learning is
+needed for it.
+"""
+from __future__ import annotations
+
+from collections.abc import Mapping, Sequence
+from dataclasses import dataclass, field
+from pathlib import Path
+from tempfile import TemporaryDirectory
+
+from . import limits
+from .traci.opening import open_session
+from .traci.options import options_of
+from .traci.session import Session
+
+GREEN = "Gg"
+Observation = list[float]
+
+
+@dataclass(slots=True)
+class Signals:
+    """A light: the greens that can be chosen, and what it shows."""
+
+    greens: list[str]  # states, in the order of its program
+    lanes: list[str]  # before it
+    now: int = 0
+    since: int = 0  # seconds
+    waited: float = 0.0  # by those before it, at the last reward
+    links: list[tuple[str, str]] = field(default_factory=list)  # by index: lane and next lane
+
+
+class SignalEnv:
+    """The lights of a network as agents, of the words of SUMO's command line (without its name), as `traci.start` takes them.
+
+    An action is the number of a green phase; where it is another one than now, and the present one was green for `least` seconds,
+    yellow is shown for `yellow` seconds first. A step has `every` seconds; after `seconds` of the run its time is over. An
+    observation of a light: which phase is green (a number for each, 0 or 1), whether it may be changed, and for each lane before
+    it the share of its room that vehicles take, and that standing ones do. A reward is the fall of the time, in hundreds of
+    seconds, that the vehicles before the light have waited.
+    """
+
+    def __init__(self, words: Sequence[str], every: int = 5, yellow: int = 3, least: int = 5, seconds: int = 3600) -> None:
+        if not 0 < yellow < every or least < 0 or seconds < every:
+            raise ValueError("a step must be longer than yellow, and the run at least one step")
+        self.words, self.every, self.yellow, self.least, self.seconds = list(words), every, yellow, least, seconds
+        self.session: Session | None = None
+        self.signals: dict[str, Signals] = {}
+
+    @property
+    def lights(self) -> list[str]:
+        """The names of the lights, once `reset` was called."""
+        return list(self.signals)
+
+    def actions(self, light: str) -> int:
+        """How many green phases a light has."""
+        return len(self.signals[light].greens)
+
+    def reset(self, seed: int | None = None) -> tuple[dict[str, Observation], dict]:
+        """Begins the run anew; equal seeds give equal runs."""
+        self.close()
+        words = self.words if seed is None else [*self.words, "--seed", str(seed)]
+        with TemporaryDirectory() as folder:
+            self.session = open_session(Path(folder), options_of(words))
+        self.session.follow()
+        self.begin, self.ended = self.session.clock, 0
+        self.signals = {name: signals_of(light) for name, light in sorted(self.session.lights.items())}
+        for name, one in self.signals.items():
+            self.session.hold(name, one.greens[0])
+        return self.observations(), self.figures()
+
+    def step(self, actions: Mapping[str, int]) -> tuple[dict[str, Observation], dict[str, float], bool, bool, dict]:
+        """Some seconds under these phases; who is not named goes on."""
+        session = self.running()
+        changed = [name for name, action in actions.items() if self.choose(name, action)]
+        for second in range(self.every):
+            if second == self.yellow:
+                for name in changed:
+                    session.hold(name, self.signals[name].greens[self.signals[name].now])
+            session.step()
+            self.ended += len(session.arrived)
+        for one in self.signals.values():
+            one.since += self.every
+        over = session.clock - self.begin >= self.seconds
+        rewards = {name: self.reward(one) for name, one in self.signals.items()}
+        return self.observations(), rewards, not self.left(), over, self.figures()
+
+    def choose(self, name: str, action: int) -> bool:
+        """Shows yellow where a light is to change and may; whether it does."""
+        one = self.signals[name]
+        if not 0 <= action < len(one.greens):
+            raise ValueError(f"light {name!r} has no green phase {action}")
+        if action == one.now or one.since < self.least:
+            return False
+        pairs = zip(one.greens[one.now], one.greens[action], strict=True)
+        self.running().hold(name, "".join("y" if now in GREEN and then not in GREEN else now for now, then in pairs))
+        one.now, one.since = action, 0
+        return True
+
+    def observations(self) -> dict[str, Observation]:
+        return {name: self.observation(one) for name, one in self.signals.items()}
+
+    def observation(self, one: Signals) -> Observation:
+        chosen = [float(at == one.now) for at in range(len(one.greens))]
+        shares = [(self.share(lane, self.on(lane)), self.share(lane, self.standing(lane))) for lane in one.lanes]
+        return [*chosen, float(one.since >= self.least), *(full for full, _ in shares), *(queue for _, queue in shares)]
+
+    def reward(self, one: Signals) -> float:
+        before = one.waited
+        session = self.running()
+        one.waited = sum(session.waited.get(car, 0) for lane in one.lanes for car in self.on(lane)) / 100
+        return before - one.waited
+
+    def pressure(self, name: str, action: int) -> int:
+        """Those who stand before a green of a light, less those who stand behind it: the policy of max-pressure takes the greatest."""
+        one, queue = self.signals[name], {}
+        shown = zip(one.greens[action], one.links, strict=True)
+        for lane in {lane for state, link in shown if state in GREEN for lane in link}:
+            queue[lane] = len(self.standing(lane))
+        shown = zip(one.greens[action], one.links, strict=True)
+        return sum(queue[lane] - queue[behind] for state, (lane, behind) in shown if state in GREEN)
+
+    def on(self, lane: str) -> list[int]:
+        session = self.running()
+        return session.on_lane.get(session.lane_of.get(lane, (-1, -1)), [])
+
+    def standing(self, lane: str) -> list[int]:
+        places = self.running().places
+        return [car for car in self.on(lane) if not places[car].speed]
+
+    def share(self, lane: str, cars: Sequence[int]) -> float:
+        session = self.running()
+        cells = sum(session.sizes[session.names[car]] for car in cars)
+        return min(1.0, cells * limits.CELL_METRES / session.facts.lanes[lane].metres)
+
+    def figures(self) -> dict:
+        session = self.running()
+        standing = sum(not place.speed for place in session.places.values())
+        return {"time": session.clock, "vehicles": len(session.places), "standing": standing, "arrived": self.ended}
+
+    def left(self) -> bool:
+        """Whether there is anybody on the way or to come."""
+        session = self.running()
+        return session.entered < len(session.source.enters) or bool(session.places) or bool(session.waiting_to_depart())
+
+    def running(self) -> Session:
+        if self.session is None:
+            raise ValueError("reset() begins a run")
+        return self.session
+
+    def close(self) -> None:
+        if self.session is not None:
+            self.session.close()
+            self.session = None
+
+    def __enter__(self) -> SignalEnv:
+        return self
+
+    def __exit__(self, *_: object) -> None:
+        self.close()
+
+
+def signals_of(light) -> Signals:
+    links = [(link[0], link[1]) if link else ("", "") for link in light.links]
+    greens = list(dict.fromkeys(state for _, state in light.phases if set(state) & set(GREEN) and "y" not in state.lower()))
+    lanes = [lane for lane in dict.fromkeys(lane for lane, _ in links) if lane]
+    return Signals(greens or [light.phases[0][1]], lanes, links=links)
