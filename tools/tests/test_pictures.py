@@ -194,7 +194,53 @@ class Player(Given):
         told = self.shown(page, "3,130,0")
         self.assertEqual((told["scale"], told["street"]), ("10 m", "b"))
 
+    @needs_chromium
+    def test_keys(self):
+        """A minute on from 2 is the last step; left is one back; + zooms 1.3 times, four times make the 89 pixels of 20 m 254."""
+        page = self.page()
+        keys = [("PageDown", ""), ("ArrowLeft", ""), *[("+", "")] * 4, ("ArrowRight", ", shiftKey: true")]
+        sent = "; ".join(f"dispatchEvent(new KeyboardEvent('keydown', {{key: '{key}'{more}}}))" for key, more in keys)
+        page.write_text(page.read_text().replace("</html>", f"<script>setTimeout(() => {{ {sent} }}, 1000)</script></html>"))
+        shown = self.shown(page, 2)
+        self.assertEqual((shown["clock"], shown["scale"]), (3, "10 m"))
+
+    @needs_chromium
+    def test_two_runs_side_by_side(self):
+        """The second one has other vehicles at the same clock, and each its name."""
+        other = self.folder / "other"
+        other.mkdir()
+        shutil.copy(self.folder / "setting.json", other)
+        with gzip.open(other / "lanes.jsonl.gz", "wt") as file:
+            file.writelines(json.dumps({"clock": clock, "lanes": [[0, 0, [[0, 0, 0], [1, 2, 0], [2, 4, 0]], [], []]]}) + "\n" for clock in (1, 3))
+        page = self.folder / "two.html"
+        self.tool("play", self.folder, other, "-o", page)
+        text = self.dom(page, 3)
+        self.assertEqual((self.shown_in(text)["vehicles"], self.shown_in(text, "other")["standing"]), (1, 3))
+        self.assertIn(">other</div>", text)
+        self.assertIn("one run, or two", self.tool("play", *[other] * 3, "-o", page, status=2)[1])
+
+    @needs_chromium
+    def test_a_link_leads_to_the_same_place(self):
+        """The address that the page has after a zoom opens it there, and the junction of the signal is named."""
+        page = self.page()
+        zoom = "canvas.dispatchEvent(new WheelEvent('wheel', {deltaY: -500, cancelable: true}))"
+        note = "document.body.dataset.told = location.hash; document.body.dataset.names = sides[0].drawJunctions()"
+        script = f"setTimeout(() => {{ {zoom}; setTimeout(() => {{ {note} }}, 1000) }}, 1000)"
+        page.write_text(page.read_text().replace("</html>", f"<script>{script}</script></html>"))
+        text = self.dom(page, "3,75,0")
+        self.assertEqual(self.shown_in(text)["scale"], "10 m")
+        self.assertIn('data-names="1"', text)
+        told = re.search(r'data-told="#([^"]*)"', text)[1]
+        self.assertEqual(told.split(",")[:3], ["3", "75", "0"])
+        self.assertEqual(self.shown(self.page(), told)["scale"], "10 m")
+
     def shown(self, page, step):
+        return self.shown_in(self.dom(page, step))
+
+    def shown_in(self, text, name="shown"):
+        return json.loads(html.unescape(re.search(rf'data-{name}="([^"]*)"', text)[1]))
+
+    def dom(self, page, step):
         words = [
             CHROMIUM,
             "--headless",
@@ -207,7 +253,7 @@ class Player(Given):
         ]
         told = subprocess.run([*words, f"file://{page}#{step}"], capture_output=True, text=True, check=True).stdout
         self.assertGreater((self.folder / "shot.png").stat().st_size, 1000)
-        return json.loads(html.unescape(re.search(r'data-shown="([^"]*)"', told)[1]))
+        return told
 
 
 @needs_simulator

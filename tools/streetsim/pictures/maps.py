@@ -123,7 +123,8 @@ def draw_letters(axes, shown, runs, interval):
         axes.plot(*places[name], "o", color=COLOURS[letter], markeredgecolor="black", markersize=12)
         axes.annotate(letter, places[name], ha="center", va="center", fontsize=8, color="white" if letter in LIGHT else "black")
     marks = [Line2D([], [], color=COLOURS[letter], linewidth=6, label=letter) for letter in LETTERS]
-    axes.legend(handles=marks, loc="upper center", bbox_to_anchor=(0.5, -0.14), ncol=6, frameon=False)
+    axes.set_xlabel("")  # the legend stands there
+    axes.legend(handles=marks, loc="upper center", bbox_to_anchor=(0.5, -0.1), ncol=6, frameon=False)
 
 
 def draw_density(pyplot, folder):

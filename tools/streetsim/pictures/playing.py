@@ -2,6 +2,7 @@
 import base64
 import gzip
 import json
+import os
 from pathlib import Path
 
 from .. import limits
@@ -9,6 +10,7 @@ from ..cli.words import Parser, time_within
 from ..files import Fault, whole_file
 from ..run.folder import read_folder
 
+PLACE = Path(__file__).parent
 MOST_BYTES = 100_000_000  # of the packed data; browsers are slow with more
 second = time_within(0, limits.CLOCK)
 
@@ -16,10 +18,10 @@ second = time_within(0, limits.CLOCK)
 def parser():
     made = Parser(
         prog="streetsim-play",
-        description="Makes one HTML file, without anything from outside, that plays the vehicles of a run. "
+        description="Makes one HTML file, without anything from outside, that plays the vehicles of a run, or of two side by side. "
         "Open it at a step with page.html#300, and at a place (metres) with page.html#300,75,0.",
     )
-    made.add_argument("folder", help="what streetsim-run wrote; with --every 1 vehicles move smoothly")
+    made.add_argument("folders", nargs="+", metavar="RUN", help="what streetsim-run wrote; with --every 1 vehicles move smoothly")
     made.add_argument("-o", "--output", required=True, help="the page (.html)")
     made.add_argument("--first", type=second, default=0, metavar="S", help="the first second")
     made.add_argument("--last", type=second, default=limits.CLOCK, metavar="S", help="the last second")
@@ -41,8 +43,11 @@ def data_of(folder, first, last):
         ]
         for clock, command in folder.signals
     ]
+    lit = {node for _, node in folder.mapping.signals}
     return {
+        "name": os.path.basename(os.path.normpath(folder.path)),
         "links": links,
+        "junctions": [[name, x, y] for node, (name, x, y, _) in enumerate(folder.mapping.nodes) if node in lit],
         "signals": signals,
         "every": folder.every,
         "frames": [poll for poll in folder.polls() if first <= poll["clock"] <= last],
@@ -51,14 +56,20 @@ def data_of(folder, first, last):
 
 def main(arguments):
     words = parser().parse_args(arguments)
-    data = data_of(read_folder(words.folder), words.first, words.last)
-    if not data["frames"]:
-        raise Fault(f"{words.folder}: nothing was polled from {words.first} to {words.last} s")
+    if len(words.folders) > 2:
+        raise Fault("a page plays one run, or two side by side")
+    data = [data_of(read_folder(path), words.first, words.last) for path in words.folders]
+    for path, run in zip(words.folders, data, strict=True):
+        if not run["frames"]:
+            raise Fault(f"{path}: nothing was polled from {words.first} to {words.last} s")
+    if len(data) == 2 and data[0]["name"] == data[1]["name"]:
+        data[0]["name"], data[1]["name"] = words.folders
     packed = base64.b64encode(gzip.compress(json.dumps(data, separators=(",", ":")).encode(), mtime=0)).decode()
     if len(packed) > MOST_BYTES:
-        raise Fault(f"{words.folder}: {len(packed):,} bytes are too much for a page: choose --first and --last")
-    page = (Path(__file__).parent / "player.html").read_text(encoding="utf-8").replace("@DATA@", packed)
+        raise Fault(f"{words.folders[0]}: {len(packed):,} bytes are too much for a page: choose --first and --last")
+    page, drawing, player = ((PLACE / name).read_text(encoding="utf-8") for name in ("player.html", "drawing.js", "player.js"))
+    page = page.replace("/*DRAWING*/", drawing).replace("/*PLAYER*/", player).replace("@DATA@", packed)
     with whole_file(words.output) as file:
         file.write(page)
-    print(f"{len(data['frames']):,} steps, {len(page.encode()):,} bytes")
+    print(f"{len(data[0]['frames']):,} steps, {len(page.encode()):,} bytes")
     return 0
