@@ -51,6 +51,8 @@ class Scenario:
     way without a light, so many rounds of the run come first; `yielding` says what they gave. Those that a script adds wait for
     nobody's gaps but the file's, and nobody of the file waits for them."""
 
+    forgotten = frozenset()  # lights that the script has set: lines of the file for them are no longer sent
+
     def __init__(self, run, mapping, program=None, workers=1, joint=(), rounds=ROUNDS):
         source, self.map, _ = with_works(read_run(run), read_map(mapping), mapping, (), joint)
         source, self.yielding = giving_way_to_scripts(source, self.map, rounds, program, workers)
@@ -97,6 +99,14 @@ class Scenario:
             self.sent += 1
         self.send(due)
         return min(target, self.timed[self.sent][0]) if self.sent < len(self.timed) else target
+
+    def forget_timed(self, light):
+        """Sends no more of the file's lines for a light that a script has set."""
+        if light not in self.forgotten:
+            self.forgotten = self.forgotten | {light}
+            nodes = {node for name, node in self.map.signals if name == light}
+            self.timed = [pair for pair in self.timed[self.sent :] if pair[1].command.get("node") not in nodes]
+            self.sent = 0
 
     def send(self, lines):
         """Sends lines of the run; raises what is refused."""
@@ -326,6 +336,7 @@ class TrafficLight(Part):
             Program(offset, [tuple(phase) for phase in phases], "static"),
             mapping.options["permissive"],
         )
+        self.scenario.forget_timed(name)
         for light, node in mapping.signals:
             if light == name:
                 turns = [

@@ -144,6 +144,19 @@ class Lights(Case):
             self.assertEqual(sim.lane.getLastStepHaltingNumber("a_0"), 1)
             sim.simulationStep(22)
             self.assertEqual(sim.vehicle.getRoadID("v"), ":B")
+        # Lines of the file for the light, at 3 always red, at 30 green: they are sent, but not once the script has set it.
+        turns = [turn[:3] for turn in json.loads(mapped.read_text())["turns"]]
+        later = [{"cmd": "signal", "node": 1, "offset": 0, "phases": [[600, green]], "at": at} for at, green in ((3, []), (30, turns))]
+        with open(run, "a", encoding="utf-8") as file:
+            file.writelines(json.dumps(line) + "\n" for line in later)
+        for set_by_script, place in ((False, "a"), (True, ":B")):
+            with self.subTest(set_by_script), Scenario(run, mapped, PROGRAM) as sim:
+                if set_by_script:
+                    sim.trafficlight.setProgramLogic("L", [(20, "r"), (5, "G")])
+                sim.simulationStep(22)
+                self.assertEqual(sim.vehicle.getRoadID("v"), place)
+                sim.simulationStep(40)
+                self.assertNotEqual(sim.vehicle.getRoadID("v"), "a")
 
 
 if __name__ == "__main__":

@@ -441,6 +441,7 @@ class Session(Scenario):
 
     def show_constant(self, name, state, begin):
         """Shows a state without permissive greens at each node of a light, in one phase: no second differs from another."""
+        self.forget_timed(name)
         for node, turns in self.turns_of(name):
             green = sorted([link, lane, following] for link, lane, following, index in turns if index is None or state[index] in GREEN)
             self.client.signal(node, [(CONSTANT, green)], round(-(begin % CONSTANT)) % CONSTANT)
