@@ -75,12 +75,13 @@ class Demand(Case):
         self.assertEqual(
             list(report.lines()),
             [
-                "warning: 1 edges became parallel links of one or two lanes",
-                "ignored: 1 x departPos of vehicles",
-                "ignored: 1 x stops",
                 "skipped: 1 vehicles: a person, which streetsim does not have",
                 "skipped: 1 vehicles: depart='triggered' is no time",
                 "skipped: 1 vehicles: two edges of the route have no connection",
+                "warning: 1 edges became parallel links of one or two lanes, between which nobody changes lane: a "
+                "(--joint EDGES joins their lanes)",
+                "ignored: 1 x departPos of vehicles",
+                "ignored: 1 x stops",
             ],
         )
 

@@ -40,6 +40,17 @@ class Networks(Case):
             ],
         )
 
+    def test_warnings_of_lengths_and_merges(self):
+        # 12 m are two cells, a quarter longer; 75 m are ten. On a motorway two roads become one, on a street of 50 km/h too.
+        for kmh, count in ((100, 1), (50, 0)):
+            ends = [("a", "A", "C", [lane("a", 0, 12)]), ("b", "B", "C", [lane("b", 0)]), ("c", "C", "D", [lane("c", 0, speed=kmh / 3.6)])]
+            self.network(net(ends, [("a", 0, "c", 0, ""), ("b", 0, "c", 0, "")]))
+            merges = [text for text in self.said.warnings if "fast roads begin where others merge" in text and text.endswith("long: c")]
+            self.assertEqual(len(merges), count)
+            longer = "1 edges are longer here than in SUMO by more than a tenth, as lengths are whole cells: a"
+            self.assertIn(longer, self.said.warnings)
+            self.assertEqual(self.said.more[longer][1], ("a",))
+
     def test_turns_for_both_lanes(self):
         network, *_ = self.network(SHARED)
         self.assertEqual(

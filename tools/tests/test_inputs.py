@@ -1,4 +1,5 @@
 """Inputs as they come: packed or with a byte order mark, whatever their names."""
+import csv
 import gzip
 import json
 import unittest
@@ -81,6 +82,20 @@ class Configurations(Case):
         self.assertIn("trips have the ways that are shortest", said)
         run, value = read_run(self.folder / "r.jsonl"), read_json(self.folder / "m.json", ["links"])
         self.assertEqual([[value["links"][link][0] for link in line.command["plan"]] for line in run.enters], [["a", "c"]])
+
+    def test_a_table_of_all_that_is_said(self):
+        table = self.folder / "w.csv"
+        text = '<vehicle id="v" depart="12" departPos="3"><route edges="a b"/></vehicle><person id="p" depart="1"/>'
+        said = self.imported(CONFIGURATION, text, "--warnings", table)
+        rows = list(csv.reader(table.read_text(encoding="utf-8").splitlines()))
+        weights = [row[0] for row in rows[1:]]
+        self.assertEqual(rows[0], ["weight", "what", "names", "do"])
+        self.assertEqual(weights, sorted(weights, key=["changes results", "told", "no effect"].index))
+        told = "1 edges became parallel links of one or two lanes, between which nobody changes lane: a"
+        self.assertIn(["changes results", told, "a", "--joint EDGES joins their lanes"], rows)
+        self.assertIn(["no effect", "1 x departPos of vehicles", "", ""], rows)
+        first = [line.split(":")[0] for line in said.splitlines()]
+        self.assertLess(max(at for at, word in enumerate(first) if word == "warning"), first.index("ignored"))
 
     def test_faults(self):
         self.assertIn("x.sumocfg: names no network (net-file)", self.imported("<c><begin value='1'/></c>", "", status=2))

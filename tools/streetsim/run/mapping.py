@@ -55,8 +55,9 @@ class Map:
     signals: list  # [light, node]
     cars: list  # SUMO's vehicle names, by number
     options: dict
-    warnings: list
+    warnings: list  # as the import said them
     detectors: list = field(default_factory=list)  # of additional files
+    told: list = field(default_factory=list)  # the same as a table, sumo.report.Report.rows
     yields: list = field(default_factory=list)  # who gives way without a light: Waiting
     links_of: dict = field(default_factory=dict)  # edge: links
     sources: dict = field(default_factory=dict)  # the files of the import, as sumo.sources keeps them
@@ -89,6 +90,7 @@ class Map:
             "cars": self.cars,
             "options": self.options,
             "warnings": self.warnings,
+            "told": self.told,
             "yields": [one.written() for one in self.yields],
             "detectors": [list(asdict(detector).values()) for detector in self.detectors],
             "sources": self.sources,
@@ -136,6 +138,7 @@ def map_from(path, value):
         links, turns = [MapLink(*link) for link in value["links"]], [MapTurn(*turn) for turn in value["turns"]]
         more = {"detectors": detectors, "yields": waiting_of(value.get("yields", ()))}
         more |= {"sources": value.get("sources", {}), "kinds": value.get("vehicles", {})}
+        more["told"] = value.get("told", [])
         more["location"] = value.get("location", {})
         more |= {key: value[key] for key in KEYS if key not in ("links", "turns")}
         return Map(links=links, turns=turns, **more)

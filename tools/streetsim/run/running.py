@@ -12,6 +12,7 @@ from ..files import Fault, whole_file, whole_folder
 from ..junctions.reporting import write_junctions
 from ..outputs.watching import watch
 from ..outputs.writing import KINDS, kinds_of, write_outputs
+from ..sumo.report import COLUMNS
 from ..study.jobs import CORES, side_by_side
 from ..study.seeds import seeds_of
 from ..study.sessions import digest_of
@@ -205,6 +206,7 @@ def one_run(words, run, mapping, settings, folder, tell, jobs):
     tables.write_table(f"{folder}/areas.csv", tables.AREAS, area_rows(records, mapping.detectors, settings.until))
     tables.write_table(f"{folder}/queues.csv", tables.QUEUES, tables.queues(records, mapping))
     tables.write_table(f"{folder}/summary.csv", tables.SUMMARY, tables.summary(records))
+    tables.write_table(f"{folder}/warnings.csv", COLUMNS, mapping.told)
     made, rescues = trust.trips_at(records.clock, run.start(), trips), records.rescues.total()
     doubts = trust.doubts(made, rescues, records.censuses, run, mapping)
     program_sum = digest_of(words.program)

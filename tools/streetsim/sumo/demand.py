@@ -121,12 +121,11 @@ class Demand:
         if inner is None and mix is None and element.get("route") is None:
             raise Unrouted(f"{told(path, element)} {ROUTED_FIRST}")
         self.note_ignored(element)
-        route = "" if inner is not None else element.get("route")
+        route = element.get("route") if inner is None else f"!{element.get('id')}" if element.tag == "flow" else ""
         if mix is not None:
             route = f"!{element.get('id')}"
             self.mixes[route] = self.mix(path, element, mix, route)
         edges = self.edges(path, element, inner) if inner is not None else None
-        route = element.get("route") if inner is None else f"!{element.get('id')}" if element.tag == "flow" else ""
         for name, depart in departs:
             vehicle = Vehicle(name, depart, edges, element.get("type"), route)
             self.vehicles.append(vehicle)

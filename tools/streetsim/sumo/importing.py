@@ -1,20 +1,21 @@
 """streetsim-import: SUMO networks and routes to streetsim's commands."""
 import json
 import sys
-from collections import Counter
 
 from .. import limits
 from ..cli.progress import Slow
 from ..cli.words import FALSE, Parser, files_of, listed, time_within, within
 from ..files import Fault, place_of, refuse_equal, whole_file
 from ..run.mapping import map_of
+from ..run.tables import write_table
 from .configuration import DEFAULTS, files_named, read_configuration, tell_options
 from .conflicts import conflicts_of
 from .demand import Demand, Unrouted, enters, kinds_of
 from .detectors import placed
 from .net import CLASSES, read_additional, read_net
 from .network import Network, Options
-from .report import Report, some
+from .report import COLUMNS, Report
+from .rules import warn_of_rules
 from .signals import movements, signals
 from .sources import Sources
 from .types import Sizes, Types
@@ -49,6 +50,7 @@ def parser():
     )
     made.add_argument("-o", "--output", required=True, help="the run: lines of JSON (.jsonl, .jsonl.gz)")
     made.add_argument("--map", required=True, help="the map of names to write (.json)")
+    made.add_argument("--warnings", metavar="FILE", help="a table of all that is said, with all names (.csv)")
     made.add_argument("--strict", action="store_true", help="end with status 1 where vehicles were skipped")
     add_options(made)
     return made
@@ -168,12 +170,15 @@ def main(arguments):
     words, told = words_of(arguments)
     words.additional, words.routes, words.trips = map(files_of, (words.additional, words.routes, words.trips))
     sources = Sources(words.net, words.additional, words.routes, words.trips)
-    refuse_equal({"-o": words.output, "--map": words.map}, sources.paths())
+    outputs = {"-o": words.output, "--map": words.map, **({"--warnings": words.warnings} if words.warnings else {})}
+    refuse_equal(outputs, sources.paths())
     place_of(words.output), place_of(words.map)
     report, options = Report(), options_of(words)
     with Slow(f"importing {words.net}"):
         made = read_and_converted(sources, options, report, told)
     mapping = write_run(words.output, words.map, made, report, sources)
+    if words.warnings:
+        write_table(words.warnings, COLUMNS, report.rows())
     print(*report.lines(), sep="\n", end="\n" if any(report.lines()) else "", file=sys.stderr)
     print(
         f"{len(mapping.nodes):,} nodes, {len(mapping.links):,} links, {len(mapping.turns):,} turns, "
@@ -198,7 +203,7 @@ def run_and_map(made, report):
     network, lights, commands, names = made
     mapping = map_of(network, lights, names, report)
     mapping.detectors = placed(network.detectors, mapping, network.dropped, report)
-    mapping.warnings = list(report.lines())
+    mapping.warnings, mapping.told = list(report.lines()), report.rows()
     lines = [json.dumps(command, separators=(",", ":")) for command in commands]
     refuse_over_limits(network, lines[0], names)
     return lines, mapping
@@ -247,32 +252,3 @@ def refuse_over_limits(network, load, names):
         over.append(f"a load line of {len(load):,} bytes, at most {limits.LINE:,}")
     if over:
         raise Fault(f"too large for streetsim: {'; '.join(over)}. Nothing was written")
-
-
-def warn_of_rules(net, network, report):
-    """What is other here than in SUMO, as far as it concerns this network."""
-    if net.closed_lanes:
-        classes = " and ".join(network.options.classes)
-        report.warn(
-            f"{net.closed_lanes} lanes are closed to {classes} and left out, with {len(net.dropped)} whole edges"
-        )
-    short = sorted({link.edge for link in network.links if link.metres < limits.CELL_METRES})
-    if short:
-        report.warn(f"{len(short)} edges are shorter than a cell of {limits.CELL_METRES} m and get one: {some(short)}")
-    for (speed, limit), count in sorted(Counter((link.speed, link.limit) for link in network.links).items()):
-        free = (limit - network.options.dawdle / 1000) * limits.CELL_METRES
-        if abs(free - speed) > 0.1 * speed:
-            report.warn(
-                f"{speed * 3.6:.0f} km/h becomes {limit} cells a step, {free * 3.6:.0f} km/h when free: {count} links"
-            )
-    minor = sum(connection.state in "m=" and not connection.light for connection in net.connections)
-    if minor:
-        report.warn(f"{minor} connections have to give way in SUMO; here those that routes use do, by rounds before each run")
-    if network.joined:
-        report.warn(f"{len(network.joined)} turns between parallel links added for routes that change between them")
-    split = sum(len(links) > 1 for links in network.links_of.values())
-    if split:
-        report.warn(f"{split} edges became parallel links of one or two lanes")
-    if network.closing:
-        names = some(sorted(network.closing))
-        report.warn(f"lanes are joint that lead to different edges, as --joint asks: edges {names}")

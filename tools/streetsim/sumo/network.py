@@ -113,7 +113,8 @@ class Network:
         if doubled:
             report.warn(
                 "several connections from one lane to one next edge, of which one is kept: "
-                f"edges {some(sorted(doubled))}"
+                f"edges {some(sorted(doubled))}",
+                sorted(doubled),
             )
 
     def turn(self, link, next_lane, connection, added):
@@ -131,7 +132,8 @@ class Network:
         if count:
             report.warn(
                 f"{count} turns added, so that both lanes of a link lead to each next link "
-                "(--turns strict leaves them out)"
+                "(--turns strict leaves them out)",
+                light=True,
             )
 
     def serves(self, link, following):

@@ -92,7 +92,7 @@ def signal_lines(own, begin, last):
     states = each_second(light, program, report)
     told = by_gaps(found) if found else by_share(light, turns, states, permissive)
     greens = green_seconds(light, turns, states, told, 1)
-    report.warn(f"light {light!r}: a cycle of {len(greens):,} s does not fit in one plan; its phases are lines, until {last:,} s")
+    report.warn(f"light {light!r}: a cycle of {len(greens):,} s does not fit in one plan; its phases are lines, until {last:,} s", light=True)
     place, lines = (begin + round(-program.offset)) % len(greens), []
     runs = [(green, len(list(run))) for green, run in groupby(greens[place:] + greens[:place])]
     clock, shown = begin, None
@@ -138,7 +138,7 @@ def signal(node, turns, edges, light, program, permissive, report, found=None):
         }
     )
     if never:
-        report.warn(f"light {light!r}: a turn is never green on edges {some(never)}")
+        report.warn(f"light {light!r}: a turn is never green on edges {some(never)}", never)
     cycle = sum(duration for duration, _ in phases)
     return {
         "cmd": "signal",
