@@ -597,6 +597,15 @@ class Scripts(Case):
         near, theirs = (float(told[1].split()[0]) for told in (here, there))
         self.assertAlmostEqual(near / theirs, 1, delta=0.15)
 
+    @needs_sumo
+    @needs_traci
+    def test_calls_say_what_they_say_in_sumo(self):
+        """Word for word, of a network, of eight vehicles and of their ways."""
+        (here, _), (there, _) = (self.run_script("facts", *self.cross("bus")[:4], sumo=sumo) for sumo in (False, True))
+        self.assertGreater(len(here), 40)
+        for one, other in zip(here, there, strict=True):
+            self.assertEqual(one, other)
+
     def test_speed_advice_is_not_here(self):
         with self.assertRaisesRegex(AssertionError, "NotHere: vehicle.setSpeed is not here: speeds follow the rules alone"):
             self.run_script("speed_advice", *self.cross())

@@ -163,7 +163,7 @@ class Simulation(Domain):
         if not isDriving:
             return self.getDistance2D(*self.convert2D(edgeID1, pos1), *self.convert2D(edgeID2, pos2))
         if edgeID1 == edgeID2 and pos1 <= pos2:
-            return pos2 - pos1
+            return float(pos2 - pos1)
         return self.now().router().metres(edgeID1, edgeID2) - pos1 - (self.lane(edgeID2, 0).metres - pos2)
 
     def findRoute(self, fromEdge, toEdge, vType="", depart=-1.0, routingMode=0):

@@ -39,7 +39,7 @@ class LaneFacts:
 @dataclass(slots=True)
 class Junction:
     place: Point
-    shape: tuple[Point, ...]
+    shape: tuple[Point, ...]  # closed
 
 
 @dataclass(slots=True)
@@ -110,7 +110,8 @@ def read_element(facts: Facts, path: str, element) -> None:
         facts.read_connection(element)
     elif element.tag == "junction" and element.get("type") != INSIDE:
         place = attribute(path, element, "x", number), attribute(path, element, "y", number)
-        facts.junctions[attribute(path, element, "id")] = Junction(place, points(element.get("shape")))
+        shape = points(element.get("shape"))
+        facts.junctions[attribute(path, element, "id")] = Junction(place, shape if shape[:1] == shape[-1:] else (*shape, shape[0]))
     elif element.tag == "tlLogic":
         facts.read_light(path, element)
     elif element.tag == "location" and element.get("convBoundary"):
