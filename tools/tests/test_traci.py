@@ -180,11 +180,12 @@ class Vehicles(Started):
         self.write("x.rou.xml", ROUTES)
         self.write("x.add.xml", '<routes><vType id="truck" length="12"/></routes>')
         inputs = '<net value="x.net.xml"/><route-files v="x.rou.xml"/><additional-files>x.add.xml</additional-files>'
-        text = f'<c>{inputs}<vehroute-output value="old.xml"/></c>'
+        text = f'<c>{inputs}<vehroute-output value="old.xml"/><log value="log.txt"/></c>'
         words = ["sumo", "-c", self.write("x.sumo.cfg", text), "-W"]
         with self.assertRaisesRegex(traci.FatalTraCIError, "--vehroute-output old.xml: not written here .* leave it out, or give"):
             traci.start(words)
         traci.start([*words, "--vehroute-output", "/dev/null"])
+        self.assertEqual(traci.simulation.getOption("log"), str(self.folder / "log.txt"))
         traci.simulationStep(60)
         self.assertEqual(traci.vehicle.getIDList(), ("later",))
 

@@ -9,6 +9,7 @@ from ..files import Fault, elements
 from .report import Report
 
 FILES = ("net-file", "route-files", "additional-files")  # whose paths are beside the configuration
+WRITTEN = ("tripinfo-output", "summary-output", "fcd-output", "queue-output", "log", "message-log", "error-log")  # so are these
 SYNONYMS = {
     "net": "net-file",
     "routes": "route-files",
@@ -46,6 +47,9 @@ def read_configuration(path: str) -> dict[str, str]:
             if value:
                 found[SYNONYMS.get(one.tag, one.tag)] = value
     beside = partial(os.path.join, os.path.dirname(path))
+    for name in WRITTEN:
+        if found.get(name, NOWHERE[0]) not in NOWHERE:
+            found[name] = beside(found[name])
     for name in FILES:
         if name in found:
             found[name] = ",".join(beside(part.strip()) for part in found[name].split(",") if part.strip())
