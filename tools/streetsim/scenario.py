@@ -20,7 +20,7 @@ ADVICE = {
     "vehicle.changeLane": "lanes are changed by the rules alone",
     "vehicle.setRoute": "plans do not change on the way: remove the vehicle and add it anew",
     "vehicle.changeTarget": "plans do not change on the way: remove the vehicle and add it anew",
-    "vehicle.rerouteTraveltime": "there is no router: compute routes before, with SUMO's duarouter",
+    "vehicle.rerouteTraveltime": "compute routes before, with streetsim-route",
     "vehicle.getPosition": "use getLaneID and getLanePosition with the shapes of the map",
     "trafficlight.setRedYellowGreenState": "send a whole cycle by setProgramLogic",
     "trafficlight.setPhase": "send a whole cycle by setProgramLogic",

@@ -1,9 +1,10 @@
 """streetsim-route with road works: who knows of them, where the others turn off, and what is written."""
+import csv
 import importlib.util
 import json
 import unittest
 
-from support import needs_package, needs_simulator
+from support import PROGRAM, needs_package, needs_simulator
 from test_route import Commands, flow, two_ways
 from streetsim.files import Fault
 from streetsim.routes.closing import Closing, common, knows, turn_off
@@ -102,6 +103,37 @@ class WithWorks(Commands):
             f'<vehicle id="f.{at}" depart="{10 * at}"><route edges="in far long out"/></vehicle>' for at in range(10)) + "</routes>")
         self.route(*self.WORKS, "--knowing", 0, "--before", before)
         self.assertEqual({tuple(way) for way in self.routes().values()}, {("in", "far", "long", "out")})
+
+    STUDY = """
+run = "run.jsonl"
+map = "map.json"
+until = 2400
+seeds = "1-2"
+[variant.base]
+[variant.works]
+close = ["short_0:100-200:120-900"]
+[variant.round]
+close = ["short_0:100-200:120-900"]
+route = true
+knowing = 0.5
+"""
+
+    def test_a_study_with_ways_round_works(self):
+        """All who come meanwhile go round by 46 s, whether they know of the works or turn off before them."""
+        self.given(two_ways(), flow(60, 1200))
+        self.tool("import", self.net, "--trips", self.trips, "-o", self.folder / "run.jsonl", "--map", self.folder / "map.json")
+        study = [self.write("study.toml", self.STUDY), "--out", self.folder / "study", "--program", PROGRAM, "--jobs", 2]
+        self.tool("study", *study)
+        with open(self.folder / "study/differences.csv", encoding="utf-8") as file:
+            means = {row["variant"]: float(row["mean_trip_s"]) for row in csv.DictReader(file)}
+        self.assertTrue(means["base"] + 15 < means["round"] < means["base"] + 60, means)
+        self.assertGreater(means["works"], means["round"] + 100)
+        with open(self.folder / "study/runs.csv", encoding="utf-8") as file:
+            self.assertEqual({row["arrived"] for row in csv.DictReader(file)}, {"60"})
+        for more, told in (("knowing = 2", "knowing = 2 is not 0 to 1"), ("route = 1", "route = 1 is neither true nor false"),
+                           ("knowing = 0.5", "close = [..] and route = true are needed too")):  # fmt: skip
+            study[0] = self.write("study.toml", f"{self.STUDY}[variant.bad]\n{more}\n")
+            self.assertIn(told, self.tool("study", *study, status=2)[1])
 
     def test_refused(self):
         self.given(two_ways(), flow(10, 100))

@@ -13,6 +13,7 @@ from ..cli.progress import Meanwhile, Slow
 from ..cli.words import MOST_ROUNDS, ROUNDS, Parser, add_rounds, whole_seconds
 from ..files import Fault, open_text, reading, whole_folder
 from ..pictures import plots
+from ..routes.studied import routed
 from ..run import trust
 from ..run.mapping import read_map
 from ..run.tables import write_table
@@ -28,7 +29,7 @@ from .sessions import Session
 
 LAST = "differences.csv"
 KEYS = {"run", "map", "until", "seeds", "base", "rounds", "variant"}
-VARIANT = {"run", "map", "plans", "close", "dawdle"}
+VARIANT = {"run", "map", "plans", "close", "dawdle", "route", "knowing"}
 RUNS = ("variant", "seed", "arrived", "mean_trip_s", "total_s", "junctions_giving_way", "signal_lines", "digest")
 DIFFERENCES = (
     *("variant", "mean_trip_s", "difference", "half_width_95_paired", "half_width_95_unpaired", "runs"),
@@ -166,7 +167,11 @@ def read_variant(where, path, study, variant, joint, simulator):
     run_path, map_path = map(beside, pair_of(study, variant))
     run, mapping = read_pair(run_path, map_path, study["until"])
     works = [works_of(text, mapping) for text in variant.get("close", ())]
-    run, mapping, told = with_works(run, mapping, map_path, works, joint[pair_of(study, variant)])
+    if variant.get("route"):
+        asked = variant.get("close", ()), variant.get("knowing", 1.0), list(joint[pair_of(study, variant)])
+        (run, mapping), told = routed(run, mapping, map_path, *asked, simulator, study["until"], where), []
+    else:
+        run, mapping, told = with_works(run, mapping, map_path, works, joint[pair_of(study, variant)])
     print(*(f"{where}: {text}" for text in told), sep="\n", end="\n" if told else "", file=sys.stderr)
     load = {"dawdle": variant["dawdle"]} if "dawdle" in variant else {}
     nodes, signals, until = frozenset(), b"", study["until"]
@@ -190,6 +195,12 @@ def check_types(where, value):
         raise Fault(f"{where}: plans = []: the network is the first of them")
     if type(value.get("dawdle", 0)) is not int or not 0 <= value.get("dawdle", 0) <= 1000:
         raise Fault(f"{where}: dawdle = {value['dawdle']!r} is not 0 to 1,000")
+    if type(value.get("route", False)) is not bool:
+        raise Fault(f"{where}: route = {value['route']!r} is neither true nor false")
+    if type(value.get("knowing", 1)) not in (int, float) or not 0 <= value.get("knowing", 1) <= 1:
+        raise Fault(f"{where}: knowing = {value['knowing']!r} is not 0 to 1")
+    if "knowing" in value and not (value.get("route") and value.get("close")):
+        raise Fault(f"{where}: knowing is of who goes round works: close = [..] and route = true are needed too")
 
 
 def signals_of(asked, run, mapping):

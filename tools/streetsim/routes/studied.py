@@ -1,0 +1,53 @@
+"""A run of a study whose vehicles take other ways: by a search, or round the works of a variant."""
+from __future__ import annotations
+
+import sys
+from collections.abc import Sequence
+from dataclasses import replace
+
+from ..run.mapping import Map
+from ..run.runs import Run
+from ..study.jobs import CORES
+from ..study.sessions import digest_of
+from ..sumo.network import Options
+from ..sumo.report import Report
+from ..sumo.sources import sources_of
+from .diverting import closing_of, diverted
+from .loading import read_town
+from .search import Asked, Iteration, Search
+from .team import team
+from .trips import read_trips
+from .watching import Ground
+
+ASKED = Asked(iterations=10, gap=0.02, share=0.2, seeds=range(1, 2))
+CHECK = range(101, 104)
+SLICE = 300
+
+
+def routed(
+    run: Run, mapping: Map, map_path: str, works: Sequence[str], knowing: float, joint: Sequence[str], program: str, until: int, where: str
+) -> tuple[Run, Map]:
+    """The run and its map with ways by feedback for the vehicles of its import; with works, round these for a share of drivers who
+    know of them. joint: further lanes that are joint, as in the variants to compare with."""
+    sources = sources_of(mapping.sources, map_path, run.path)
+    known = {name: tuple(value) if isinstance(value, list) else value for name, value in mapping.options.items()}
+    options = Options(**{**known, "joint": (*known.get("joint", ()), *joint)})
+    town = read_town(sources.net, sources.additional, options, Report())
+    trips = read_trips([*sources.routes, *sources.trips], town.net, town.graph, town.types, options, Report())
+    ground = Ground(program, digest_of(program), town.graph, SLICE, until)
+
+    def told(label: str, one: Iteration) -> bool:
+        print(f"{where}: {label}{one.line(len(trips.all))}", file=sys.stderr, flush=True)
+        return False
+
+    with team(ground, CORES, None) as workers:
+        search = Search(town, ground, trips.all, workers, lambda one: told("", one))
+        search.start(ASKED.seeds[0])
+        if works:
+            judged = search.judged(CHECK)
+            closing = closing_of(works, (), town.graph, search, judged)
+            search = next(diverted(search, judged, closing, works, ASKED, CHECK, [knowing], told)).search
+        else:
+            search.improve(ASKED)
+    loaded = search.town.loaded(search.trips)
+    return replace(loaded.run, path=run.path), loaded.mapping
