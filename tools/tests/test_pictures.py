@@ -6,8 +6,10 @@ import re
 import shutil
 import subprocess
 import unittest
+from unittest import mock
 
 from support import DATA, MAP, PROGRAM, Case, needs_package, needs_simulator
+from streetsim.files import Fault
 from streetsim.pictures import ring, series
 from streetsim.run.folder import read_folder
 from streetsim.run.tables import COUNTS, QUEUES, TRIPS
@@ -63,6 +65,23 @@ class Numbers(Given):
         )
         self.assertEqual(series.stretches(self.given, ["a", "b"]), ({0: (0.0, 75.0, 10), 1: (75.0, 75.0, 10)}, 150.0))
         self.assertEqual(series.reds(self.given, ["a", "b"], 0, 40), [(75.0, 5, 15), (75.0, 25, 35)])
+
+    def test_green_band(self):
+        """Green 10 of 20 seconds, from 15 of one cycle to 4 of the next: alone the signal's band is its green. A second one
+        with the same plan, 10 s away, is red in
+        these seconds; 20 s away it is green again; 23 s away 3 s fewer are common."""
+        self.assertEqual(series.green_band(self.given, ["a", "b"], 0), (10, 20))
+        self.assertIsNone(series.green_band(self.given, ["a"], 0))
+        command = self.given.signals[0][1]
+        stops = {gap: [(0.0, 1, [0], [1]), (gap, 1, [0], [1])] for gap in (10.0, 20.0, 23.0)}
+        for gap, width in ((10.0, 0), (20.0, 10), (23.0, 7)):
+            with mock.patch.object(series, "stop_lines", return_value=stops[gap]):
+                self.assertEqual(series.green_band(self.given, ["a", "b"], 0), (width, sum(seconds for seconds, _ in command["phases"])))
+
+    def test_along_the_path(self):
+        self.assertEqual(series.junctions_along(self.given, ["a", "b"]), [(75.0, "B")])
+        with self.assertRaisesRegex(Fault, "no edge leads back along 'b'"):
+            series.way_back(self.given, ["a", "b"])
 
     def test_map(self):
         # Four polls find 1, 2, 1 and 0 vehicles on 75 m of the first link, and 0, 0, 0, 1 on the second.

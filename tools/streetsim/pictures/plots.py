@@ -40,6 +40,7 @@ def parser():
         if kind in ("corridor", "fundamental"):
             one.add_argument("--edges", required=kind == "corridor", default="", help="edges, with spaces or commas between")
         if kind == "corridor":
+            one.add_argument("--both", action="store_true", help="the other direction too, below")
             one.add_argument("--first", type=second, default=0, metavar="S", help="the first second shown")
             one.add_argument("--last", type=second, default=600, metavar="S", help="the last second shown")
         if kind == "fundamental":
@@ -144,8 +145,6 @@ def path_of(folder, text):
 
 
 def draw_corridor(pyplot, folder, words):
-    from matplotlib.collections import LineCollection, PolyCollection
-
     edges = path_of(folder, words.edges)
     if words.first >= words.last:
         raise Fault(f"--first {words.first} is not before --last {words.last}")
@@ -153,9 +152,22 @@ def draw_corridor(pyplot, folder, words):
         raise Fault(f"{folder.path} was polled every {folder.every} s: a corridor needs streetsim-run --every 1 (to 5)")
     if not any(words.first <= poll["clock"] <= words.last for poll in folder.polls()):
         raise Fault(f"{folder.path}: nothing was polled from {words.first} to {words.last} s")
+    ways = [edges, series.way_back(folder, edges)] if words.both else [edges]
+    figure, panels = pyplot.subplots(len(ways), figsize=(10, 6 if len(ways) == 1 else 9.5), squeeze=False)
+    for way, (axes,) in zip(ways, panels, strict=True):
+        draw_way(axes, folder, way, words)
+    figure.subplots_adjust(hspace=0.3)
+    handles, labels = axes.get_legend_handles_labels()
+    axes.legend(handles, labels, loc="upper center", bbox_to_anchor=(0.5, -0.1), ncol=4, frameon=False)
+    return figure
+
+
+def draw_way(axes, folder, edges, words):
+    """The vehicles along a path, with the junctions beside it."""
+    from matplotlib.collections import LineCollection, PolyCollection
+
     pieces = series.trajectories(folder, edges, words.first, words.last)
-    placed, length = series.stretches(folder, edges)
-    figure, axes = pyplot.subplots(figsize=(10, 6))
+    _, length = series.stretches(folder, edges)
     for least, label, colour, width in reversed(SPEEDS):
         shown = [piece for piece in pieces if piece[2] == least or (piece[2] > least and least == SPEEDS[-1][0])]
         if least == SPEEDS[-1][0] and not shown:
@@ -164,24 +176,16 @@ def draw_corridor(pyplot, folder, words):
         axes.add_collection(LineCollection(fronts, colors=colour, linewidths=width, label=label))
         axes.add_collection(PolyCollection(series.bands(shown), facecolors=colour, linewidths=0, alpha=0.6))
     for at, (place, begin, end) in enumerate(series.reds(folder, edges, words.first, words.last)):
-        axes.plot(
-            (begin, end),
-            (place, place),
-            color="black",
-            linewidth=4,
-            solid_capstyle="butt",
-            label="red" if at == 0 else None,
-        )
-    axes.set(
-        xlim=(words.first, words.last),
-        ylim=(0, length * 1.01),
-        xlabel="time (s)",
-        ylabel="place along the path (m)",
-        title=f"From {edges[0]} to {edges[-1]}: each line is a vehicle",
-    )
-    handles, labels = axes.get_legend_handles_labels()
-    axes.legend(handles, labels, loc="upper center", bbox_to_anchor=(0.5, -0.1), ncol=4, frameon=False)
-    return figure
+        label = "red" if at == 0 else None
+        axes.plot((begin, end), (place, place), color="black", linewidth=4, solid_capstyle="butt", label=label)
+    title = f"From {edges[0]} to {edges[-1]}: each line is a vehicle"
+    band = series.green_band(folder, edges, words.first)
+    title += f"; green band {band[0]} of {band[1]} s" if band else ""
+    bounds = {"xlim": (words.first, words.last), "ylim": (0, length * 1.01)}
+    axes.set(**bounds, xlabel="time (s)", ylabel="place along the path (m)", title=title)
+    names = axes.secondary_yaxis("right")
+    names.set_yticks(*zip(*series.junctions_along(folder, edges), strict=True))
+    names.tick_params(length=0)
 
 
 def draw_fundamental(pyplot, folder, words):
@@ -231,10 +235,11 @@ def draw_queues(pyplot, folder, _words):
         interpolation="nearest",
         extent=(times[0] / 60, (times[-1] + folder.every) / 60, len(lanes) - 0.5, -0.5),
     )
-    axes.set_yticks(range(len(lanes)), [name for name, _ in lanes])
+    room = {folder.mapping.lane_name(link, lane): folder.mapping.links[link].metres for link, lane in folder.mapping.lanes()}
+    axes.set_yticks(range(len(lanes)), [f"{name}, {room[name]:.0f} m" for name, _ in lanes])
     axes.grid(False)
     axes.set(
-        xlabel="time (min)", ylabel="lane", title=f"Queues at the stop lines: the {len(lanes)} longest of {count} lanes"
+        xlabel="time (min)", ylabel="lane and its length", title=f"Queues at the stop lines: the {len(lanes)} longest of {count} lanes"
     )
     figure.colorbar(image, ax=axes, label="queue (m)")
     return figure

@@ -81,6 +81,61 @@ def shows_green(command, second, links, following):
     return False
 
 
+def way_back(folder, edges):
+    """The edges of a path's other direction: between the same junctions."""
+    mapping = folder.mapping
+    found = {}
+    for edge, links in mapping.links_of.items():
+        found.setdefault((mapping.links[links[0]].begin, mapping.links[links[0]].end), edge)
+    back = []
+    for (link, *_), edge in reversed(list(zip(folder.links_along(edges), edges, strict=True))):
+        ends = mapping.links[link].end, mapping.links[link].begin
+        if ends not in found:
+            raise Fault(f"--both: no edge leads back along {edge!r}")
+        back.append(found[ends])
+    return back
+
+
+def junctions_along(folder, edges):
+    """(metres from the path's begin, name) of the junctions within a path."""
+    placed, _ = stretches(folder, edges)
+    firsts = [links[0] for links in folder.links_along(edges)]
+    ends = [(sum(placed[link][:2]), folder.mapping.nodes[folder.mapping.links[link].end][0]) for link in firsts]
+    return ends[:-1] or ends
+
+
+def green_band(folder, edges, first):
+    """How many seconds of a cycle one after the other let a vehicle that starts at the first signal pass all others too at
+    its free speed, and the cycle; none where there is no signal or no common cycle."""
+    stops = stop_lines(folder, edges)
+    plans = {node: command for clock, command in folder.signals if clock <= first for node in [command["node"]]}
+    stops = [(after, plans[node], *links) for after, node, *links in stops if node in plans]
+    cycles = {sum(duration for duration, _ in command["phases"]) for _, command, *_ in stops}
+    if len(cycles) != 1:
+        return None
+    cycle, start = cycles.pop(), stops[0][0]
+    is_free = [
+        all(shows_green(command, second + round(after - start), here, following) for after, command, here, following in stops)
+        for second in range(cycle)
+    ]
+    longest = run = 0
+    for free in is_free * 2:
+        run = run + 1 if free else 0
+        longest = max(longest, run)
+    return min(longest, cycle), cycle
+
+
+def stop_lines(folder, edges):
+    """(free seconds from the path's begin, node, links, next links) of each stop line within a path."""
+    links, after, found = folder.links_along(edges), 0.0, []
+    for here, following in zip(links, links[1:]):
+        link = folder.mapping.links[here[0]]
+        after += link.cells / max(0.001, link.limit - folder.dawdle / 1000)
+        found.append((after, link.end, here, following))
+        after += folder.mapping.nodes[link.end][3]
+    return found
+
+
 def densities(folder):
     """Vehicles a kilometre and lane of each link, the mean over all polls."""
     standing, polls = Counter(), 0
