@@ -3,7 +3,7 @@ import csv
 import json
 import unittest
 
-from support import MAP, NUMBERED, PROGRAM, RED, Case, needs_simulator
+from support import MAP, NUMBERED, PROGRAM, RED, Case, lane, needs_simulator, net
 
 
 @needs_simulator
@@ -42,6 +42,23 @@ class Endings(Case):
     def test_each_seed_has_its_end(self):
         self.assertIn("seed 1: 1 vehicles, 1 arrived", told := self.run_lines([0], "--seeds", "1-2"))
         self.assertIn("ended at 60 s: all have arrived", told)
+
+    def test_roads_that_give_way(self):
+        # Two streets become one without a light; that from b gives way, for which rounds make signal lines.
+        edges = [("a", "A", "C", [lane("a", 0)]), ("b", "B", "C", [lane("b", 0)]), ("c", "C", "D", [lane("c", 0)])]
+        text = net(edges, [("a", 0, "c", 0, 'via=":C_0_0"'), ("b", 0, "c", 0, 'via=":C_1_0"')]).replace(
+            '<junction id="C" type="priority" x="0" y="0"/>',
+            '<junction id="C" type="priority" x="0" y="0"><request index="0" response="00"/><request index="1" response="01"/></junction>',
+        )
+        flows = "".join(f'<flow id="{name}" begin="0" end="300" period="7"><route edges="{name} c"/></flow>' for name in "ab")
+        outputs = (run := self.folder / "r.jsonl", "--map", self.folder / "m.json")
+        self.tool("import", self.write("x.net.xml", text), "--routes", self.write("x.rou.xml", f"<routes>{flows}</routes>"), "-o", *outputs)
+        words = (run, *outputs[1:], "--program", PROGRAM, "--out", self.folder / "out")
+        for more in ((), ("--until", 600)):
+            told = self.tool("run", *words, *more)[0]
+            self.assertIn("86 vehicles, 86 arrived", told)
+            self.assertIn("1 junctions without a light give way", told)
+            self.assertEqual("all have arrived" in told, not more)
 
 
 if __name__ == "__main__":

@@ -1,6 +1,8 @@
 """When a run ends that was given no last second: all have arrived, nobody moves any more, or the calls are spent."""
 from __future__ import annotations
 
+import json
+from functools import cached_property
 from typing import TYPE_CHECKING
 
 from .. import limits
@@ -24,12 +26,18 @@ class Ending:
     """Looks each minute whether a run is over, and then sets its end."""
 
     def __init__(self, run: Run) -> None:
-        signals = [line.command for line in (*run.first, *(line for _, line in run.timed)) if line.command["cmd"] == "signal"]
-        self.cycle = max((sum(duration for duration, _ in one["phases"]) for one in signals), default=0)
+        self.run = run
         self.census: tuple | None = None  # the last one that differed from the one before it, without its clock
         self.since = 0  # its clock
         self.lanes: dict | None = None  # who stood where at `looked`, where the census stayed as it was for a cycle
         self.looked = 0
+
+    @cached_property
+    def cycle(self) -> int:
+        """Seconds of the longest cycle; a signal line may have its phases in its text alone."""
+        lines = (*self.run.first, *(line for _, line in self.run.timed))
+        signals = [json.loads(line.text) for line in lines if line.command["cmd"] == "signal"]
+        return max((sum(duration for duration, _ in one["phases"]) for one in signals), default=0)
 
     def look(self, record: Recorder, clock: int) -> None:
         census = record.records.censuses[-1]
