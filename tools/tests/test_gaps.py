@@ -1,4 +1,5 @@
 """Giving way without a light: who waits for whom, when vehicles pass, where the gaps are."""
+import json
 import unittest
 
 import support  # noqa: F401
@@ -105,6 +106,7 @@ class Lines(unittest.TestCase):
             yields = [Waiting(1, ((0, 0, 1),), (Foe(1, 0, 2, Gap(4.0, 0.0, 0.0), False),))]
 
         [(clock, line)] = gap_lines(Yielding, {(1, 0): [(130.0, 2)]}, 100)
+        self.assertEqual(json.loads(json.dumps(line.command)), json.loads(line.text))
         self.assertEqual(clock, 100)
         phases = '[26,[[0,0,1]]],[5,[]],[29,[[0,0,1]]],[600,[[0,0,1]]]'
         self.assertEqual(line.text, f'{{"cmd":"signal","node":1,"offset":560,"phases":[{phases}]}}')

@@ -40,19 +40,21 @@ def node_lines(node, turns, groups, start):
     always = [turn for turn in turns if turn not in waits]
 
     def green(state):
-        """The turns that are green, as they stand in a line."""
+        """The turns that are green, and as they stand in a line."""
         shown = [turn for (each, _), hidden in zip(groups, state, strict=True) if not hidden for turn in each]
-        return ",".join(f"[{link},{lane},{following}]" for link, lane, following in sorted([*always, *shown]))
+        turns = sorted([*always, *shown])
+        return turns, ",".join(f"[{link},{lane},{following}]" for link, lane, following in turns)
 
     phases = [*phases_of([red for _, red in groups]), (limits.PHASE_STEPS, (0,) * len(groups))]
     shown = {state: green(state) for state in {state for _, state in phases}}
     begins = list(accumulate((length for length, _ in phases), initial=start))
     for first in range(0, len(phases), limits.PHASES):
         part, clock = phases[first : first + limits.PHASES], begins[first]
-        listed = ",".join(f"[{length},[{shown[state]}]]" for length, state in part)
+        listed = ",".join(f"[{length},[{shown[state][1]}]]" for length, state in part)
         offset = -clock % sum(length for length, _ in part)
         text = f'{{"cmd":"signal","node":{node},"offset":{offset},"phases":[{listed}]}}'
-        yield clock, Line(0, text, {"cmd": "signal", "node": node})
+        told = [(length, shown[state][0]) for length, state in part]
+        yield clock, Line(0, text, {"cmd": "signal", "node": node, "offset": offset, "phases": told})
 
 
 def phases_of(reds):
