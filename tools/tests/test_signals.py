@@ -103,6 +103,12 @@ class Signals(Case):
         self.assertEqual([bool(green) for _, green in command["phases"]], [True, True, True, False])
         self.assertEqual(warnings, [])
 
+    def test_of_a_long_green_no_more_is_hidden_than_of_a_usual_one(self):
+        # A right turn at 6.5 m/s: a queue leaves slower in SUMO, but for the first minutes alone.
+        turn = Turn(0, "L", 0, False, 6.5, 2)
+        usual, long = (shown_green("G" * length + "r", {}, turn, 1).index(True) for length in (90, 10_000))
+        self.assertEqual(usual, long)
+
     def test_a_cycle_that_fits_in_no_plan_is_lines(self):
         # Ten minutes of red of 10,000 s are left at the begin, as the offset is 600 s; then 5,000 s of green.
         commands, warnings = self.made(street(phases((5_000, "G"), (10_000, "r")), offset=600))

@@ -11,6 +11,7 @@ from .yielding import GREEN, PERMISSIVE, hidden_start, movements_of, places, run
 DEFAULT_SHARE = 0.7  # of a permissive green that is shown, where nothing is known of who gives way
 LONGEST = 200_000  # seconds of a cycle that are read
 AFTER = 86_400  # seconds after the last departure for which a program is told that does not fit in one plan
+QUEUED = 90  # seconds of a green above 600 s in which a queue leaves
 GRAINS = (1, 2, 3, 5, 8, 12, 20)  # seconds to which greens are rounded: the first that gives few phases
 
 
@@ -217,7 +218,8 @@ def shown_green(states, told, turn, grain):
                 shown[(start + second) % count] = True
     for start, length in runs_of(states, GREEN).items():
         if length < count and states[start - 1] not in PERMISSIVE:
-            for second in range(hidden_start(length, turn.speed, turn.limit) // grain * grain):
+            queued = length if length <= limits.PHASE_STEPS else QUEUED
+            for second in range(hidden_start(queued, turn.speed, turn.limit) // grain * grain):
                 shown[(start + second) % count] = False
     return shown
 
