@@ -245,6 +245,10 @@ class Page(LiveCase):
             self.assertEqual(browser.execute_script("return at('play').textContent"), "Play")
             box = browser.execute_script("const box = at('map').getBoundingClientRect(); return [box.width, box.height, document.documentElement.scrollWidth]")
             self.assertGreater(min(box[:2]), 100)
+            # The bar above grew by a line when it told the traffic: the picture ends where its place ends.
+            heights = "return [at('map').height, at('scene').clientHeight, document.documentElement.scrollHeight - innerHeight]"
+            self.wait(browser, heights.replace("return [", "const [map, place] = [") + "; return map === place")
+            self.assertLessEqual(browser.execute_script(heights)[2], 0)
             self.assertLessEqual(box[2], browser.execute_script("return innerWidth"))
 
 

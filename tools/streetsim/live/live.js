@@ -366,7 +366,9 @@ async function start() {
   at("fault").textContent = refused;
   at("play").onclick = toggle; at("step").onclick = oneStep; at("back").onclick = goBack; at("save").onclick = save;
   at("whole").onclick = () => { scene.moved = false; scene.fit(); draw(1); };
-  onkeydown = onKey; onresize = resize;
+  onkeydown = onKey;
+  // The bar above may take another line at any time.
+  new ResizeObserver(resize).observe(at("scene"));
   watchPointers(at("map"));
   resize(); showTables(); showLog();
   requestAnimationFrame(frame);
