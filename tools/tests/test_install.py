@@ -11,7 +11,7 @@ from support import MAP, NUMBERED, PROGRAM, TOOLS, Case, lane, needs_package, ne
 from streetsim.files import Fault
 from streetsim.program import BUILT, find_program
 
-COMMANDS = ("compare", "import", "live", "play", "plot", "report", "route", "run", "signals", "study")
+COMMANDS = ("compare", "export", "import", "live", "play", "plot", "report", "route", "run", "signals", "study")
 PIP = [sys.executable, "-m", "pip"] if find_spec("pip") else [shutil.which("pip")] if shutil.which("pip") else None
 
 
