@@ -221,6 +221,19 @@ class Vehicles(Started):
             self.assertNotIn("teleport", text)
             self.assertEqual(said.getvalue(), text if told else "")
 
+    def test_files_that_are_not_written_are_told(self):
+        more = '<edgeData id="e" file="edges.xml" period="30"/><edgeData id="f" file="more.xml"/></additional>'
+        words = ["sumo", "-n", self.write("x.net.xml", SIGNALLED), "-r", self.write("x.rou.xml", ROUTES)]
+        additional = self.write("x.add.xml", AREAS.replace("</additional>", more.replace("edges.xml", str(self.folder / "edges.xml"))))
+        with redirect_stderr(StringIO()) as said:
+            traci.start([*words, "-a", additional])
+        self.assertIn("warning: additional files ask for x, more.xml, not written here: ", said.getvalue())
+        self.steps(60)
+        traci.close()
+        intervals = ElementTree.parse(self.folder / "edges.xml").getroot().findall("interval")
+        self.assertEqual([(one.get("begin"), one.get("end")) for one in intervals], [("0.00", "30.00"), ("30.00", "60.00")])
+        self.assertEqual(intervals[0].find("edge[@id='a']").get("departed"), "1")
+
     def test_classes(self):
         """Buses alone may use the left lane, so that the network has it with --classes bus."""
         text = SIGNALLED.replace('id="a_1" index="1"', 'id="a_1" index="1" allow="bus"')

@@ -37,7 +37,7 @@ def open_session(folder: Path, options: Options) -> Session:
     try:
         facts = read_facts(options["net-file"], additional, routes)
         session = Session(folder, facts, options, int(options.get("rounds", ROUNDS)))
-        told += told_of(session.yielding)
+        told += told_of(session.yielding) + told_of_files(facts)
     finally:
         tell(told, options)
     paths = output_paths(options, facts)
@@ -56,13 +56,20 @@ def told_of(yielding) -> str:
     return f"{yielding.told()}, in the gaps of the vehicles of the route files; those that the script adds are in no gaps\n"
 
 
+def told_of_files(facts: Facts) -> str:
+    if not facts.unwritten:
+        return ""
+    names = ", ".join(dict.fromkeys(facts.unwritten))
+    return f"warning: additional files ask for {names}, not written here: streetsim-run --sumo-output e1,e2,edgedata writes such files\n"
+
+
 def output_paths(options: Options, facts: Facts) -> dict[str, str]:
     """By kind the output files that are asked for: by options, and the first edgeData of additional files."""
     prefix, paths = options.get("output-prefix", ""), {}
     for name, kind in SERVED.items():
         if options.get(name, NOWHERE[0]) not in NOWHERE:
             paths[kind] = options[name]
-    if facts.edgedata and facts.edgedata[0][0] not in NOWHERE:
+    if facts.edgedata:
         paths["edgedata"] = facts.edgedata[0][0]
     return {kind: os.path.join(os.path.dirname(path), prefix + os.path.basename(path)) for kind, path in paths.items()}
 

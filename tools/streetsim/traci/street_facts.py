@@ -6,11 +6,13 @@ from collections.abc import Sequence
 from dataclasses import dataclass, field
 
 from ..files import attribute, elements, number, seconds
+from ..sumo.configuration import NOWHERE
 from .lights import Light
 
 Point = tuple[float, float]
 WIDTH = 3.2  # metres of a lane, where a file has none
 INSIDE = "internal"  # the function of the edges in a junction
+WRITING = ("edgeData", "laneData", "inductionLoop", "e1Detector", "laneAreaDetector", "e2Detector", "e3Detector", "entryExitDetector")
 
 
 @dataclass(slots=True)
@@ -55,6 +57,7 @@ class Facts:
     boundary: tuple[Point, Point] = ((0.0, 0.0), (0.0, 0.0))
     routes: dict[str, tuple[str, ...]] = field(default_factory=dict)
     edgedata: list[tuple[str, float]] = field(default_factory=list)  # file and period, as additional files ask for them
+    unwritten: list[str] = field(default_factory=list)  # files of detectors and of further edgeData, which are not written
 
     def read_edge(self, path: str, element) -> None:
         edge = attribute(path, element, "id")
@@ -117,6 +120,8 @@ def read_element(facts: Facts, path: str, element) -> None:
     elif element.tag == "location" and element.get("convBoundary"):
         left, low, right, high = map(float, element.get("convBoundary").split(","))
         facts.boundary = (left, low), (right, high)
-    elif element.tag == "edgeData" and element.get("file"):
-        period = element.get("period") or element.get("freq") or "0"
-        facts.edgedata.append((element.get("file"), seconds(period)))
+    elif element.tag in WRITING and element.get("file", NOWHERE[0]) not in NOWHERE:
+        if element.tag == "edgeData" and not facts.edgedata:
+            facts.edgedata.append((element.get("file"), seconds(element.get("period") or element.get("freq") or "0")))
+        else:
+            facts.unwritten.append(element.get("file"))
