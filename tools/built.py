@@ -8,20 +8,27 @@ from pathlib import Path
 
 TOP = Path(__file__).resolve().parents[1]
 CRATE = "street_sim"
+# The program of a live page, which ./build --page makes.
+PAGE = "street_page"
 # What a check of a crate reads.
 READ = ("src", "specs", "proofs")
 
 
-def program(top=TOP):
+def program(top=TOP, crate=CRATE):
     """The program's file, built or not."""
-    return top / "crates" / CRATE / "out" / CRATE
+    return top / "crates" / crate / "out" / crate
 
 
-def crates(top=TOP):
+def page_module(top=TOP):
+    """The file of the page's program for browsers, built or not."""
+    return program(top, PAGE).with_suffix(".wasm")
+
+
+def crates(top=TOP, crate=CRATE):
     """The crates of the repository that the program stands on, each with what its line of crates.txt names; lowest first, the program's last."""
     lines = (line.partition("#")[0].partition(":") for line in (top / "crates.txt").read_text().splitlines())
     uses = {head.split()[0]: tail.split() for head, colon, tail in lines if colon}
-    found, left = {}, [CRATE]
+    found, left = {}, [crate]
     while left:
         name = left[-1]
         lacking = [below for below in uses[name] if below in uses and below not in found]
@@ -31,9 +38,9 @@ def crates(top=TOP):
     return found
 
 
-def sources(top=TOP):
+def sources(top=TOP, crate=CRATE):
     """The files that the program's check reads, in order."""
-    folders = [top / "crates" / name / part for name in crates(top) for part in READ]
+    folders = [top / "crates" / name / part for name in crates(top, crate) for part in READ]
     return sorted(path for folder in folders for path in folder.rglob("*") if path.is_file())
 
 

@@ -16,6 +16,14 @@ BUILT = TOOLS.parent / "crates/street_sim/out/street_sim"
 PROGRAM = os.environ.get("STREETSIM_PROGRAM") or (str(BUILT) if BUILT.exists() else None)
 needs_simulator = unittest.skipIf(PROGRAM is None, "no simulator: build streetsim, or set STREETSIM_PROGRAM")
 
+# What a live page asks, as ./test and `./build --page` make it: for this machine, and for browsers.
+BUILT_PAGE = TOOLS.parent / "crates/street_page/out/street_page"
+PAGE_PROGRAM = os.environ.get("STREETSIM_PAGE") or (str(BUILT_PAGE) if BUILT_PAGE.exists() else None)
+PAGE_MODULE = Path(os.environ.get("STREETSIM_PAGE_MODULE") or BUILT_PAGE.with_suffix(".wasm"))
+needs_page_program = unittest.skipIf(PAGE_PROGRAM is None, "no program of a page: ./build --page makes it, or set STREETSIM_PAGE")
+# Where the kit's insides changed, ./test and `./build --page` say what changed, and leave the module out.
+needs_page_module = unittest.skipUnless(PAGE_MODULE.exists(), "kit without a page")
+
 
 def needs_package(name, found):
     """Skips a test where a package of Debian's is not installed. ./test knows these packages by their list, packages.txt."""

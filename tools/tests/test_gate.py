@@ -75,6 +75,12 @@ class Tests(GateCase):
         output, _ = self.runs("test", LAST=PASSED)
         self.assertEqual(output.splitlines()[-1], "13 passed, 0 failed, 1 skipped")
 
+    def test_a_kit_whose_insides_changed_is_a_reason_to_skip(self):
+        self.write_test(GOOD + SKIPPED.format(why="kit without a page").removeprefix("import unittest\n"))
+        output, _ = self.runs("test", LAST=PASSED)
+        self.assertIn("\nkit without a page: crates.txt does not name street_page\n", output)
+        self.assertEqual(output.splitlines()[-1], "13 passed, 0 failed, 1 skipped")
+
     def test_a_gate_without_a_count(self):
         for last in ("", "all is well", "12 passed", "12 passed, 0 failed (street_base and the crates below alone: not the gate)"):
             with self.subTest(last=last):
