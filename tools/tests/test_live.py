@@ -8,7 +8,9 @@ import unittest
 from contextlib import contextmanager
 from importlib.util import find_spec
 
-from support import MAP, NUMBERED, PROGRAM, RED, Case, needs_package, needs_simulator
+from support import (
+    MAP, NUMBERED, PAGE_MODULE, PAGE_PROGRAM, PROGRAM, RED, Case, needs_package, needs_page_module, needs_page_program, needs_simulator,
+)
 from streetsim.live.bridge import MOST_LINE, Bridge
 from streetsim.live.engine import Engine
 from streetsim.live.page import data_of, own_lines, page_of
@@ -19,6 +21,24 @@ DRIVER = shutil.which("chromedriver")
 needs_driver = needs_package("chromium-driver", DRIVER)
 needs_selenium = needs_package("python3-selenium", find_spec("selenium"))
 ENTERS = [{"cmd": "enter", "plan": [0, 1], "lane": 0, "depart": depart} for depart in (0, 2, 4)]
+
+
+# Changes of a page by its buttons: each that was not refused counts.
+CHANGES = """
+globalThis.press = name => [...document.querySelectorAll('#chosen button')].find(one => one.textContent === name).click();
+globalThis.fill = (name, value) => { const box = at(name); box.value = value; box.dispatchEvent(new Event('input')); };
+globalThis.changes = () => session.sent.filter(([line]) => JSON.parse(line).cmd !== 'advance').length;
+globalThis.changeOnce = async i => {
+  if (i % 5 === 4) { choose({ node: 1 }); fill('phase0', 5 + i % 60); press('Set the plan'); }
+  else {
+    choose({ link: session.data.links[i % 2], lane: 0, first: i % 7, last: i % 7 + 2 });
+    if (i % 50 === 0) press('Place it'); else press(i % 3 ? 'Close' : 'Reopen');
+  }
+  await turn;
+  if (i % 4 === 0) { at('step').click(); await turn; }
+};
+globalThis.makeChanges = async count => { for (let i = 0; changes() < count && i < 3 * count; i++) await changeOnce(i); };
+"""
 
 
 class LiveCase(Case):
@@ -34,7 +54,7 @@ class LiveCase(Case):
 
     @contextmanager
     def bridge(self):
-        engine = Engine(PROGRAM, own_lines(self.run_file))
+        engine = Engine(PAGE_PROGRAM, own_lines(self.run_file))
         with Bridge(engine, page_of(self.run_file, self.mapping)) as bridge:
             thread = threading.Thread(target=bridge.serve_forever, daemon=True)
             thread.start()
@@ -63,7 +83,7 @@ class Data(LiveCase):
         self.assertIn("no program that can be run", told)
 
 
-@needs_simulator
+@needs_page_program
 class Requests(LiveCase):
     """What the bridge serves and what it refuses."""
 
@@ -126,6 +146,7 @@ class Requests(LiveCase):
 
 
 @needs_simulator
+@needs_page_program
 @needs_driver
 @needs_selenium
 class Page(LiveCase):
@@ -231,6 +252,49 @@ class Page(LiveCase):
         # The run's own green at second 20 is among the lines, and what was done at second 9 is not, as the page went back there.
         self.assertTrue(any('"at": 20' in line for line, _ in record))
         self.assertFalse(any("takeout" in line for line, _ in record))
+
+    def change_often(self, browser, count):
+        """Makes so many changes by the page's own buttons, with steps between them: closures, reopenings, plans, detectors."""
+        browser.execute_script(CHANGES)
+        browser.set_script_timeout(120)
+        told = browser.execute_async_script("const done = arguments[1]; makeChanges(arguments[0]).then(() => done(''), fault => done(String(fault)))", count)
+        self.assertEqual(told, "")
+        return browser.execute_script("return [session.saved(), session.record()]")
+
+    def check_changes(self, saved, record, least):
+        """The session has so many changes of each kind, and streetsim answers it as the page was answered."""
+        commands = [json.loads(line)["cmd"] for line, _ in record]
+        self.assertGreaterEqual(sum(command != "advance" for command in commands), least)
+        self.assertLessEqual({"advance", "close", "reopen", "signal", "meter"}, set(commands))
+        self.assertEqual(self.replayed(saved)[5:], [reply for _, reply in record])
+
+    def test_a_session_of_500_changes(self):
+        with self.bridge() as bridge, self.browser() as browser:
+            self.open(browser, bridge.address)
+            saved, record = self.change_often(browser, 500)
+        self.check_changes(saved, record, 500)
+
+    @needs_page_module
+    def test_one_file(self):
+        """The page with its engine inside, from a file, with no name resolved: it asks nobody for anything, and its session replays."""
+        page = self.folder / "page.html"
+        told = self.tool("live", self.run_path, "--map", self.map_path, "--program", PAGE_MODULE, "-o", page)[0]
+        self.assertIn("its translation for browsers, the browser and the page's script are tested, not proved", told)
+        with self.browser() as browser:
+            self.open(browser, page.as_uri())
+            self.assertEqual(browser.execute_script("return performance.getEntriesByType('resource').length"), 0)
+            self.click(browser, "step")
+            self.assertEqual((self.shown(browser)["driving"], self.shown(browser)["seen"]), (1, 1))
+            saved, record = self.change_often(browser, 100)
+        self.check_changes(saved, record, 100)
+
+    def test_no_request_leaves_the_machine(self):
+        with self.bridge() as bridge, self.browser() as browser:
+            self.open(browser, bridge.address)
+            self.click(browser, "step")
+            asked = browser.execute_script("return performance.getEntriesByType('resource').map(entry => entry.name)")
+            self.assertTrue(asked)
+            self.assertEqual([name for name in asked if not name.startswith(bridge.address)], [])
 
     def test_playing_on_a_narrow_screen(self):
         with self.bridge() as bridge, self.browser(420, 800) as browser:

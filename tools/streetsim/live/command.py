@@ -13,7 +13,7 @@ from .engine import Engine
 from .page import own_lines, page_of
 
 VARIABLE = "STREETSIM_PAGE"
-BUILT = Path("crates/street_page/out")  # where `./build` of the repository puts the page's programs
+BUILT = Path("crates/street_page/out")  # where `./build --page` of the repository puts the page's programs
 NATIVE, MODULE = "street_page", "street_page.wasm"
 CLAIM = (
     "The program is proved; its translation for browsers, the browser and the page's script are tested, not proved."
@@ -28,7 +28,7 @@ def parser() -> Parser:
     )
     made.add_argument("run", help="the run file that streetsim-import wrote")
     made.add_argument("--map", required=True, help="the map file that it wrote")
-    made.add_argument("--program", help=f"the page's program, {NATIVE} (default: ${VARIABLE}, else the one that ./build made)")
+    made.add_argument("--program", help=f"the page's program, {NATIVE} (default: ${VARIABLE}, else the one that ./build --page made)")
     made.add_argument("--port", type=within(0, 65_535), default=0, help="of the address (default: one that is free)")
     made.add_argument("--no-open", action="store_true", help="print the address and open no browser")
     made.add_argument("-o", "--output", help="write one file (.html) with the engine inside, for Chromium and its kin")
@@ -36,7 +36,7 @@ def parser() -> Parser:
 
 
 def beside(name: str) -> Path:
-    """A file that ./build makes, of the repository that these tools lie in."""
+    """A file that ./build --page makes, of the repository that these tools lie in."""
     return Path(__file__).resolve().parents[3] / BUILT / name
 
 
@@ -44,7 +44,7 @@ def program_of(given: str | None) -> str:
     """The page's program. It counts no calls, as streetsim itself does."""
     named = given or os.environ.get(VARIABLE) or str(beside(NATIVE))
     if not os.access(named, os.X_OK):
-        raise Fault(f"{named}: no program that can be run: give --program, set {VARIABLE}, or run ./build in streetsim's repository")
+        raise Fault(f"{named}: no program that can be run: give --program, set {VARIABLE}, or run ./build --page in streetsim's repository")
     return str(Path(named).resolve())
 
 
