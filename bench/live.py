@@ -1,0 +1,138 @@
+#!/usr/bin/python3
+"""Frames and steps a second of the live page in headless Chromium, playing at 10 steps a second.
+
+Usage: bench/live.py PAGE_PROGRAM CORRIDOR_RUN CORRIDOR_MAP [--module STREET_PAGE_WASM] [--seconds N] [--picture FILE]
+
+The corridor is a run file and a map as streetsim-import wrote them; the grid is that of steps.py, with 10,000 vehicles, in three
+views: the whole, a scale at which some hundred lanes are seen, and one junction. With --module the same pages run by the engine
+inside them. It needs Debian's python3-selenium and chromium-driver. The load of the machine is printed beside.
+"""
+import argparse
+import json
+import os
+import sys
+import tempfile
+import threading
+import time
+from collections.abc import Iterator
+from contextlib import contextmanager
+from pathlib import Path
+
+import steps
+from selenium import webdriver
+
+TOP = Path(__file__).resolve().parents[1]
+sys.path.insert(0, str(TOP / "tools"))
+
+from streetsim.live.bridge import Bridge  # noqa: E402
+from streetsim.live.engine import Engine  # noqa: E402
+from streetsim.live.page import own_lines, page_of  # noqa: E402
+from streetsim.run.mapping import Map, MapLink, read_map  # noqa: E402
+from streetsim.run.runs import Run, read_run  # noqa: E402
+
+VEHICLES, SPACING, SIDE = 10_000, 750, 32
+# Pixels a metre of each view; none is the whole network.
+VIEWS = {"whole": None, "0.25 pixels a metre": 0.25, "2 pixels a metre": 2.0}
+COUNT = """
+const [seconds, done] = arguments, from = performance.now(), clock = session.clock;
+let frames = 0;
+const count = () => { frames++; if (performance.now() - from < 1000 * seconds) requestAnimationFrame(count); else done([frames, session.clock - clock, performance.now() - from]); };
+requestAnimationFrame(count);
+"""
+
+
+def grid(folder: Path) -> tuple[Run, Map]:
+    """The grid of steps.py as a run and its map."""
+    lines, _ = steps.grid(VEHICLES)
+    path = folder / "grid.jsonl"
+    path.write_text("".join(line + "\n" for line in lines))
+    load = json.loads(lines[0])
+    place = [(SPACING * (at // SIDE), SPACING * (at % SIDE)) for at in range(SIDE * SIDE)]
+    links = [
+        MapLink(f"link{number}", (0, 1), begin, end, cells, limit, float(SPACING), (place[begin], place[end]))
+        for number, begin, end, _, cells, limit in load["links"]
+    ]
+    nodes = [[f"node{at}", *place[at], 4] for at in range(SIDE * SIDE)]
+    names = [f"vehicle{number}" for number in range(VEHICLES)]
+    return read_run(path), Map(nodes=nodes, links=links, turns=[], signals=[], cars=names, options={}, warnings=[])
+
+
+@contextmanager
+def browser() -> Iterator[webdriver.Chrome]:
+    options = webdriver.ChromeOptions()
+    for word in ("--headless=new", "--no-sandbox", "--window-size=1366,768", "--host-resolver-rules=MAP * ~NOTFOUND, EXCLUDE 127.0.0.1"):
+        options.add_argument(word)
+    made = webdriver.Chrome(options=options, service=webdriver.chrome.service.Service("/usr/bin/chromedriver"))
+    made.set_script_timeout(600)
+    try:
+        yield made
+    finally:
+        made.quit()
+
+
+@contextmanager
+def served(run: Run, mapping: Map, program: str) -> Iterator[str]:
+    """The address of a page that the bridge serves."""
+    engine = Engine(program, own_lines(run))
+    with Bridge(engine, page_of(run, mapping)) as bridge:
+        threading.Thread(target=bridge.serve_forever, daemon=True).start()
+        yield bridge.address
+        bridge.shutdown()
+    engine.close()
+
+
+def opened(page: webdriver.Chrome, address: str, begin: int) -> None:
+    """Opens a page and makes its first steps."""
+    page.get(address)
+    while not page.execute_script("return document.body?.dataset.ready || ''"):
+        time.sleep(0.2)
+    page.execute_async_script("const done = arguments[1]; guarded(() => advance(arguments[0])).then(done)", begin)
+
+
+def measure(page: webdriver.Chrome, name: str, scale: float | None, seconds: int) -> None:
+    """Plays in a view for some seconds, and prints a row."""
+    page.execute_script("scene.moved = false; scene.fit(); if (arguments[0]) { scene.scale = arguments[0]; scene.moved = true; } if (!playing) toggle();", scale)
+    time.sleep(2)
+    frames, made, spent = page.execute_async_script(COUNT, seconds)
+    shown = json.loads(page.execute_script("if (playing) toggle(); return document.body.dataset.shown"))
+    load = os.getloadavg()[0]
+    print(f"| {name} | {shown['driving']:,} | {1000 * frames / spent:.0f} | {1000 * made / spent:.1f} | {load:.1f} |", flush=True)
+
+
+def measure_all(page: webdriver.Chrome, words: argparse.Namespace, folder: Path, how: str, module: bytes | None) -> None:
+    corridor = read_run(words.corridor), read_map(words.map)
+    for name, (run, mapping), begin, views in (("corridor", corridor, 900, {"whole": None}), (f"grid of {VEHICLES:,}", grid(folder), 500, VIEWS)):
+        if module:
+            path = folder / "page.html"
+            path.write_bytes(page_of(run, mapping, module))
+            opened(page, path.as_uri(), begin)
+        else:
+            context = served(run, mapping, words.program)
+            opened(page, context.__enter__(), begin)
+        for view, scale in views.items():
+            measure(page, f"{name}, {view}, {how}", scale, words.seconds)
+            if words.picture and name == "corridor" and not module:
+                page.save_screenshot(words.picture)
+        if not module:
+            page.get("about:blank")
+            context.__exit__(None, None, None)
+
+
+def main() -> None:
+    parser = argparse.ArgumentParser(description=__doc__, formatter_class=argparse.RawDescriptionHelpFormatter)
+    parser.add_argument("program")
+    parser.add_argument("corridor")
+    parser.add_argument("map")
+    parser.add_argument("--module")
+    parser.add_argument("--seconds", type=int, default=6)
+    parser.add_argument("--picture")
+    words = parser.parse_args()
+    print("| Page | vehicles driving | frames a second | steps a second | load |\n|---|---|---|---|---|")
+    with tempfile.TemporaryDirectory() as folder, browser() as page:
+        measure_all(page, words, Path(folder), "bridge", None)
+        if words.module:
+            measure_all(page, words, Path(folder), "one file", Path(words.module).read_bytes())
+
+
+if __name__ == "__main__":
+    main()
