@@ -185,7 +185,8 @@ class Shown(Given):
 
 
 class Played(Given):
-    page, shown = test_pictures.Player.page, test_pictures.Player.shown
+    page, dom = test_pictures.Player.page, test_pictures.Player.dom
+    shown, shown_in = test_pictures.Player.shown, test_pictures.Player.shown_in
 
     @needs_chromium
     def test_covered_cells(self):

@@ -81,7 +81,8 @@ def draw(words, town, plan, path):
         made = one_run(serving, run, town.mapping, settings, folder, lambda *_: None, 1)
         if made["yielding"].why_not:
             print(f"warning: {path}: {made['yielding'].told()}", file=sys.stderr)
-        figure = plots.draw_corridor(plots.drawing(), read_folder(folder), words)
+        shown = argparse.Namespace(**vars(words), both=False)
+        figure = plots.draw_corridor(plots.drawing(), read_folder(folder), shown)
         plots.save(figure, path)
 
 
