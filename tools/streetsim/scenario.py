@@ -1,13 +1,17 @@
 """A run under SUMO's names and units (metres, metres a second, seconds), with TraCI's calls where one fits."""
 import warnings
+from dataclasses import replace
 from heapq import heappop, heappush
 
 from . import limits
 from .cli.words import ROUNDS
 from .client import Client, read_reply
+from .routes.underway import Waiting, WaysRound, shut_edges
+from .run import tables
 from .run.mapping import read_map
+from .run.record import Records
 from .run.rounds import giving_way_to_scripts
-from .run.runs import read_run
+from .run.runs import Line, Run, read_run
 from .run.works import why_parallel, with_works
 from .sumo.net import Program
 from .sumo.report import Report
@@ -52,16 +56,19 @@ class Scenario:
     nobody's gaps but the file's, and nobody of the file waits for them."""
 
     forgotten = frozenset()  # lights that the script has set: lines of the file for them are no longer sent
+    signals = {}  # the command that holds at a node of a light; a new dictionary where a script sets one
 
     def __init__(self, run, mapping, program=None, workers=1, joint=(), rounds=ROUNDS):
         source, self.map, _ = with_works(read_run(run), read_map(mapping), mapping, (), joint)
+        self.loaded = source.load.command
+        self.signals = {line.command["node"]: line.command for line in source.first if line.command["cmd"] == "signal"}
         source, self.yielding = giving_way_to_scripts(source, self.map, rounds, program, workers)
         if self.yielding.why_not:
             warnings.warn(self.yielding.told(), stacklevel=2)
         self.timed, self.sent = source.timed, 0
         self.client = Client(program, workers)
         self.clock = source.start()
-        self.cars, self.plans, self.sizes = {}, {}, {}  # by name: number, links, cells
+        self.cars, self.plans, self.sizes, self.departs = {}, {}, {}, {}  # by name: number, links, cells, wished departure
         self.later = []  # (depart, number, name) of vehicles that may not have departed, the earliest first
         self.going = {}  # number: name, of vehicles that may be on their way
         self.routes, self.detectors = {}, {}
@@ -117,9 +124,17 @@ class Scenario:
     def enter(self, name, plan, lane, depart, size=1):
         if name in self.cars:
             raise ValueError(f"there is a vehicle {name!r} already")
-        self.cars[name] = self.client.enter(plan, lane, depart, size)
-        self.plans[name], self.sizes[name] = tuple(plan), size
+        self.sizes[name], self.departs[name] = size, depart
+        self.tell_of(name, plan, lane, depart)
+
+    def tell_of(self, name, plan, lane, depart):
+        """Tells the program of a vehicle."""
+        self.cars[name], self.plans[name] = self.client.enter(plan, lane, depart, self.sizes[name]), tuple(plan)
         heappush(self.later, (depart, self.cars[name], name))
+
+    def departure_lane(self, plan):
+        """The first lane from which a plan can be driven."""
+        return next((turn.lane for turn in self.map.turns if len(plan) > 1 and (turn.link, turn.next) == tuple(plan[:2])), 0)
 
     def plan(self, edges):
         """Links along edges, each with a turn to the next; ValueError where there are none."""
@@ -145,12 +160,50 @@ class Scenario:
         """The cells of a lane from one place to another, in metres."""
         return self.map.links[self.lane_of[name][0]].cells_between(begin, end)
 
-    def close(self, lane, begin=0.0, end=float(10**7)):
+    def close(self, lane, begin=0.0, end=float(10**7), divert=False, until=float("inf")):
         """Closes a lane from one place to another, in metres: road works. ValueError beyond the lane, and where vehicles
-        could not change to the lane beside it."""
+        could not change to the lane beside it. divert: where nobody can pass the edge any more, those who have not departed
+        and would come there before a second, `until`, take another way; gives their names."""
         if why := why_parallel(self.map, lane):
             raise ValueError(f"{why}: Scenario(.., joint=[{lane!r}])")
-        self.client.close_lane(*self.lane_of[lane], *self.works_cells(lane, begin, end))
+        link, place = self.lane_of[lane]
+        self.client.close_lane(link, place, *self.works_cells(lane, begin, end))
+        return self.divert(self.map.links[link].edge, until) if divert else []
+
+    def divert(self, edge, until):
+        """Those who have not departed take the shortest ways round an edge that is shut: they are taken out and entered anew,
+        with another number. Gives the names of those for whom there is a way."""
+        places = [(link, lane) for link in self.map.links_of[edge] for lane in range(len(self.map.links[link].lanes))]
+        closed = {place: self.client.lane(*place).closed for place in places}
+        shut = shut_edges(self.map, [edge], closed)
+        if not shut:
+            return []
+        round_ = WaysRound(self.map, self.loaded.get("dawdle", 0) / 1000)
+        ways = round_.found(self.waiting(), self.signals.values(), shut, (self.clock, until), self.loaded.get("seed", 0))
+        for name, plan in ways.items():
+            self.client.takeout(self.cars[name])
+            self.tell_of(name, list(plan), self.departure_lane(plan), max(self.clock, self.departs[name]))
+        return list(ways)
+
+    def waiting(self):
+        """The vehicles that have not departed. Those whose time has come may wait for room."""
+        late = [name for name, depart in self.departs.items() if depart < self.clock]
+        replies = self.client.batch({"cmd": "vehicle", "car": self.cars[name]} for name in late)
+        gone = {name for name, reply in zip(late, replies, strict=True) if reply.state != "waiting"}
+        return [
+            Waiting(name, max(self.clock, depart), self.plans[name]) for name, depart in self.departs.items() if name not in gone
+        ]
+
+    def trips(self):
+        """Rows as those of trips.csv, by the clock of now; who was taken out and entered anew has one."""
+        replies = self.client.batch({"cmd": "vehicle", "car": car} for car in self.cars.values())
+        lines = [Line(0, "", {"plan": plan, "depart": self.departs[name]}) for name, plan in self.plans.items()]
+        run = Run("", Line(0, "", {"dawdle": 0, **self.loaded}), enters=lines)
+        return list(tables.trips(Records(ends=replies), run, replace(self.map, cars=list(self.plans), links_of={})))
+
+    def write_trips(self, path):
+        """Writes these rows as a table."""
+        tables.write_table(path, tables.TRIPS, self.trips())
 
     def reopen(self, lane, begin=0.0, end=float(10**7)):
         self.client.reopen_lane(*self.lane_of[lane], *self.works_cells(lane, begin, end))
@@ -182,9 +235,7 @@ class Vehicle(Part):
         """Adds a vehicle of 1 to 4 cells on a route that route.add told; it departs now or at a time in seconds."""
         scenario = self.scenario
         plan = scenario.routes[route]
-        lane = next(
-            (turn.lane for turn in scenario.map.turns if len(plan) > 1 and (turn.link, turn.next) == plan[:2]), 0
-        )
+        lane = scenario.departure_lane(plan)
         depart = scenario.clock if depart is None else max(0, -int(-depart // 1))
         scenario.enter(name, list(plan), lane, depart, size)
 
@@ -347,4 +398,5 @@ class TrafficLight(Part):
                 edges = {link: mapping.links[link].edge for link, *_ in turns}
                 command = signal(node, turns, edges, light, program, permissive, report)
                 self.scenario.client.signal(node, command["phases"], command["offset"])
+                self.scenario.signals = {**self.scenario.signals, node: command}
         return report.warnings

@@ -3,14 +3,17 @@ import csv
 import importlib.util
 import json
 import unittest
+from dataclasses import replace
 
-from support import PROGRAM, needs_package, needs_simulator
+from support import PROGRAM, Case, lane, needs_package, needs_simulator, net
 from test_route import Commands, flow, two_ways
 from streetsim.files import Fault
 from streetsim.routes.closing import Closing, common, knows, turn_off
 from streetsim.routes.costs import flat_costs
 from streetsim.routes.graph import Graph
 from streetsim.routes.trips import Trip
+from streetsim.routes.underway import Waiting, WaysRound, shut_edges
+from streetsim.run.mapping import read_map
 
 # From p to z over q, r and x; q also leads to w and z, and p to y and z.
 GRAPH = Graph(
@@ -57,6 +60,51 @@ class TurningOff(unittest.TestCase):
         some, more = ({name for name in map(str, range(1000)) if knows(name, share, 1)} for share in (0.3, 0.6))
         self.assertLess(some, more)
         self.assertTrue(250 < len(some) < 350 and 550 < len(more) < 650, (len(some), len(more)))
+
+
+class UnderWay(Case):
+    """From in to out over short, or over one of two ways that are nearly alike."""
+
+    def setUp(self):
+        super().setUp()
+        ends = {"in": ("W", "A"), "short": ("A", "B"), "out": ("B", "E"), "one": ("A", "B"), "other": ("A", "B")}
+        metres = {"one": 600.0, "other": 630.0}
+        edges = [(name, *ends[name], [lane(name, 0, metres.get(name, 300.0))]) for name in ends]
+        ways = [("in", 0, name, 0, "") for name in ("short", "one", "other")] + [(name, 0, "out", 0, "") for name in ("short", "one", "other")]
+        routes = '<routes><vehicle id="v" depart="0"><route edges="in short out"/></vehicle></routes>'
+        words = [self.write("x.net.xml", net(edges, ways)), "--routes", self.write("x.rou.xml", routes)]
+        self.tool("import", *words, "-o", self.folder / "run.jsonl", "--map", self.folder / "map.json")
+        self.map = read_map(self.folder / "map.json")
+
+    def plans(self, vehicles, shut=("short",), times=(0, 10_000)):
+        return WaysRound(self.map, 0.1).found(vehicles, (), shut, times, 1)
+
+    def links(self, edges):
+        return tuple(link for edge in edges.split() for link in self.map.links_of[edge])
+
+    def test_few_take_one_way_and_many_both(self):
+        """1,800 an hour, of 1,700 that a lane lets pass."""
+        plan = self.links("in short out")
+        for count, ways in ((10, 1), (1800, 2)):
+            found = self.plans([Waiting(str(at), at * 3600 // count, plan) for at in range(count)])
+            self.assertEqual((len(found), len(set(found.values()))), (count, ways))
+
+    def test_those_alone_who_would_come_there(self):
+        others = [Waiting("past", 500, self.links("in short out")), Waiting("elsewhere", 0, self.links("in one out"))]
+        ends = [Waiting("begins", 0, self.links("short out")), Waiting("ends", 0, self.links("in short"))]
+        found = self.plans([*others, *ends, Waiting("comes", 0, self.links("in short out"))], times=(0, 400))
+        self.assertEqual(list(found), ["comes"])
+
+    def test_no_way(self):
+        self.assertEqual(self.plans([Waiting("v", 0, self.links("in short out"))], ("short", "one", "other")), {})
+
+    def test_an_edge_is_shut_where_all_its_lanes_are(self):
+        link = self.map.links_of["one"][0]
+        self.assertEqual(shut_edges(self.map, ["one"], {(link, 0): [(3, 5)]}), ["one"])
+        self.assertEqual(shut_edges(self.map, ["one"], {}), [])
+        self.map.links[link] = replace(self.map.links[link], lanes=(0, 1))
+        for second, shut in (((8, 9), []), ((6, 9), ["one"]), ((4, 4), ["one"])):
+            self.assertEqual(shut_edges(self.map, ["one"], {(link, 0): [(3, 5)], (link, 1): [second]}), shut)
 
 
 @needs_simulator

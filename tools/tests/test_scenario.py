@@ -3,6 +3,8 @@ import json
 import unittest
 
 from support import FORK, PROGRAM, Case, needs_simulator
+from test_route import two_ways
+from streetsim.run.tables import TRIPS, read_table
 from streetsim.scenario import NOWHERE, NotHere, Scenario
 
 ROUTES = '<routes><vehicle id="v" depart="0"><route edges="a b"/></vehicle></routes>'
@@ -157,6 +159,76 @@ class Lights(Case):
                 self.assertEqual(sim.vehicle.getRoadID("v"), place)
                 sim.simulationStep(40)
                 self.assertNotEqual(sim.vehicle.getRoadID("v"), "a")
+
+
+@needs_simulator
+class Diverting(Case):
+    """A short way of 300 m, reached some 22 s after the departure, and one of 900 m beside it."""
+
+    SHORT, FAR = ("in", "short", "out"), ("in", "far", "long", "out")
+
+    def begun(self, *departs, network=None, edges="in short out"):
+        vehicles = (f'<vehicle id="{at}" depart="{depart}"><route edges="{edges}"/></vehicle>' for at, depart in enumerate(departs))
+        paths = self.folder / "run.jsonl", self.folder / "map.json"
+        words = [self.write("x.net.xml", network or two_ways()), "--routes", self.write("x.rou.xml", f"<routes>{''.join(vehicles)}</routes>")]
+        self.tool("import", *words, "-o", paths[0], "--map", paths[1])
+        return self.enterContext(Scenario(*paths, PROGRAM))
+
+    def test_who_has_not_departed_takes_another_way(self):
+        sim = self.begun(*range(0, 1200, 20))
+        sim.simulationStep(130)
+        other = sim.close("short_0", 100, 200, divert=True)
+        self.assertEqual(other, [str(at) for at in range(7, 60)])
+        self.assertEqual({sim.vehicle.getRoute(name) for name in other}, {self.FAR})
+        self.assertEqual({sim.vehicle.getRoute(str(at)) for at in range(7)}, {self.SHORT})
+        sim.simulationStep(1400)
+        rows = [dict(zip(TRIPS, row, strict=True)) for row in sim.trips()]
+        self.assertEqual([row["id"] for row in rows], [str(at) for at in range(60)])
+        self.assertEqual({row["state"] for row in rows[7:]}, {"arrived"})
+        self.assertEqual([(row["depart"], row["edges"]) for row in rows[6:8]], [(120, 3), (140, 4)])
+        self.assertEqual(rows[6]["state"], "cell")  # stands before the works
+        census = sim.client.count()
+        self.assertEqual((census.admitted, census.taken, census.arrived), (60 + 53, 53, sum(row["state"] == "arrived" for row in rows)))
+        self.assertEqual(sim.simulation.getMinExpectedNumber(), 60 - census.arrived)
+        sim.reopen("short_0", 100, 200)
+        sim.simulationStep(1600)
+        sim.write_trips(self.folder / "trips.csv")
+        self.assertEqual({row["state"] for row in read_table(self.folder / "trips.csv", TRIPS)}, {"arrived"})
+
+    def test_works_whose_end_is_known(self):
+        sim = self.begun(*range(0, 1200, 20))
+        sim.simulationStep(130)
+        self.assertEqual(sim.close("short_0", 100, 200, divert=True, until=610), [str(at) for at in range(7, 30)])
+
+    def test_who_waits_for_room(self):
+        """Its time has come; its trip lasts from then on."""
+        sim = self.begun(0, 0, 0)
+        sim.simulationStep(1)
+        self.assertEqual(sim.close("short_0", divert=True), ["1", "2"])
+        sim.simulationStep(2)
+        self.assertEqual(sim.vehicle.getIDList(), ("0", "1"))
+        self.assertEqual([row[1] for row in sim.trips()], [0, 0, 0])
+
+    def test_equal_runs_give_equal_rows(self):
+        rows = []
+        for _ in range(2):
+            sim = self.begun(*range(0, 1200, 5))
+            sim.simulationStep(300)
+            sim.close("short_0", divert=True)
+            sim.simulationStep(2000)
+            rows.append(sim.trips())
+        self.assertEqual(*rows)
+
+    def test_no_way_round(self):
+        sim = self.begun(0, 50, network=FORK, edges="a b")
+        self.assertEqual(sim.close("b_0", divert=True), [])
+        sim.simulationStep(100)
+        self.assertEqual([row[-1] for row in sim.trips()], ["cell", "cell"])
+
+    def test_no_other_way_is_asked_for(self):
+        sim = self.begun(50)
+        self.assertEqual(sim.close("short_0"), [])
+        self.assertEqual(sim.vehicle.getRoute("0"), self.SHORT)
 
 
 if __name__ == "__main__":

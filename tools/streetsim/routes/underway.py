@@ -1,0 +1,92 @@
+"""Ways round road works for those who have not departed, in a run under way."""
+from __future__ import annotations
+
+from collections.abc import Collection, Iterable, Mapping, Sequence
+from dataclasses import dataclass, replace
+
+from ..run.freeflow import FreeFlow
+from ..run.mapping import Map
+from .costs import Costs, flat_costs
+from .graph import graph_of_map
+from .router import FAR, Found, Path, Router, Shut, Wish
+from .seconds import capacities, free_seconds
+from .start import first_ways
+from .trips import Trip
+
+
+@dataclass(frozen=True, slots=True)
+class Waiting:
+    """A vehicle that has not departed. plan: links."""
+
+    name: str
+    depart: int
+    plan: Path
+
+
+class WaysRound:
+    """Shortest ways over the links of a run's map, by free speed, the waits at signals, and the delays that the volumes of those who
+    have not departed would make. Links and not edges are searched, as turns between parallel links cannot be added under way."""
+
+    def __init__(self, mapping: Map, dawdle: float) -> None:
+        links = [replace(link, edge=str(at)) for at, link in enumerate(mapping.links)]
+        self.mapping, self.by_link, self.dawdle = mapping, replace(mapping, links=links, links_of={}), dawdle
+        self.graph = graph_of_map(self.by_link)
+
+    def found(
+        self, vehicles: Iterable[Waiting], signals: Collection[dict], shut: Collection[str], times: tuple[float, float], seed: int
+    ) -> dict[str, Path]:
+        """The other plans of those who would come to shut edges from one second to another, by name; none for who begins or ends
+        there, or has no way round. signals: commands as they hold now."""
+        free = free_seconds(self.graph, self.by_link, signals, self.dawdle)
+        closed = self.shut(shut, times)
+        trips = sorted((trip_of(one) for one in vehicles), key=lambda trip: trip.depart)
+        router = Router(self.graph, flat_costs(self.graph, free), closed)
+        through = (trip for trip in trips if trip.origin not in closed and trip.target not in closed)
+        coming = [trip for trip in through if router.met(trip.path, trip.depart) is not None]
+        plans = {trip.name: trip.path for trip in coming}
+        for trip in coming:
+            trip.path = ()
+        capacity = capacities(self.graph, self.by_link, signals)
+        first_ways(self.graph, trips, free, capacity, seed, lambda wishes, costs: self.search(wishes, costs, closed))
+        return {trip.name: trip.path for trip in coming if trip.path and trip.path != plans[trip.name]}
+
+    def shut(self, edges: Collection[str], times: tuple[float, float]) -> Shut:
+        """The times in which links are not to be entered: also so shortly before that one would not come past the works."""
+        begin, end = times
+        driving = FreeFlow(self.mapping, self.dawdle).driving
+        return {link: [(begin - driving[link], end)] for edge in edges for link in self.mapping.links_of[edge]}
+
+    def search(self, wishes: Sequence[Wish], costs: Costs, shut: Mapping) -> list[Found]:
+        """The best ways over the parallel links of the edges where trips begin and end."""
+        router, best = Router(self.graph, costs, shut), {wish.trip: Found(wish.trip, (), FAR, FAR) for wish in wishes}
+        for last, wish in sorted((last, wish) for wish in wishes for last in self.beside(wish.target)):
+            for first in self.beside(wish.origin):
+                path, seconds = router.search(first, last, wish.clock)
+                if path and seconds < best[wish.trip].least:
+                    best[wish.trip] = Found(wish.trip, path, seconds, FAR)
+        return list(best.values())
+
+    def beside(self, link: int) -> list[int]:
+        """The links of the same edge."""
+        return self.mapping.links_of[self.mapping.links[link].edge]
+
+
+def trip_of(vehicle: Waiting) -> Trip:
+    plan = tuple(vehicle.plan)
+    return Trip(vehicle.name, float(vehicle.depart), plan[0], plan[-1], "", plan, float(vehicle.depart))
+
+
+def shut_edges(mapping: Map, edges: Iterable[str], closed: Mapping[tuple[int, int], Sequence[tuple[int, int]]]) -> list[str]:
+    """Of some edges those that nobody can pass, as all lanes of each link are closed at one place. closed: of (link, lane), cells."""
+    return [edge for edge in edges if all(is_shut(link, len(mapping.links[link].lanes), closed) for link in mapping.links_of[edge])]
+
+
+def is_shut(link: int, lanes: int, closed: Mapping[tuple[int, int], Sequence[tuple[int, int]]]) -> bool:
+    """Whether all lanes of a link are closed side by side, or so that nobody changes from one to the other between the works."""
+    places = [(0, 10**9)]
+    for lane in range(lanes):
+        places = [
+            (max(begin, first), min(end, last)) for begin, end in places for first, last in closed.get((link, lane), ())
+            if max(begin, first) <= min(end, last) + 1
+        ]  # fmt: skip
+    return bool(places)
