@@ -223,7 +223,7 @@ class Diverting(Case):
         sim = self.begun(0, 50, network=FORK, edges="a b")
         self.assertEqual(sim.close("b_0", divert=True), [])
         sim.simulationStep(100)
-        self.assertEqual([row[-1] for row in sim.trips()], ["cell", "cell"])
+        self.assertEqual([row[-1] for row in sim.trips()], ["buffer", "buffer"])
 
     def test_no_other_way_is_asked_for(self):
         sim = self.begun(50)

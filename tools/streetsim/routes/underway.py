@@ -54,7 +54,7 @@ class WaysRound:
         """The times in which links are not to be entered: also so shortly before that one would not come past the works."""
         begin, end = times
         driving = FreeFlow(self.mapping, self.dawdle).driving
-        return {link: [(begin - driving[link], end)] for edge in edges for link in self.mapping.links_of[edge]}
+        return {link: [(begin - driving[link], min(end, FAR))] for edge in edges for link in self.mapping.links_of[edge]}
 
     def search(self, wishes: Sequence[Wish], costs: Costs, shut: Mapping) -> list[Found]:
         """The best ways over the parallel links of the edges where trips begin and end."""
