@@ -1,22 +1,25 @@
 """TraCI's calls: by hand on small streets, and three scripts as its users write them, beside SUMO's own."""
 import gzip
 import importlib.util
+import json
 import os
 import re
 import subprocess
 import sys
 import time
 import unittest
+import unittest.mock
 import xml.etree.ElementTree as ElementTree
 from contextlib import redirect_stderr
 from io import StringIO
 from pathlib import Path
 
-from support import DATA, FORK, PROGRAM, TOOLS, Case, lane, needs_package, needs_simulator, needs_sumo, net
+from support import DATA, FORK, PROGRAM, SCENARIOS, TOOLS, Case, lane, needs_package, needs_simulator, needs_sumo, needs_sumo_tools, net
 import streetsim.traci as traci
 from streetsim.scenario import TrafficLight
 from streetsim.run.compare import geh
 from streetsim.traci import constants as tc
+from streetsim.traci.advice import NOTHING
 from streetsim.traci.options import OUTPUT, SHORT, check_option
 from streetsim.traci.lights import Light
 from streetsim.traci.session import Endless
@@ -24,6 +27,9 @@ from streetsim.traci.session import Endless
 SCRIPTS, ACTUATED = TOOLS / "examples/traci", TOOLS / "examples/actuated"
 USERS = DATA / "traci"  # scripts of users, for SUMO's traci
 SUMO = Path("/usr/share/sumo")
+DOMAINS = ("simulation", "vehicle", "edge", "lane", "trafficlight", "inductionloop", "lanearea", "route", "multientryexit", "junction")
+DOMAINS += ("person", "vehicletype", "variablespeedsign", "meandata", "overheadwire", "rerouter", "routeprobe", "calibrator")
+DOMAINS += ("busstop", "chargingstation", "parkingarea")
 WAITING = ("Could not connect to TraCI server", "Retrying in")  # SUMO's traci, while sumo starts
 needs_traci = needs_package("sumo-tools", (SUMO / "tools/traci").exists())
 
@@ -188,6 +194,17 @@ class Vehicles(Started):
         self.assertEqual(traci.simulation.getOption("log"), str(self.folder / "log.txt"))
         traci.simulationStep(60)
         self.assertEqual(traci.vehicle.getIDList(), ("later",))
+
+    @needs_sumo_tools
+    def test_scenarios_of_bologna_open(self):
+        """Their additional files have the roots <add> and <routes>."""
+        for name in ("acosta", "joined", "pasubio"):
+            paths = [str(SCENARIOS / f"{name}/{name}_{part}.add.xml") for part in ("vtypes", "detectors", "tls")]
+            words = ["-n", str(SCENARIOS / f"{name}/{name}_buslanes.net.xml"), "-r", str(SCENARIOS / f"{name}/{name}.rou.xml")]
+            traci.start(["sumo", *words, "-a", ",".join(paths), "--rounds", "0", "-W"])
+            traci.simulationStep(60)
+            self.assertGreater(traci.vehicle.getIDCount(), 20)
+            traci.close()
 
     def test_options(self):
         """Outputs are refused by name, and so is what SUMO does not know."""
@@ -549,6 +566,23 @@ class Constants(unittest.TestCase):
                 self.assertEqual(value, getattr(theirs, name), name)
 
 
+    @needs_traci
+    def test_each_call_of_sumo_is_here_or_says_what_to_do_instead(self):
+        with unittest.mock.patch.object(sys, "path", [str(SUMO / "tools"), *sys.path]):
+            theirs = importlib.import_module("traci")
+        here = []
+        for name in DOMAINS:
+            domain = getattr(theirs, name)
+            for call in (call for call in dir(domain) if call[0].islower() and callable(getattr(domain, call))):
+                if hasattr(type(vars(traci).get(name)), call):
+                    here.append(f"{name}.{call}")
+                    continue
+                with self.assertRaisesRegex(traci.NotHere, "(?s)is not here: .*(;|use|subscribe)") as raised:
+                    getattr(getattr(traci, name), call)
+                self.assertNotIn(NOTHING, str(raised.exception))
+        self.assertGreaterEqual(len(here), 279)
+
+
 @needs_simulator
 class Scripts(Case):
     """The scripts of examples/traci, over streetsim and over SUMO's own traci: the line that imports is all that differs."""
@@ -616,9 +650,23 @@ class Scripts(Case):
     def test_calls_say_what_they_say_in_sumo(self):
         """Word for word, of a network, of eight vehicles and of their ways."""
         (here, _), (there, _) = (self.run_script("facts", *self.cross("bus")[:4], sumo=sumo) for sumo in (False, True))
-        self.assertGreater(len(here), 40)
+        self.assertGreater(len(here), 70)
         for one, other in zip(here, there, strict=True):
             self.assertEqual(one, other)
+
+    @needs_sumo
+    @needs_traci
+    def test_progress_as_in_sumo(self):
+        """Metres and gaps, through a junction too. A queue begins a metre nearer to the stop line, in cells; and as vehicles brake and
+        start at once, those who stop lose some seconds less."""
+        (here, _), (there, _) = (self.run_script("progress", *self.cross()[:4], sumo=sumo) for sumo in (False, True))
+        (equal, queues, stood, whole), (wanted, *theirs) = (list(map(json.loads, told)) for told in (here, there))
+        self.assertEqual(equal, wanted)
+        for one, other in zip(queues, theirs[0], strict=True):
+            self.assertTrue(all(abs(metres - those) < 2 for metres, those in zip(one, other, strict=True)), (one, other))
+        self.assertAlmostEqual(whole[0] / theirs[2][0], 1, delta=0.05)
+        for less in ((sum(theirs[1]) - sum(stood)) / len(stood), theirs[2][1] - whole[1]):
+            self.assertTrue(0 < less < 6, (stood, whole, theirs))
 
     def test_speed_advice_is_not_here(self):
         with self.assertRaisesRegex(AssertionError, "NotHere: vehicle.setSpeed is not here: speeds follow the rules alone"):

@@ -10,6 +10,7 @@ from pathlib import Path
 from ..client import ProgramEnded, Refused
 from ..files import Fault
 from . import constants
+from .advice import advice_on
 from .errors import FatalTraCIError, NotHere, TraCIException
 from .listeners import StepListener
 from .opening import open_session
@@ -137,4 +138,4 @@ for _domain in (vehicle, lane, edge, junction, inductionloop, lanearea):
 
 
 def __getattr__(name):
-    raise NotHere(f"traci.{name} is not here: streetsim has nothing for it; see tools/README.md")
+    raise NotHere(f"traci.{name} is not here: {advice_on(f'{name}.')}")

@@ -5,48 +5,12 @@ from collections.abc import Callable, Sequence
 
 from .. import limits
 from . import constants as tc
+from .advice import advice_on
 from .errors import NotHere, TraCIException
 from .session import Session
 from .shapes import Point, distance
 
 METRES, GAP = limits.CELL_METRES, limits.GAP_METRES
-ALONE = "speeds follow the rules alone"
-LANES = "lanes are changed by the rules alone"
-STOPS = "there are no stops: close the cells by lane.setDisallowed, or leave the stop out"
-PERSONS = "there are no persons"
-DRIVERS = "all vehicles drive by the same rules: --dawdle, --sizes and the limits of the network say how"
-LIMITS = "limits are the network's: change them there and start again"
-ADVICE = {
-    **dict.fromkeys(("vehicle.setSpeed", "vehicle.slowDown", "vehicle.setSpeedMode", "vehicle.setAcceleration"), ALONE),
-    **dict.fromkeys(("vehicle.changeLane", "vehicle.changeLaneRelative", "vehicle.setLaneChangeMode", "vehicle.changeSublane"), LANES),
-    **dict.fromkeys(("vehicle.setStop", "vehicle.setBusStop", "vehicle.resume", "vehicle.insertStop", "vehicle.replaceStop"), STOPS),
-    **dict.fromkeys(("edge.setMaxSpeed", "lane.setMaxSpeed", "vehicle.setMaxSpeed"), LIMITS),
-    **{f"vehicle.{call}": DRIVERS for call in ("setTau", "setAccel", "setDecel", "setImperfection", "setSpeedFactor", "setMinGap", "setType")},
-    "vehicle.moveTo": "nobody is moved: remove the vehicle and add it anew",
-    "vehicle.moveToXY": "nobody is moved: remove the vehicle and add it anew",
-    "vehicle.setVia": "name the edges by setRoute",
-    "edge.setEffort": "ways are by travel times: use adaptTraveltime",
-    "simulation.setScale": "make the routes of the demand that is wanted",
-    "simulation.findIntermodalRoute": PERSONS,
-    "trafficlight.getNemaPhaseCalls": "a script is the controller",
-}
-FAMILIES = {  # words in the names of calls, and what is said of them
-    "Emission": "emissions are not reckoned: SUMO's emissionsDrivingCycle reads --fcd-output",
-    "FuelConsumption": "emissions are not reckoned: SUMO's emissionsDrivingCycle reads --fcd-output",
-    "Electricity": "emissions are not reckoned",
-    "Noise": "noise is not reckoned",
-    "Person": PERSONS,
-    "Taxi": "there are no taxis",
-    "Stop": STOPS,
-    "Lateral": "vehicles fill their lane",
-    "SubscriptionFilter": "choose of what a context subscription gives",
-}
-
-
-def advice_on(call: str) -> str:
-    """What to do in place of a call that is not here."""
-    family = next((text for word, text in FAMILIES.items() if word in call), "streetsim has nothing for it; see tools/README.md")
-    return ADVICE.get(call, family)
 
 
 class Domain:

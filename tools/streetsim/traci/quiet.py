@@ -4,6 +4,7 @@ from __future__ import annotations
 import sys
 from collections.abc import Callable
 
+from .advice import WINDOW
 from .errors import NotHere
 
 SHOWN = "shows nothing here: there is no window; streetsim-live and streetsim-plot show runs"
@@ -19,7 +20,7 @@ class Quiet:
         if call.startswith("__"):
             raise AttributeError(call)
         if call not in self.calls:
-            raise NotHere(f"{self.name}.{call} is not here: there is no window")
+            raise NotHere(f"{self.name}.{call} is not here: {WINDOW}")
         return self.nothing
 
     def nothing(self, *_, **__) -> None:

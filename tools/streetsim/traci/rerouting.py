@@ -1,12 +1,12 @@
 """Other ways for vehicles under a script, by the travel times of now."""
 from __future__ import annotations
 
-from collections.abc import Callable, Sequence
+from collections.abc import Sequence
 from operator import itemgetter
 from typing import TYPE_CHECKING
 
-from ..routes.costs import flat_costs
-from ..routes.graph import Graph
+from ..routes.costs import Costs, flat_costs
+from ..routes.graph import END, Graph
 from ..routes.router import Router
 from .errors import TraCIException
 
@@ -24,42 +24,43 @@ class Ways:
         names = {str(at): (str(link.begin), str(link.end)) for at, link in enumerate(links)}
         self.session, self.graph = session, Graph(names, ((str(turn.link), str(turn.next)) for turn in turns), names)
         self.adapted: dict[str, float] = {}  # seconds that a script has set, by edge
-        self.made: dict[object, Router] = {}  # for the travel times of a clock, for metres
+        self.now: tuple[int, Router] | None = None  # by the travel times of a clock
+        self.by_metres: Router | None = None
 
     def adapt(self, edge: str, seconds: float | None) -> None:
         if seconds is None:
             self.adapted.pop(edge, None)
         else:
             self.adapted[edge] = seconds
-        self.made.clear()
+        self.now = None
 
-    def way(self, origin: str, target: str) -> tuple[tuple[str, ...], float]:
-        """The edges of the shortest way by travel times, and its seconds."""
-        return self.search(origin, target, self.session.clock, self.seconds)
+    def way(self, origin: str, target: str) -> tuple[tuple[int, ...], float]:
+        """The links of the shortest way by travel times, and its seconds."""
+        clock = self.session.clock
+        if self.now is None or self.now[0] != clock:
+            costs = {edge: self.seconds(edge) for edge in self.session.map.links_of}
+            of_link = [costs[link.edge] for link in self.session.map.links]
+            self.now = clock, Router(self.graph, flat_costs(self.graph, [of_link[link] for link, _ in self.graph.movements]))
+        return self.search(origin, target, self.now[1])
 
     def metres(self, origin: str, target: str) -> float:
-        """The length of the shortest way, both edges whole."""
-        return self.search(origin, target, "metres", self.length)[1]
+        """The length of the shortest way, both edges whole, with the junctions between."""
+        if self.by_metres is None:
+            links, inside = self.session.map.links, self.session.inside
+            costs = [links[link].metres + (0.0 if to == END else inside.metres(link, None, to)) for link, to in self.graph.movements]
+            self.by_metres = Router(self.graph, Costs(float("inf"), 1, costs))
+        return self.search(origin, target, self.by_metres)[1]
 
-    def search(self, origin: str, target: str, key: object, cost: Callable[[str], float]) -> tuple[tuple[str, ...], float]:
+    def search(self, origin: str, target: str, router: Router) -> tuple[tuple[int, ...], float]:
         """The best over the parallel links of both edges."""
         mapping = self.session.map
         if unknown := [edge for edge in (origin, target) if edge not in mapping.links_of]:
             raise TraCIException(f"Edge '{unknown[0]}' is not known.")
-        router = self.router(key, cost)
         pairs = ((first, last) for last in mapping.links_of[target] for first in mapping.links_of[origin])
         path, least = min((router.search(*pair, 0.0) for pair in pairs), key=itemgetter(1))
         if not path:
             raise TraCIException(f"No way from edge '{origin}' to edge '{target}'.")
-        return tuple(mapping.links[link].edge for link in path), least
-
-    def router(self, key: object, cost: Callable[[str], float]) -> Router:
-        if key not in self.made:
-            costs = {edge: cost(edge) for edge in self.session.map.links_of}
-            of_link = [costs[link.edge] for link in self.session.map.links]
-            self.made = {what: router for what, router in self.made.items() if what == "metres"}
-            self.made[key] = Router(self.graph, flat_costs(self.graph, [of_link[link] for link, _ in self.graph.movements]))
-        return self.made[key]
+        return path, least
 
     def seconds(self, edge: str) -> float:
         if edge in self.adapted:
@@ -72,8 +73,8 @@ class Ways:
         mean = sum(speeds) / len(speeds) if speeds else limit
         return session.map.links[links[0]].metres / max(SLOWEST, mean)
 
-    def length(self, edge: str) -> float:
-        return self.session.map.links[self.session.map.links_of[edge][0]].metres
+    def edges(self, links: Sequence[int]) -> tuple[str, ...]:
+        return tuple(self.session.map.links[link].edge for link in links)
 
 
 def other_way(session: Session, name: str, place: Place | None, edges: Sequence[str]) -> None:

@@ -11,6 +11,7 @@ from ..scenario import Scenario, TrafficLight
 from ..sumo.types import DEFAULT, Kind
 from ..sumo.yielding import GREEN, PERMISSIVE
 from .errors import FatalTraCIError, TraCIException
+from .inside import Inside
 from .lights import CONSTANT, check_phases, check_state, turns_to
 from .listeners import Listeners
 from .rerouting import Ways
@@ -71,6 +72,7 @@ class Session(Scenario):
 
     def __init__(self, folder, facts, options, rounds=0, program=None):
         self.map, self.facts, self.options = read_map(folder / "map.json"), facts, options
+        self.inside = Inside(self.map, facts)
         self.source, self.yielding = giving_way_to_scripts(read_run(folder / "run.jsonl"), self.map, rounds, program)
         self.timed, self.sent = self.source.timed, 0
         self.client = Endless(program)
@@ -88,12 +90,13 @@ class Session(Scenario):
         self.entered = 0  # of the run's vehicles
         self.places = None  # by number, of those on their way at the clock; none where it was not asked
         self.on_lane = {}  # by (link, lane): numbers, from the stop line
+        self.in_buffer = {}  # by (link, lane): numbers of those in the junction behind it, first who is to leave it first
         self.frame = []  # (link, lane, cells, numbers in the buffer) of each lane where anybody is
         self.before = {}  # the places a step earlier
         self.seen, self.departed, self.gone = set(), [], {}  # departed: in the last step; gone: by name the step of its end
         self.arrived, self.loaded = [], []  # loaded: names of those that were told in the last step
         self.waiting, self.waited, self.lost = {}, {}, {}  # by number: seconds of standing, now and in all; seconds lost
-        self.travelled = {}  # by number: metres of the links behind it
+        self.travelled = {}  # by number: metres of the links and junctions behind it
         self.pending, self.held = {}, {}  # by number: links after the next node; the place of who enters anew there
         self.followed = False  # whether each step is looked at
         self.timers = []  # (clock, light, index): phases that a script has set to end then
@@ -279,7 +282,7 @@ class Session(Scenario):
 
     def look(self):
         """What stands where at the clock, and what has changed since the last look."""
-        self.places, self.on_lane, self.frame = {}, {}, []
+        self.places, self.on_lane, self.in_buffer, self.frame = {}, {}, {}, []
         for (place, _), text in zip(self.polls, self.client.exchange(line for _, line in self.polls), strict=True):
             if text != EMPTY:
                 reply = read_reply(text)
@@ -301,6 +304,7 @@ class Session(Scenario):
         for car, speed, *_ in reply.buffer:
             self.places[car] = Place(link, lane, None, speed)
         self.on_lane[place] = [entry[0] for entry in reply.cells]
+        self.in_buffer[place] = [entry[0] for entry in reply.buffer]
 
     def note_gone(self, cars):
         self.arrived = []
@@ -327,7 +331,8 @@ class Session(Scenario):
             self.lost[car] = self.lost.get(car, 0.0) + 1 - place.speed / free
             before = self.before.get(car)
             if before is not None and before.link != place.link:
-                self.travelled[car] = self.travelled.get(car, 0.0) + self.map.links[before.link].metres
+                metres = self.map.links[before.link].metres + self.inside.metres(before.link, before.lane, place.link)
+                self.travelled[car] = self.travelled.get(car, 0.0) + metres
 
     # Other ways
 

@@ -159,7 +159,7 @@ class Simulation(Domain):
         return self.getDistanceRoad(edge1, pos1, edge2, pos2, True)
 
     def getDistanceRoad(self, edgeID1, pos1, edgeID2, pos2, isDriving=False):
-        """The same between two places on edges; on the shortest way junctions have no length."""
+        """The same between two places on edges; driving, on the shortest way and through its junctions."""
         if not isDriving:
             return self.getDistance2D(*self.convert2D(edgeID1, pos1), *self.convert2D(edgeID2, pos2))
         if edgeID1 == edgeID2 and pos1 <= pos2:
@@ -168,9 +168,10 @@ class Simulation(Domain):
 
     def findRoute(self, fromEdge, toEdge, vType="", depart=-1.0, routingMode=0):
         """The way between two edges that is shortest by the travel times of now."""
-        edges, seconds = self.now().router().way(fromEdge, toEdge)
-        metres = sum(self.lane(edge, self.now().map.links[self.now().map.links_of[edge][0]].lanes[0]).metres for edge in edges)
-        return Stage(tc.STAGE_DRIVING, vType, edges=edges, travelTime=seconds, cost=seconds, length=metres)
+        ways, session = self.now().router(), self.now()
+        links, seconds = ways.way(fromEdge, toEdge)
+        metres = sum(session.map.links[link].metres for link in links) + session.inside.along(links)
+        return Stage(tc.STAGE_DRIVING, vType, edges=ways.edges(links), travelTime=seconds, cost=seconds, length=metres)
 
     # States
 

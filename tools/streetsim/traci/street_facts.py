@@ -50,6 +50,7 @@ class Facts:
 
     lanes: dict[str, LaneFacts] = field(default_factory=dict)
     inside: dict[str, float] = field(default_factory=dict)  # metres of the lanes inside junctions
+    onward: dict[str, str] = field(default_factory=dict)  # by lane inside a junction the next one there, where turns wait between
     streets: dict[str, str] = field(default_factory=dict)  # by edge
     junctions: dict[str, Junction] = field(default_factory=dict)
     lights: dict[str, Light] = field(default_factory=dict)
@@ -73,9 +74,16 @@ class Facts:
 
     def read_connection(self, element) -> None:
         source, target = (f"{element.get(edge)}_{element.get(lane)}" for edge, lane in (("from", "fromLane"), ("to", "toLane")))
+        if source in self.inside and element.get("via"):
+            self.onward[source] = element.get("via")
         if source in self.lanes:
             marks = (element.get(name) or "" for name in ("via", "dir", "state", "tl"))
             self.lanes[source].links.append(Connection(target, *marks, int(element.get("linkIndex") or -1)))
+
+    def metres_inside(self, via: str) -> float:
+        """Of a way through a junction that begins with a lane inside it."""
+        metres = self.inside.get(via, 0.0)
+        return metres + self.metres_inside(self.onward[via]) if via in self.onward else metres
 
     def read_light(self, path: str, element) -> None:
         """The last program of a light is the one that runs; the others can be chosen."""

@@ -145,11 +145,12 @@ class Vehicle(Placed):
         return heading(link.shape, (place.cell + 1) / link.cells if place.cell is not None else 1.0)
 
     def getDistance(self, name):
-        """Metres since it departed, along links; junctions have no length."""
+        """Metres since it departed, those of SUMO's lanes in junctions too."""
         car, place = self.where(name)
         if place is None:
             return NOWHERE
-        return self.now().travelled.get(car, 0.0) + self.front(place) - METRES
+        first = self.now().map.links[self.now().plans[name][0]]
+        return self.now().travelled.get(car, 0.0) + self.front(place) - first.metres / first.cells
 
     # How long it stands, and what it lost
 
@@ -240,15 +241,16 @@ class Vehicle(Placed):
     def getNextTLS(self, name):
         """Of each light ahead on its way (light, index of the connection, metres to the stop line, state)."""
         place, session, found = self.where(name)[1], self.now(), []
-        if place is None or place.cell is None:
+        if place is None:
             return ()
-        metres = session.map.links[place.link].metres - self.front(place)
-        plan = session.plans[name]
+        metres, lane, plan = -self.front(place), place.lane, session.plans[name]
         for at, (link, following) in enumerate(pairwise(plan[plan.index(place.link) :])):
-            metres += session.map.links[link].metres if at else 0.0
-            if turn := session.turn(link, following, place.lane if not at else None):
+            metres += session.map.links[link].metres
+            turn = session.turn(link, following, lane)
+            if turn and (at or place.cell is not None):
                 light = session.lights[turn.light]
                 found.append((turn.light, turn.index, metres, light.phases[light.at(session.clock)[0]][1][turn.index]))
+            metres, lane = metres + session.inside.metres(link, lane, following), None
         return tuple(found)
 
     def getDrivingDistance(self, name, edgeID, pos, laneIndex=0):
@@ -256,18 +258,21 @@ class Vehicle(Placed):
         place, session = self.where(name)[1], self.now()
         if place is None:
             return NOWHERE
-        metres, plan = -self.front(place), session.plans[name]
-        for link in plan[plan.index(place.link) :]:
+        metres, lane, plan = -self.front(place), place.lane, session.plans[name]
+        ahead = plan[plan.index(place.link) :]
+        for link, following in zip(ahead, (*ahead[1:], None)):
             if session.map.links[link].edge == edgeID and metres + pos >= 0:
                 return metres + pos
-            metres += session.map.links[link].metres
+            if following is not None:
+                metres += session.map.links[link].metres + session.inside.metres(link, lane, following)
+                lane = None
         return NOWHERE
 
     # Who is before and behind it
 
     def getLeader(self, name, dist=0.0):
         """(vehicle, metres between the two without the gap that standing vehicles keep) of the next one ahead on its way, as
-        far as it would need to brake or for so many metres; none where there is nobody."""
+        far as it would need to brake or for so many metres; none where there is nobody. One in a junction is at its begin."""
         car, place = self.where(name)
         if place is None or place.cell is None:
             return None
@@ -284,6 +289,9 @@ class Vehicle(Placed):
         for link, following in pairwise(plan[plan.index(place.link) :]):
             if metres > reach:
                 return None
+            if there := session.in_buffer.get((link, lane)):
+                return session.names[there[-1]], metres
+            metres += session.inside.metres(link, lane, following)
             lane = session.next_lane(link, lane, following)
             if there := session.on_lane.get((following, lane)):
                 return session.names[there[-1]], self.between(there[-1], metres, 0.0)
@@ -372,7 +380,8 @@ class Vehicle(Placed):
         session, place = self.now(), self.where(name)[1]
         edges = self.getRoute(name)
         here = edges[0] if place is None else session.map.links[place.link].edge
-        other_way(session, name, place, list(session.router().way(here, edgeID)[0]))
+        ways = session.router()
+        other_way(session, name, place, ways.edges(ways.way(here, edgeID)[0]))
 
     def rerouteTraveltime(self, name, currentTravelTimes=True):
         """The way to its target that is shortest by the travel times of now, or those of edge.adaptTraveltime."""

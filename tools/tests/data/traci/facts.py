@@ -35,6 +35,8 @@ simulation = traci.simulation
 told(simulation.getNetBoundary(), simulation.getEndTime(), simulation.getScale(), simulation.getPendingVehicles())
 told(simulation.getDistance2D(0, 0, 30, 40), simulation.convert2D("WJ", 10), simulation.convertRoad(20, 299), simulation.findRoute("WJ", "JE").edges)
 told(simulation.getDistanceRoad("WJ", 10, "WJ", 25, True), simulation.getDistanceRoad("WJ", 10, "WJ", 25))
+for target in ("JE", "JN", "JS"):
+    told(target, round(simulation.getDistanceRoad("WJ", 10, target, 25, True), 2), round(simulation.findRoute("WJ", target).length, 2))
 told(simulation.getCollidingVehiclesNumber(), simulation.getEndingTeleportNumber(), simulation.getStopStartingVehiclesNumber(), simulation.getCollisions())
 traci.edge.adaptTraveltime("WJ", 77)
 told(traci.edge.getAdaptedTraveltime("WJ", 20))
