@@ -1,27 +1,14 @@
 """The live page: who is served, what a request may send, and that a clicked session replays to the same replies."""
 import http.client
 import json
-import shutil
 import subprocess
-import threading
+import time
 import unittest
-from contextlib import contextmanager
-from importlib.util import find_spec
 
-from support import (
-    MAP, NUMBERED, PAGE_MODULE, PAGE_PROGRAM, PROGRAM, RED, Case, needs_package, needs_page_module, needs_page_program, needs_simulator,
-)
-from streetsim.live.bridge import MOST_LINE, Bridge
-from streetsim.live.engine import Engine
-from streetsim.live.page import data_of, own_lines, page_of
-from streetsim.run.mapping import read_map
-from streetsim.run.runs import read_run
-
-DRIVER = shutil.which("chromedriver")
-needs_driver = needs_package("chromium-driver", DRIVER)
-needs_selenium = needs_package("python3-selenium", find_spec("selenium"))
-ENTERS = [{"cmd": "enter", "plan": [0, 1], "lane": 0, "depart": depart} for depart in (0, 2, 4)]
-
+from pages import LiveCase, PageCase, needs_driver, needs_selenium
+from support import MAP, PAGE_MODULE, PROGRAM, needs_page_module, needs_page_program, needs_simulator
+from streetsim.live.bridge import MOST_LINE
+from streetsim.live.page import data_of
 
 # Changes of a page by its buttons: each that was not refused counts.
 CHANGES = """
@@ -39,31 +26,6 @@ globalThis.changeOnce = async i => {
 };
 globalThis.makeChanges = async count => { for (let i = 0; changes() < count && i < 3 * count; i++) await changeOnce(i); };
 """
-
-
-class LiveCase(Case):
-    """A street of two links with a red light between them, three vehicles, and a green that comes at second 20."""
-
-    def setUp(self):
-        super().setUp()
-        green = {"cmd": "signal", "node": 1, "offset": 0, "phases": [[600, [[0, 0, 1]]]], "at": 20}
-        lines = [{"cmd": "load", **NUMBERED}, RED, *ENTERS, green]
-        self.run_path = self.write("run.jsonl", "".join(json.dumps(line) + "\n" for line in lines))
-        self.map_path = self.write("map.json", json.dumps({**MAP, "cars": ["v", "w", "x"]}))
-        self.run_file, self.mapping = read_run(self.run_path), read_map(self.map_path)
-
-    @contextmanager
-    def bridge(self):
-        engine = Engine(PAGE_PROGRAM, own_lines(self.run_file))
-        with Bridge(engine, page_of(self.run_file, self.mapping)) as bridge:
-            thread = threading.Thread(target=bridge.serve_forever, daemon=True)
-            thread.start()
-            try:
-                yield bridge
-            finally:
-                bridge.shutdown()
-                thread.join()
-                engine.close()
 
 
 class Data(LiveCase):
@@ -149,63 +111,8 @@ class Requests(LiveCase):
 @needs_page_program
 @needs_driver
 @needs_selenium
-class Page(LiveCase):
+class Page(PageCase):
     """The page in Chromium, by clicks."""
-
-    @contextmanager
-    def browser(self, wide=1366, high=768):
-        from selenium import webdriver
-
-        options = webdriver.ChromeOptions()
-        # No name is resolved: a page that asked another machine for something would lack it.
-        words = ["--headless=new", "--no-sandbox", "--disable-gpu", f"--window-size={wide},{high}", "--host-resolver-rules=MAP * ~NOTFOUND, EXCLUDE 127.0.0.1"]
-        for word in words:
-            options.add_argument(word)
-        options.set_capability("goog:loggingPrefs", {"browser": "ALL"})
-        options.add_experimental_option("prefs", {"download.default_directory": str(self.folder)})
-        made = webdriver.Chrome(options=options, service=webdriver.chrome.service.Service(DRIVER))
-        try:
-            yield made
-            self.assertEqual([entry["message"] for entry in made.get_log("browser") if entry["level"] == "SEVERE" and "favicon" not in entry["message"]], [])
-        finally:
-            made.quit()
-
-    def open(self, browser, address):
-        browser.get(address)
-        self.wait(browser, "return document.body.dataset.ready || ''")
-        self.assertEqual(browser.execute_script("return document.body.dataset.ready + at('fault').textContent"), "yes")
-
-    def wait(self, browser, script):
-        from selenium.webdriver.support.ui import WebDriverWait
-
-        return WebDriverWait(browser, 30).until(lambda driver: driver.execute_script(script))
-
-    def click(self, browser, name):
-        """Clicks a button by its id or text, and waits until what it began is done."""
-        script = "return document.getElementById(arguments[0]) || [...document.querySelectorAll('button')].find(one => one.textContent === arguments[0])"
-        browser.execute_script(script, name).click()
-        self.idle(browser)
-
-    def idle(self, browser):
-        self.wait(browser, "return turn.then(() => !busy)")
-
-    def shown(self, browser):
-        return json.loads(browser.execute_script("return document.body.dataset.shown"))
-
-    def choose(self, browser, link, lane, share):
-        """Clicks at a share of a lane's length."""
-        script = "const link = session.data.links[arguments[0]], [x, y] = scene.screen(...scene.place(link, arguments[1], arguments[2])), box = at('map').getBoundingClientRect(); return [x + box.left, y + box.top]"
-        x, y = browser.execute_script(script, link, lane, share)
-        from selenium.webdriver.common.action_chains import ActionChains
-
-        actions = ActionChains(browser)
-        actions.w3c_actions.pointer_action.move_to_location(round(x), round(y)).pointer_down().pointer_up()
-        actions.perform()
-        self.idle(browser)
-
-    def put(self, browser, name, value):
-        script = "const box = document.getElementById(arguments[0]); box.value = arguments[1]; box.dispatchEvent(new Event('input'))"
-        browser.execute_script(script, name, value)
 
     def replayed(self, text):
         done = subprocess.run([PROGRAM], input=text, capture_output=True, text=True, check=True)
@@ -245,13 +152,23 @@ class Page(LiveCase):
             self.assertEqual(self.shown(browser)["clock"], 9)
             for _ in range(20):
                 self.click(browser, "step")
-            saved, record = browser.execute_script("return [session.saved(), session.record()]")
+            record = browser.execute_script("return session.record()")
+            self.click(browser, "save")
+            saved = self.downloaded("session.jsonl")
         replies = self.replayed(saved)
         self.assertEqual(replies[5:], [reply for _, reply in record])
         self.assertTrue(any('"cmd":"close"' in line for line, _ in record))
         # The run's own green at second 20 is among the lines, and what was done at second 9 is not, as the page went back there.
         self.assertTrue(any('"at": 20' in line for line, _ in record))
         self.assertFalse(any("takeout" in line for line, _ in record))
+
+    def downloaded(self, name):
+        """The text of a file that the browser saves, once it is there; it goes by another name until then."""
+        for _ in range(300):
+            if (self.folder / name).exists():
+                return (self.folder / name).read_text()
+            time.sleep(0.1)
+        return self.fail(f"{name} was not saved")
 
     def change_often(self, browser, count):
         """Makes so many changes by the page's own buttons, with steps between them: closures, reopenings, plans, detectors."""

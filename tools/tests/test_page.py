@@ -1,19 +1,15 @@
 """What a live page asks answers as streetsim does: the program on this machine, and the module in Chromium."""
 import json
 import random
-import shutil
 import subprocess
 import unittest
-from importlib.util import find_spec
 from pathlib import Path
 
-from support import PAGE_MODULE, PAGE_PROGRAM, PROGRAM, TOOLS, Case, needs_package, needs_page_module, needs_page_program, needs_simulator
+from pages import DRIVER, needs_driver, needs_selenium
+from support import PAGE_MODULE, PAGE_PROGRAM, PROGRAM, TOOLS, Case, needs_page_module, needs_page_program, needs_simulator
 from streetsim.live.page import PLACE, packed
 
 TOP = TOOLS.parent
-DRIVER = shutil.which("chromedriver")
-needs_driver = needs_package("chromium-driver", DRIVER)
-needs_selenium = needs_package("python3-selenium", find_spec("selenium"))
 MUTATED = 3_000
 # What a mutation puts into a line: bytes of JSON, of numbers, beyond ASCII, and of no use.
 PIECES = ['"', "{", "}", "[", "]", ",", ":", "-", "0", "9", "1e3", ".", "null", "true", "\\", "\\u00e9", "é", "\t", "18446744073709551616", "x"]

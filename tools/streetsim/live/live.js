@@ -171,11 +171,12 @@ async function showDetectors() {
   at("detectors").replaceChildren(element("table", {}, rowOf(["", "place", "an hour", "km/h", "occupied", "last periods"], "th"), ...rows));
 }
 
-// A small picture of the last periods' flows.
+// A small picture of the last periods' flows, which says them in words too.
 function bars(flows) {
-  const canvas = element("canvas", { width: 70, height: 20 }), ink = canvas.getContext("2d"), most = Math.max(1, ...flows);
+  const last = flows.slice(-16), most = Math.max(1, ...last), words = last.map(flow => Math.round(flow)).join(", ");
+  const canvas = element("canvas", { width: 70, height: 20, role: "img", title: words ? `${words} vehicles an hour` : "no period is over yet" }), ink = canvas.getContext("2d");
   ink.fillStyle = "#7b3294";
-  flows.slice(-16).forEach((flow, i) => ink.fillRect(i * 4, 20 - 20 * flow / most, 3, 20 * flow / most));
+  last.forEach((flow, i) => ink.fillRect(i * 4, 20 - 20 * flow / most, 3, 20 * flow / most));
   return canvas;
 }
 

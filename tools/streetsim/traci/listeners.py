@@ -21,7 +21,8 @@ class StepListener:
 
 class Listeners:
     def __init__(self) -> None:
-        self.made, self.here = 0, {}
+        self.made = 0
+        self.here: dict[int, StepListener] = {}
 
     def add(self, listener: StepListener) -> int | None:
         """Its number; none where it is no listener."""

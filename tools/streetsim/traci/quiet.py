@@ -34,5 +34,5 @@ class Quiet:
 
 
 GUI = ("setAngle", "setBoundary", "setOffset", "setSchema", "setZoom", "toggleSelection", "track", "trackVehicle", "addView", "removeView")
-SHAPES = ("add", "highlight", "remove", "setAngle", "setColor", "setFilled", "setHeight", "setImageFile", "setLineWidth")
+SHAPES: tuple[str, ...] = ("add", "highlight", "remove", "setAngle", "setColor", "setFilled", "setHeight", "setImageFile", "setLineWidth")
 SHAPES += ("setPosition", "setShape", "setType", "setWidth")
