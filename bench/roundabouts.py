@@ -5,43 +5,43 @@ from itertools import accumulate
 from pathlib import Path
 
 ACROSS = 5  # roundabouts in a row, and rows
-RADIUS, RING = 18, 8.33  # of a ring: metres, metres a second
+RING = 8.33  # of a ring: metres a second
 SPEED = 13.89  # of a street, metres a second
 LENGTHS = (140, 240)  # metres from roundabout to roundabout
 ARM = 150  # metres of a street that leads out of town
 SIDES = {"e": (1, 0), "n": (0, 1), "w": (-1, 0), "s": (0, -1)}  # in the order of driving
 
 
-def write_town(folder: Path, seed: int) -> None:
-    """Writes the nodes and the edges of a town, by a seed."""
+def write_town(folder: Path, seed: int, radius: int) -> None:
+    """Writes the nodes and the edges of a town, by a seed and the metres of its rings' radius."""
     draws = random.Random(seed)
     across, up = (list(accumulate(draws.uniform(*LENGTHS) for _ in range(ACROSS))) for _ in range(2))
     nodes, edges = [], []
     for column, x in enumerate(across):
         for row, y in enumerate(up):
-            nodes += ring_nodes((column, row), x, y)
-            edges += ring_edges((column, row), x, y) + streets((column, row))
+            nodes += ring_nodes((column, row), x, y, radius)
+            edges += ring_edges((column, row), x, y, radius) + streets((column, row))
     for kind, lines in (("nodes", nodes), ("edges", edges)):
         (folder / f"plain.{kind}.xml").write_text(f"<{kind}>{''.join(lines)}</{kind}>", encoding="utf-8")
 
 
-def ring_nodes(place: tuple[int, int], x: float, y: float) -> list[str]:
+def ring_nodes(place: tuple[int, int], x: float, y: float, radius: int) -> list[str]:
     """The four nodes of a ring, and the far ends of the streets that lead out of town."""
     lines = []
     for side, (right, up) in SIDES.items():
-        lines.append(f'<node id="{name_of(place, side)}" x="{x + RADIUS * right:.2f}" y="{y + RADIUS * up:.2f}" type="priority"/>')
+        lines.append(f'<node id="{name_of(place, side)}" x="{x + radius * right:.2f}" y="{y + radius * up:.2f}" type="priority"/>')
         if not is_inside(beyond(place, side)):
-            away = RADIUS + ARM
+            away = radius + ARM
             lines.append(f'<node id="{other_end(place, side)}" x="{x + away * right:.2f}" y="{y + away * up:.2f}"/>')
     return lines
 
 
-def ring_edges(place: tuple[int, int], x: float, y: float) -> list[str]:
+def ring_edges(place: tuple[int, int], x: float, y: float, radius: int) -> list[str]:
     """The four edges of a ring."""
     lines, order = [], list(SIDES)
     for at, side in enumerate(order):
         angles = (at * math.pi / 2 + part * math.pi / 8 for part in range(5))
-        shape = " ".join(f"{x + RADIUS * math.cos(angle):.2f},{y + RADIUS * math.sin(angle):.2f}" for angle in angles)
+        shape = " ".join(f"{x + radius * math.cos(angle):.2f},{y + radius * math.sin(angle):.2f}" for angle in angles)
         ends = f'from="{name_of(place, side)}" to="{name_of(place, order[(at + 1) % 4])}"'
         lines.append(f'<edge id="ring{name_of(place, side)}" {ends} numLanes="1" speed="{RING}" priority="10" shape="{shape}"/>')
     return lines

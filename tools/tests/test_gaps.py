@@ -2,12 +2,15 @@
 import json
 import unittest
 
-import support  # noqa: F401
+from support import Case, lane
 from streetsim.run.gaps import PATIENCE, be_patient, followings, gap_lines, phases_of, red_seconds, slow_down
 from streetsim.run.mapping import MapLink, MapTurn
 from streetsim.run.passings import Passings
 from streetsim.run.runs import Line
 from streetsim.sumo.conflicts import CROSSING, JOINING, Foe, Gap, Waiting
+from streetsim.sumo.importing import convert
+from streetsim.sumo.network import Options
+from streetsim.sumo.report import Report
 
 
 def link(begin, end, cells=20):
@@ -110,6 +113,54 @@ class Lines(unittest.TestCase):
         self.assertEqual(clock, 100)
         phases = '[26,[[0,0,1]]],[5,[]],[29,[[0,0,1]]],[600,[[0,0,1]]]'
         self.assertEqual(line.text, f'{{"cmd":"signal","node":1,"offset":560,"phases":[{phases}]}}')
+
+
+STREETS = {"s": ("S", "X", 13.89), "t": ("X", "T", 13.89), "before": ("R", "X", 8.33), "after": ("X", "Q", 8.33)}  # metres a second
+WAYS = (("s", "after", 6.55, "10"), ("before", "t", 6.55, "00"), ("before", "after", 8.33, "00"))  # speed inside, response
+
+
+def ring_junction(more, metres):
+    """A junction X of a ring, which goes on from edge before to after, each of so many metres; a street s enters there and t
+    leaves."""
+    inner = "".join(
+        f'<edge id=":X_{at}" function="internal"><lane id=":X_{at}_0" index="0" speed="{speed}" length="9" shape="0,0 9,0"/></edge>'
+        for at, (_, _, speed, _) in enumerate(WAYS)
+    )
+    edges = "".join(
+        f'<edge id="{name}" from="{begin}" to="{end}">{lane(name, 0, metres, speed)}</edge>' for name, (begin, end, speed) in STREETS.items()
+    )
+    ends = "".join(f'<junction id="{name}" type="dead_end" x="0" y="0"/>' for name in "STRQ")
+    requests = "".join(f'<request index="{at}" response="{response.zfill(3)}"/>' for at, (*_, response) in enumerate(WAYS))
+    ways = "".join(
+        f'<connection from="{one}" to="{other}" fromLane="0" toLane="0" via=":X_{at}_0" state="M"/>'
+        for at, (one, other, *_) in enumerate(WAYS)
+    )
+    return f'<net version="1.9">{inner}{edges}{ends}<junction id="X" type="priority" x="0" y="0">{requests}</junction>{ways}{more}</net>'
+
+
+class Stays(Case):
+    def stay(self, ways, more='<roundabout nodes="X" edges="before after"/>', metres=18.0):
+        """The seconds in the junction, of vehicles on some ways."""
+        vehicles = "".join(f'<vehicle id="{at}" depart="{at}"><route edges="{way}"/></vehicle>' for at, way in enumerate(ways))
+        net, routes = self.write("x.net.xml", ring_junction(more, metres)), self.write("x.rou.xml", f"<routes>{vehicles}</routes>")
+        network, *_ = convert(net, [], [routes], Options(), Report())
+        return network.residences[network.nodes.index("X")]
+
+    def test_who_enters_and_leaves_a_roundabout_turns(self):
+        # 2.3 s are lost in a turn, in whole seconds and beside the one that each junction takes.
+        self.assertEqual([self.stay([way]) for way in ("s after", "before t", "before after")], [3, 3, 1])
+
+    def test_a_junction_of_a_roundabout_takes_the_mean_of_its_vehicles(self):
+        # One of two loses 2.3 s: 1.15; one of five: 0.46. The others' edge takes 0.25 s longer than in SUMO.
+        self.assertEqual(self.stay(["s after", "before after"]), 2)
+        self.assertEqual(self.stay(["s after", *["before after"] * 4]), 1)
+
+    def test_what_an_edge_of_a_ring_takes_longer_here_is_made_up_for(self):
+        # 36 m at 8.33 m/s take 4.3 s in SUMO; here 5 cells at 0.83 a second take 6.0 s, 1.7 of the 2.3 s that are lost.
+        self.assertEqual([self.stay([way], metres=36.0) for way in ("s after", "before t", "before after")], [3, 2, 1])
+
+    def test_without_a_roundabout_two_streets_meet(self):
+        self.assertEqual(self.stay(["s after"], ""), 1)
 
 
 if __name__ == "__main__":

@@ -10,7 +10,7 @@ from dataclasses import dataclass
 from .signals import connections_of
 
 FAST = 10.0  # metres a second inside the junction: a stream that is joined like that is a fast one
-SLOW = 0.8  # of a street's speed: a junction is turned in with less
+SLOW = 0.8  # of the speed of the faster street, before it or after it: a junction is turned in with less
 TURNING, LOOKING = 2.3, 1.2  # seconds lost in it, and by one that goes straight on and has to look out
 EQUALS = "="  # SUMO's state of such a connection
 
@@ -102,16 +102,19 @@ def foes(one, other, network):
     return {(link, lane, following): Foe(link, lane, following, gap, fast) for following in network.links_of[other.target]}
 
 
-def lost(connections, net, flows):
-    """Vehicles an hour at a junction, and the seconds that these lose beside one that goes straight on and first."""
+def lost(connections, net, flows, longer):
+    """Vehicles an hour at a junction, and the seconds that these lose beside one that goes straight on and first. longer: the
+    seconds that a ring's edges take longer here than in SUMO, which are made up for at their ends."""
     sharing = Counter((connection.source, connection.target) for connection in connections)
     total = seconds = 0.0
     for connection in connections:
         way = connection.source, connection.target
         flow = flows.get(way, 0.0) / sharing[way]
         total += flow
+        seconds -= longer.get(connection.source, 0.0) * flow
         yields = net.yields.get(net.edges[connection.source].end, {}).get(connection.request)
-        if connection.speed and connection.speed < SLOW * net.edges[connection.source].lanes[0].speed:
+        fastest = max(net.edges[name].lanes[0].speed for name in way)
+        if connection.speed and connection.speed < SLOW * fastest:
             seconds += TURNING * flow
         elif yields:
             seconds += LOOKING * flow

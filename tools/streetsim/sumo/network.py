@@ -89,7 +89,7 @@ class Network:
             self.open_both_lanes(report)
         self.leads = {(link, self.links[following].edge) for link, _, following in self.turns}
         self.unlike = self.shared_ways() & {edge for edge, _ in self.waiting}
-        self.residences = residences(edges, net, self.nodes, options.residence, flows)
+        self.residences = residences(edges, net, self.links, self.nodes, options, flows)
         self.use = Counter()
         self.equivalents = {}  # (edge, next edge): in how many others' place a vehicle counts that waits for a gap
         self.joined = set()
@@ -362,23 +362,32 @@ def middle(lanes):
     ]
 
 
-def residences(edges, net, nodes, residence, flows):
+def residences(edges, net, links, nodes, options, flows):
     """Steps in a buffer for each node: the given ones at signals and real junctions, 1 elsewhere. At real junctions
-    without a light more, as many as its vehicles lose on average that turn or have to look out."""
+    without a light, and where streets meet a roundabout, more, as many as its vehicles lose on average that turn or have to
+    look out."""
     into, out = Counter(edge.end for edge in edges), Counter(edge.begin for edge in edges)
     real = {name for name in nodes if into[name] >= 2 and out[name] >= 2 and into[name] + out[name] >= 5}
+    ring = {name for edge in edges if edge.name in net.roundabouts for name in (edge.begin, edge.end)}
     lit = {net.edges[connection.source].end for connection in net.connections if connection.light}
-    more = losses(net, [name for name in nodes if name in real - lit], flows)
-    usual = {name: residence for name in real | lit}
+    longer = {link.edge: longer_here(link, options) for link in links if link.edge in net.roundabouts}
+    more = losses(net, [name for name in nodes if name in (real | ring) - lit], flows, longer)
+    usual = {name: options.residence for name in real | lit}
     return [min(limits.RESIDENCE, usual.get(name, 1) + more.get(name, 0)) for name in nodes]
 
 
-def losses(net, names, flows):
+def longer_here(link, options):
+    """The seconds that a free link takes longer here than in SUMO, as lengths and speeds are whole cells."""
+    free = link.limit - options.dawdle / 1000
+    return link.cells / free - link.metres / link.speed if free and link.speed else 0.0
+
+
+def losses(net, names, flows, longer):
     """Whole seconds that vehicles lose at junctions, on average; what rounding owes is carried on to the next."""
     connections, found, owed = connections_of(net), {}, 0.0
     for name in names:
-        total, seconds = lost(connections[name], net, flows)
+        total, seconds = lost(connections[name], net, flows, longer)
         own = seconds / total if total else 0.0
-        found[name] = min((int(own), int(own) + 1), key=lambda steps: abs(owed + (own - steps) * total))
+        found[name] = max(0, min((int(own), int(own) + 1), key=lambda steps: abs(owed + (own - steps) * total)))
         owed += (own - found[name]) * total
     return found
