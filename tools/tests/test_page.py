@@ -94,11 +94,9 @@ answer().then(found => { globalThis.found = found; }, fault => { globalThis.foun
 </script>"""
 
 
-@needs_simulator
-@needs_page_module
-@needs_driver
-@needs_selenium
-class Module(Case):
+class Answering(Case):
+    """What Chromium answers by a module."""
+
     def browser(self):
         from selenium import webdriver
 
@@ -109,13 +107,13 @@ class Module(Case):
         self.addCleanup(made.quit)
         return made
 
-    def test_equal_replies(self):
+    def answers(self, module, sessions):
+        """The replies to the lines of each session."""
         from selenium.webdriver.support.ui import WebDriverWait
 
-        wanted = all_lines()
         parts = {
-            "@ENGINE@": packed(Path(PAGE_MODULE).read_bytes()),
-            "@SESSIONS@": json.dumps(wanted).replace("<", "\\u003c"),
+            "@ENGINE@": packed(Path(module).read_bytes()),
+            "@SESSIONS@": json.dumps(sessions).replace("<", "\\u003c"),
             "@ENGINES@": (PLACE / "engines.js").read_text(encoding="utf-8"),
         }
         text = ASKING
@@ -125,6 +123,17 @@ class Module(Case):
         browser.get(Path(self.write("asking.html", text)).as_uri())
         found = WebDriverWait(browser, 120).until(lambda one: one.execute_script("return globalThis.found || ''"))
         self.assertIsInstance(found, dict, found)
+        return found
+
+
+@needs_simulator
+@needs_page_module
+@needs_driver
+@needs_selenium
+class Module(Answering):
+    def test_equal_replies(self):
+        wanted = all_lines()
+        found = self.answers(PAGE_MODULE, wanted)
         for name, lines in wanted.items():
             with self.subTest(name):
                 self.assertEqual(found[name], answered(PROGRAM, lines))
