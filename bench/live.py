@@ -3,8 +3,9 @@
 
 Usage: bench/live.py PAGE_PROGRAM CORRIDOR_RUN CORRIDOR_MAP [--module STREET_PAGE_WASM] [--seconds N] [--picture FILE]
 
-The corridor is a run file and a map as streetsim-import wrote them; the grid is that of steps.py, with 10,000 vehicles, in three
-views: the whole, a scale at which some hundred lanes are seen, and one junction. With --module the same pages run by the engine
+The corridor is a run file and a map as streetsim-import wrote them; the grid is that of steps.py, with 10,000 vehicles, in four
+views: the whole, a scale at which some hundred lanes are seen, one junction, and the view with as many lanes as are asked in each step,
+which costs the most. With --module the same pages run by the engine
 inside them. It needs Debian's python3-selenium and chromium-driver. The load of the machine is printed beside.
 """
 import argparse
@@ -32,7 +33,15 @@ from streetsim.run.runs import Run, read_run  # noqa: E402
 
 VEHICLES, SPACING, SIDE = 10_000, 750, 32
 # Pixels a metre of each view; none is the whole network.
-VIEWS = {"whole": None, "0.25 pixels a metre": 0.25, "2 pixels a metre": 2.0}
+VIEWS = {"whole": None, "0.25 pixels a metre": 0.25, "2 pixels a metre": 2.0, "most lanes": "most"}
+VIEW = """
+const [scale] = arguments, lanes = () => scene.links.filter(isInView).reduce((sum, link) => sum + link.lanes, 0);
+scene.moved = false; scene.fit();
+if (scale) { scene.moved = true; scene.scale = scale === "most" ? 2 : scale; }
+if (scale === "most") { while (lanes() <= MOST_LOOKS) scene.scale *= 0.99; scene.scale /= 0.99; }
+if (!playing) toggle();
+return lanes();
+"""
 COUNT = """
 const [seconds, done] = arguments, from = performance.now(), clock = session.clock;
 let frames = 0;
@@ -89,14 +98,14 @@ def opened(page: webdriver.Chrome, address: str, begin: int) -> None:
     page.execute_async_script("const done = arguments[1]; guarded(() => advance(arguments[0])).then(done)", begin)
 
 
-def measure(page: webdriver.Chrome, name: str, scale: float | None, seconds: int) -> None:
+def measure(page: webdriver.Chrome, name: str, scale: float | str | None, seconds: int) -> None:
     """Plays in a view for some seconds, and prints a row."""
-    page.execute_script("scene.moved = false; scene.fit(); if (arguments[0]) { scene.scale = arguments[0]; scene.moved = true; } if (!playing) toggle();", scale)
+    lanes = page.execute_script(VIEW, scale)
     time.sleep(2)
     frames, made, spent = page.execute_async_script(COUNT, seconds)
     shown = json.loads(page.execute_script("if (playing) toggle(); return document.body.dataset.shown"))
     load = os.getloadavg()[0]
-    print(f"| {name} | {shown['driving']:,} | {1000 * frames / spent:.0f} | {1000 * made / spent:.1f} | {load:.1f} |", flush=True)
+    print(f"| {name} | {lanes:,} | {shown['driving']:,} | {1000 * frames / spent:.0f} | {1000 * made / spent:.1f} | {load:.1f} |", flush=True)
 
 
 def measure_all(page: webdriver.Chrome, words: argparse.Namespace, folder: Path, how: str, module: bytes | None) -> None:
@@ -127,7 +136,7 @@ def main() -> None:
     parser.add_argument("--seconds", type=int, default=6)
     parser.add_argument("--picture")
     words = parser.parse_args()
-    print("| Page | vehicles driving | frames a second | steps a second | load |\n|---|---|---|---|---|")
+    print("| Page | lanes in view | vehicles driving | frames a second | steps a second | load |\n|---|---|---|---|---|---|")
     with tempfile.TemporaryDirectory() as folder, browser() as page:
         measure_all(page, words, Path(folder), "bridge", None)
         if words.module:

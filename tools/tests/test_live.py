@@ -8,7 +8,7 @@ import unittest
 from pages import LiveCase, PageCase, needs_driver, needs_selenium
 from support import MAP, PAGE_MODULE, PROGRAM, needs_page_module, needs_page_program, needs_simulator
 from streetsim.live.bridge import MOST_LINE
-from streetsim.live.page import data_of
+from streetsim.live.page import data_of, page_of
 
 # Changes of a page by its buttons: each that was not refused counts.
 CHANGES = """
@@ -204,6 +204,20 @@ class Page(PageCase):
             self.assertEqual((self.shown(browser)["driving"], self.shown(browser)["seen"]), (1, 1))
             saved, record = self.change_often(browser, 100)
         self.check_changes(saved, record, 100)
+
+    def test_a_browser_that_lacks_something_is_told_what(self):
+        page = self.folder / "page.html"
+        page.write_bytes(page_of(self.run_file, self.mapping, b"never compiled"))
+        for taken, named in (
+            ("delete WebAssembly.Suspending", "it cannot suspend a WebAssembly program (JavaScript Promise Integration)"),
+            ("WebAssembly.Memory = class { constructor() { throw new TypeError(); } }", "it has no WebAssembly memory of 64 bits"),
+        ):
+            with self.subTest(named), self.browser() as browser:
+                browser.execute_cdp_cmd("Page.addScriptToEvaluateOnNewDocument", {"source": taken})
+                browser.get(page.as_uri())
+                self.assertEqual(self.wait(browser, "return document.body.dataset.ready || ''"), "no")
+                told = browser.execute_script("return at('fault').textContent")
+                self.assertEqual(told, f"This browser cannot run the page: {named}. Chromium and its kin can; or let streetsim-live serve the page.")
 
     def test_no_request_leaves_the_machine(self):
         with self.bridge() as bridge, self.browser() as browser:
