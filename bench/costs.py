@@ -5,6 +5,7 @@
     bench/costs.py rt ci NAME..               runs and watches a part of it
     bench/costs.py --beside PID --log FILE    watches a gate, or a part, that runs and whose output goes to FILE
     bench/costs.py --log FILE                 writes the table once more: FILE has the output of a gate that passed
+    bench/costs.py --rows NAME,..             puts the rows of some crates into the table, of the runs that were watched; the others stay
 
 `rt ci` proves and tries nothing again that an earlier run on this machine passed and that has not changed since. What each watched run
 proved and tried is noted in out/costs.json; where the gate takes something from an earlier run, its figure is that run's, which the
@@ -202,23 +203,23 @@ def all_figures(runs):
     return {(crate, kind): figures(runs, crate, kind, sums[crate]) for crate in sums for kind in wanted(crate)}
 
 
-def table(found, names):
-    """A row for each crate, in the order of crates.txt, and the sums; `names` of the runs, where there are several."""
+def table(found, names, own, crates=None):
+    """A row for each crate, in the order of crates.txt, and the sums; `own`: whether a row ends with the names of its runs."""
     rows = []
-    for crate in listed():
+    for crate in crates or listed():
         of = {kind: found.get((crate, kind)) for kind in KINDS}
         counts = [of[kind][1] if of[kind] else 0 for kind in ("proof", "tests")]
         numbers = [lines_of(crate, ".rt"), lines_of(crate, ".antt"), *counts, edits_of(crate)]
         rows.append([crate, *numbers, *(round(of[kind][0]) if of[kind] else 0 for kind in KINDS)])
     rows.append(["all crates", *(sum(row[at] for row in rows) for at in range(1, len(rows[0])))])
     lines = [[row[0], *(f"{number:,}" if number else "" for number in row[1:])] for row in rows]
-    for line in lines[:-1] if len(names) > 1 else ():
+    for line in lines[:-1] if own else ():
         used = {number for kind in KINDS if found.get((line[0], kind)) for number in found[line[0], kind][2]}
         line.append(", ".join(names[number] for number in sorted(used)))
     for line in lines:
         for at, kind in enumerate(KINDS):
             if (line[0], kind) in found and found[line[0], kind] is None:
-                line[at - len(KINDS) - (len(names) > 1)] = "not known"
+                line[at - len(KINDS) - own] = "not known"
     return [f"| {' | '.join(line)} |" for line in lines]
 
 
@@ -231,6 +232,13 @@ def minutes_of(parts):
     return sum(part["seconds"] for part in parts) / 60
 
 
+def rows_of_runs(runs, names):
+    return [
+        f"| {name} | `{runs[number]['command']}` | {runs[number]['minutes']:.0f} | {minutes_of(runs[number]['parts']):.0f} | {runs[number]['load']:.1f} |"
+        for number, name in names.items()
+    ]
+
+
 def told_of(runs, names):
     """What is said of the runs whose figures the table has."""
     if len(names) == 1:
@@ -239,10 +247,7 @@ def told_of(runs, names):
             f"of a run of `{run['command']}` in which all was proved: {run['minutes']:.0f} minutes by the clock, "
             f"{minutes_of(run['parts']):.0f} processor minutes of checks, mean load {run['load']:.1f}."
         )
-    rows = []
-    for number, name in names.items():
-        run = runs[number]
-        rows.append(f"| {name} | `{run['command']}` | {run['minutes']:.0f} | {minutes_of(run['parts']):.0f} | {run['load']:.1f} |")
+    rows = rows_of_runs(runs, names)
     head = "| Run | Command | Minutes by the clock | Processor minutes of checks | Mean load |\n|---|---|---|---|---|"
     return "\n".join(["of these runs, each of which proved what no earlier one had, up to one of the whole gate that passed:", "", head, *rows])
 
@@ -273,7 +278,40 @@ more under its edits.
 {HEAD}{" Runs |" if own else ""}
 |{"---|" * (10 + own)}
 """
-    (TOP / "docs/COSTS.md").write_text(text + "\n".join(table(found, names)) + "\n")
+    (TOP / "docs/COSTS.md").write_text(text + "\n".join(table(found, names, own)) + "\n")
+    return True
+
+
+def cells_of(line):
+    return [cell.strip() for cell in line.strip("|").split("|")]
+
+
+def summed(lines):
+    """The row of all crates, of theirs."""
+    columns = list(zip(*(cells_of(line)[1:10] for line in lines), strict=True))
+    sums = [sum(int(cell.replace(",", "")) for cell in column if cell[:1].isdecimal()) for column in columns]
+    return f"| {' | '.join(['all crates', *(f'{number:,}' if number else '' for number in sums)])} |"
+
+
+def insert(runs, crates):
+    """Puts the rows of some crates into docs/COSTS.md, of the runs here, behind whose runs these are told; the other rows stay as they
+    are. Gives whether it could."""
+    path, figured = TOP / "docs/COSTS.md", all_figures(runs)
+    lines = path.read_text().splitlines()
+    told = [at for at, line in enumerate(lines) if re.match(r"\| \d+ \| `", line)]
+    found = {pair: one for pair, one in figured.items() if pair[0] in crates}
+    lacking = [f"{crate} ({kind})" for (crate, kind), one in found.items() if one is None] + sorted(set(crates) - set(listed()))
+    if lacking or not told:
+        print(f"costs: no watched run has {', '.join(lacking)}" if lacking else "costs: the table is of one run", file=sys.stderr)
+        return False
+    used = sorted({number for one in found.values() for number in one[2]})
+    names = {number: str(at) for at, number in enumerate(used, int(cells_of(lines[told[-1]])[0]) + 1)}
+    head = lines.index(f"{HEAD} Runs |")
+    rows = {cells_of(line)[0]: line for line in lines[head + 2 : -1]}
+    rows |= dict(zip(crates, table(found, names, True, crates)))
+    kept = [rows[crate] for crate in listed() if crate in rows]
+    lines = [*lines[: told[-1] + 1], *rows_of_runs(runs, names), *lines[told[-1] + 1 : head + 2], *kept, summed(kept)]
+    path.write_text("\n".join(lines) + "\n")
     return True
 
 
@@ -329,13 +367,16 @@ def main():
     parser.add_argument("--beside", type=int, metavar="PID")
     parser.add_argument("--log", metavar="FILE")
     parser.add_argument("--gaps", action="store_true")
+    parser.add_argument("--rows", metavar="NAME,..")
     parser.add_argument("command", nargs=argparse.REMAINDER)
     words = parser.parse_args()
-    if bool(words.command) == bool(words.log) or words.beside and not words.log:
-        parser.error("give a command, or --log, with or without --beside")
+    if bool(words.command) + bool(words.log) + bool(words.rows) != 1 or words.beside and not words.log:
+        parser.error("give a command, or --log, with or without --beside, or --rows")
     signal.signal(signal.SIGTERM, signal.default_int_handler)
     notes = TOP / "out/costs.json"
     runs = json.loads(notes.read_text()) if notes.exists() else []
+    if words.rows:
+        return 0 if insert(runs, words.rows.split(",")) else 1
     if words.command or words.beside:
         output, run = watched(words)
         runs += [run] if run["parts"] else []
