@@ -2,12 +2,15 @@
 """A day of a city: 900 signals and 240,000 vehicles by the tools, and the processor time of both sides.
 
 Usage: bench/day.py PROGRAM [--vehicles N] [--folder FOLDER] [--until S] [WORDS for streetsim-run ..]
+       bench/day.py PROGRAM --route ITERATIONS [--vehicles N] [--folder FOLDER] [--until S] [WORDS for streetsim-route ..]
 
 Makes the network by SUMO's netgenerate (30 by 30 junctions 200 m apart, one lane), and vehicles between random edges along
-the grid with two peaks, where the folder does not have them yet; imports them and runs them. Prints calls, seconds and memory.
+the grid with two peaks, where the folder does not have them yet; imports them and runs them, or with --route finds ways for their
+trips by streetsim-route. Prints calls, seconds and memory.
 """
 import argparse
 import random
+import re
 import resource
 import subprocess
 import sys
@@ -67,6 +70,26 @@ def make_routes(path, vehicles):
         file.write("</routes>\n")
 
 
+def make_trips(routes, path):
+    """The vehicles of a file as trips from their first to their last edge."""
+    text = re.sub(r'<vehicle (.*?)><route edges="(\S+).* (\S+)"/></vehicle>', r'<trip \1 from="\2" to="\3"/>', routes.read_text())
+    path.write_text(text)
+
+
+def find_ways(words, more, network, routes, trips):
+    """streetsim-route on the day's trips, and what it took."""
+    if not trips.exists():
+        make_trips(routes, trips)
+    until = ["--until", words.until] if words.until else []
+    command = [TOP / "tools/streetsim-route", network, "--trips", trips, "-o", words.folder / "found.rou.xml", "--out", words.folder / "ways"]
+    command += ["--iterations", words.route, "--gap", 0, "--program", words.program, *until, *more]
+    begin, before = time.monotonic(), spent(resource.RUSAGE_CHILDREN)
+    status = subprocess.run([str(word) for word in command], check=False).returncode
+    took = spent(resource.RUSAGE_CHILDREN) - before
+    print(f"status {status}; {time.monotonic() - begin:.0f} s by the clock, {took:.0f} s of processor time, streetsim's in it")
+    print(f"memory of the largest process: {megabytes(resource.RUSAGE_CHILDREN):.0f} MB")
+
+
 def spent(who):
     used = resource.getrusage(who)
     return used.ru_utime + used.ru_stime
@@ -91,21 +114,26 @@ def main():
     made = argparse.ArgumentParser(description=__doc__, formatter_class=argparse.RawDescriptionHelpFormatter)
     made.add_argument("program")
     made.add_argument("--vehicles", type=int, default=240_000)
-    made.add_argument("--until", type=int, default=86_400)
-    made.add_argument("--folder", default="/tmp/streetsim-day")
+    made.add_argument("--until", type=int)
+    made.add_argument("--folder", type=Path, default="/tmp/streetsim-day")
+    made.add_argument("--route", type=int, metavar="ITERATIONS")
     words, more = made.parse_known_args()
-    folder = Path(words.folder)
+    folder = words.folder
     folder.mkdir(exist_ok=True)
     network, routes, run, mapped = (folder / name for name in ("net.xml", "rou.xml", "run.jsonl", "map.json"))
-    if not run.exists():
+    if not routes.exists():
         make_network(network)
         make_routes(routes, words.vehicles)
+    if words.route is not None:
+        find_ways(words, more, network, routes, folder / "trips.xml")
+        return
+    if not run.exists():
         begin = spent(resource.RUSAGE_SELF)
         importing.main([str(network), "--routes", str(routes), "-o", str(run), "--map", str(mapped)])
         print(f"import: {spent(resource.RUSAGE_SELF) - begin:.1f} s of processor time", flush=True)
     running.Recorder = Counted
     begin, here, there = time.monotonic(), spent(resource.RUSAGE_SELF), spent(resource.RUSAGE_CHILDREN)
-    arguments = [run, "--map", mapped, "--until", words.until, "--program", words.program, "--out", folder / "out", *more]
+    arguments = [run, "--map", mapped, "--until", words.until or 86_400, "--program", words.program, "--out", folder / "out", *more]
     running.main([str(word) for word in arguments])
     here, there = spent(resource.RUSAGE_SELF) - here, spent(resource.RUSAGE_CHILDREN) - there
     print(f"{time.monotonic() - begin:.1f} s by the clock; processor: tools {here:.1f} s, streetsim and further runs {there:.1f} s")

@@ -149,6 +149,29 @@ def lit(*phases):
     return two_ways('tl="B" linkIndex="0"', f'<tlLogic id="B" type="static" programID="0" offset="0">{shown}</tlLogic>')
 
 
+def joining(main, minor, end):
+    """A street w, e with so many vehicles an hour goes first at C, where o, s joins it; o also leads round C, by 22 s more. Gives
+    the network and its trips."""
+    ends = {"w": ("W", "C"), "e": ("C", "B"), "o": ("O", "D"), "s": ("D", "C"), "far": ("D", "F"), "on": ("F", "B"), "out": ("B", "E")}
+    metres = {"far": 450.0, "on": 450.0}
+    ways = [("o", "s", ""), ("o", "far", ""), ("far", "on", ""), ("on", "out", ""), ("e", "out", "")]
+    yields = [("w", "e", "0"), ("s", "e", "1")]
+    inside = "".join(
+        f'<edge id=":C_{at}" function="internal"><lane id=":C_{at}_0" index="0" speed="9" length="9" shape="0,0 9,0"/></edge>' for at in "01"
+    )
+    edges = "".join(f'<edge id="{name}" from="{begin}" to="{end}">{lane(name, 0, metres.get(name, 300.0))}</edge>' for name, (begin, end) in ends.items())
+    junctions = "".join(f'<junction id="{name}" type="dead_end" x="0" y="0"/>' for name in "WBODFE")
+    junctions += '<junction id="C" type="priority" x="0" y="0"><request index="0" response="00"/><request index="1" response="01"/></junction>'
+    listed = "".join(f'<connection from="{one}" to="{other}" fromLane="0" toLane="0" state="M"/>' for one, other, _ in ways)
+    listed += "".join(
+        f'<connection from="{one}" to="{other}" fromLane="0" toLane="0" via=":C_{at}_0" state="{"Mm"[int(at)]}"/>' for one, other, at in yields
+    )
+    flows = "".join(
+        f'<flow id="{name}" begin="0" end="{end}" number="{count * end // 3600}" from="{name}" to="out"/>' for name, count in (("w", main), ("o", minor))
+    )
+    return f'<net version="1.9">{inside}{edges}{junctions}{listed}</net>', f"<routes>{flows}</routes>"
+
+
 def ring():
     """A ring of four short edges; at each corner one leads in, one out, and one goes to the third corner from it."""
     edges, ways = [], []
@@ -269,6 +292,32 @@ class Equilibria(Commands):
         self.assertEqual((self.folder / "a.jsonl").read_bytes(), (self.folder / "b.jsonl").read_bytes())
 
 
+class GivingWay(Commands):
+    """720 vehicles an hour go first. Before each a gap of 7.2 - 2 * 0.72 = 5.8 s has to be free, and they come every 5 s."""
+
+    def short(self, *words, out="out"):
+        self.route("--gap", 0.2, "--iterations", 6, *words, out=out)
+        return sum("s" in edges for name, edges in self.routes(out).items() if name.startswith("o"))
+
+    def test_those_who_wait_too_long_take_another_way(self):
+        self.given(*joining(720, 360, 1800))
+        self.assertEqual(self.short("--rounds", 0, out="free"), 180)
+        few = self.short()
+        self.assertLess(few, 60)
+        setting = json.loads((self.folder / "out/setting.json").read_text())
+        self.assertEqual((setting["rounds"], setting["arrived"]), (2, 540))
+        self.assertLess(setting["mean_trip_s"], 120)
+
+    def test_check_runs_are_those_of_streetsim_run(self):
+        self.given(*joining(540, 360, 900))
+        run, mapped = self.folder / "run.jsonl", self.folder / "map.json"
+        self.route("--iterations", 2, "--gap", 1, "--until", 4000, "--run", run, "--map", mapped)
+        self.tool("run", run, "--map", mapped, "--seeds", "101-103", "--until", 4000, "--out", self.folder / "runs", "--program", PROGRAM)
+        here = [(row["seed"], float(row["mean_trip_s"])) for row in self.table("check.csv")]
+        there = [(row["seed"], round(float(row["mean_trip_s"]), 3)) for row in self.table("seeds.csv", "runs")]
+        self.assertEqual(here, there)
+
+
 class Imports(Case):
     """streetsim-import --trips"""
 
@@ -357,12 +406,13 @@ class BadInput(Commands):
 
 
 class Ends(Commands):
-    def begun(self):
-        """A search that has ended its first iteration."""
+    def begun(self, *more, until="0: mean trip"):
+        """A search that has ended an iteration."""
         self.given(lit((15, "G"), (45, "r")), flow(720, 3600))
-        words = [TOOLS / "streetsim-route", *self.words("--gap", 0)]
+        words = [TOOLS / "streetsim-route", *self.words("--gap", 0, *more)]
         search = subprocess.Popen(list(map(str, words)), stdout=subprocess.PIPE, stderr=subprocess.PIPE, text=True)
-        self.assertTrue(search.stderr.readline().startswith("0: mean trip"))
+        while not (line := search.stderr.readline()).startswith(until):
+            self.assertNotEqual(line, "", f"ended before {until!r}")
         return search
 
     def test_ctrl_c_ends_with_the_best_so_far(self):
@@ -373,6 +423,36 @@ class Ends(Commands):
         self.assertIn("is not reached; routes of iteration", told)
         self.assertLess(len(self.table("iterations.csv")), 5)
         self.assertEqual(len(self.routes()), 720)
+
+    WORKS = ("--close", "short_0:100-200:600-1800", "--knowing", "0,1")
+
+    def test_ctrl_c_before_works(self):
+        """What is left ends with its first iteration: all files are there."""
+        search = self.begun(*self.WORKS, until="before, 0: mean trip")
+        os.kill(search.pid, signal.SIGINT)
+        told, _ = search.communicate(timeout=120)
+        self.assertEqual(search.returncode, 1)
+        self.assertRegex(told, r"^knowing 0: mean trip .*\nknowing 1: mean trip .*\n$")
+        self.assertEqual([row["knowing"] for row in self.table("knowing.csv")], ["", "0", "1"])
+        for share in ("0", "1"):
+            self.assertEqual(len(self.table("iterations.csv", f"out/knowing-{share}")), 1)
+            self.assertEqual(len(self.routes(f"out-{share}")), 720)
+
+    def test_ctrl_c_among_works(self):
+        search = self.begun(*self.WORKS, "--iterations", 2, until="knowing 0, 0: mean trip")
+        os.kill(search.pid, signal.SIGINT)
+        search.communicate(timeout=120)
+        self.assertEqual(search.returncode, 1)
+        counts = [len(self.table("iterations.csv", f"out/knowing-{share}")) for share in ("0", "1")]
+        self.assertLessEqual(counts[0], 2)
+        self.assertEqual(counts[1], 1)
+
+    def test_a_signal_among_works_leaves_nothing(self):
+        search = self.begun(*self.WORKS, "--iterations", 1, until="knowing 0, 0: mean trip")
+        os.kill(search.pid, signal.SIGTERM)
+        search.communicate(timeout=60)
+        self.assertNotEqual(search.returncode, 0)
+        self.assertEqual([path for path in self.folder.iterdir() if path.name.startswith(("out", ".out"))], [])
 
     def test_a_signal_leaves_nothing(self):
         search = self.begun()
@@ -385,12 +465,24 @@ class Ends(Commands):
 class EqualBytes(Commands):
     TRIPS = flow(300, 900)
 
-    def test_for_any_number_of_jobs(self):
-        self.given(lit((15, "G"), (45, "r")), self.TRIPS)
+    def check_equal(self, *words, status=0):
         for jobs in (1, 2, 4):
-            self.route("--jobs", jobs, "--iterations", 3, "--gap", 0.2, "--seeds", "1-2", out=f"out{jobs}")
+            self.route("--jobs", jobs, *words, out=f"out{jobs}", status=status)
         self.assertEqual(self.files("out2"), self.files("out1"))
         self.assertEqual(self.files("out4"), self.files("out1"))
+
+    def test_for_any_number_of_jobs(self):
+        self.given(lit((15, "G"), (45, "r")), self.TRIPS)
+        self.check_equal("--iterations", 3, "--gap", 0.2, "--seeds", "1-2")
+
+    def test_with_works(self):
+        self.given(lit((15, "G"), (45, "r")), self.TRIPS)
+        self.check_equal("--iterations", 2, "--gap", 1, "--close", "short_0:100-200:200-600", "--knowing", 0.5, "--sign", "in")
+        self.assertEqual(len(self.table("knowing.csv", "out1")), 2)
+
+    def test_where_roads_give_way(self):
+        self.given(*joining(540, 360, 900))
+        self.check_equal("--iterations", 2, "--gap", 1)
 
 
 @needs_simulator
@@ -400,17 +492,19 @@ class OnACluster(ClusterCase, Commands):
         port, workers = self.cluster()
         self.net, self.trips = DATA / "town.net.xml.gz", self.folder / "town.trips.xml"
         self.tool_trips()
-        more = ("--iterations", 2, "--gap", 1, "--until", 4000)
+        works = ("--close", "13_0:20-140:900-2700", "--close=-13_0:20-140:900-2700", "--knowing", 0.3)
+        more = ("--iterations", 1, "--gap", 1, "--until", 4000, *works)
         self.route(*more, out="alone")
         words = self.words(*more, "--cluster", f"127.0.0.1:{port}", out="killed")
         self.kill_worker_during(workers[0], [TOOLS / "streetsim-route", *words])
         self.assertEqual(self.files("killed"), self.files("alone"))
 
     def tool_trips(self):
-        """A fifth of the town's vehicles as trips."""
+        """A fifth of the town's vehicles as trips, but for those from and to its street 13."""
         with gzip.open(DATA / "town.rou.xml.gz") as file:
             vehicles = list(ElementTree.parse(file).getroot().iter("vehicle"))[::5]
-        ends = ((one.get("id"), one.get("depart"), one.find("route").get("edges").split()) for one in vehicles)
+        ends = [(one.get("id"), one.get("depart"), one.find("route").get("edges").split()) for one in vehicles]
+        ends = [one for one in ends if {one[2][0], one[2][-1]}.isdisjoint({"13", "-13"})]
         rows = (f'<trip id="{name}" depart="{depart}" from="{edges[0]}" to="{edges[-1]}"/>' for name, depart, edges in ends)
         self.trips.write_text(f"<routes>{''.join(rows)}</routes>", encoding="utf-8")
 

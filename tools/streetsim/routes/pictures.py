@@ -4,13 +4,19 @@ from __future__ import annotations
 import sys
 from collections import Counter
 from collections.abc import Sequence
+from typing import Any, NamedTuple
 
 from ..files import Fault
 from ..pictures import plots
+from ..run.mapping import MapLink
 from .diverting import Diverted
 
 STYLES = ("-", "--", ":", "-.")
-WIDEST = 7.0  # points, of the greatest flow
+WIDEST = 5.0  # points, of the greatest flow
+CLASSES = 6  # of flows, at most
+APART = ("#08306b", "#2171b5", "#6baed6", "#d8d8d8", "#fdae6b", "#e6550d", "#7f2704")  # fewer to more
+SMALL = 0.1  # of the greatest difference: less is about equal
+NEAR = 250.0  # metres around what differs, at least
 
 
 def draw(folder: str, before: Diverted, one: Diverted) -> None:
@@ -39,29 +45,90 @@ def gaps(pyplot, searches: Sequence[Diverted]):
 
 
 def flows(pyplot, before: Diverted, one: Diverted):
-    """Three maps of trips on edges: before, with the works, and the difference, which is wider where it is greater."""
+    """Three maps of trips on edges: before, with the works, and the difference, as near as it reaches."""
+    links, graph = before.judged.loaded.mapping.links, before.search.town.graph
+    there, here = (Counter(edge for trip in case.trips for edge in set(trip.path)) for case in (before, one))
+    number = [graph.number[link.edge] for link in links]
+    closed = set(one.search.closing.shut) if one.search.closing else set()
+    works = [middle(link.shape) for link, edge in zip(links, number, strict=True) if edge in closed]
+    values = [[counts[edge] for edge in number] for counts in (there, here)]
+    figure, axes = pyplot.subplots(1, 3, figsize=(13, 4.4), layout="constrained")
+    scale = shades(max(1, *values[0], *values[1]))
+    for place, title, counts in zip(axes, ("before", one.label), values):
+        lines = draw_flows(place, links, counts, scale, title)
+    figure.colorbar(lines, ax=axes[:2], label="trips", location="bottom", shrink=0.6)
+    apart = [after - first for first, after in zip(*values, strict=True)]
+    lines = draw_flows(axes[2], links, apart, differences(max(1, *map(abs, apart))), "difference")
+    figure.colorbar(lines, ax=axes[2], label="trips fewer (broken lines) or more than before", location="bottom", shrink=0.9)
+    zoom(axes[2], links, apart)
+    if works:
+        for place in axes[1:]:
+            place.plot(*zip(*works), "x", color="black", markersize=9, markeredgewidth=2, label="closed")
+        axes[2].legend(frameon=False, fontsize=8)
+    return figure
+
+
+class Scale(NamedTuple):
+    """Colours by classes: where each begins and ends, and the value of the widest line."""
+
+    colours: Any
+    norm: Any
+    most: float
+
+
+def shades(most: int) -> Scale:
+    """Darker for more."""
+    from matplotlib import colormaps
+    from matplotlib.colors import BoundaryNorm, ListedColormap
+    from matplotlib.ticker import MaxNLocator
+
+    steps = MaxNLocator(CLASSES, integer=True).tick_values(0, most)
+    count = len(steps) - 1
+    return Scale(ListedColormap([colormaps["viridis_r"](0.15 + 0.85 * at / max(1, count - 1)) for at in range(count)]), BoundaryNorm(steps, count), most)
+
+
+def differences(most: int) -> Scale:
+    """Orange for more and blue for fewer, grey for what is about equal."""
+    from matplotlib.colors import BoundaryNorm, ListedColormap
+
+    steps = [round(most * share) for share in (-1.0, -0.6, -0.3, -0.1, 0.1, 0.3, 0.6, 1.0)]
+    steps = [step + at * 1e-6 for at, step in enumerate(steps)]  # so that they rise where there are few trips
+    return Scale(ListedColormap(APART), BoundaryNorm(steps, len(APART)), most)
+
+
+def draw_flows(axes, links: Sequence[MapLink], values: Sequence[int], scale: Scale, title: str):
+    """A map of links: wider and of another colour by their values; those below 0 are broken lines."""
     from matplotlib.collections import LineCollection
 
-    links = before.judged.loaded.mapping.links
-    graph = before.search.town.graph
-    there, here = (Counter(edge for trip in case.trips for edge in set(trip.path)) for case in (before, one))
-    panels = [("before", there), (one.label, here), ("difference", {edge: here[edge] - there[edge] for edge in there | here})]
-    figure, all_axes = pyplot.subplots(1, 3, figsize=(13, 4.8), layout="constrained")
-    for axes, (title, counts) in zip(all_axes, panels, strict=True):
-        apart = title == "difference"
-        most = max(1, max((abs(count) for count in (counts if apart else there | here).values()), default=1))
-        values = [counts.get(graph.number[link.edge], 0) for link in links]
-        order = sorted(range(len(links)), key=lambda at: abs(values[at]))
-        axes.add_collection(LineCollection([link.shape for link in links], colors="#cccccc", linewidths=0.8))
-        lines = LineCollection(
-            [links[at].shape for at in order],
-            array=[values[at] for at in order],
-            cmap="PuOr_r" if apart else "viridis_r",
-            clim=(-most if apart else 0, most),
-            linewidths=[WIDEST * abs(values[at]) / most for at in order],
-        )
-        axes.add_collection(lines)
-        axes.autoscale_view()
-        axes.set(aspect="equal", title=title, xlabel="x (m)", ylabel="y (m)")
-        figure.colorbar(lines, ax=axes, label="trips more than before" if apart else "trips", shrink=0.7)
-    return figure
+    axes.add_collection(LineCollection([link.shape for link in links], colors="#d8d8d8", linewidths=0.8))
+    order = sorted((at for at, value in enumerate(values) if value), key=lambda at: abs(values[at]))
+    lines = LineCollection(
+        [links[at].shape for at in order],
+        array=[values[at] for at in order],
+        cmap=scale.colours,
+        norm=scale.norm,
+        linewidths=[0.8 + WIDEST * abs(values[at]) / scale.most for at in order],
+        linestyles=["-" if values[at] > 0 else (0, (2, 0.6)) for at in order],
+    )
+    axes.add_collection(lines)
+    axes.autoscale_view()
+    axes.set(aspect="equal", title=title, xlabel="x (m)", ylabel="y (m)")
+    return lines
+
+
+def zoom(axes, links: Sequence[MapLink], values: Sequence[int]) -> None:
+    """Shows the part of a map where values are not about 0, with some of the streets around."""
+    least = SMALL * max(map(abs, values))
+    points = [point for link, value in zip(links, values, strict=True) if abs(value) > least for point in link.shape]
+    if not points:
+        return
+    spans = [(min(place), max(place)) for place in zip(*points)]
+    half = max(NEAR, *(0.6 * (last - first) for first, last in spans))
+    for (first, last), set_limits in zip(spans, (axes.set_xlim, axes.set_ylim)):
+        set_limits((first + last) / 2 - half, (first + last) / 2 + half)
+
+
+def middle(shape: Sequence[tuple[float, float]]) -> tuple[float, float]:
+    """The place halfway along a street, by its corners."""
+    (x, y), (next_x, next_y) = shape[(len(shape) - 1) // 2], shape[len(shape) // 2]
+    return (x + next_x) / 2, (y + next_y) / 2

@@ -11,7 +11,7 @@ from statistics import fmean
 
 from .. import limits, program
 from ..cli.progress import Slow, Stopping
-from ..cli.words import Parser, files_of, listed, time_within, within
+from ..cli.words import Parser, add_rounds, files_of, listed, time_within, within
 from ..files import Fault, place_of, refuse_equal, whole_file, whole_folder
 from ..run.tables import write_table
 from ..signals.planning import add_machines
@@ -66,6 +66,7 @@ def add_search(made: argparse.ArgumentParser) -> None:
         "--gap", type=share_of, default=0.02, help="what all could gain by other ways, of the seconds of the shortest ways (default %(default)s)"
     )
     made.add_argument("--share", type=share_of, default=0.2, help="of the trips, that change their way at first (default %(default)s)")
+    add_rounds(made)
     made.add_argument("--seeds", default="1", metavar="FIRST-LAST", help="of the search (default %(default)s)")
     made.add_argument(
         "--check", default="101-103", metavar="FIRST-LAST", help="seeds by which the routes are judged, which the search does not see (default %(default)s)"
@@ -163,7 +164,7 @@ def job_of(words: argparse.Namespace) -> Job:
     until = min(limits.CLOCK, last + AFTER) if words.until is None else words.until
     if until <= last:
         raise Fault(f"--until {until}: the last trip departs at {last:,} s")
-    ground = Ground(words.program, digest_of(words.program), town.graph, words.slice, until)
+    ground = Ground(words.program, digest_of(words.program), town.graph, words.slice, until, words.rounds)
     asked = Asked(words.iterations, words.gap, words.share, seeds_of(words.seeds, "--seeds"))
     return Job(words, town, trips, ground, asked, seeds_of(words.check, "--check"))
 
@@ -222,7 +223,7 @@ def write_run_of(job: Job, one: Diverted, run_path: str, map_path: str) -> None:
 
 def setting_of(job: Job, one: Diverted) -> dict:
     words = job.words
-    names = ("net", "additional", "trips", "slice", "iterations", "gap", "share", "seeds", "check")
+    names = ("net", "additional", "trips", "slice", "iterations", "gap", "share", "rounds", "seeds", "check")
     setting = {name: getattr(words, name) for name in names} | {"until": job.ground.until, "iteration": one.search.best.number}
     if words.close:
         setting |= {"close": words.close, "knowing": one.share, "sign": words.sign, "before": words.before}

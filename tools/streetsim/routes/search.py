@@ -8,6 +8,7 @@ from statistics import fmean
 from .. import limits
 from .closing import Closing, turn_off
 from .costs import Costs, costs_of, flat_costs, mean_of
+from .giving import Passed
 from .loading import Loaded, Town
 from .router import FAR, Found, Path, Wish
 from .start import first_ways, no_way
@@ -66,6 +67,7 @@ class Best:
     gap: float = FAR
     number: int = 0
     ways: list[tuple[Path, float]] = field(default_factory=list)
+    passed: list[Passed] = field(default_factory=list)
 
     def is_below(self, lacking: int, gap: float, trust: float = 1.0) -> bool:
         """Whether it is better than an iteration, whose gap may be so many times its own."""
@@ -105,6 +107,7 @@ class Search:
         self.iterations: list[Iteration] = []
         self.best = Best()
         self.expected: Costs | None = None
+        self.passed: list[Passed] = []  # by seed, when those passed who go first, in the last run
 
     def start(self, seed: int) -> None:
         """Gives first ways to the trips that have none."""
@@ -122,10 +125,11 @@ class Search:
             gap, lacking = gap_of(found), len(self.trips) - min(one.arrived for one in outcomes)
             back = self.best.is_below(lacking, gap, TRUST)
             if not self.best.is_below(lacking, gap):
-                self.best = Best(lacking, gap, number, [(trip.path, trip.entry) for trip in self.trips])
+                self.best = Best(lacking, gap, number, [(trip.path, trip.entry) for trip in self.trips], self.passed)
             last = number == asked.iterations or gap <= OWN_SEED * asked.gap
             if back and not last:
                 self.best.give_to(self.trips)
+                self.passed = self.best.passed
                 found = self.searched(costs)
             if number < asked.iterations and self.turn_off(costs):
                 last = False
@@ -141,14 +145,22 @@ class Search:
         self.best.give_to(self.trips)
 
     def observe(self, seeds: Sequence[int]) -> tuple[Loaded, list[Outcome], Costs]:
-        """Runs the present ways; the trips then have their entries."""
+        """Runs the present ways. Who gives way without a light waits for those who passed in the iteration before, and at first in a
+        run in which nobody waits."""
         loaded = self.town.loaded(self.trips)
         expected = self.expected or flat_costs(self.town.graph, loaded.free)
-        outcomes = self.team.runs(loaded, expected, seeds)
+        if self.ground.rounds and loaded.mapping.yields and not self.passed:
+            self.passed = [one.passed for one in self.team.runs(loaded, expected, seeds, [None] * len(seeds))]
+        outcomes = self.team.runs(loaded, expected, seeds, self.passed or [None] * len(seeds))
+        self.passed = [one.passed for one in outcomes] if self.passed else []
+        return loaded, outcomes, self.noted(loaded, outcomes)
+
+    def noted(self, loaded: Loaded, outcomes: Sequence[Outcome]) -> Costs:
+        """The costs that runs showed; the trips then have their entries."""
         for at, trip in enumerate(self.trips):
             trip.entry = fmean(one.entries[at] for one in outcomes)
         self.expected = costs_of(self.town.graph, loaded.free, mean_of([one.observed for one in outcomes]), self.ground.width)
-        return loaded, outcomes, self.expected
+        return self.expected
 
     def searched(self, costs: Costs) -> list[Found]:
         """The best ways of the trips that may change."""
@@ -165,8 +177,10 @@ class Search:
         return turn_off(trips, self.closing, self.town.graph, costs, strict)
 
     def judged(self, seeds: Sequence[int]) -> Judged:
-        """The present ways by seeds of which the search knows nothing."""
-        loaded, outcomes, costs = self.observe(seeds)
+        """The present ways by seeds of which the search knows nothing, each by rounds of its own."""
+        loaded = self.town.loaded(self.trips)
+        outcomes = self.team.checks(loaded, self.expected or flat_costs(self.town.graph, loaded.free), seeds)
+        costs = self.noted(loaded, outcomes)
         found = self.searched(costs)
         return Judged(loaded, seeds, outcomes, costs, found, gap_of(found))
 

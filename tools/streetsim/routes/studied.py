@@ -25,16 +25,17 @@ SLICE = 300
 
 
 def routed(
-    run: Run, mapping: Map, map_path: str, works: Sequence[str], knowing: float, joint: Sequence[str], program: str, until: int, where: str
-) -> tuple[Run, Map]:
+    run: Run, mapping: Map, map_path: str, works: Sequence[str], knowing: float, joint: Sequence[str], program: str, until: int, rounds: int,
+    where: str,
+) -> tuple[Run, Map]:  # fmt: skip
     """The run and its map with ways by feedback for the vehicles of its import; with works, round these for a share of drivers who
-    know of them. joint: further lanes that are joint, as in the variants to compare with."""
+    know of them. joint: further lanes that are joint, as in the variants to compare with; rounds: by which vehicles give way."""
     sources = sources_of(mapping.sources, map_path, run.path)
     known = {name: tuple(value) if isinstance(value, list) else value for name, value in mapping.options.items()}
     options = Options(**{**known, "joint": (*known.get("joint", ()), *joint)})
     town = read_town(sources.net, sources.additional, options, Report())
     trips = read_trips([*sources.routes, *sources.trips], town.net, town.graph, town.types, options, Report())
-    ground = Ground(program, digest_of(program), town.graph, SLICE, until)
+    ground = Ground(program, digest_of(program), town.graph, SLICE, until, rounds)
 
     def told(label: str, one: Iteration) -> bool:
         print(f"{where}: {label}{one.line(len(trips.all))}", file=sys.stderr, flush=True)

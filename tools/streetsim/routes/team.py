@@ -6,9 +6,10 @@ from collections.abc import Iterator, Sequence
 
 from ..study.machines import Machines, machines
 from .costs import Costs
+from .giving import Passed
 from .loading import Loaded
 from .router import Found, Router, Shut, Wish, parts_of
-from .watching import Ground, Outcome, watched
+from .watching import Ground, Outcome, checked, watched
 
 CLUSTER_PARTS = 16  # of a search
 
@@ -25,9 +26,15 @@ class Team:
         tasks = [(f"part {at} of a search", search_part, 0, part, costs, shut) for at, part in enumerate(parts, 1)]
         return sorted((found for part in self.workers.ordered(tasks) for found in part), key=lambda found: found.trip)
 
-    def runs(self, loaded: Loaded, expected: Costs, seeds: Sequence[int]) -> list[Outcome]:
-        """What runs with some seeds show, in the order of the seeds."""
-        tasks = [(f"the run with seed {seed}", watched, 0, loaded.run, loaded.mapping, expected, seed) for seed in seeds]
+    def runs(self, loaded: Loaded, expected: Costs, seeds: Sequence[int], passed: Sequence[Passed | None]) -> list[Outcome]:
+        """What runs with some seeds show, in the order of the seeds; passed: of each, when those passed who go first."""
+        pairs = zip(seeds, passed, strict=True)
+        tasks = [(f"the run with seed {seed}", watched, 0, loaded.run, loaded.mapping, expected, seed, before) for seed, before in pairs]
+        return list(self.workers.ordered(tasks))
+
+    def checks(self, loaded: Loaded, expected: Costs, seeds: Sequence[int]) -> list[Outcome]:
+        """The same of runs with rounds of their own."""
+        tasks = [(f"the run with seed {seed}", checked, 0, loaded.run, loaded.mapping, expected, seed) for seed in seeds]
         return list(self.workers.ordered(tasks))
 
 

@@ -1,21 +1,28 @@
-"""A run that is watched: where its vehicles are seen now and then, and what movements took by that."""
+"""A run that is watched: where its vehicles are seen now and then, what movements took by that, and who passed first."""
 from __future__ import annotations
 
 import resource
 from collections.abc import Sequence
 from dataclasses import dataclass
+from functools import partial
 from itertools import pairwise
 
 from .. import limits
 from ..client import Client, NoReply, ProgramEnded, Refused, Starved, Vehicle
+from ..cli.words import ROUNDS
 from ..files import Fault
-from ..run.budget import MINUTE, SLACK, Asking
+from ..run.budget import INTERVALS, MINUTE, SLACK, Asking
 from ..run.freeflow import FreeFlow
 from ..run.mapping import Map
+from ..run.passings import Passings
 from ..run.record import Recorder, Records, Settings
+from ..run.rounds import COARSEST, gaps_of, places_of, with_lines
 from ..run.running import seeded
 from ..run.runs import Run
+from ..run.serving import serving
+from ..study.giving import ADVICE
 from .costs import Costs, Observed, nothing_observed
+from .giving import Passed, named, waiting_lines
 from .graph import END, Graph
 from .passes import Passes, Sight
 
@@ -25,13 +32,15 @@ CROWDED = 2.0  # vehicles are on their way so much longer than alone on the road
 
 @dataclass(frozen=True, slots=True)
 class Ground:
-    """What all runs and searches of a network stand on. program: its path; digest: of its file; width: seconds of a slice."""
+    """What all runs and searches of a network stand on. program: its path; digest: of its file; width: seconds of a slice; rounds:
+    by which vehicles give way without a light in a run that counts, 0 where nobody does."""
 
     program: str
     digest: str
     graph: Graph
     width: int
     until: int
+    rounds: int = ROUNDS
 
     @property
     def slices(self) -> int:
@@ -49,6 +58,7 @@ class Outcome:
     rescues: int
     calls: int
     processor: float  # seconds, of the simulator
+    passed: Passed  # when those passed who go first
 
     @property
     def arrived(self) -> int:
@@ -56,22 +66,28 @@ class Outcome:
 
 
 class Watcher(Recorder):
-    """Runs with rescues until all have arrived, and notes where each vehicle was seen; makes no tables."""
+    """Runs with rescues until all have arrived, and notes where each vehicle was seen, and when those passed who go first; makes no
+    tables."""
 
-    def __init__(self, sim: Client, run: Run, mapping: Map, until: int) -> None:
+    def __init__(self, sim: Client, run: Run, mapping: Map, until: int, giving: bool) -> None:
+        """giving: whether vehicles give way without a light."""
         super().__init__(sim, run, mapping, Settings(until, 0), None, lambda *_: None)
-        driving = FreeFlow(mapping, run.load.command["dawdle"] / 1000).driving
+        dawdle = run.load.command["dawdle"]
+        driving = FreeFlow(mapping, dawdle / 1000).driving
+        self.first = places_of(mapping) if giving else []  # the lanes of those who go first
+        self.passings = Passings(mapping, run.enters, dawdle)
         self.driving = driving
         self.scale = [seconds / link.cells for seconds, link in zip(driving, mapping.links, strict=True)]
         self.seen: list[list[Sight]] = [[] for _ in run.enters]
         self.most = sim.calls or limits.CALLS
         self.every, self.by_lane, self.watches = self.way_to_look()
+        self.often = self.way_to_look_first() if self.first else 0
         self.stood: dict[tuple[int, int], tuple[int, int]] = {}  # (vehicle, link) at whose end it stood at the last look: car, since
 
     def way_to_look(self) -> tuple[int, bool, int]:
         """The seconds from one look to the next; whether all lanes are asked for, which is done where the calls allow it each minute,
         and not all vehicles on their way; and the lanes that may then be watched for rescues each minute."""
-        left, minutes = self.most - self.budget.base(0) - SLACK, self.budget.minutes
+        left, minutes = self.left(), self.budget.minutes
         if minutes * (len(self.places) + 1) <= left:
             return MINUTE, True, 0
         driven = sum(self.free_flow(line.command["plan"]) for line in self.run.enters)
@@ -79,17 +95,38 @@ class Watcher(Recorder):
             looks = int(CROWDED * driven / (often * MINUTE)) + len(self.run.enters)
             if looks + minutes <= left:
                 return often * MINUTE, False, (left - looks) // minutes
-        raise Fault(
+        raise self.too_many("an earlier --until")
+
+    def left(self) -> int:
+        """Calls for looks beside the fewest that those who go first need."""
+        return self.most - self.budget.base(0) - SLACK - self.budget.steps // COARSEST * len(self.first)
+
+    def way_to_look_first(self) -> int:
+        """The seconds from one look at those who go first to the next, as few as the calls allow."""
+        if not self.by_lane:
+            return COARSEST
+        steps, lanes = self.budget.steps, len(self.first)
+        spare = self.left() + steps // COARSEST * lanes - self.budget.minutes * (len(self.places) + 1)
+        return next((every for every in INTERVALS if 0 < every < COARSEST and steps // every * lanes <= spare), COARSEST)
+
+    def too_many(self, advice: str) -> Fault:
+        return Fault(
             f"{len(self.run.enters):,} vehicles up to {self.settings.until:,} s take more calls than the {self.most:,} of the program: "
-            "take fewer trips, or an earlier --until"
+            f"take fewer trips, or {advice}"
         )
 
     def record(self) -> Records:
-        asking = Asking(self.every if self.by_lane else 0, self.by_lane, [], 0)
+        asking = Asking(self.often or self.every * self.by_lane, self.by_lane, [], 0)
         self.budget.asking = lambda most: asking
-        return super().record()
+        records = super().record()
+        for owner, end in self.ended.items():
+            if end.state == "arrived":
+                self.passings.arrived(owner, end.step)
+        return records
 
     def look(self, clock: int) -> None:
+        if self.often:
+            self.polled = self.places if self.by_lane and clock % MINUTE == 0 else self.first
         if not self.by_lane and clock % self.every == 0:
             self.ask_all(clock)
         super().look(clock)
@@ -130,11 +167,24 @@ class Watcher(Recorder):
         return limits.CALLS if self.by_lane else self.watches
 
     def note_lanes(self, clock: int, lanes: dict) -> None:
+        if self.by_lane and clock % MINUTE == 0:
+            self.note_all(clock, lanes)
+        if self.often:
+            self.note_passings(clock, lanes)
+
+    def note_all(self, clock: int, lanes: dict) -> None:
         for (link, _), reply in lanes.items():
             for car, cell, speed, *_ in reply.cells:
                 self.note(self.owners[car], clock, link, cell, speed)
             for car, *_ in reply.buffer:
                 self.note_at_end(self.owners[car], clock, link)
+
+    def note_passings(self, clock: int, lanes: dict) -> None:
+        for (link, lane), reply in lanes.items():
+            for car, cell, *_ in reply.cells:
+                self.passings.note(self.owners[car], clock, link, lane, cell)
+            for car, *_ in reply.buffer:
+                self.passings.note(self.owners[car], clock, link, lane, self.mapping.links[link].cells, True)
 
     def note(self, owner: int, clock: int, link: int, cell: int, speed: int) -> None:
         self.seen[owner].append(Sight(clock, link, (cell + 1) * self.scale[link], speed))
@@ -143,22 +193,40 @@ class Watcher(Recorder):
         self.seen[owner].append(Sight(clock, link, self.driving[link], 0))
 
 
-def watched(ground: Ground, run: Run, mapping: Map, expected: Costs, seed: int) -> Outcome:
-    """One run with a seed, and what it showed. expected: costs by which what was lost between two sights is dealt out."""
-    run, before = seeded(run, seed), resource.getrusage(resource.RUSAGE_CHILDREN)
+def watched(ground: Ground, run: Run, mapping: Map, expected: Costs, seed: int, passed: Passed | None) -> Outcome:
+    """One run with a seed, and what it showed. expected: costs by which what was lost between two sights is dealt out; passed: when
+    those passed who go first, in the run before."""
+    lines = waiting_lines(passed, mapping, run.start()) if passed else []
+    return observed_run(ground, with_lines(seeded(run, seed), lines), mapping, expected, seed)
+
+
+def checked(ground: Ground, run: Run, mapping: Map, expected: Costs, seed: int) -> Outcome:
+    """The same by rounds with this seed alone, as streetsim-run makes them."""
+    run, settings, serve = seeded(run, seed), Settings(ground.until), partial(serving, ground.program, run.path)
+    try:
+        lines, _ = gaps_of(run, mapping, settings, ground.rounds, serve, lambda *_: None)
+    except Fault as fault:
+        raise Fault(f"{fault}: {ADVICE}") from None
+    return observed_run(ground, with_lines(run, lines), mapping, expected, seed)
+
+
+def observed_run(ground: Ground, run: Run, mapping: Map, expected: Costs, seed: int) -> Outcome:
+    before, giving = resource.getrusage(resource.RUSAGE_CHILDREN), bool(ground.rounds and mapping.yields)
     try:
         with Client(ground.program) as sim:
-            watcher = Watcher(sim, run, mapping, ground.until)
+            watcher = Watcher(sim, run, mapping, ground.until, giving)
             records = watcher.record()
     except (Refused, Starved, NoReply, ProgramEnded) as fault:
         raise Fault(f"a run with seed {seed}: {fault}") from None
     after = resource.getrusage(resource.RUSAGE_CHILDREN)
     passes = Passes(ground.graph, mapping, expected, run.load.command["dawdle"] / 1000, watcher.every)
     spent = after.ru_utime + after.ru_stime - before.ru_utime - before.ru_stime
-    return outcome_of(ground, run, passes, watcher.seen, records, spent)
+    return outcome_of(ground, run, passes, watcher.seen, records, spent, named(watcher.passings.found, mapping))
 
 
-def outcome_of(ground: Ground, run: Run, passes: Passes, seen: Sequence[Sequence[Sight]], records: Records, spent: float) -> Outcome:
+def outcome_of(
+    ground: Ground, run: Run, passes: Passes, seen: Sequence[Sequence[Sight]], records: Records, spent: float, passed: Passed
+) -> Outcome:
     observed = nothing_observed(len(ground.graph.movements), ground.slices)
     entries, ends, total = [], [], 0
     for line, sights, last in zip(run.enters, seen, records.ends, strict=True):
@@ -170,7 +238,7 @@ def outcome_of(ground: Ground, run: Run, passes: Passes, seen: Sequence[Sequence
         total += (ground.until if end is None else end) - depart
         for place, (since, until) in enumerate(pairwise([*clocks, float(ground.until if end is None else end)] if clocks else [])):
             observed.add(passes.movement(plan, place), int(since // ground.width), until - since)
-    return Outcome(observed, entries, ends, total / len(run.enters), records.rescues.total(), records.calls, spent)
+    return Outcome(observed, entries, ends, total / len(run.enters), records.rescues.total(), records.calls, spent, passed)
 
 
 def arrival_of(last: Vehicle | None) -> int | None:

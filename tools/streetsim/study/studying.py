@@ -169,7 +169,7 @@ def read_variant(where, path, study, variant, joint, simulator):
     works = [works_of(text, mapping) for text in variant.get("close", ())]
     if variant.get("route"):
         asked = variant.get("close", ()), variant.get("knowing", 1.0), list(joint[pair_of(study, variant)])
-        (run, mapping), told = routed(run, mapping, map_path, *asked, simulator, study["until"], where), []
+        (run, mapping), told = routed(run, mapping, map_path, *asked, simulator, study["until"], study["rounds"], where), []
     else:
         run, mapping, told = with_works(run, mapping, map_path, works, joint[pair_of(study, variant)])
     print(*(f"{where}: {text}" for text in told), sep="\n", end="\n" if told else "", file=sys.stderr)

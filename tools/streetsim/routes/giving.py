@@ -1,0 +1,38 @@
+"""Giving way without a light in the runs of a search: those who wait find the gaps that the run before showed."""
+from __future__ import annotations
+
+from collections import defaultdict
+from collections.abc import Mapping, Sequence
+
+from ..run.gaps import gap_lines
+from ..run.mapping import Map
+from ..run.runs import Line
+
+Passed = dict[tuple[str, int], list[tuple[float, str]]]  # by edge and lane, as SUMO names them: (second, next edge)
+
+
+def named(found: Mapping[tuple[int, int], Sequence[tuple[float, int]]], mapping: Map) -> Passed:
+    """When vehicles passed which stop line, by names: another import may number links otherwise."""
+    links = mapping.links
+    return {
+        (links[link].edge, links[link].lanes[lane]): [(second, links[following].edge) for second, following in each]
+        for (link, lane), each in found.items()
+    }
+
+
+def waiting_lines(passed: Passed, mapping: Map, start: int) -> list[tuple[int, Line]]:
+    """The signal lines by which vehicles wait for those who passed first, (clock, line)."""
+    places = {(mapping.links[link].edge, mapping.links[link].lanes[lane]): (link, lane) for link, lane in mapping.lanes()}
+    turns = defaultdict(list)
+    for turn in mapping.turns:
+        turns[mapping.links[turn.link].edge, mapping.links[turn.next].edge].append((turn.link, turn.lane, turn.next))
+    found = defaultdict(list)
+    for (edge, lane), each in passed.items():
+        chosen = {}
+        for following in dict.fromkeys(following for _, following in each):
+            of_way, place = turns.get((edge, following), ()), places.get((edge, lane))
+            chosen[following] = next((turn for turn in of_way if turn[:2] == place), of_way[0] if of_way else None)
+        for second, following in each:
+            if turn := chosen[following]:
+                found[turn[:2]].append((second, turn[2]))
+    return gap_lines(mapping, found, start)
