@@ -15,7 +15,7 @@ from streetsim.routes.costs import Costs, Table, costs_of, flat_costs, nothing_o
 from streetsim.routes.graph import END, Graph
 from streetsim.routes.passes import Passes, Sight
 from streetsim.routes.router import FAR, Found, Router, Wish, parts_of
-from streetsim.routes.search import changes, gap_of
+from streetsim.routes.search import changes, gap_of, steps_of
 from streetsim.routes.seconds import reds
 from streetsim.run.mapping import Map, MapLink, read_map
 from streetsim.run.runs import read_run
@@ -105,6 +105,7 @@ class Seconds(unittest.TestCase):
         found = [Found(at, (0,), 100.0, 100.0 + gain) for at, gain in enumerate((0, 40, 0.4, 10, 20))]
         self.assertEqual([one.trip for one in changes(found, 0.4)], [1, 4])
         self.assertEqual([one.trip for one in changes(found, 1.0)], [1, 3, 4])
+        self.assertEqual([[one.trip for one in step] for step in steps_of(found, 0.8, 4)], [[1, 3, 4], [1, 4], [1]])
         self.assertAlmostEqual(gap_of(found), 70.4 / 500)
         self.assertEqual(gap_of([]), 0.0)
 
@@ -479,6 +480,12 @@ class EqualBytes(Commands):
         self.given(lit((15, "G"), (45, "r")), self.TRIPS)
         self.check_equal("--iterations", 2, "--gap", 1, "--close", "short_0:100-200:200-600", "--knowing", 0.5, "--sign", "in")
         self.assertEqual(len(self.table("knowing.csv", "out1")), 2)
+
+    def test_shares_side_by_side(self):
+        self.given(lit((15, "G"), (45, "r")), self.TRIPS)
+        self.check_equal("--iterations", 2, "--gap", 1, "--share", 1, "--tried", 3)
+        one, other = (json.loads((self.folder / f"{out}/setting.json").read_text()) for out in ("out1", "out4"))
+        self.assertEqual((one["tried"], one), (3, other))
 
     def test_where_roads_give_way(self):
         self.given(*joining(540, 360, 900))

@@ -66,6 +66,10 @@ def add_search(made: argparse.ArgumentParser) -> None:
         "--gap", type=share_of, default=0.02, help="what all could gain by other ways, of the seconds of the shortest ways (default %(default)s)"
     )
     made.add_argument("--share", type=share_of, default=0.2, help="of the trips, that change their way at first (default %(default)s)")
+    made.add_argument(
+        "--tried", type=within(1, 8), default=1, metavar="N", help="shares tried side by side in an iteration: the share, half of it, a quarter, .. "
+        "(default %(default)s)"
+    )
     add_rounds(made)
     made.add_argument("--seeds", default="1", metavar="FIRST-LAST", help="of the search (default %(default)s)")
     made.add_argument(
@@ -165,7 +169,7 @@ def job_of(words: argparse.Namespace) -> Job:
     if until <= last:
         raise Fault(f"--until {until}: the last trip departs at {last:,} s")
     ground = Ground(words.program, digest_of(words.program), town.graph, words.slice, until, words.rounds)
-    asked = Asked(words.iterations, words.gap, words.share, seeds_of(words.seeds, "--seeds"))
+    asked = Asked(words.iterations, words.gap, words.share, seeds_of(words.seeds, "--seeds"), words.tried)
     return Job(words, town, trips, ground, asked, seeds_of(words.check, "--check"))
 
 
@@ -223,7 +227,7 @@ def write_run_of(job: Job, one: Diverted, run_path: str, map_path: str) -> None:
 
 def setting_of(job: Job, one: Diverted) -> dict:
     words = job.words
-    names = ("net", "additional", "trips", "slice", "iterations", "gap", "share", "rounds", "seeds", "check")
+    names = ("net", "additional", "trips", "slice", "iterations", "gap", "share", "tried", "rounds", "seeds", "check")
     setting = {name: getattr(words, name) for name in names} | {"until": job.ground.until, "iteration": one.search.best.number}
     if words.close:
         setting |= {"close": words.close, "knowing": one.share, "sign": words.sign, "before": words.before}

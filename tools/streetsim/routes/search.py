@@ -32,6 +32,20 @@ class Asked:
     gap: float
     share: float
     seeds: Sequence[int]
+    tried: int = 1  # shares in an iteration: this, half of it, ..
+
+
+@dataclass(frozen=True, slots=True)
+class Seen:
+    """What runs showed of some ways, and the best ways by that. passed: by seed, when those passed who go first."""
+
+    ways: list[tuple[Path, float]]  # of all trips, with their entries
+    outcomes: list[Outcome]
+    costs: Costs
+    found: list[Found]
+    passed: list[Passed]
+    gap: float
+    lacking: int  # trips that did not arrive
 
 
 @dataclass(frozen=True, slots=True)
@@ -118,49 +132,72 @@ class Search:
 
     def improve(self, asked: Asked) -> None:
         """Searches; the trips then have the ways of the iteration with the least gap."""
-        share = asked.share
+        share, steps = asked.share, [[]]
         for number in range(asked.iterations + 1):
-            loaded, outcomes, costs = self.observe(asked.seeds)
-            found = self.searched(costs)
-            gap, lacking = gap_of(found), len(self.trips) - min(one.arrived for one in outcomes)
-            back = self.best.is_below(lacking, gap, TRUST)
-            if not self.best.is_below(lacking, gap):
-                self.best = Best(lacking, gap, number, [(trip.path, trip.entry) for trip in self.trips], self.passed)
-            last = number == asked.iterations or gap <= OWN_SEED * asked.gap
+            seen, place = self.best_of(asked.seeds, steps)
+            found, share = seen.found, share / 2**place
+            back = self.best.is_below(seen.lacking, seen.gap, TRUST)
+            if not self.best.is_below(seen.lacking, seen.gap):
+                self.best = Best(seen.lacking, seen.gap, number, seen.ways, seen.passed)
+            last = number == asked.iterations or seen.gap <= OWN_SEED * asked.gap
             if back and not last:
                 self.best.give_to(self.trips)
                 self.passed = self.best.passed
-                found = self.searched(costs)
-            if number < asked.iterations and self.turn_off(costs):
+                found = self.searched(seen.costs)
+            if number < asked.iterations and self.turn_off(seen.costs):
                 last = False
             share = max(LEAST_SHARE, share / 2 if back else share)
-            changing = [] if last else changes(found, share)
+            steps = [] if last else steps_of(found, share, asked.tried)
             share = share if back else share * SLOWER
-            iteration = iteration_of(number, outcomes, found, gap, len(changing), back)
+            iteration = iteration_of(number, seen.outcomes, found, seen.gap, len(steps[0]) if steps else 0, back)
             self.iterations.append(iteration)
             if self.told(iteration) or last:
                 break
-            for one in changing:
-                self.trips[one.trip].path = one.path
         self.best.give_to(self.trips)
 
-    def observe(self, seeds: Sequence[int]) -> tuple[Loaded, list[Outcome], Costs]:
-        """Runs the present ways. Who gives way without a light waits for those who passed in the iteration before, and at first in a
-        run in which nobody waits."""
-        loaded = self.town.loaded(self.trips)
-        expected = self.expected or flat_costs(self.town.graph, loaded.free)
-        if self.ground.rounds and loaded.mapping.yields and not self.passed:
-            self.passed = [one.passed for one in self.team.runs(loaded, expected, seeds, [None] * len(seeds))]
-        outcomes = self.team.runs(loaded, expected, seeds, self.passed or [None] * len(seeds))
-        self.passed = [one.passed for one in outcomes] if self.passed else []
-        return loaded, outcomes, self.noted(loaded, outcomes)
+    def best_of(self, seeds: Sequence[int], steps: Sequence[Sequence[Found]]) -> tuple[Seen, int]:
+        """Runs the present ways with each of some steps, side by side; gives what the best showed, and its place. The trips then have
+        its ways. Who gives way without a light waits for those who passed in the iteration before, and at first in a run in which
+        nobody waits."""
+        ways, cases = [trip.path for trip in self.trips], []
+        for step in steps:
+            paths = ways.copy()
+            for one in step:
+                paths[one.trip] = one.path
+            cases.append((paths, self.with_paths(paths)))
+        loads = [loaded for _, loaded in cases]
+        expected = self.expected or flat_costs(self.town.graph, loads[0].free)
+        if self.ground.rounds and loads[0].mapping.yields and not self.passed:
+            self.passed = [one.passed for one in self.team.runs(loads[:1], expected, seeds, [None] * len(seeds))[0]]
+        runs = self.team.runs(loads, expected, seeds, self.passed or [None] * len(seeds))
+        all_ = [self.seen(paths, loaded, outcomes) for (paths, loaded), outcomes in zip(cases, runs, strict=True)]
+        place = min(range(len(all_)), key=lambda at: (all_[at].lacking, all_[at].gap))
+        seen = all_[place]
+        self.passed, self.expected = seen.passed if self.passed else [], seen.costs
+        for trip, (path, entry) in zip(self.trips, seen.ways, strict=True):
+            trip.path, trip.entry = path, entry
+        return seen, place
+
+    def with_paths(self, paths: Sequence[Path]) -> Loaded:
+        """The run of other ways, which the trips then have."""
+        for trip, path in zip(self.trips, paths, strict=True):
+            trip.path = path
+        return self.town.loaded(self.trips)
+
+    def seen(self, paths: Sequence[Path], loaded: Loaded, outcomes: list[Outcome]) -> Seen:
+        """What runs of some ways showed, which the trips then have."""
+        for trip, path in zip(self.trips, paths, strict=True):
+            trip.path = path
+        costs = self.noted(loaded, outcomes)
+        found, lacking = self.searched(costs), len(self.trips) - min(one.arrived for one in outcomes)
+        ways = [(trip.path, trip.entry) for trip in self.trips]
+        return Seen(ways, outcomes, costs, found, [one.passed for one in outcomes], gap_of(found), lacking)
 
     def noted(self, loaded: Loaded, outcomes: Sequence[Outcome]) -> Costs:
         """The costs that runs showed; the trips then have their entries."""
         for at, trip in enumerate(self.trips):
             trip.entry = fmean(one.entries[at] for one in outcomes)
-        self.expected = costs_of(self.town.graph, loaded.free, mean_of([one.observed for one in outcomes]), self.ground.width)
-        return self.expected
+        return costs_of(self.town.graph, loaded.free, mean_of([one.observed for one in outcomes]), self.ground.width)
 
     def searched(self, costs: Costs) -> list[Found]:
         """The best ways of the trips that may change."""
@@ -199,6 +236,12 @@ def changes(found: Sequence[Found], share: float) -> list[Found]:
     """Those who change: of those who gain at all the ones with the greatest relative loss, a share of all at most, or one."""
     worth = sorted((one for one in found if gain(one) > LEAST_GAIN), key=lambda one: (-gain(one) / max(1.0, one.least), one.trip))
     return sorted(worth[: max(1, int(len(found) * share))], key=lambda one: one.trip)
+
+
+def steps_of(found: Sequence[Found], share: float, tried: int) -> list[list[Found]]:
+    """Those who change by a share, by half of it, and so on; one step where there are so few."""
+    steps = [changes(found, share / 2**at) for at in range(tried)]
+    return [step for at, step in enumerate(steps) if at == 0 or len(step) < len(steps[at - 1])]
 
 
 def iteration_of(number: int, outcomes: Sequence[Outcome], found: Sequence[Found], gap: float, changed: int, back: bool) -> Iteration:

@@ -26,11 +26,17 @@ class Team:
         tasks = [(f"part {at} of a search", search_part, 0, part, costs, shut) for at, part in enumerate(parts, 1)]
         return sorted((found for part in self.workers.ordered(tasks) for found in part), key=lambda found: found.trip)
 
-    def runs(self, loaded: Loaded, expected: Costs, seeds: Sequence[int], passed: Sequence[Passed | None]) -> list[Outcome]:
-        """What runs with some seeds show, in the order of the seeds; passed: of each, when those passed who go first."""
-        pairs = zip(seeds, passed, strict=True)
-        tasks = [(f"the run with seed {seed}", watched, 0, loaded.run, loaded.mapping, expected, seed, before) for seed, before in pairs]
-        return list(self.workers.ordered(tasks))
+    def runs(
+        self, cases: Sequence[Loaded], expected: Costs, seeds: Sequence[int], passed: Sequence[Passed | None]
+    ) -> list[list[Outcome]]:
+        """What runs of some cases with some seeds show, in their order; passed: of each seed, when those passed who go first."""
+        pairs = list(zip(seeds, passed, strict=True))
+        tasks = [
+            (f"the run with seed {seed}", watched, 0, loaded.run, loaded.mapping, expected, seed, before)
+            for loaded in cases for seed, before in pairs
+        ]  # fmt: skip
+        outcomes = self.workers.ordered(tasks)
+        return [[next(outcomes) for _ in seeds] for _ in cases]
 
     def checks(self, loaded: Loaded, expected: Costs, seeds: Sequence[int]) -> list[Outcome]:
         """The same of runs with rounds of their own."""

@@ -119,9 +119,10 @@ class Watcher(Recorder):
         asking = Asking(self.often or self.every * self.by_lane, self.by_lane, [], 0)
         self.budget.asking = lambda most: asking
         records = super().record()
-        for owner, end in self.ended.items():
-            if end.state == "arrived":
-                self.passings.arrived(owner, end.step)
+        if self.often:
+            for owner, end in self.ended.items():
+                if end.state == "arrived":
+                    self.passings.arrived(owner, end.step)
         return records
 
     def look(self, clock: int) -> None:
