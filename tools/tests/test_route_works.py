@@ -139,7 +139,7 @@ class WithWorks(Commands):
     def test_the_run_has_the_works(self):
         self.given(two_ways(), flow(20, 600))
         self.route(*self.WORKS, "--run", self.folder / "a.jsonl", "--map", self.folder / "a.json")
-        words = [self.folder / "a.jsonl", "--map", self.folder / "a.json", "--until", 1500, "--out", self.folder / "b"]
+        words = [self.folder / "a.jsonl", "--map", self.folder / "a.json", "--until", 1500, "--out", self.folder / "b", "--program", PROGRAM]
         told, _ = self.tool("run", *words)
         self.assertIn("20 vehicles, 20 arrived", told)
         lines = [json.loads(line) for line in (self.folder / "a.jsonl").read_text().splitlines()]
