@@ -10,7 +10,7 @@ import xml.etree.ElementTree as ElementTree
 from array import array
 
 from clusters import ClusterCase, needs_distributed
-from support import DATA, PROGRAM, TOOLS, Case, lane, needs_simulator, net
+from support import DATA, PROGRAM, SCENARIOS, TOOLS, Case, lane, needs_simulator, needs_sumo_tools, net
 from streetsim.routes.costs import Costs, Table, costs_of, flat_costs, nothing_observed
 from streetsim.routes.graph import END, Graph
 from streetsim.routes.passes import Passes, Sight
@@ -357,6 +357,21 @@ class Imports(Case):
         self.assertEqual(list(edges), ["u"])
         self.assertIn("skipped: 1 vehicles: no way from where the trip begins to where it ends", said)
 
+    def test_persons_who_ride_are_left_out(self):
+        """They are in vehicles that the files have; who has a trip of his own may take a car, and is refused."""
+        rides = '<person id="p" depart="0"><walk edges="in"/><ride from="in" to="out" lines="ANY"/></person>'
+        edges, said, _ = self.imported(f'<routes>{rides}<trip id="t" depart="0" from="in" to="out"/></routes>')
+        self.assertEqual(list(edges), ["t"])
+        self.assertIn("skipped: 1 vehicles: a person, which streetsim does not have", said)
+
+    @needs_sumo_tools
+    def test_a_bus_that_is_sent_while_sumo_runs(self):
+        """The game of a bus on demand: its persons ride, and its only vehicle has stops and no way."""
+        shipped = SCENARIOS.parents[3] / "game/DRT.sumocfg"
+        _, said = self.tool("import", "-c", shipped, "-o", self.folder / "run.jsonl", "--map", self.folder / "map.json", status=2)
+        self.assertIn("DRT/drt.rou.xml: <trip 'DRT2'>: drives from stop to stop without from and to", said)
+        self.assertFalse((self.folder / "run.jsonl").exists())
+
     @needs_simulator
     def test_road_works_import_the_trips_anew(self):
         ends = {"in": ("W", "A", 2), "b": ("A", "B", 1), "c": ("A", "C", 1)}
@@ -380,6 +395,7 @@ class BadInput(Commands):
             ('<trip id="t" depart="0" from="in" to="out" via="far"/>', "via is not routed here"),
             ('<trip id="t" depart="soon" from="in" to="out"/>', "depart='soon' cannot be read"),
             ('<person id="p" depart="0"><personTrip from="in" to="out"/></person>', "persons are not routed here"),
+            ('<trip id="t" depart="0"><stop lane="in_0" duration="9"/></trip>', "<trip 't'>: drives from stop to stop without from and to"),
             ('<trip id="t" depart="0" from="in" to="out"/>' * 2, "two vehicles are named 't'"),
             ("", "no trip that can drive"),
         ):

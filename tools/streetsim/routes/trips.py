@@ -16,7 +16,12 @@ from .graph import Graph
 from .router import Path
 
 ENDS = {"from", "to", "fromTaz", "toTaz", "departLane", "departSpeed", "departPos", "arrivalPos", "arrivalSpeed"}
-PERSONS = ("person", "personFlow", "personTrip")
+PERSONS = ("person", "personFlow")
+DRIVEN = ("personTrip", "trip")  # of a person who may take a car; who rides does so in a vehicle that the files have
+BY_STOPS = (
+    "drives from stop to stop without from and to, as buses and taxis do that are sent on their way while SUMO runs; streetsim "
+    "has no stops: take it out, or give it from and to"
+)
 
 
 @dataclass(slots=True)
@@ -46,7 +51,7 @@ class TripDemand(Demand):
         readers = {"route": self.read_route, "vehicle": self.read_vehicle, "flow": self.read_flow, "trip": self.read_vehicle}
         readers["routeDistribution"] = self.read_mix
         for element in elements(path, ["routes", "trips", "additional", "add"]):
-            if element.tag in PERSONS:
+            if element.tag in PERSONS and any(element.find(name) is not None for name in DRIVEN):
                 raise Fault(f"{told(path, element)}: persons are not routed here; take them out, or compute their cars' trips with duarouter")
             if element.tag in TAGS:
                 self.told_types.append(ElementTree.tostring(element, encoding="unicode").strip())
@@ -79,6 +84,8 @@ class TripDemand(Demand):
         if element.get("via"):
             raise Fault(f"{told(path, element)}: via is not routed here; compute this route with duarouter")
         if element.get("from") is None or element.get("to") is None:
+            if element.find("stop") is not None and not element.get("fromTaz"):
+                raise Fault(f"{told(path, element)}: {BY_STOPS}")
             taz = " (fromTaz and toTaz name districts: let od2trips or duarouter choose edges)" if element.get("fromTaz") else ""
             raise Fault(f"{told(path, element)}: a trip needs from and to{taz}")
         ends = element.get("from", ""), element.get("to", "")
