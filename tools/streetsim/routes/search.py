@@ -2,7 +2,7 @@
 from __future__ import annotations
 
 from collections.abc import Callable, Sequence
-from dataclasses import dataclass, field
+from dataclasses import dataclass, field, replace
 from statistics import fmean
 
 from .. import limits
@@ -87,10 +87,6 @@ class Best:
         """Whether it is better than an iteration, whose gap may be so many times its own."""
         return (self.lacking, trust * self.gap) < (lacking, gap)
 
-    def give_to(self, trips: Sequence[Trip]) -> None:
-        for trip, (path, entry) in zip(trips, self.ways, strict=True):
-            trip.path, trip.entry = path, entry
-
 
 @dataclass(frozen=True, slots=True)
 class Judged:
@@ -141,7 +137,7 @@ class Search:
                 self.best = Best(seen.lacking, seen.gap, number, seen.ways, seen.passed)
             last = number == asked.iterations or seen.gap <= OWN_SEED * asked.gap
             if back and not last:
-                self.best.give_to(self.trips)
+                give(self.trips, self.best.ways)
                 self.passed = self.best.passed
                 found = self.searched(seen.costs)
             if number < asked.iterations and self.turn_off(seen.costs):
@@ -153,41 +149,32 @@ class Search:
             self.iterations.append(iteration)
             if self.told(iteration) or last:
                 break
-        self.best.give_to(self.trips)
+        give(self.trips, self.best.ways)
 
     def best_of(self, seeds: Sequence[int], steps: Sequence[Sequence[Found]]) -> tuple[Seen, int]:
         """Runs the present ways with each of some steps, side by side; gives what the best showed, and its place. The trips then have
         its ways. Who gives way without a light waits for those who passed in the iteration before, and at first in a run in which
         nobody waits."""
-        ways, cases = [trip.path for trip in self.trips], []
-        for step in steps:
-            paths = ways.copy()
-            for one in step:
-                paths[one.trip] = one.path
-            cases.append((paths, self.with_paths(paths)))
-        loads = [loaded for _, loaded in cases]
+        ways = [paths_after(self.trips, step) for step in steps]
+        loads = [self.loaded(paths) for paths in ways]
         expected = self.expected or flat_costs(self.town.graph, loads[0].free)
         if self.ground.rounds and loads[0].mapping.yields and not self.passed:
             self.passed = [one.passed for one in self.team.runs(loads[:1], expected, seeds, [None] * len(seeds))[0]]
         runs = self.team.runs(loads, expected, seeds, self.passed or [None] * len(seeds))
-        all_ = [self.seen(paths, loaded, outcomes) for (paths, loaded), outcomes in zip(cases, runs, strict=True)]
+        all_ = [self.seen(*case) for case in zip(ways, loads, runs, strict=True)]
         place = min(range(len(all_)), key=lambda at: (all_[at].lacking, all_[at].gap))
         seen = all_[place]
         self.passed, self.expected = seen.passed if self.passed else [], seen.costs
-        for trip, (path, entry) in zip(self.trips, seen.ways, strict=True):
-            trip.path, trip.entry = path, entry
+        give(self.trips, seen.ways)
         return seen, place
 
-    def with_paths(self, paths: Sequence[Path]) -> Loaded:
-        """The run of other ways, which the trips then have."""
-        for trip, path in zip(self.trips, paths, strict=True):
-            trip.path = path
-        return self.town.loaded(self.trips)
+    def loaded(self, paths: Sequence[Path]) -> Loaded:
+        """The run of some ways."""
+        return self.town.loaded([replace(trip, path=path) for trip, path in zip(self.trips, paths, strict=True)])
 
     def seen(self, paths: Sequence[Path], loaded: Loaded, outcomes: list[Outcome]) -> Seen:
         """What runs of some ways showed, which the trips then have."""
-        for trip, path in zip(self.trips, paths, strict=True):
-            trip.path = path
+        give(self.trips, [(path, trip.entry) for path, trip in zip(paths, self.trips, strict=True)])
         costs = self.noted(loaded, outcomes)
         found, lacking = self.searched(costs), len(self.trips) - min(one.arrived for one in outcomes)
         ways = [(trip.path, trip.entry) for trip in self.trips]
@@ -220,6 +207,20 @@ class Search:
         costs = self.noted(loaded, outcomes)
         found = self.searched(costs)
         return Judged(loaded, seeds, outcomes, costs, found, gap_of(found))
+
+
+def give(trips: Sequence[Trip], ways: Sequence[tuple[Path, float]]) -> None:
+    """Gives trips their ways and entries."""
+    for trip, (path, entry) in zip(trips, ways, strict=True):
+        trip.path, trip.entry = path, entry
+
+
+def paths_after(trips: Sequence[Trip], step: Sequence[Found]) -> list[Path]:
+    """The ways of trips, of whom some change."""
+    paths = [trip.path for trip in trips]
+    for one in step:
+        paths[one.trip] = one.path
+    return paths
 
 
 def gain(found: Found) -> float:
