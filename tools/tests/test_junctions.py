@@ -7,8 +7,8 @@ from collections import Counter
 from support import MAP, PROGRAM, TOOLS, Case, needs_simulator
 from streetsim.junctions import reporting
 from streetsim.junctions.capacity import usual_flow
-from streetsim.junctions.layout import PRIORITY, SIGNALS, Greens, approaches_of, turn_name
-from streetsim.junctions.measures import STOP_LOSS, Measures, Totals, together
+from streetsim.junctions.layout import PRIORITY, SIGNALS, Approach, Greens, approaches_of, turn_name
+from streetsim.junctions.measures import STOP_LOSS, Measures, Totals, stop_loss, together
 from streetsim.junctions.passages import Passages, discharges, queue_metres
 from streetsim.junctions.rows import APPROACHES, JUNCTIONS, MOVEMENTS, Tables
 from streetsim.junctions.sampling import LOOKS, Sampled, moments
@@ -60,14 +60,23 @@ class Definitions(unittest.TestCase):
         self.assertEqual(percentile([], 0.5), 0.0)
 
     def test_queues(self):
-        """From the stop line of a link of 75 m: three vehicles of 7.5 m; a gap of 15 m joins, one of 30 m does not."""
+        """From the stop line of a link of 75 m to the rear of the last of those who stand, 2.5 m before its cell ends; a gap
+        of 15 m joins, one of 30 m does not."""
         link = map_from("", MAP).links[0]
-        self.assertEqual(queue_metres(at_rest(3), link), 22.5)
-        self.assertEqual(queue_metres([[0, 9, 0], [1, 6, 0]], link), 30.0)
-        self.assertEqual(queue_metres([[0, 9, 0], [1, 4, 0]], link), 7.5)
-        self.assertEqual(queue_metres([[0, 9, 2], [1, 8, 0]], link), 15.0)
+        self.assertEqual(queue_metres(at_rest(3), link), 20.0)
+        self.assertEqual(queue_metres([[0, 9, 0], [1, 6, 0]], link), 27.5)
+        self.assertEqual(queue_metres([[0, 9, 0], [1, 4, 0]], link), 5.0)
+        self.assertEqual(queue_metres([[1, 8, 0]], link), 12.5)
         self.assertEqual(queue_metres([[0, 4, 0]], link), 0.0)
-        self.assertEqual(queue_metres([[0, 9, 0, 2]], link), 15.0)
+        self.assertEqual(queue_metres([[0, 9, 0, 2]], link), 12.5)
+
+    def test_loss_of_a_stop(self):
+        """At a light only of those who go straight on: of others the begin of green is left out instead."""
+        lost = {}
+        for control in (SIGNALS, PRIORITY):
+            approach = Approach("a", "B", control, [0], 75.0, movements={"b": "T", "c": "L", "d": "R"})
+            lost[control] = [stop_loss(approach, target) for target in "bcd"]
+        self.assertEqual(lost, {SIGNALS: [STOP_LOSS, 0.0, 0.0], PRIORITY: [STOP_LOSS] * 3})
 
     def test_several_movements_together(self):
         """10 vehicles that lose 20 s and 30 that lose 40 s; errors of independent means."""
@@ -137,8 +146,13 @@ class ByHand(unittest.TestCase):
         self.assertEqual((passage.stops, passage.stood), (0, 0))
 
     def test_queues(self):
-        """Of one cycle of 10 steps, with two vehicles at clock 6."""
-        self.assertEqual(self.measures.queues((0, 0), 0, 10), [15.0])
+        """Of one cycle of 10 steps: at clock 7 the second vehicle has stood for two."""
+        self.assertEqual(self.measures.queues((0, 0), 0, 10), [12.5])
+
+    def test_a_second_of_standing_is_no_stop(self):
+        frames = [(clock, [[0, 0, [[0, 5, speed]], []]]) for clock, speed in ((1, 2), (2, 0), (3, 1), (4, 0), (5, 0), (6, 0))]
+        [passage] = passages([*frames, (7, [[0, 0, [], [0]]])]).done
+        self.assertEqual((passage.stops, passage.stood), (1, 4))
 
     def test_capacity(self):
         """Green has 5 steps, and 1.5 s are won at its begin; 2 pass in 10 s of 2,400 vehicles an hour."""
@@ -150,7 +164,7 @@ class ByHand(unittest.TestCase):
         made.add(self.measures.interval(0, 10))
         [row] = [dict(zip(MOVEMENTS, row, strict=True)) for row in made.movements]
         names = ("junction", "approach", "to", "movement", "vehicles", "vehicles_per_hour", "queue_95_m", "v_c", "los")
-        self.assertEqual([row[name] for name in names], ["B", "a", "b", "T", 2, "720", "15.0", "0.46", "A"])
+        self.assertEqual([row[name] for name in names], ["B", "a", "b", "T", 2, "720", "12.5", "0.46", "A"])
         self.assertEqual(row["capacity_per_hour"], "1560")
         [approach], [junction] = made.approaches, made.junctions
         self.assertEqual((approach[APPROACHES.index("los")], junction[JUNCTIONS.index("los")]), ("A", "A"))

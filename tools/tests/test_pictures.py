@@ -94,6 +94,17 @@ class Numbers(Given):
         # 15 % of the time a vehicle of 7.5 m: 20 a kilometre. The short last period and the empty lane are left out.
         self.assertEqual(series.flows(self.given, []), [(20.0, 360.0)])
 
+    def test_fundamental_at_mid_link(self):
+        """Cells 3 to 6 of ten are the middle. In a period of two looks vehicle 0 is there once, at 2 cells a second, and 1
+        twice, at 1 and 0: 3 vehicles over 2 looks of 30 m are 50 a kilometre, and 3 cells a second over 2 looks of 4 cells
+        1,350 vehicles an hour. Vehicles before and behind count nothing, and the period that was cut short neither."""
+        looks = [[[0, 5, 2], [1, 3, 1]], [[0, 7, 2], [1, 6, 0], [2, 2, 1]], [[1, 5, 1]]]
+        self.write_polls([{"clock": clock, "lanes": [[0, 0, cells, [], []]]} for clock, cells in enumerate(looks, 1)])
+        self.given.period, self.given.made = 2, {"start": 0, "until": 3}
+        self.assertEqual(series.middle_flows(self.given, []), [(50.0, 1350.0)])
+        self.assertEqual(series.middle_flows(self.given, ["b"]), [])
+        self.assertEqual([series.middle(cells) for cells in (1, 2, 3, 10)], [(0, 1), (0, 2), (1, 2), (3, 7)])
+
     def test_difference(self):
         # Two of the first curve at 1, one of the second at 2, one of each at 3.
         self.assertEqual(series.difference([1, 1, 3], [2, 3]), ([1, 2, 3], [2, 1, 1]))
@@ -120,9 +131,10 @@ class Pictures(Given):
             ("queues", self.folder),
             ("arrivals", self.folder),
             ("fundamental", self.folder),
+            ("fundamental", self.folder, "--counts"),
         ):
             with self.subTest(kind):
-                path = self.folder / f"{kind}.png"
+                path = self.folder / f"{kind}{len(words)}.png"
                 self.tool("plot", kind, *words, "-o", path)
                 content = path.read_bytes()
                 self.assertEqual(content[:8], b"\x89PNG\r\n\x1a\n")

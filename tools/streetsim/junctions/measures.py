@@ -4,12 +4,12 @@ from dataclasses import dataclass, field
 from statistics import fmean
 
 from .capacity import Capacity, SaturationFlows
-from .layout import Greens
+from .layout import SIGNALS, Greens
 from .passages import by_place
 
 # Seconds that a vehicle which stops loses beyond what is seen here, where vehicles brake and start at once: measured on a
 # lone cross at four flows against SUMO's e3 (bench/delays --calibrate).
-STOP_LOSS = 4.2
+STOP_LOSS = 2.1
 
 
 @dataclass(slots=True)
@@ -19,7 +19,7 @@ class Crossing:
     movement: tuple  # (edge, next edge)
     clock: int  # at which it ended
     place: tuple  # (link, lane)
-    delay: float  # control delay, seconds
+    delay: float  # control delay, seconds; less than 0 where it was lucky
     stops: int
     stood: int
     following: int  # link
@@ -52,7 +52,7 @@ class Interval:
 def totals(crossings) -> Totals:
     return Totals(
         len(crossings),
-        fmean(one.delay for one in crossings),
+        max(0.0, fmean(one.delay for one in crossings)),
         fmean(one.stood for one in crossings),
         fmean(one.stops for one in crossings),
     )
@@ -70,6 +70,12 @@ def together(parts) -> Totals:
     errors = [part.vehicles * part.error for part in parts if part.error is not None]
     error = sum(error * error for error in errors) ** 0.5 / count if errors else None
     return Totals(count, mean("delay"), mean("stood"), mean("stops"), error)
+
+
+def stop_loss(approach, target: str) -> float:
+    """What a vehicle that stops loses beyond what is seen. Of those that turn at a light the import has put it into the
+    green: it leaves out the begin."""
+    return STOP_LOSS if approach.control != SIGNALS or approach.movements[target] == "T" else 0.0
 
 
 def free_seconds(mapping, dawdle: int, plan, at: int) -> float:
@@ -101,9 +107,9 @@ class Measures:
         at = next((at for at, link in enumerate(plan) if self.mapping.links[link].edge == passage.edge), None)
         if at is None or at + 1 == len(plan):
             return None
-        lost = max(0.0, passage.end - passage.begin - free_seconds(self.mapping, self.dawdle, plan, at))
-        delay = lost + STOP_LOSS * (passage.stops > 0)
+        lost = passage.end - passage.begin - free_seconds(self.mapping, self.dawdle, plan, at)
         movement = passage.edge, self.mapping.links[plan[at + 1]].edge
+        delay = lost + stop_loss(self.approaches[movement[0]], movement[1]) * (passage.stops > 0)
         place = passage.link, passage.lane
         return Crossing(movement, passage.end, place, delay, passage.stops, passage.stood, plan[at + 1])
 

@@ -8,6 +8,8 @@ from ..run.detectors import size_of
 REACH = 20.0  # metres: who stands within these of the stop line, or of the queue's rear, is of the queue
 GROUP_GAP = 8  # seconds without a vehicle end a group that leaves a queue
 QUEUE = 8  # vehicles of a queue from which on its headways count
+STILL = 2  # seconds of standing that make a stop: who creeps may stand for one by chance
+GAP = 2.5  # metres behind a vehicle that its cell has and it does not cover
 
 
 @dataclass(slots=True)
@@ -23,7 +25,7 @@ class Passage:
     lane: int = 0
     stops: int = 0
     stood: int = 0  # seconds
-    standing: bool = False
+    still: int = 0  # seconds for which it has stood now
     alone: bool = True  # nobody who had stood was on its lane when it passed the stop line
 
 
@@ -66,11 +68,10 @@ class Passages:
         passage = self.passage(clock, car, link)
         passage.link, passage.lane = link, lane
         if clock == passage.begin:  # who departs stands then, which is no stop
-            passage.standing = standing
             return
-        passage.stops += standing and not passage.standing
+        passage.still = passage.still + 1 if standing else 0
+        passage.stops += passage.still == STILL
         passage.stood += standing
-        passage.standing = standing
 
     def passage(self, clock, car, link):
         """That of a vehicle on an edge; a new one where it comes from another."""
@@ -102,21 +103,22 @@ class Passages:
     def note_lanes(self, shown):
         for place, log in self.logs.items():
             cells = shown.get(place, ())
-            log.back.append(queue_metres(cells, self.mapping.links[place[0]]))
+            still = [entry for entry in cells if self.here[entry[0]].still >= STILL]
+            log.back.append(queue_metres(still, self.mapping.links[place[0]]))
             log.stood.append(sum(self.here[entry[0]].stood > 0 for entry in cells))
 
 
-def queue_metres(cells, link) -> float:
-    """Metres from the stop line to the rear of the last vehicle that stands in the queue; cells from the greatest."""
+def queue_metres(still, link) -> float:
+    """Metres from the stop line to the rear of the last vehicle of the queue; the cells of those who stand, from the
+    greatest."""
     size, back, reach = link.metres / link.cells, 0.0, REACH
-    for entry in cells:
+    for entry in still:
         ahead = (link.cells - 1 - entry[1]) * size
         if ahead > reach:
             break
-        if not entry[2]:
-            back = ahead + size_of(entry) * size
-            reach = back + REACH
-    return min(back, link.metres)
+        back = ahead + size_of(entry) * size
+        reach = back + REACH
+    return max(0.0, min(back, link.metres) - GAP)
 
 
 def by_place(passages):

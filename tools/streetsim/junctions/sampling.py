@@ -5,7 +5,7 @@ from statistics import fmean, stdev
 
 from .capacity import Use, is_alike, usual_flow
 from .layout import Greens
-from .measures import STOP_LOSS, Interval, Totals, free_seconds
+from .measures import Interval, Totals, free_seconds, stop_loss
 from .passages import queue_metres
 
 LOOKS = 30  # a quarter hour
@@ -85,7 +85,7 @@ class Sampled:
 
     def note_lane(self, at, clock, place, cells):
         link = self.mapping.links[place[0]]
-        queue = queue_metres(cells, link)
+        queue = queue_metres([entry for entry in cells if not entry[2]], link)
         if queue:
             self.queues[at, *place].append(queue)
         green, taken = self.greens.at(*place, clock - 1)[0], self.taken[place]
@@ -139,7 +139,8 @@ class Sampled:
         delay = max(0.0, fmean(vehicles) / rate - self.free[at, movement] / count)
         stood = sum(standing for _, standing in seen) / looks / rate
         error = NORMAL * stdev(vehicles) / looks**0.5 / rate if looks > 1 else None
-        return Totals(count, delay + STOP_LOSS * self.share_stopping(at, movement, rate), stood, None, error)
+        loss = stop_loss(self.approaches[movement[0]], movement[1])
+        return Totals(count, delay + loss * self.share_stopping(at, movement, rate), stood, None, error)
 
     def share_stopping(self, at, movement, rate):
         """Of even arrivals those stop that come at red, or while its queue leaves: red over 1 less flow over saturation

@@ -29,7 +29,7 @@ def parser():
     kinds = made.add_subparsers(dest="kind", required=True)
     for kind, words in (
         ("corridor", "ways of the vehicles along a path over time, with red signals; run with --every 1"),
-        ("fundamental", "flow over density, of the counts or of a ring (--ring)"),
+        ("fundamental", "flow over density, at mid-link, of the counts (--counts) or of a ring (--ring)"),
         ("map", "the streets by density, delay, level of service, v/c, flow or queue"),
         ("queues", "queues at the stop lines over time"),
         ("arrivals", "departures and arrivals over time"),
@@ -44,6 +44,7 @@ def parser():
             one.add_argument("--first", type=second, default=0, metavar="S", help="the first second shown")
             one.add_argument("--last", type=second, default=600, metavar="S", help="the last second shown")
         if kind == "fundamental":
+            one.add_argument("--counts", action="store_true", help="at the stop lines, by counts.csv")
             one.add_argument(
                 "--ring",
                 type=dawdles,
@@ -84,6 +85,8 @@ def main(arguments):
     }[words.kind]
     if words.folder is None and not words.ring:
         raise Fault("fundamental needs a folder or --ring")
+    if words.kind == "fundamental" and words.ring and (words.counts or words.edges or words.folder):
+        raise Fault("--ring goes without a folder, --edges and --counts")
     if words.kind == "map" and words.what == "density" and words.begin is not None:
         raise Fault("--begin: the map of density is of all polls; it goes with --what delay, los, vc, flow and queue")
     ending_of(words.output)
@@ -207,11 +210,12 @@ def draw_fundamental(pyplot, folder, words):
             )
         axes.legend(frameon=False)
     else:
-        points = series.flows(folder, listed(words.edges))
+        found = series.flows if words.counts else series.middle_flows
+        points = found(folder, listed(words.edges))
         axes.set(
             xlabel="density (vehicles/km and lane)",
             ylabel="flow (vehicles/h and lane)",
-            title=f"Counts of {folder.period} s at the stop lines",
+            title=f"Counts of {folder.period} s at the stop lines" if words.counts else f"Middle third of lanes, means of {folder.period} s",
         )
         axes.scatter(
             *(zip(*points, strict=True) if points else ((), ())), s=10, color="#225588", alpha=0.6, linewidths=0

@@ -172,6 +172,38 @@ def flows(folder, edges):
     ]
 
 
+def middle_flows(folder, edges):
+    """(vehicles a kilometre, vehicles an hour) of the middle third of each lane with traffic there, of each whole period:
+    means over its polls of the vehicles there and of their speeds, added up, over its length (Edie's definitions)."""
+    links, polls, seen = folder.mapping.links, Counter(), defaultdict(lambda: [0, 0])
+    wanted, start = {place for place, link in enumerate(links) if not edges or link.edge in edges}, folder.made.get("start", 0)
+    for poll in folder.polls():
+        period = (poll["clock"] - 1 - start) // folder.period
+        polls[period] += 1
+        for link, lane, cells, *_ in poll["lanes"]:
+            first, last = middle(links[link].cells)
+            there = [entry[2] for entry in cells if first <= entry[1] < last] if link in wanted else []
+            if there:
+                sums = seen[period, link, lane]
+                sums[0] += len(there)
+                sums[1] += sum(there)
+    if not polls:
+        raise Fault(f"{folder.path}: nothing was polled")
+    whole, found = (folder.made.get("until", poll["clock"]) - start) // folder.period, []
+    for (period, link, _), (vehicles, speeds) in sorted(seen.items()):
+        if period < whole:
+            first, last = middle(links[link].cells)
+            looks = polls[period] * (last - first)
+            found.append((vehicles / looks / limits.CELL_METRES * 1000, speeds / looks * 3600))
+    return found
+
+
+def middle(cells):
+    """The first cell of a link's middle third, and the one behind its last."""
+    first = cells // 3
+    return first, max(first + 1, cells - first)
+
+
 def arrival_curves(folder):
     """Sorted times of wished departures and of arrivals."""
     trips = folder.trips()
