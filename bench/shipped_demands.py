@@ -30,6 +30,7 @@ CASES = {  # the configuration, or the network and the routes; the last second, 
     **{name: (SCENARIOS / f"RealWorld/{name}/run.sumo.cfg", 9000) for name in ("acosta", "joined", "pasubio")},
     "BasicRiLSACorridor3": (SCENARIOS / "BasicRiLSACorridor3", 5400),
 }
+TOLD = ("weights.random-factor",)  # of configurations, of how vehicles choose their ways
 
 
 def done(words, most=0):
@@ -42,17 +43,18 @@ def done(words, most=0):
 
 
 def asked(path, end):
-    """The words of the import, SUMO's files, and the last second."""
+    """The words of the import, SUMO's files, the last second, and what else SUMO is told by a configuration."""
     if path.is_dir():
         [net], [routes] = path.glob("*.net.xml"), path.glob("*.rou.alt.xml")
-        return [net, path / "tls.add.xml", "--routes", routes], (str(net), [str(path / "tls.add.xml")], [str(routes)]), end
+        return [net, path / "tls.add.xml", "--routes", routes], (str(net), [str(path / "tls.add.xml")], [str(routes)]), end, []
     options = read_configuration(str(path))
     end = end or int(options["end"])
-    return ["-c", path, "--end", end], files_named(str(path), options), end
+    more = [f"--{name}={options[name]}" for name in TOLD if name in options]
+    return ["-c", path, "--end", end], files_named(str(path), options), end, more
 
 
 def row(program, folder, path, end):
-    words, (net, additional, routes), end = asked(path, end)
+    words, (net, additional, routes), end, more = asked(path, end)
     outputs = ["-o", folder / "run.jsonl", "--map", folder / "map.json"]
     done([TOP / "tools/streetsim-import", *words, *outputs])
     period = min(900, end)
@@ -62,7 +64,7 @@ def row(program, folder, path, end):
     wanted.write_text(f'<additional><edgeData id="counts" freq="{period}" file="{edges}"/></additional>', encoding="utf-8")
     additional = [path for path in additional if not path.endswith("input_additional.add.xml")]  # outputs, beside it
     files = ["-n", net, "-a", ",".join([*additional, str(wanted)]), *(["-r", ",".join(routes)] if routes else [])]
-    done(["sumo", *files, "--end", end, "--tripinfo-output", trips, "--no-step-log", "-W", "--ignore-route-errors"])
+    done(["sumo", *files, *more, "--end", end, "--tripinfo-output", trips, "--no-step-log", "-W", "--ignore-route-errors"])
     text = done([TOP / "tools/streetsim-compare", folder / "out", "--sumo", trips, edges], most=1)
     arrived = re.search(r"arrived: ([\d,]+) here, ([\d,]+) in SUMO", text)
     mean = re.search(r"mean trip of these: ([\d.]+) s here, ([\d.]+) s in SUMO", text)

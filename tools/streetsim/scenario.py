@@ -5,7 +5,7 @@ from heapq import heappop, heappush
 
 from . import limits
 from .cli.words import ROUNDS
-from .client import Client, read_reply
+from .client import Client, line_of, read_reply
 from .routes.underway import Waiting, WaysRound, shut_edges
 from .run import tables
 from .run.mapping import read_map
@@ -15,7 +15,7 @@ from .run.runs import Line, Run, read_run
 from .run.works import why_parallel, with_works
 from .sumo.net import Program
 from .sumo.report import Report
-from .sumo.signals import signal
+from .sumo.signals import TooLong, cycle_told, phase_lines, signal
 
 NOWHERE = -1073741824.0  # TraCI's value for a place that is not known
 ADVICE = {
@@ -49,13 +49,28 @@ class Part:
         raise NotHere(f"{call} is not here: {ADVICE.get(call, 'streetsim has nothing for it; see tools/README.md')}")
 
 
+class Phases:
+    """The phases of a program that does not fit in one plan, of which each is sent at its clock."""
+
+    def __init__(self, own, begin):
+        self.lines = phase_lines(own, begin)
+        self.clock, self.command = next(self.lines)
+
+    def due(self, clock):
+        """The commands of the phases that have begun at a clock and were not told before."""
+        while self.clock <= clock:
+            yield self.command
+            self.clock, self.command = next(self.lines, (limits.CLOCK + 1, None))
+
+
 class Scenario:
     """A running simulation of a run file and its map: its network, signals and vehicles are loaded at once. Edges or lanes
     that are to be closed later are told as joint, where they are not yet so in the import. Where vehicles of the file give
     way without a light, so many rounds of the run come first; `yielding` says what they gave. Those that a script adds wait for
     nobody's gaps but the file's, and nobody of the file waits for them."""
 
-    forgotten = frozenset()  # lights that the script has set: lines of the file for them are no longer sent
+    forgotten = frozenset()  # nodes whose light the script has set: lines of the file for them are no longer sent
+    coming = ()  # (node, Phases) of the programs that are sent phase by phase
     signals = {}  # the command that holds at a node of a light; a new dictionary where a script sets one
 
     def __init__(self, run, mapping, program=None, workers=1, joint=(), rounds=ROUNDS):
@@ -102,18 +117,24 @@ class Scenario:
         """Sends the lines that are due; gives the clock at which the next one is, at most a target."""
         due = []
         while self.sent < len(self.timed) and self.timed[self.sent][0] <= self.clock:
-            due.append(self.timed[self.sent][1].text.encode() + b"\n")
+            line = self.timed[self.sent][1]
+            if line.command.get("node") not in self.forgotten:
+                due.append(line.text.encode() + b"\n")
             self.sent += 1
         self.send(due)
-        return min(target, self.timed[self.sent][0]) if self.sent < len(self.timed) else target
+        self.send_phases([command for _, phases in self.coming for command in phases.due(self.clock)])
+        clocks = [clock for clock, _ in self.timed[self.sent : self.sent + 1]]
+        return min([target, *clocks, *(phases.clock for _, phases in self.coming)])
 
-    def forget_timed(self, light):
-        """Sends no more of the file's lines for a light that a script has set."""
-        if light not in self.forgotten:
-            self.forgotten = self.forgotten | {light}
-            nodes = {node for name, node in self.map.signals if name == light}
-            self.timed = [pair for pair in self.timed[self.sent :] if pair[1].command.get("node") not in nodes]
-            self.sent = 0
+    def send_phases(self, commands):
+        """Sends signal commands of programs that are sent phase by phase."""
+        self.send(map(line_of, commands))
+        self.signals = {**self.signals, **{command["node"]: command for command in commands}}
+
+    def forget(self, nodes):
+        """Sends no more of what was to come for nodes whose light a script sets."""
+        self.forgotten = self.forgotten | nodes
+        self.coming = tuple(pair for pair in self.coming if pair[0] not in nodes)
 
     def send(self, lines):
         """Sends lines of the run; raises what is refused."""
@@ -382,21 +403,33 @@ class TrafficLight(Part):
     def setProgramLogic(self, name, phases, offset=0):
         """Sets a light's cycle: phases of (seconds, state), as a tlLogic has them, from the next step on; of permissive
         greens the usual share is shown, as flows are not known here. Gives what there is to warn of."""
-        mapping, report = self.scenario.map, Report()
-        program, permissive = (
-            Program(offset, [tuple(phase) for phase in phases], "static"),
-            mapping.options["permissive"],
-        )
-        self.scenario.forget_timed(name)
-        for light, node in mapping.signals:
-            if light == name:
-                turns = [
-                    (turn.link, turn.lane, turn.next, turn)
-                    for turn in mapping.turns
-                    if mapping.links[turn.link].end == node
-                ]
-                edges = {link: mapping.links[link].edge for link, *_ in turns}
-                command = signal(node, turns, edges, light, program, permissive, report)
+        report = Report()
+        self.scenario.forget(frozenset(self.nodes(name)))
+        for node in self.nodes(name):
+            own = self.own(name, node, phases, offset, report)
+            try:
+                command = signal(*own)
+            except TooLong:
+                report.warn(f"light {name!r}: {cycle_told(own)}; its phases are sent one by one")
+                self.scenario.send_phases(self.go_on(own))
+            else:
                 self.scenario.client.signal(node, command["phases"], command["offset"])
                 self.scenario.signals = {**self.scenario.signals, node: command}
         return report.warnings
+
+    def nodes(self, name):
+        return [node for light, node in self.scenario.map.signals if light == name]
+
+    def own(self, name, node, phases, offset, report):
+        """The words of `signal` for a program at one node."""
+        mapping, program = self.scenario.map, Program(offset, [tuple(phase) for phase in phases], "static")
+        turns = [(turn.link, turn.lane, turn.next, turn) for turn in mapping.turns if mapping.links[turn.link].end == node]
+        edges = {link: mapping.links[link].edge for link, *_ in turns}
+        return node, turns, edges, name, program, mapping.options["permissive"], report, {}
+
+    def go_on(self, own):
+        """From now on each phase of a program is sent when it begins; gives the command of the one that has begun."""
+        phases = Phases(own, self.scenario.clock)
+        begun = list(phases.due(self.scenario.clock))
+        self.scenario.coming = (*self.scenario.coming, (own[0], phases))
+        return begun

@@ -159,6 +159,27 @@ class Lights(Case):
                 self.assertEqual(sim.vehicle.getRoadID("v"), place)
                 sim.simulationStep(40)
                 self.assertNotEqual(sim.vehicle.getRoadID("v"), "a")
+        self.check_long_programs(run, mapped)
+
+    def check_long_programs(self, run, mapped):
+        """Phases above 600 s, in a cycle that fits in one plan and in one that does not: red until 700 s, and from 800 s or
+        9,800 s on for 700 s more. A second vehicle comes in the second red."""
+        for green in (100, 9100):
+            with self.subTest(green), Scenario(run, mapped, PROGRAM) as sim:
+                warnings = sim.trafficlight.setProgramLogic("L", [(700, "r"), (green, "G")])
+                told = ["light 'L': a cycle of 9,800 s does not fit in one plan; its phases are sent one by one"]
+                self.assertEqual(warnings, told if green > 100 else [])
+                sim.route.add("way", ["a", "b"])
+                sim.vehicle.add("second", "way", depart=700 + green)
+                for clock, standing, roads in ((699, 1, ("a", "")), (702, 0, (":B", "")), (1399, 1, ("", "a")), (1402, 0, ("", ":B"))):
+                    sim.simulationStep(clock + (green if clock > 1000 else 0))
+                    self.assertEqual(sim.lane.getLastStepHaltingNumber("a_0"), standing, clock)
+                    self.assertEqual(tuple(map(sim.vehicle.getRoadID, ("v", "second"))), roads, clock)
+        with Scenario(run, mapped, PROGRAM) as sim:  # a program that fits ends one that is sent phase by phase
+            sim.trafficlight.setProgramLogic("L", [(700, "r"), (9100, "G")])
+            sim.trafficlight.setProgramLogic("L", [(60, "G")])
+            sim.simulationStep(30)
+            self.assertNotEqual(sim.vehicle.getRoadID("v"), "a")
 
 
 @needs_simulator

@@ -21,11 +21,11 @@ from streetsim.run.mapping import map_from, read_map
 from streetsim.signals.plans import Light, Timing, light_of, spread, whole
 from streetsim.run.runs import Line, Run, read_run
 from streetsim.run.trust import of_missing
-from streetsim.signals.found import distrust, verdict
+from streetsim.signals.found import doubts_of, verdict
 from streetsim.signals.in_sumo import mean_trip
 from streetsim.signals.search import Search, climb, search_plan, shift_of
 from streetsim.study.seeds import runs_needed, seeds_for, seeds_of, student
-from streetsim.study.sessions import outcome, session_of, vehicle_seconds
+from streetsim.study.sessions import Outcome, outcome, session_of, vehicle_seconds
 from streetsim.sumo.net import Program
 
 CORRIDOR = TOOLS / "examples/corridor"
@@ -394,12 +394,21 @@ class Verdicts(Searching):
 
     def test_permissive_turns_are_named(self):
         """Somebody turns left against others: the plan rests on a formula."""
-        rows = [("mean_trip_s", 9.0, 8.0, -1.0, 0.1, 3), ("arrived", 1.0, 1.0, 0.0, 0.0, 3)]
+        runs = [Outcome("", 1, 9, 1000, 0, 60)]
         run = Run("run", Line(1, "", {"dawdle": 0}), enters=[Line(2, "", {"plan": [0], "depart": 0})])
-        town = Mock(session=Mock(clocks=(0, 1000)), run=run, mapping=map_from("map", MAP), lines=Mock(permissive={"L"}))
-        told = "not to be trusted: without --verify-sumo, as turns find their gaps in oncoming traffic by formula at L"
-        self.assertEqual(distrust(town, rows, None), told)
-        self.assertEqual(distrust(town, rows, object()), "")
+        town = Mock(session=Mock(clocks=(0, 1000), departs=(0,)), run=run, mapping=map_from("map", MAP), lines=Mock(permissive={"L"}))
+        told = "without --verify-sumo, as turns find their gaps in oncoming traffic by formula at L"
+        self.assertEqual(list(doubts_of(town, runs, runs, None)), [told])
+        self.assertEqual(list(doubts_of(town, runs, runs, object())), [])
+
+    def test_queues_at_entries(self):
+        """Two of 20 vehicles, a tenth, waited to enter under the plan given, and none under the plan found."""
+        mapping = map_from("map", MAP)
+        run = Run("run", Line(1, "", {"dawdle": 0}), enters=[Line(at, "", {"plan": [0], "depart": 0}) for at in range(20)])
+        town = Mock(session=Mock(clocks=(0, 1000), departs=20 * (0,)), run=run, mapping=mapping, lines=Mock(permissive=set()))
+        given, found = ([Outcome("", 20, 9, 1000, waiting, 120)] for waiting in (2, 0))
+        told = "as given 2 of 20 vehicles waited to enter at some 120 s, and are in no queue or count"
+        self.assertEqual(list(doubts_of(town, given, found, None)), [told])
 
     def test_who_has_not_arrived(self):
         """Ten had the time; more than a tenth of them have not."""

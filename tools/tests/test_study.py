@@ -1,5 +1,6 @@
 """streetsim-study: tables of seeds and variants, bad input, and the same on a cluster with a worker that is killed."""
 import csv
+import json
 import os
 import shutil
 import socket
@@ -13,7 +14,7 @@ from importlib.util import find_spec
 from statistics import fmean, stdev
 
 from clusters import DEBIAN, ClusterCase, free_port, needs_distributed
-from support import PROGRAM, TOOLS, Case, needs_simulator
+from support import MAP, NUMBERED, PROGRAM, RED, TOOLS, Case, needs_simulator
 from streetsim.files import Fault
 from streetsim.study.machines import result_of
 
@@ -102,6 +103,51 @@ class Tables(Studies):
         self.assertEqual(len(said.splitlines()), 1, said)
         self.assertIn(told, said)
         self.assertFalse((self.folder / "out").exists())
+
+
+class Ends(Studies):
+    """Studies without a last second."""
+
+    def test_each_run_goes_on_until_all_have_arrived_as_in_streetsim_run(self):
+        study = self.write("study.toml", self.text("1-2", variants="[variant.given]\n[variant.calm]\ndawdle = 0\n").replace("until = 900\n", ""))
+        told, _ = self.tool("study", *self.words(study, "--jobs", 2))
+        words = [self.folder / "run.jsonl", "--map", self.folder / "map.json", "--rescue", 0, "--every", 0, "--seeds", "1-2"]
+        said, _ = self.tool("run", *words, "--out", self.folder / "runs", "--program", PROGRAM)
+        mine = [row for row in self.table("runs.csv") if row["variant"] == "given"]
+        for one, other in zip(mine, self.table("seeds.csv", "runs"), strict=True):
+            self.assertEqual((one["arrived"], one["mean_trip_s"]), ("2400", f"{float(other['mean_trip_s']):.3f}"))
+            self.assertIn(f"ended at {int(one['end_s']):,} s: all have arrived", said)
+            self.assertEqual(one["ended"], "all have arrived")
+        self.assertRegex(told.splitlines()[-1], r"runs ended at [34],[0-9]{3}( to [34],[0-9]{3})? s: all have arrived")
+        self.assertEqual(self.not_trusted(), [])
+        self.tool("study", *self.words(study, "--jobs", 1, out="again"))
+        self.assertEqual((self.folder / "out/runs.csv").read_bytes(), (self.folder / "again/runs.csv").read_bytes())
+
+    def not_trusted(self):
+        return json.loads((self.folder / "out/setting.json").read_text(encoding="utf-8"))["not_trusted"]
+
+    def queued(self, more=""):
+        """What a study says of 20 vehicles before a light that is red for ever: ten fill their street, ten wait to enter."""
+        enters = [{"cmd": "enter", "plan": [0, 1], "lane": 0, "depart": 0} for _ in range(20)]
+        lines = [{"cmd": "load", **NUMBERED}, RED, *enters]
+        self.write("queue.jsonl", "".join(json.dumps(line) + "\n" for line in lines))
+        self.write("queue.json", json.dumps({**MAP, "cars": [f"v{at}" for at in range(20)]}))
+        text = f'run = "queue.jsonl"\nmap = "queue.json"\nseeds = "1-2"\n{more}[variant.red]\n'
+        return self.tool("study", *self.words(self.write("study.toml", text)))[0].splitlines()
+
+    def test_nobody_moves(self):
+        """The census stays from 60 s on, and the cells, looked at after a cycle of 600 s, for 601 s and more."""
+        told = self.queued()
+        self.assertEqual(told[1], "red: no vehicle has changed its cell for 660 s, longer than the longest cycle, 600 s: seed 1 at 1,380 s, seed 2 at 1,380 s")
+        self.assertIn("red: 2 of 2 runs ended before all had arrived, who count until then", told[-1])
+
+    def test_queues_at_entries(self):
+        waited = "10 of 20 vehicles waited to enter at some 60 s, and are in no queue or count"
+        missing = "20 of 20 vehicles that had the time to arrive have not"
+        self.assertEqual(self.queued("until = 300\n")[-1], f"not to be trusted: red: {missing}; red: {waited}")
+        self.assertEqual(self.not_trusted(), [f"red: {missing}", f"red: {waited}"])
+        self.assertEqual([row["not_trusted"] for row in self.table("differences.csv")], [f"{missing}; {waited}"])
+        self.assertEqual([row["waited_to_enter"] for row in self.table("runs.csv")], ["10", "10"])
 
 
 @needs_distributed

@@ -492,6 +492,24 @@ class Lights(Started):
         shown, *_ = traci.trafficlight.getAllProgramLogics("L")
         self.assertEqual([(phase.duration, phase.state) for phase in shown.phases], [(20, "rr"), (8, "GG")])
 
+    def test_a_program_that_does_not_fit_in_one_plan(self):
+        """Red for 700 s of 9,800; a state that is saved within goes on with it, also in another run."""
+        self.start()
+        phases = [traci.trafficlight.Phase(700, "rr"), traci.trafficlight.Phase(9100, "GG")]
+        traci.trafficlight.setProgramLogic("L", traci.trafficlight.Logic("long", 0, 0, phases))
+        traci.simulationStep(300)
+        path = str(self.folder / "state.json")
+        traci.simulation.saveState(path)
+        for anew in (False, True):
+            if anew:
+                traci.close()
+                self.start()
+                traci.simulation.loadState(path)
+            traci.simulationStep(700)
+            self.assertEqual((traci.vehicle.getRoadID("v"), traci.trafficlight.getNextSwitch("L")), ("a", 9800.0))
+            traci.simulationStep(703)
+            self.assertNotEqual(traci.vehicle.getRoadID("v"), "a")
+
     def test_what_is_shown_is_driven(self):
         self.start()
         traci.trafficlight.setRedYellowGreenState("L", "rr")

@@ -13,6 +13,7 @@ if TYPE_CHECKING:
 
 HOUR = 3600  # seconds: how far the end is put off
 USUAL = 7200  # seconds from the last departure to the first guess of the end
+ALL = "all have arrived"
 MORE = 1.2  # calls of an hour, of those of a mean hour so far
 
 
@@ -42,7 +43,7 @@ class Ending:
     def look(self, record: Recorder, clock: int) -> None:
         census = record.records.censuses[-1]
         if record.entered == len(record.run.enters) and census.admitted == census.arrived + census.taken:
-            self.end(record, clock, "all have arrived")
+            self.end(record, clock, ALL)
         elif self.is_still(record, clock):
             still = clock - self.looked
             self.end(record, clock, f"no vehicle has changed its cell for {still:,} s, longer than the longest cycle, {self.cycle:,} s")

@@ -7,10 +7,10 @@ from ..files import Fault
 
 
 @contextlib.contextmanager
-def serving(program: str | None, path: str, workers: int = 1) -> Iterator[Client]:
+def serving(program: str | None, path: str, workers: int = 1, client: type[Client] = Client) -> Iterator[Client]:
     """The program on the run of a file; what it refuses is a Fault."""
     try:
-        with Client(program, workers) as sim:
+        with client(program, workers) as sim:
             yield sim
     except (Refused, Starved, NoReply, ProgramEnded) as fault:
         raise Fault(f"{path}: {fault}") from None

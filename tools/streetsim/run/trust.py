@@ -2,12 +2,16 @@
 
 The marks are chosen, not measured: above them a run is of another town than the one that was asked for.
 """
+import json
+from bisect import bisect_right
 from collections.abc import Iterator, Mapping, Sequence
 from dataclasses import dataclass
 from itertools import compress
 from statistics import fmean
 
 from .. import limits
+from ..files import whole_file
+from .folder import NAME
 from .freeflow import FreeFlow
 
 MOST_RESCUES = 0.01  # of the vehicles; one alone is none too many
@@ -61,17 +65,22 @@ def trips_at(clock: int, start: int, rows: Sequence[tuple]) -> Trips:
     )
 
 
+def free_arrivals(run, mapping) -> list[float]:
+    """When the vehicles of a run would arrive, were nobody in their way, rising."""
+    free_flow = FreeFlow(mapping, run.load.command["dawdle"] / 1000)
+    return sorted(line.command["depart"] + free_flow(line.command["plan"]) for line in run.enters)
+
+
 def due_at(clock: int, run, mapping) -> int:
     """The vehicles of a run that would have arrived, were nobody in their way."""
-    free_flow = FreeFlow(mapping, run.load.command["dawdle"] / 1000)
-    return sum(line.command["depart"] + free_flow(line.command["plan"]) <= clock for line in run.enters)
+    return bisect_right(free_arrivals(run, mapping), clock)
 
 
 def of_missing(arrived: Mapping[str, float], due: int) -> list[str]:
     """What speaks against means of several runs, by how many arrived: {what was run: vehicles}. Who has not arrived counts
     until the end in such means."""
     late = {name: due - count for name, count in arrived.items() if due - count > MOST_LATE * due}
-    return [f"{name} {missing:,.0f} of {due:,} vehicles that had the time to arrive have not" for name, missing in late.items()]
+    return [f"{name} {missing:,.0f} of {due:,.0f} vehicles that had the time to arrive have not".strip() for name, missing in late.items()]
 
 
 def doubts(trips: Trips, rescues: int, censuses: Sequence, run, mapping) -> list[str]:
@@ -97,6 +106,15 @@ def of_entries(trips: Trips, censuses: Sequence) -> Iterator[str]:
         yield f"{worst.waiting:,} vehicles waited to enter at {worst.clock:,} s, and are in no queue or count"
 
 
+def of_waiting(waiting: Mapping[str, Sequence[tuple[int, int]]], vehicles: int) -> Iterator[str]:
+    """What speaks against means of several runs, by how many waited to enter at the worst minute of each: {what was run:
+    (vehicles, clock) of each}."""
+    for name, runs in waiting.items():
+        count, clock = (fmean(column) for column in zip(*runs, strict=True))
+        if count > MOST_WAITING * vehicles:
+            yield f"{name} {count:,.0f} of {vehicles:,} vehicles waited to enter at some {clock:,.0f} s, and are in no queue or count".strip()
+
+
 def of_lengths(clock: int, run, mapping) -> Iterator[str]:
     """Where the routes are of another length than in SUMO, as edges are whole cells."""
     here = [link.cells * limits.CELL_METRES for link in mapping.links]
@@ -110,6 +128,12 @@ def of_lengths(clock: int, run, mapping) -> Iterator[str]:
         share = 100 * (metres[0] / metres[1] - 1)
         how = f"{abs(share):.0f} % {'longer' if share > 0 else 'shorter'} here than in SUMO"
         yield f"routes are {how}, as edges are whole cells: most of all {edges}"
+
+
+def write_doubts(folder: str, found: Sequence[str]) -> None:
+    """Why a study or a search is not to be trusted, under the name that the setting of a run has for it."""
+    with whole_file(f"{folder}/{NAME}") as file:
+        json.dump({"not_trusted": list(found)}, file, separators=(",", ":"))
 
 
 def verdict(found: Sequence[str]) -> str:

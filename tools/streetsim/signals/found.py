@@ -33,6 +33,7 @@ def compared(town, before, after, sumo=None):
         "mean_trip_s": lambda one: one.seconds / cars,
         "mean_loss_s": lambda one: one.seconds / cars - free,
         "arrived": lambda one: one.arrived,
+        "waited_to_enter": lambda one: one.waiting,
     }
     rows = []
     for name, figure in figures.items():
@@ -49,7 +50,7 @@ def free_trip(town):
     return fmean(free_flow(line.command["plan"]) for line in town.run.enters if line.command["depart"] < until)
 
 
-def write_found(words, town, search, rows):
+def write_found(words, town, search, rows, doubts):
     """Writes the plan, the tables and the pictures, all or none."""
     plan = search.best[1]
     with whole_folder(words.out, LAST) as folder:
@@ -60,6 +61,7 @@ def write_found(words, town, search, rows):
         write_table(f"{folder}/search.csv", TRIALS, trials)
         for name, drawn in (("before", town.plan), ("after", plan)) if words.edges else ():
             draw(words, town, drawn, f"{folder}/{name}.png")
+        trust.write_doubts(folder, doubts)
         write_additional(words.output, town.lights, plan)
 
 
@@ -86,7 +88,7 @@ def draw(words, town, plan, path):
         plots.save(figure, path)
 
 
-def tell(town, search, rows, stopped, sumo=None):
+def tell(town, search, rows, stopped, doubts, sumo=None):
     """Says what was found; gives the status, 1 where it is not shown to be better wherever it was run."""
     _, before, after, difference, half, runs = rows[0]
     for text in warnings_of(town, search.best[1]):
@@ -101,7 +103,7 @@ def tell(town, search, rows, stopped, sumo=None):
         print(sumo.told())
     found = {"here": (difference, half), **({"in SUMO": sumo.difference()} if sumo else {})}
     worse = [where for where, (mean, width) in found.items() if mean + width >= 0]
-    if text := "; ".join(filter(None, (verdict(found, worse, search), distrust(town, rows, sumo)))):
+    if text := "; ".join(filter(None, (verdict(found, worse, search), trust.verdict(doubts) if doubts else ""))):
         print(text)
     return 1 if worse else 0
 
@@ -121,16 +123,17 @@ def verdict(found, worse, search):
     return f"shown to be better here and in SUMO: {figures}"
 
 
-def distrust(town, rows, sumo):
-    """The rest of the last line: why a result is not to be trusted."""
-    named = {name: values for name, *values in rows}
-    until, (given, found, *_) = town.session.clocks[-1], named["arrived"]
-    doubts = trust.of_missing({"as given": given, "as found": found}, trust.due_at(until, town.run, town.mapping))
-    doubts += trust.of_lengths(until, town.run, town.mapping)
+def doubts_of(town, before, after, sumo):
+    """Why a result is not to be trusted, of the runs of the plan given and the plan found; nothing where it is."""
+    until, named = town.session.clocks[-1], {"as given": before, "as found": after}
+    arrived = {name: fmean(one.arrived for one in runs) for name, runs in named.items()}
+    yield from trust.of_missing(arrived, trust.due_at(until, town.run, town.mapping))
+    waiting = {name: [(one.waiting, one.waiting_at) for one in runs] for name, runs in named.items()}
+    yield from trust.of_waiting(waiting, len(town.session.departs))
+    yield from trust.of_lengths(until, town.run, town.mapping)
     if town.lines.permissive and not sumo:
         lights = some(sorted(town.lines.permissive))
-        doubts.append(f"without --verify-sumo, as turns find their gaps in oncoming traffic by formula at {lights}")
-    return trust.verdict(doubts) if doubts else ""
+        yield f"without --verify-sumo, as turns find their gaps in oncoming traffic by formula at {lights}"
 
 
 def warnings_of(town, plan):

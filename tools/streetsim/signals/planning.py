@@ -13,7 +13,7 @@ from ..study.jobs import CORES
 from ..study.machines import machines
 from ..study.seeds import seeds_for, seeds_of
 from .formulas import critical_cycle, streets_of
-from .found import compared, tell, write_found
+from .found import compared, doubts_of, tell, write_found
 from .in_sumo import sumo_for, verified
 from .plans import LEAST
 from .search import Search, search_plan
@@ -124,9 +124,9 @@ def main(arguments):
         search, stopped = searched(words, runner, changed, cycles, seeds)
         before, after = (runner.outcomes(plan, check) for plan in (town.plan, search.best[1]))
     sumo = verified(in_sumo, town, search.best[1], check, words.jobs) if in_sumo else None
-    rows = compared(town, before, after, sumo)
-    write_found(words, town, search, rows)
-    return tell(town, search, rows, stopped, sumo)
+    rows, doubts = compared(town, before, after, sumo), list(doubts_of(town, before, after, sumo))
+    write_found(words, town, search, rows, doubts)
+    return tell(town, search, rows, stopped, doubts, sumo)
 
 
 def changes_of(words):

@@ -43,11 +43,15 @@ def signal_node(line):
     return line.command["node"] if line.command["cmd"] == "signal" else None
 
 
-def read_pair(run_path, map_path, until):
-    """A run and its map, with something to run."""
+def read_pair(run_path, map_path, until=None):
+    """A run and its map, with something to run until a clock, or without one."""
     run, mapping = read_run(run_path), read_map(map_path)
     if not fits(run, mapping):
         raise Fault(f"{map_path}: not the map of {run_path}, whose links are other ones")
+    if until is None and not run.enters:
+        raise Fault(f"{run_path}: no vehicle in it")
+    if until is None:
+        return run, mapping
     if until <= run.start():
         raise Fault(f"{run_path}: starts at {run.start()} s, which is not before {until} s")
     if not any(line.command["depart"] < until for line in run.enters):

@@ -11,7 +11,8 @@ from ..run.record import Settings
 from ..run.rounds import Yielding, gaps_of, refuse_too_few_calls, with_lines
 from ..run.runs import Line, Run, with_load
 from ..run.serving import serving
-from .sessions import Outcome, Session, outcome, session_of
+from .open_end import outcome_of
+from .sessions import Outcome, Session, digest_of, outcome, session_of
 
 ADVICE = "with --rounds 0 nobody gives way"
 
@@ -25,20 +26,23 @@ class Giving:
     until: int
     without: frozenset  # nodes whose signals are others
     rounds: int
+    open_end: bool = False  # `until` is a first guess, and a run goes on until all have arrived or nobody moves
 
 
 def giving_session(
-    program: str, run: Run, mapping: Map, until: int, rounds: int, without: frozenset = frozenset(), **load: int
+    program: str, run: Run, mapping: Map, until: int, rounds: int, without: frozenset = frozenset(), open_end: bool = False, **load: int
 ) -> Session:
     """The session of a run whose vehicles give way by so many rounds; a Fault where the calls do not suffice for these."""
     session = session_of(program, run, until, without, **load)
-    if not rounds or not mapping.yields:
+    gives_way = rounds and mapping.yields
+    if not gives_way and not open_end:
         return session
     try:
-        refuse_too_few_calls(run, mapping, Settings(until, rescue=0), most_calls(program))
+        if gives_way:
+            refuse_too_few_calls(run, mapping, Settings(until, rescue=0), most_calls(program))
     except Fault as fault:
         raise Fault(f"{run.path}: {fault}: {ADVICE}") from None
-    return replace(session, giving=Giving(with_load(run, **load), mapping, until, without, rounds))
+    return replace(session, giving=Giving(with_load(run, **load), mapping, until, without, rounds, open_end))
 
 
 def gaps(session: Session, signals: bytes, seed: int) -> tuple[list, Yielding]:
@@ -66,7 +70,17 @@ def outcome_giving_way(session: Session, signals: bytes, seed: int) -> Outcome:
     if session.giving is None:
         return outcome(session, signals, seed)
     lines, yielding = gaps(session, signals, seed)
-    return replace(outcome(with_gaps(session, lines), signals, seed), junctions=yielding.junctions, lines=yielding.lines)
+    found = open_outcome(session, lines, signals, seed) if session.giving.open_end else outcome(with_gaps(session, lines), signals, seed)
+    return replace(found, junctions=yielding.junctions, lines=yielding.lines)
+
+
+def open_outcome(session: Session, lines: list, signals: bytes, seed: int) -> Outcome:
+    """What a run without a last second gave, with signal lines of its minor streets."""
+    if digest_of(session.program) != session.digest:
+        raise Fault(f"{session.program}: another program than the one that the runs were prepared for, or none")
+    giving = session.giving
+    run = with_signals(with_load(giving.run, seed=seed), signals, giving.without)
+    return outcome_of(session.program, with_lines(run, lines), giving.mapping, giving.until)
 
 
 def with_signals(run: Run, signals: bytes, nodes: frozenset) -> Run:

@@ -9,15 +9,20 @@ import json
 import re
 import subprocess
 import tempfile
+from bisect import bisect_left
 from dataclasses import dataclass
 from itertools import pairwise
+from operator import itemgetter
 
 from .. import limits
 from ..client import most_calls
 from ..files import Fault
 
 INTERVALS = (10, 20, 30, 60, 120, 300, 600)  # seconds between counts; the first that the program's calls allow
+MINUTE = 60  # seconds between looks at who waits to enter, at least
+COUNT = b'{"cmd":"count"}\n'
 ARRIVED = re.compile(rb'"arrived":(\d+)')
+WAITING = re.compile(rb'"waiting":(\d+)')
 REFUSED = re.compile(rb'.*(?:"error":|"starved"|"short":).*')
 
 
@@ -32,7 +37,8 @@ class Session:
     departs: tuple  # of the vehicles that depart before the end
     clocks: tuple  # at which vehicles are counted: the start and the end, and between
     counting: bytes  # the steps, with counts
-    asking: bytes  # the steps, and then a question for each of these vehicles
+    minutes: tuple  # at which it is looked who waits to enter: the start and the end, and between
+    asking: bytes  # the steps, with counts at these, and then a question for each of these vehicles
     giving: object = None  # what rounds need by which vehicles give way without a light: giving.Giving
 
 
@@ -43,6 +49,10 @@ class Outcome:
     digest: str  # SHA-256 of all replies
     arrived: int
     seconds: int  # of all vehicles, from the wished departure to the arrival
+    end: int  # the last clock
+    waiting: int  # vehicles that waited to enter, at the worst of the looks
+    waiting_at: int  # its clock
+    ended: str = ""  # why a run without a last second ended
     junctions: int = 0  # without a light, at which vehicles give way
     lines: int = 0  # signals by which they do
 
@@ -65,9 +75,9 @@ def session_of(program, run, until, without=frozenset(), **load):
     enters = [line for line in run.enters if line.command["depart"] < until]
     timed = [(clock, line) for clock, line in run.timed if clock < until]
     calls = most_calls(program) or limits.CALLS
-    clocks = counted_clocks(run, until, calls - 2 * len(enters) - len(first) - len(without) - 2 * len(timed) - 2)
+    left = calls - 2 * len(enters) - len(first) - len(without) - 2 * len(timed) - 2
+    clocks, minutes = counted_clocks(run, until, left), counted_clocks(run, until, left, MINUTE)
     asks = b"".join(b'{"cmd":"vehicle","car":%d}\n' % car for car in range(len(enters)))
-    long = sorted({*range(run.start(), until, limits.STEPS), until})
     return Session(
         program=program,
         digest=digest_of(program),
@@ -77,8 +87,9 @@ def session_of(program, run, until, without=frozenset(), **load):
         enters=lines_of(enters),
         departs=tuple(line.command["depart"] for line in enters),
         clocks=clocks,
-        counting=steps(clocks, timed, b'{"cmd":"count"}\n'),
-        asking=steps(long, timed, b"") + asks,
+        counting=steps(clocks, timed, COUNT),
+        minutes=minutes,
+        asking=steps(minutes, timed, COUNT) + asks,
     )
 
 
@@ -86,10 +97,10 @@ def lines_of(lines):
     return "".join(line.text + "\n" for line in lines).encode()
 
 
-def counted_clocks(run, until, calls):
-    """The clocks at which vehicles are counted, as often as so many calls allow."""
+def counted_clocks(run, until, calls, least=0):
+    """The clocks at which vehicles are counted, as often as so many calls allow, with at least so many seconds between."""
     start, timed = run.start(), {clock for clock, _ in run.timed if run.start() < clock < until}
-    for every in INTERVALS:
+    for every in (seconds for seconds in INTERVALS if seconds >= least):
         clocks = {*range(start, until, every), until}
         if 2 * len(clocks) + len(timed - clocks) <= calls:
             return tuple(sorted(clocks))
@@ -151,4 +162,13 @@ def outcome(session, signals, seed):
     last = [json.loads(line) for line in text.splitlines()[-count:]] if count else []
     ends = [one["step"] + 1 if one["state"] == "arrived" else None for one in last]
     seconds = sum((until if end is None else end) - depart for end, depart in zip(ends, session.departs, strict=True))
-    return Outcome(hashlib.sha256(text).hexdigest(), sum(end is not None for end in ends), seconds)
+    arrived, digest = sum(end is not None for end in ends), hashlib.sha256(text).hexdigest()
+    return Outcome(digest, arrived, seconds, until, *most_waiting(session, map(int, WAITING.findall(text))))
+
+
+def most_waiting(session, counts):
+    """How many vehicles waited to enter at the worst look, and its clock; counts: of all who wait, also for their second."""
+    departs, clocks = sorted(session.departs), session.minutes[1:]
+    later = (len(departs) - bisect_left(departs, clock) for clock in clocks)
+    waiting = [count - others for count, others in zip(counts, later, strict=True)]
+    return max(zip(waiting, clocks, strict=True), key=itemgetter(0), default=(0, session.clocks[0]))

@@ -2,6 +2,7 @@
 import argparse
 import os
 import sys
+from bisect import bisect_right
 from dataclasses import dataclass
 from functools import partial
 from statistics import fmean, stdev
@@ -15,6 +16,7 @@ from ..files import Fault, open_text, reading, whole_folder
 from ..pictures import plots
 from ..routes.studied import routed
 from ..run import trust
+from ..run.ending import ALL, first_guess
 from ..run.mapping import read_map
 from ..run.tables import write_table
 from ..run.works import lanes_to_join, with_works, works_of
@@ -30,10 +32,13 @@ from .sessions import Session
 LAST = "differences.csv"
 KEYS = {"run", "map", "until", "seeds", "base", "rounds", "variant"}
 VARIANT = {"run", "map", "plans", "close", "dawdle", "route", "knowing"}
-RUNS = ("variant", "seed", "arrived", "mean_trip_s", "total_s", "junctions_giving_way", "signal_lines", "digest")
+RUNS = (
+    *("variant", "seed", "arrived", "mean_trip_s", "total_s", "end_s", "ended", "waited_to_enter"),
+    *("junctions_giving_way", "signal_lines", "digest"),
+)
 DIFFERENCES = (
     *("variant", "mean_trip_s", "difference", "half_width_95_paired", "half_width_95_unpaired", "runs"),
-    *("runs_needed_paired", "runs_needed_unpaired"),
+    *("runs_needed_paired", "runs_needed_unpaired", "not_trusted"),
 )
 
 
@@ -41,13 +46,13 @@ DIFFERENCES = (
 class Variant:
     session: Session
     signals: bytes  # lines
-    due: int  # vehicles that would have arrived at the end, were nobody in their way
+    due: list[float]  # when vehicles would arrive, were nobody in their way, rising
     doubts: list[str]  # what speaks against its runs before any is made
 
 
 @dataclass(slots=True)
 class Study:
-    until: int
+    until: int | None  # none: each run goes on until all have arrived, nobody moves, or the calls are spent
     seeds: range
     base: str
     variants: dict[str, Variant]
@@ -92,14 +97,18 @@ def main(arguments):
         study = read_study(words.study, words.program, words.rounds)
     results = run_all(words, study)
     rows = differences(study, results, words.precision)
+    found = {name: list(doubts(study, name, results[name])) for name in study.variants}
+    named = [f"{name}: {text}" for name, texts in found.items() for text in texts]
     with whole_folder(words.out, LAST) as folder:
         write_table(f"{folder}/runs.csv", RUNS, run_rows(study, results))
-        write_table(f"{folder}/{LAST}", DIFFERENCES, map(written, rows))
+        write_table(f"{folder}/{LAST}", DIFFERENCES, (written((*row, "; ".join(found[row[0]]))) for row in rows))
+        trust.write_doubts(folder, named)
         draw(study, rows, f"{folder}/differences.png")
     tell(rows)
+    tell_ends(study, results)
     tell_giving_way(results)
-    if found := list(doubts(study, results)):
-        print(trust.verdict(found))
+    if named:
+        print(trust.verdict(named))
     return 0
 
 
@@ -108,14 +117,11 @@ def read_study(path, simulator, rounds=None):
     with reading(path), open_text(path) as file:
         value = load_toml(path, file.read())
     refuse_unknown(path, value, KEYS, "key")
-    for key in ("run", "map", "until", "seeds", "variant"):
+    for key in ("run", "map", "seeds", "variant"):
         if key not in value:
             raise Fault(f"{path}: no {key!r} in it")
-    until, variants = value["until"], value["variant"]
-    if isinstance(until, str) and whole_seconds(until) is not None:
-        value["until"] = until = whole_seconds(until)
-    if type(until) is not int or not 1 <= until <= limits.CLOCK:
-        raise Fault(f"{path}: until = {until!r} is not 1 to {limits.CLOCK:,}")
+    value["until"] = until = read_until(path, value.get("until"))
+    variants = value["variant"]
     if not isinstance(variants, dict) or not all(isinstance(one, dict) for one in variants.values()) or not variants:
         raise Fault(f"{path}: variants are tables [variant.NAME]")
     base = value.get("base", next(iter(variants)))
@@ -129,6 +135,15 @@ def read_study(path, simulator, rounds=None):
     lanes = joint_lanes(path, value)
     made = {name: read_variant(f"{path}: variant {name!r}", path, value, one, lanes, simulator) for name, one in variants.items()}
     return Study(until, seeds, base, made)
+
+
+def read_until(path, until):
+    """The last second of a study, or none where it names none."""
+    if isinstance(until, str) and whole_seconds(until) is not None:
+        until = whole_seconds(until)
+    if until is not None and (type(until) is not int or not 1 <= until <= limits.CLOCK):
+        raise Fault(f"{path}: until = {until!r} is not 1 to {limits.CLOCK:,}")
+    return until
 
 
 def load_toml(path, text):
@@ -167,20 +182,21 @@ def read_variant(where, path, study, variant, joint, simulator):
     run_path, map_path = map(beside, pair_of(study, variant))
     run, mapping = read_pair(run_path, map_path, study["until"])
     works = [works_of(text, mapping) for text in variant.get("close", ())]
+    until = study["until"] or first_guess(run)
     if variant.get("route"):
         asked = variant.get("close", ()), variant.get("knowing", 1.0), list(joint[pair_of(study, variant)])
-        (run, mapping), told = routed(run, mapping, map_path, *asked, simulator, study["until"], study["rounds"], where), []
+        (run, mapping), told = routed(run, mapping, map_path, *asked, simulator, until, study["rounds"], where), []
     else:
         run, mapping, told = with_works(run, mapping, map_path, works, joint[pair_of(study, variant)])
     print(*(f"{where}: {text}" for text in told), sep="\n", end="\n" if told else "", file=sys.stderr)
     load = {"dawdle": variant["dawdle"]} if "dawdle" in variant else {}
-    nodes, signals, until = frozenset(), b"", study["until"]
+    nodes, signals = frozenset(), b""
     if "plans" in variant:
         plans = list(map(beside, variant["plans"]))
         signals = signals_of(Reading(run_path, map_path, plans, until, simulator, 0, ()), run, mapping)
         nodes = frozenset(node for _, node in mapping.signals)
-    session = giving_session(simulator, run, mapping, until, study["rounds"], nodes, **load)
-    return Variant(session, signals, trust.due_at(until, run, mapping), list(trust.of_lengths(until, run, mapping)))
+    session = giving_session(simulator, run, mapping, until, study["rounds"], nodes, study["until"] is None, **load)
+    return Variant(session, signals, trust.free_arrivals(run, mapping), list(trust.of_lengths(until, run, mapping)))
 
 
 def check_types(where, value):
@@ -240,7 +256,8 @@ def means_of(study, results, name):
 def run_rows(study, results):
     for name, outcomes in results.items():
         for seed, one, mean in zip(study.seeds, outcomes, means_of(study, results, name), strict=True):
-            yield name, seed, one.arrived, f"{mean:.3f}", one.seconds, one.junctions, one.lines, one.digest
+            ends = one.seconds, one.end, one.ended.partition(": ")[2] or "until"
+            yield name, seed, one.arrived, f"{mean:.3f}", *ends, one.waiting, one.junctions, one.lines, one.digest
 
 
 def differences(study, results, precision):
@@ -292,12 +309,33 @@ def draw(study, rows, path):
     plots.save(figure, path)
 
 
-def doubts(study, results):
-    """What speaks against the runs of some variants."""
-    for name, variant in study.variants.items():
-        arrived = fmean(one.arrived for one in results[name])
-        yield from trust.of_missing({f"{name}:": arrived}, variant.due)
-        yield from (f"{name}: {text}" for text in variant.doubts)
+def doubts(study, name, outcomes):
+    """What speaks against the runs of a variant."""
+    variant = study.variants[name]
+    arrived, due = (fmean(values) for values in zip(*((one.arrived, bisect_right(variant.due, one.end)) for one in outcomes), strict=True))
+    yield from trust.of_missing({"": arrived}, due)
+    yield from trust.of_waiting({"": [(one.waiting, one.waiting_at) for one in outcomes]}, len(variant.due))
+    early = [one for one in outcomes if one.ended and one.arrived < len(variant.due)]
+    if early:
+        yield f"{len(early):,} of {len(outcomes):,} runs ended before all had arrived, who count until then"
+    yield from variant.doubts
+
+
+def tell_ends(study, results):
+    """Prints how runs without a last second ended."""
+    if study.until is not None:
+        return
+    clocks, others = [], {}
+    for name, outcomes in results.items():
+        for seed, one in zip(study.seeds, outcomes, strict=True):
+            clocks.append(one.end)
+            if not one.ended.endswith(ALL):
+                others.setdefault((name, one.ended.partition(": ")[2]), []).append(f"seed {seed} at {one.end:,} s")
+    for (name, why), seeds in others.items():
+        print(f"{name}: {why}: {', '.join(seeds)}")
+    if not others:
+        until = f"{min(clocks):,}" + (f" to {max(clocks):,}" if max(clocks) > min(clocks) else "")
+        print(f"runs ended at {until} s: {ALL}")
 
 
 def tell(rows):

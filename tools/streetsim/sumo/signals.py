@@ -1,7 +1,7 @@
 """Signal commands, made of SUMO's signal programs."""
 from collections import defaultdict
 from itertools import cycle as cycle_of
-from itertools import groupby
+from itertools import groupby, takewhile
 
 from .. import limits
 from ..files import Fault
@@ -89,23 +89,30 @@ def signal_lines(own, begin, last):
     try:
         return [signal(*own)]
     except TooLong:
-        node, turns, _, light, program, permissive, report, found = own
+        light, report = own[3], own[6]
+    report.warn(f"light {light!r}: {cycle_told(own)}; its phases are lines, until {last:,} s", light=True)
+    lines = takewhile(lambda line: line[0] <= last, phase_lines(own, begin))
+    return [{**command, "at": clock} if clock > begin else command for clock, command in lines]
+
+
+def cycle_told(own):
+    return f"a cycle of {len(each_second(own[3], own[4], own[6])):,} s does not fit in one plan"
+
+
+def phase_lines(own, begin):
+    """The signal commands of a light's phases from a begin on, (clock, command), without end: a plan of one phase stays until
+    the next is sent. `own`: the words of `signal`."""
+    node, turns, _, light, program, permissive, report, found = own
     states = each_second(light, program, report)
     told = by_gaps(found) if found else by_share(light, turns, states, permissive)
     greens = green_seconds(light, turns, states, told, 1)
-    report.warn(f"light {light!r}: a cycle of {len(greens):,} s does not fit in one plan; its phases are lines, until {last:,} s", light=True)
-    place, lines = (begin + round(-program.offset)) % len(greens), []
+    place = (begin + round(-program.offset)) % len(greens)
     runs = [(green, len(list(run))) for green, run in groupby(greens[place:] + greens[:place])]
     clock, shown = begin, None
-    for green, length in cycle_of(runs):
-        if clock > last:
-            break
+    for green, length in cycle_of(runs) if len(runs) > 1 else runs:
         if green != shown:
-            at = {"at": clock} if lines else {}
-            phases = [[limits.PHASE_STEPS, sorted(map(list, green))]]
-            lines.append({"cmd": "signal", "node": node, "offset": 0, "phases": phases, **at})
+            yield clock, {"cmd": "signal", "node": node, "offset": 0, "phases": [[limits.PHASE_STEPS, sorted(map(list, green))]]}
         clock, shown = clock + length, green
-    return lines
 
 
 def signal(node, turns, edges, light, program, permissive, report, found=None):

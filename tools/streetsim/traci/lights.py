@@ -38,6 +38,12 @@ class Light:
         return sum(duration for duration, _ in self.phases[:index])
 
 
+def shown_phases(light: Light) -> Phases:
+    """The phases as they are sent; a state that is shown all the time is shown whole, also its permissive greens."""
+    alone = len(light.phases) == 1
+    return [(duration, state.replace("g", "G") if alone else state) for duration, state in light.phases]
+
+
 def turns_to(node: int, light: str, mapping) -> Iterator[tuple[int, int, int, int | None]]:
     for turn in mapping.turns:
         if mapping.links[turn.link].end == node:

@@ -10,7 +10,7 @@ from .errors import TraCIException
 if TYPE_CHECKING:
     from .session import Session
 
-FORMAT = "streetsim state 1"
+FORMAT = "streetsim state 2"
 LISTS = ("names", "starts", "timers")  # as they are, with tuples within
 NUMBERED = ("waiting", "waited", "lost", "travelled")  # by number
 NAMED = ("cars", "plans", "sizes", "kind_of", "route_of", "wishes", "gone")  # by name
@@ -22,6 +22,7 @@ def save_state(session: Session, path: str) -> None:
     state |= {name: getattr(session, name) for name in (*LISTS, *NAMED, "entered", "sent", "clock")}
     state |= {name: list(getattr(session, name).items()) for name in NUMBERED}
     state["seen"] = sorted(session.seen)
+    state["forgotten"], state["coming"] = sorted(session.forgotten), [node for node, _ in session.coming]
     state["held"] = [[car, [place.link, place.lane, place.speed]] for car, place in session.held.items()]
     state["pending"] = [[car, *way] for car, way in session.pending.items()]
     state["lights"] = {name: [one.phases, one.begin, one.program, one.names] for name, one in session.lights.items()}
@@ -66,3 +67,7 @@ def restore(session: Session, state: dict) -> None:
         light.names = list(names)
     for name, last in state["loops"].items():
         session.loops[name].last = last
+    session.forgotten, session.coming = frozenset(state["forgotten"]), ()
+    for name, node in session.map.signals:
+        if node in state["coming"]:
+            session.resume_light(name, node)

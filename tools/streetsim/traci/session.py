@@ -8,11 +8,12 @@ from ..run.record import EMPTY
 from ..run.rounds import giving_way_to_scripts
 from ..run.runs import read_run
 from ..scenario import Scenario, TrafficLight
+from ..sumo.report import Report
 from ..sumo.types import DEFAULT, Kind
 from ..sumo.yielding import GREEN, PERMISSIVE
 from .errors import FatalTraCIError, TraCIException
 from .inside import Inside
-from .lights import CONSTANT, check_phases, check_state, turns_to
+from .lights import CONSTANT, check_phases, check_state, shown_phases, turns_to
 from .listeners import Listeners
 from .rerouting import Ways
 
@@ -432,10 +433,13 @@ class Session(Scenario):
         self.show_program(name, [(CONSTANT, state)], 0, program)
 
     def send_light(self, name, light):
-        """Sends the cycle; a state that is shown all the time is shown whole, also its permissive greens."""
-        alone = len(light.phases) == 1
-        phases = [(duration, state.replace("g", "G") if alone else state) for duration, state in light.phases]
-        self.set_light(name, phases, light.begin)
+        """Sends the cycle."""
+        self.set_light(name, shown_phases(light), light.begin)
+
+    def resume_light(self, name, node):
+        """Goes on with a program that is sent phase by phase, of which the present phase was sent."""
+        phases, light = TrafficLight(self), self.light(name)
+        phases.go_on(phases.own(name, node, shown_phases(light), light.begin % light.starts(len(light.phases)), Report()))
 
     def set_light(self, name, phases, begin):
         if len(phases) == 1 and phases[0][0] == CONSTANT and not set(phases[0][1]) & set(PERMISSIVE):
@@ -446,7 +450,7 @@ class Session(Scenario):
 
     def show_constant(self, name, state, begin):
         """Shows a state without permissive greens at each node of a light, in one phase: no second differs from another."""
-        self.forget_timed(name)
+        self.forget(frozenset(node for node, _ in self.turns_of(name)))
         for node, turns in self.turns_of(name):
             green = sorted([link, lane, following] for link, lane, following, index in turns if index is None or state[index] in GREEN)
             self.client.signal(node, [(CONSTANT, green)], round(-(begin % CONSTANT)) % CONSTANT)

@@ -1,0 +1,59 @@
+"""Runs of a study without a last second: until all have arrived, nobody moves, or the calls are spent."""
+from __future__ import annotations
+
+import hashlib
+
+from ..client import Client
+from ..run.budget import MINUTE, Asking, Budget
+from ..run.mapping import Map
+from ..run.record import Recorder, Records, Settings
+from ..run.runs import Run
+from ..run.serving import serving
+from .sessions import Outcome
+
+
+class Summed(Client):
+    """A client that keeps the sum of all replies."""
+
+    def __init__(self, *words, **more) -> None:
+        super().__init__(*words, **more)
+        self.sum = hashlib.sha256()
+
+    def turn(self, chunk: list[bytes]) -> list[bytes]:
+        replies = super().turn(chunk)
+        for reply in replies:
+            self.sum.update(reply)
+        return replies
+
+
+class Counted(Recorder):
+    """A run whose vehicles are counted each minute and asked for at its end; nothing else is asked, and nobody is rescued."""
+
+    def __init__(self, sim: Client, run: Run, mapping: Map, until: int) -> None:
+        super().__init__(sim, run, mapping, Settings(until, every=0, rescue=0, open_end=True), None, lambda *_: None)
+        self.budget = Budget(run, self.settings, (), (), ())
+
+    def record(self) -> Records:
+        self.most = self.sim.calls
+        self.begin(Asking(0, False, [], 0))
+        clock = self.start
+        while clock < self.settings.until:
+            self.send_timed(clock)
+            clock = self.advance(clock, (clock // MINUTE + 1) * MINUTE)
+            self.look(clock)
+        self.find_ends()
+        return self.records
+
+
+def outcome_of(program: str, run: Run, mapping: Map, until: int) -> Outcome:
+    """What a run gives; until: a first guess of its end. One that has not arrived counts until the end that the run had."""
+    with serving(program, run.path, client=Summed) as sim:
+        records = Counted(sim, run, mapping, until).record()
+        digest = sim.sum.hexdigest()
+    seconds = arrived = 0
+    for line, end in zip(run.enters, records.ends, strict=True):
+        there = end is not None and end.state == "arrived"
+        arrived += there
+        seconds += max(0, (end.step + 1 if there else records.clock) - line.command["depart"])
+    worst = max(records.censuses, key=lambda census: census.waiting)
+    return Outcome(digest, arrived, seconds, records.clock, worst.waiting, worst.clock, records.ended)
