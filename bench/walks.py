@@ -1,0 +1,86 @@
+#!/usr/bin/python3
+"""Runs the walks of the pages of tools/ and says where a command prints other lines than the page shows.
+
+Usage: bench/walks.py PROGRAM --work FOLDER [--only README,SIGNALS]
+
+The commands of a page's sections are run in one folder, in the page's order and with the tools as they are here; of the text that
+a page shows right after a command each line must be printed, in that order ('..' stands for any). It needs Debian's sumo. The
+status is 1 where a line is lacking or a command fails.
+"""
+
+import argparse
+import os
+import re
+import subprocess
+import sys
+from pathlib import Path
+
+TOP = Path(__file__).resolve().parents[1]
+SECTIONS = {  # of pages: the headings of their walks
+    "README": ("A walk of ten minutes",),
+    "SIGNALS": ("A walk of two minutes", "A study"),
+}
+INSTALLING = "pip install"  # a block with it is left out: the tools are run as they are here
+
+
+def blocks(page, heading):
+    """The commands of a section, each with the lines that are shown after it."""
+    text = (TOP / f"tools/{page}.md").read_text(encoding="utf-8")
+    found = re.search(rf"^## {re.escape(heading)}$(.*?)(?=^## |\Z)", text, re.MULTILINE | re.DOTALL)
+    if not found:
+        raise SystemExit(f"{page}.md: no section {heading!r}")
+    for body, shown in re.findall(r"^```sh\n(.*?)^```\n(?:\n```text\n(.*?)^```$)?", found[1], re.MULTILINE | re.DOTALL):
+        if INSTALLING not in body:
+            yield body, shown.splitlines()
+
+
+def lacking(shown, printed):
+    """The lines of a page that are not printed, in order."""
+    place = 0
+    for line in shown:
+        if line == "..":
+            continue
+        try:
+            place = printed.index(line, place) + 1
+        except ValueError:
+            yield line
+
+
+def walk(page, heading, folder, surroundings):
+    """Runs a section; gives how much is other than the page says."""
+    wrong = 0
+    for body, shown in blocks(page, heading):
+        done = subprocess.run(
+            ["bash", "-ec", body], cwd=folder, env=surroundings, stdout=subprocess.PIPE, stderr=subprocess.STDOUT, text=True, check=False
+        )
+        printed = done.stdout.replace("\r", "\n").splitlines()
+        missing = list(lacking(shown, printed))
+        first = body.splitlines()[0]
+        print(f"{page}.md: {first}: {'as shown' if not missing else 'OTHER'}{f', status {done.returncode}' * bool(done.returncode)}", flush=True)
+        if missing or done.returncode:
+            wrong += 1
+            print(*(f"  lacks: {line}" for line in missing), *(f"  prints: {line}" for line in printed[-12:]), sep="\n", flush=True)
+    return wrong
+
+
+def main():
+    parser = argparse.ArgumentParser(description=__doc__, formatter_class=argparse.RawTextHelpFormatter)
+    parser.add_argument("program")
+    parser.add_argument("--work", required=True, help="a folder for what is made")
+    parser.add_argument("--only", default=",".join(SECTIONS), help="names of pages, with commas between")
+    args = parser.parse_args()
+    folder = Path(args.work).resolve()
+    folder.mkdir(parents=True, exist_ok=True)
+    surroundings = {
+        **{"SUMO_HOME": "/usr/share/sumo", **os.environ},
+        "PATH": f"{TOP / 'tools'}:{os.environ['PATH']}",
+        "STREETSIM_PROGRAM": str(Path(args.program).resolve()),
+        "example": str(TOP / "tools/examples/corridor"),
+    }
+    wrong = sum(walk(page, heading, folder, surroundings) for page in args.only.split(",") for heading in SECTIONS[page])
+    print("each walk prints what its page says" if not wrong else f"{wrong} commands print other lines, or fail")
+    sys.exit(1 if wrong else 0)
+
+
+if __name__ == "__main__":
+    main()
