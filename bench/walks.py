@@ -50,16 +50,16 @@ def walk(page, heading, folder, surroundings):
     """Runs a section; gives how much is other than the page says."""
     wrong = 0
     for body, shown in blocks(page, heading):
-        done = subprocess.run(
-            ["bash", "-ec", body], cwd=folder, env=surroundings, stdout=subprocess.PIPE, stderr=subprocess.STDOUT, text=True, check=False
-        )
+        joined = {"stdout": subprocess.PIPE, "stderr": subprocess.STDOUT, "text": True}
+        done = subprocess.run(["bash", "-ec", body], cwd=folder, env=surroundings, check=False, **joined)
         printed = done.stdout.replace("\r", "\n").splitlines()
         missing = list(lacking(shown, printed))
-        first = body.splitlines()[0]
-        print(f"{page}.md: {first}: {'as shown' if not missing else 'OTHER'}{f', status {done.returncode}' * bool(done.returncode)}", flush=True)
+        status = f", status {done.returncode}" if done.returncode else ""
+        print(f"{page}.md: {body.splitlines()[0]}: {'OTHER' if missing else 'as shown'}{status}", flush=True)
         if missing or done.returncode:
             wrong += 1
-            print(*(f"  lacks: {line}" for line in missing), *(f"  prints: {line}" for line in printed[-12:]), sep="\n", flush=True)
+            told = [*(f"  lacks: {line}" for line in missing), *(f"  prints: {line}" for line in printed[-12:])]
+            print(*told, sep="\n", flush=True)
     return wrong
 
 

@@ -80,7 +80,8 @@ def of_missing(arrived: Mapping[str, float], due: int) -> list[str]:
     """What speaks against means of several runs, by how many arrived: {what was run: vehicles}. Who has not arrived counts
     until the end in such means."""
     late = {name: due - count for name, count in arrived.items() if due - count > MOST_LATE * due}
-    return [f"{name} {missing:,.0f} of {due:,.0f} vehicles that had the time to arrive have not".strip() for name, missing in late.items()]
+    told = "vehicles that had the time to arrive have not"
+    return [f"{name} {missing:,.0f} of {due:,.0f} {told}".strip() for name, missing in late.items()]
 
 
 def doubts(trips: Trips, rescues: int, censuses: Sequence, run, mapping) -> list[str]:
@@ -112,7 +113,8 @@ def of_waiting(waiting: Mapping[str, Sequence[tuple[int, int]]], vehicles: int) 
     for name, runs in waiting.items():
         count, clock = (fmean(column) for column in zip(*runs, strict=True))
         if count > MOST_WAITING * vehicles:
-            yield f"{name} {count:,.0f} of {vehicles:,} vehicles waited to enter at some {clock:,.0f} s, and are in no queue or count".strip()
+            told = f"vehicles waited to enter at some {clock:,.0f} s, and are in no queue or count"
+            yield f"{name} {count:,.0f} of {vehicles:,} {told}".strip()
 
 
 def of_lengths(clock: int, run, mapping) -> Iterator[str]:

@@ -30,7 +30,14 @@ class Giving:
 
 
 def giving_session(
-    program: str, run: Run, mapping: Map, until: int, rounds: int, without: frozenset = frozenset(), open_end: bool = False, **load: int
+    program: str,
+    run: Run,
+    mapping: Map,
+    until: int,
+    rounds: int,
+    without: frozenset = frozenset(),
+    open_end: bool = False,
+    **load: int,
 ) -> Session:
     """The session of a run whose vehicles give way by so many rounds; a Fault where the calls do not suffice for these."""
     session = session_of(program, run, until, without, **load)
@@ -70,7 +77,10 @@ def outcome_giving_way(session: Session, signals: bytes, seed: int) -> Outcome:
     if session.giving is None:
         return outcome(session, signals, seed)
     lines, yielding = gaps(session, signals, seed)
-    found = open_outcome(session, lines, signals, seed) if session.giving.open_end else outcome(with_gaps(session, lines), signals, seed)
+    if session.giving.open_end:
+        found = open_outcome(session, lines, signals, seed)
+    else:
+        found = outcome(with_gaps(session, lines), signals, seed)
     return replace(found, junctions=yielding.junctions, lines=yielding.lines)
 
 

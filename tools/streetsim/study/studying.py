@@ -2,7 +2,6 @@
 import argparse
 import os
 import sys
-from bisect import bisect_right
 from dataclasses import dataclass
 from functools import partial
 from statistics import fmean, stdev
@@ -13,10 +12,9 @@ from .. import limits, program
 from ..cli.progress import Meanwhile, Slow
 from ..cli.words import MOST_ROUNDS, ROUNDS, Parser, add_rounds, whole_seconds
 from ..files import Fault, open_text, reading, whole_folder
-from ..pictures import plots
 from ..routes.studied import routed
 from ..run import trust
-from ..run.ending import ALL, first_guess
+from ..run.ending import first_guess
 from ..run.mapping import read_map
 from ..run.tables import write_table
 from ..run.works import lanes_to_join, with_works, works_of
@@ -28,6 +26,7 @@ from .giving import giving_session, outcome_giving_way
 from .machines import machines
 from .seeds import paired, runs_needed, seeds_of, unpaired
 from .sessions import Session
+from .telling import doubts, draw, tell, tell_ends, tell_giving_way
 
 LAST = "differences.csv"
 KEYS = {"run", "map", "until", "seeds", "base", "rounds", "variant"}
@@ -281,77 +280,3 @@ def differences(study, results, precision):
 
 def written(row):
     return tuple("" if value is None else f"{value:.3f}" if isinstance(value, float) else value for value in row)
-
-
-def draw(study, rows, path):
-    """The differences with their intervals; without matplotlib no picture, which is said."""
-    shown = [row for row in rows if row[0] != study.base]
-    try:
-        pyplot = plots.drawing()
-    except Fault as fault:
-        print(f"no picture: {fault}", file=sys.stderr)
-        return
-    if not shown:
-        return
-    figure, axes = pyplot.subplots(figsize=(7, 1.2 + 0.4 * len(shown)))
-    for place, (_, _, difference, half, other, *_) in enumerate(reversed(shown)):
-        for width, size, label in ((other, 1.2, "unpaired"), (half, 4.0, "paired")):
-            if width is not None:
-                label = f"95 % interval, {label}" if place == 0 else None
-                axes.plot((difference - width, difference + width), (place, place), color="#225588", linewidth=size, label=label)
-        axes.plot([difference], [place], marker="o", color="black", markersize=5)
-    axes.axvline(0, color="black", linewidth=0.8)
-    axes.set_yticks(range(len(shown)), [row[0] for row in reversed(shown)])
-    axes.set(xlabel=f"mean trip less that of {study.base} (s)", ylim=(-0.6, len(shown) - 0.4))
-    axes.set_title(f"{len(study.seeds)} seeds")
-    if len(study.seeds) > 1:
-        axes.legend(frameon=False, fontsize=8)
-    plots.save(figure, path)
-
-
-def doubts(study, name, outcomes):
-    """What speaks against the runs of a variant."""
-    variant = study.variants[name]
-    arrived, due = (fmean(values) for values in zip(*((one.arrived, bisect_right(variant.due, one.end)) for one in outcomes), strict=True))
-    yield from trust.of_missing({"": arrived}, due)
-    yield from trust.of_waiting({"": [(one.waiting, one.waiting_at) for one in outcomes]}, len(variant.due))
-    early = [one for one in outcomes if one.ended and one.arrived < len(variant.due)]
-    if early:
-        yield f"{len(early):,} of {len(outcomes):,} runs ended before all had arrived, who count until then"
-    yield from variant.doubts
-
-
-def tell_ends(study, results):
-    """Prints how runs without a last second ended."""
-    if study.until is not None:
-        return
-    clocks, others = [], {}
-    for name, outcomes in results.items():
-        for seed, one in zip(study.seeds, outcomes, strict=True):
-            clocks.append(one.end)
-            if not one.ended.endswith(ALL):
-                others.setdefault((name, one.ended.partition(": ")[2]), []).append(f"seed {seed} at {one.end:,} s")
-    for (name, why), seeds in others.items():
-        print(f"{name}: {why}: {', '.join(seeds)}")
-    if not others:
-        until = f"{min(clocks):,}" + (f" to {max(clocks):,}" if max(clocks) > min(clocks) else "")
-        print(f"runs ended at {until} s: {ALL}")
-
-
-def tell(rows):
-    """Prints a line for each variant."""
-    for name, mean, difference, half, _, runs, needed, _ in rows:
-        line = f"{name}: mean trip {mean:.1f} s"
-        if difference is not None:
-            line += f", {difference:+.2f} s" + (f" ± {half:.2f} (95 % interval, {runs} paired runs)" if half is not None else "")
-        if needed is not None and needed > runs:
-            line += f"; the wanted precision needs {needed:,} runs"
-        print(line)
-
-
-def tell_giving_way(results):
-    """Prints at how many junctions vehicles give way without a light, and by how many lines in the mean of the runs."""
-    outcomes = [one for found in results.values() for one in found]
-    if any(one.lines for one in outcomes):
-        junctions, lines = max(one.junctions for one in outcomes), fmean(one.lines for one in outcomes)
-        print(f"{junctions:,} junctions without a light give way by some {lines:,.0f} signal lines in each run")
