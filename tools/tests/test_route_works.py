@@ -30,10 +30,12 @@ def numbers(names):
 
 
 class TurningOff(unittest.TestCase):
-    def turned(self, entry=0.0, names="pqrxz", signs="", shut=(0, 1000)):
-        path = numbers(names)
+    def turned(self, entry=0.0, names="pqrxz", signs="", shut=(0, 1000), seconds=FREE):
+        path, costs = numbers(names), flat_costs(GRAPH, seconds)
         trip = Trip("t", entry, path[0], path[-1], "", path, entry)
-        turn_off([trip], Closing({X: [shut]}, frozenset(numbers(signs)), FREE), GRAPH, flat_costs(GRAPH, FREE), True)
+        closing = Closing({X: [shut]}, frozenset(numbers(signs)), FREE)
+        self.assertEqual(turn_off([trip], closing, GRAPH, costs, True), trip.path != path)
+        self.assertEqual(turn_off([trip], closing, GRAPH, costs, True), 0)
         return trip.path
 
     def test_at_the_last_crossing(self):
@@ -47,6 +49,11 @@ class TurningOff(unittest.TestCase):
         self.assertEqual(self.turned(shut=(31, 1000)), numbers("pqrxz"))
         self.assertEqual(self.turned(entry=970.0), numbers("pqrxz"))
         self.assertEqual(self.turned(entry=969.0), numbers("pqwz"))
+
+    def test_who_comes_while_it_is_shut_for_it_is_late(self):
+        """Without traffic x is reached after 30 s, and from q to r it takes 10 s more."""
+        seconds = [20.0 if movement == numbers("qr") else 10.0 for movement in GRAPH.movements]
+        self.assertEqual(self.turned(shut=(31, 1000), seconds=seconds), numbers("pqwz"))
 
     def test_no_way_round(self):
         for names, told in (("pqrx", "'t' ends on edge 'x' while it is closed"), ("xz", "begins on edge 'x'"), ("rxz", "has no way round edge 'x'")):

@@ -11,7 +11,7 @@ from ..run.mapping import Map
 from ..run.works import Works, shut_links, sites_of
 from .costs import Costs, flat_costs
 from .graph import Graph
-from .router import Path, Router, Shut
+from .router import FAR, Path, Router, Shut
 from .trips import Trip
 
 
@@ -52,23 +52,24 @@ def knows(name: str, share: float, seed: int) -> bool:
 
 def turn_off(trips: Iterable[Trip], closing: Closing, graph: Graph, costs: Costs, strict: bool) -> int:
     """Those who would come to a shut edge turn off before it, and go on by the way that is shortest without traffic; gives how many
-    do. strict: where there is no way that is a Fault, and else they wait."""
-    router, free = Router(graph, costs, closing.shut), Router(graph, flat_costs(graph, closing.free), closing.shut)
-    turned = 0
+    have other ways than before. strict: where there is no way that is a Fault, and else they wait."""
+    router, without, turned = Router(graph, costs, closing.shut), flat_costs(graph, closing.free), 0
+    free = {edge: Router(graph, without, {**closing.shut, edge: [(-FAR, FAR)]}) for edge in closing.shut}
     for trip in trips:
         place = router.met(trip.path, trip.entry)
         if place is None:
             continue
-        path = way_round(trip, place, closing.signs, router, free)
+        path = way_round(trip, place, closing.signs, router, free[trip.path[place]])
         if not path and strict:
             raise Fault(f"trip {trip.name!r} {why_not(trip, place, graph)}")
-        turned += bool(path)
+        turned += bool(path) and path != trip.path
         trip.path = path or trip.path
     return turned
 
 
 def way_round(trip: Trip, shut: int, signs: Collection[int], router: Router, free: Router) -> Path:
-    """The way of a trip that turns off on its first edge with a sign, or at the last crossing before the shut edge; none: empty."""
+    """The way of a trip that turns off on its first edge with a sign, or at the last crossing before the shut edge; none: empty. free:
+    without the shut edge at any time, as who comes later than without traffic would come to it again."""
     clocks = router.clocks(trip.path[:shut], trip.entry)
     signed = (at for at in range(shut) if trip.path[at] in signs)
     for at in (*signed, *reversed(range(shut))):
