@@ -8,6 +8,7 @@ import subprocess
 import unittest
 import xml.etree.ElementTree as ElementTree
 from array import array
+from types import SimpleNamespace
 
 from clusters import ClusterCase, needs_distributed
 from support import DATA, PROGRAM, SCENARIOS, TOOLS, Case, lane, needs_simulator, needs_sumo_tools, net
@@ -15,6 +16,7 @@ from streetsim.routes.costs import Costs, Table, costs_of, flat_costs, nothing_o
 from streetsim.routes.graph import END, Graph
 from streetsim.routes.passes import Passes, Sight
 from streetsim.routes.router import FAR, Found, Router, Wish, parts_of
+from streetsim.routes.routing import warnings
 from streetsim.routes.search import changes, gap_of, steps_of
 from streetsim.routes.seconds import reds
 from streetsim.run.mapping import Map, MapLink, read_map
@@ -108,6 +110,22 @@ class Seconds(unittest.TestCase):
         self.assertEqual([[one.trip for one in step] for step in steps_of(found, 0.8, 4)], [[1, 3, 4], [1, 4], [1]])
         self.assertAlmostEqual(gap_of(found), 70.4 / 500)
         self.assertEqual(gap_of([]), 0.0)
+
+
+class Warnings(unittest.TestCase):
+    def told(self, arrived=1000, rescues=0, best=5, gap=0.03):
+        outcomes = [SimpleNamespace(arrived=arrived, rescues=rescues), SimpleNamespace(arrived=1000, rescues=0)]
+        search = SimpleNamespace(iterations=[SimpleNamespace(number=number) for number in range(11)], best=SimpleNamespace(number=best))
+        job = SimpleNamespace(trips=SimpleNamespace(all=range(1000)), ground=SimpleNamespace(until=9000), words=SimpleNamespace(gap=0.02))
+        return warnings(job, search, SimpleNamespace(outcomes=outcomes, gap=gap))
+
+    def test_what_speaks_against_routes(self):
+        self.assertEqual(self.told(best=6), [])
+        self.assertEqual(self.told(arrived=997, best=6), ["3 of 1,000 trips have not arrived at 9,000 s (--until)"])
+        self.assertEqual(self.told(rescues=10, best=6), [])
+        self.assertEqual(self.told(rescues=11, best=6), ["11 rescues of 1,000 trips: the network locks in part, and the gap says little"])
+        self.assertEqual(self.told(), ["the gap does not fall any more: the least was seen in iteration 5"])
+        self.assertEqual(self.told(gap=0.01), [])
 
 
 class PassingTimes(unittest.TestCase):
