@@ -72,7 +72,7 @@ class PageCase(LiveCase):
     def wait(self, browser, script):
         from selenium.webdriver.support.ui import WebDriverWait
 
-        return WebDriverWait(browser, 30).until(lambda driver: driver.execute_script(script))
+        return WebDriverWait(browser, 60).until(lambda driver: driver.execute_script(script))
 
     def click(self, browser, name):
         """Clicks a button by its id or text, and waits until what it began is done."""

@@ -173,7 +173,7 @@ class Page(PageCase):
     def change_often(self, browser, count):
         """Makes so many changes by the page's own buttons, with steps between them: closures, reopenings, plans, detectors."""
         browser.execute_script(CHANGES)
-        browser.set_script_timeout(120)
+        browser.set_script_timeout(300)
         told = browser.execute_async_script("const done = arguments[1]; makeChanges(arguments[0]).then(() => done(''), fault => done(String(fault)))", count)
         self.assertEqual(told, "")
         return browser.execute_script("return [session.saved(), session.record()]")

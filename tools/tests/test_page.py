@@ -121,7 +121,7 @@ class Answering(Case):
             text = text.replace(mark, part)
         browser = self.browser()
         browser.get(Path(self.write("asking.html", text)).as_uri())
-        found = WebDriverWait(browser, 120).until(lambda one: one.execute_script("return globalThis.found || ''"))
+        found = WebDriverWait(browser, 300).until(lambda one: one.execute_script("return globalThis.found || ''"))
         self.assertIsInstance(found, dict, found)
         return found
 
