@@ -89,6 +89,15 @@ class Works(Case):
         self.assertEqual(arrived, 150)
         self.assertLess(abs(closed - mean), 15)
 
+    def test_more_come_than_pass(self):
+        """Two lanes of three are joint, of which one is closed: 2,000 vehicles an hour come to the other, and 600 do not fill it."""
+        told = "edge a: some 2,000 vehicles an hour come to works that leave 1 of 2 lanes, and a lane passes some 1,600; nobody changes"
+        for hourly, said in ((1000, [told]), (300, [])):
+            run, mapped = self.imported(lanes=3, hourly=hourly)
+            works = [works_of("a_0:100-200:60-420", read_map(mapped))]
+            found = with_works(read_run(run), read_map(mapped), mapped, works)[2]
+            self.assertEqual([text[: len(told)] for text in found if "come to works" in text], said)
+
     def test_who_goes_round(self):
         """Plans change of those alone who may come while the works last, 400 s; it takes 11 s and more to get there."""
         run, mapped = self.imported(lanes=3)

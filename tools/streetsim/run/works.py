@@ -22,6 +22,7 @@ from ..sumo.importing import convert, run_and_map
 from ..sumo.network import Options
 from ..sumo.report import Report, some
 from ..sumo.sources import sources_of
+from .crowding import crowded
 from .freeflow import FreeFlow
 from .mapping import Map
 from .runs import Line, Run, run_of_texts
@@ -77,7 +78,8 @@ def with_works(
         run, mapping = joint(run, mapping, map_path, names)
         told.append(f"joint for this run, so that vehicles change lane: edges {some(sorted(edges_of(names, mapping)))}")
     run, _ = closed(run, mapping, works)
-    return run, mapping, told + list(all_closed(run, mapping, shut_links(sites_of(works, mapping), mapping)))
+    sites = sites_of(works, mapping)
+    return run, mapping, [*told, *all_closed(run, mapping, shut_links(sites, mapping)), *crowded(run, mapping, sites)]
 
 
 def closed(run: Run, mapping: Map, works: list[Works]) -> tuple[Run, Map]:
