@@ -1,4 +1,5 @@
 """The report of runs: differences by hand, what the page says, and how Chromium shows and prints it."""
+import base64
 import html
 import json
 import re
@@ -9,8 +10,9 @@ import unittest
 from support import MAP, PROGRAM, TOOLS, Case, needs_package, needs_simulator
 from streetsim.junctions.rows import APPROACHES, JUNCTIONS, MOVEMENTS
 from streetsim.reports.comparing import paired, total_delay
-from streetsim.reports.drawing import COLOURS, anchor, queue_picture
+from streetsim.reports.drawing import COLOURS, LIGHT, anchor, queue_picture
 from streetsim.reports.reading import read_runs
+from streetsim.reports.reporting import leads_back
 from streetsim.run.tables import TRIPS, write_table
 
 CHROMIUM = shutil.which("chromium") or shutil.which("chromium-browser")
@@ -30,6 +32,13 @@ def has_pillow():
     return subprocess.run(words, capture_output=True, check=False).returncode == 0
 
 
+def luminance(colour):
+    """Relative luminance, as WCAG 2 defines it, of #rrggbb."""
+    parts = [int(colour[place : place + 2], 16) / 255 for place in (1, 3, 5)]
+    red, green, blue = (part / 12.92 if part <= 0.03928 else ((part + 0.055) / 1.055) ** 2.4 for part in parts)
+    return 0.2126 * red + 0.7152 * green + 0.0722 * blue
+
+
 class Numbers(unittest.TestCase):
     def test_paired_differences(self):
         """Changes of -2, -4 and -3 s: mean -3, deviation 1, quantile of two degrees of freedom 4.303."""
@@ -46,6 +55,14 @@ class Numbers(unittest.TestCase):
         self.assertIn('width="240.0" height="12" fill="#9ecae1"', picture)
         self.assertIn("30, 75, 150 of 150 m, fills the edge", picture)
         self.assertEqual(picture.count("fills"), 1)
+
+    def test_letters_in_grey(self):
+        """Each letter is darker than the better one, and its writing has the contrast 4.5 that WCAG 2 asks for."""
+        bright = {letter: luminance(colour) + 0.05 for letter, colour in COLOURS.items()}
+        for better, worse in zip("ABCDE", "BCDEF"):
+            self.assertGreater(bright[better] / bright[worse], 1.25, worse)
+        for letter, light in bright.items():
+            self.assertGreater(1.05 / light if letter in LIGHT else light / 0.05, 4.5, letter)
 
     def test_places_in_the_page(self):
         self.assertEqual(anchor('a "1"'), "junction-a-20--22-1-22-")
@@ -115,6 +132,14 @@ class Pages(Given):
         self.assertFalse(re.search(r"https?:|src=\"(?!data:)|@import|<link|<script|@[A-Z]+@", text))
         self.assertEqual(set(re.findall(r'href="#([^"]+)"', text)) - set(re.findall(r' id="([^"]+)"', text)), set())
 
+    def test_by_keyboard(self):
+        """The first thing that has the focus leads past the navigation; all else is links, the map's junctions too."""
+        page = self.page(*self.plans()).read_text()
+        self.assertEqual(re.search(r"<body>|<a [^>]*>", page[page.index("</style>") :]).group(0), '<a class="skip" href="#main">')
+        self.assertIn('<main id="main" tabindex="-1">', page)
+        self.assertRegex(page, r'<svg.*<a href="#junction-B">')
+        self.assertNotRegex(page, r"onclick|<div[^>]* role=|tabindex=\"[1-9]")
+
     def test_equal_runs_give_equal_bytes(self):
         self.assertEqual(self.page(*self.plans()).read_bytes(), self.page(*self.plans()).read_bytes())
 
@@ -123,6 +148,10 @@ class Pages(Given):
         text = self.page(self.folder / "bad").read_text()
         self.assertIn("bad: not to be trusted<ul><li>seed 1: nobody &lt;arrived&gt;</li>", text)
         self.assertNotIn("Before and after", text)
+
+    def test_a_corridor_of_one_way_streets(self):
+        """The street of two links has no edge back."""
+        self.assertFalse(leads_back(read_runs(str(self.folder / "before")).first, "a b"))
 
     def test_faults(self):
         plans = self.plans()
@@ -174,12 +203,24 @@ class Whole(Case):
         network, routes = CORRIDOR / "corridor.net.xml.gz", CORRIDOR / "corridor.rou.xml"
         self.tool("import", network, "--routes", routes, "-o", run, "--map", mapped)
         words = (run, "--map", mapped, "--until", 600, "--program", PROGRAM, "--out", out)
-        self.tool("run", *words, "--seeds", "1-2", "--junctions", "600")
+        self.tool("run", *words, "--seeds", "1-2", "--junctions", "600", "--every", "2")
         told = self.tool("report", out, "-o", self.folder / "page.html")[0]
         self.assertIn("page.html: 5 junctions", told)
         text = (self.folder / "page.html").read_text()
         self.assertEqual(len(re.findall(r'<h3 id="junction-J[1-5]">', text)), 5)
         self.assertIn("SHA-256 ", text)
+        self.assertNotIn('id="corridor"', text)
+        if has_pillow():  # and with it matplotlib
+            self.drawn(out)
+
+    def drawn(self, out):
+        """The picture of one direction is some 550 pixels high."""
+        edges = "WJ1 J1J2 J2J3 J3J4 J4J5 J5E"
+        self.tool("report", out, "--corridor", edges, "--first", 100, "--last", 500, "-o", self.folder / "page.html")
+        text = (self.folder / "page.html").read_text()
+        self.assertIn(f"<figcaption>Ways of the vehicles along {edges}, and back: out</figcaption>", text)
+        picture = base64.b64decode(re.search(r'id="corridor".*?base64,([^"]+)"', text, re.DOTALL).group(1))
+        self.assertGreater(int.from_bytes(picture[20:24], "big"), 700)
 
 
 if __name__ == "__main__":

@@ -2,9 +2,10 @@
 import tempfile
 from html import escape
 
-from ..cli.words import Parser, time_within
+from ..cli.words import Parser, listed, time_within
 from ..files import Fault, place_of, whole_file
 from .. import limits
+from ..pictures.series import way_back
 from . import writing
 from .reading import read_runs
 
@@ -89,15 +90,24 @@ def sections(all_runs, shown, words):
 
 
 def corridor(runs, words):
-    """The corridor's picture of the first seed."""
+    """The corridor's picture of the first seed, in both directions where edges lead back."""
     from ..pictures.plots import main as plot
 
     folder = runs.first
+    back = leads_back(folder, words.corridor)
     with tempfile.TemporaryDirectory() as made:
         place = f"{made}/corridor.png"
         path = ["corridor", folder.path, "--edges", words.corridor, "--first", str(words.first), "--last", str(words.last)]
-        plot([*path, "-o", place])
+        plot([*path, *(["--both"] if back else []), "-o", place])
         with open(place, "rb") as file:
             content = file.read()
-    text = f"Ways of the vehicles along {words.corridor}: {runs.name}"
+    text = f"Ways of the vehicles along {words.corridor}{', and back' if back else ''}: {runs.name}"
     return f"<figure>{writing.image(content, text)}<figcaption>{escape(text)}</figcaption></figure>"
+
+
+def leads_back(folder, edges) -> bool:
+    """Whether each edge of a path has one of the other direction."""
+    try:
+        return bool(way_back(folder, listed(edges)))
+    except Fault:
+        return False

@@ -3,6 +3,7 @@ import base64
 from html import escape
 from pathlib import Path
 
+from ..junctions.measures import STOP_LOSS
 from ..run.tables import interval
 from .comparing import by_seed, paired, total_delay
 from .drawing import COLOURS, LIGHT, anchor, letter_mark, map_picture, queue_picture
@@ -15,8 +16,8 @@ WEIGHTS = (
 )
 ASSUMPTIONS = (
     "A vehicle takes one to four cells of 7.5 m and moves in steps of a second; speeds are whole cells a second.",
-    "Control delay has 4.2 s for each vehicle that stops, measured on a lone cross against SUMO's detectors, as vehicles "
-    "brake and start at once.",
+    f"Control delay has {STOP_LOSS} s for each vehicle that stops, measured on a lone cross against SUMO's detectors, as "
+    "vehicles brake and start at once; not for those that turn at a light, as the begin of their green is left out instead.",
     "Letters are those of the Highway Capacity Manual 2010 by control delay; of a movement F too where v/c is above 1.",
     "Queues are the backs of queues in each cycle of the signal. A queue as long as its edge has filled it, and may reach on.",
     "Routes are given: nobody changes its route on the way.",
