@@ -190,7 +190,7 @@ class Waves(Searching):
         self.search("--change", "offsets", "--budget", 300, "--check", "101-102")
         offsets = self.offsets()
         self.assertEqual([(there - here) % 80 for here, there in zip(offsets, offsets[1:])], [22] * 4)
-        trip, loss, arrived = self.table("before-after.csv")
+        trip, loss, arrived, _ = self.table("before-after.csv")
         self.assertAlmostEqual(float(trip["before"]), 211.5, delta=1)
         self.assertAlmostEqual(float(trip["after"]), 143.5, delta=1)
         self.assertAlmostEqual(float(trip["after"]) - float(loss["after"]), 130.0)
