@@ -37,7 +37,8 @@ VIEWS = {"whole": None, "0.25 pixels a metre": 0.25, "2 pixels a metre": 2.0, "m
 VIEW = """
 const [scale] = arguments, lanes = () => scene.links.filter(isInView).reduce((sum, link) => sum + link.lanes, 0);
 scene.moved = false; scene.fit();
-if (scale) { scene.moved = true; scene.scale = scale === "most" ? 2 : scale; }
+const middle = session.data.nodes[Math.floor(session.data.nodes.length / 2)];
+if (scale) { scene.moved = true; [scene.x, scene.y, scene.scale] = [middle.x, middle.y, scale === "most" ? 2 : scale]; }
 if (scale === "most") { while (lanes() <= MOST_LOOKS) scene.scale *= 0.99; scene.scale /= 0.99; }
 if (!playing) toggle();
 return lanes();
