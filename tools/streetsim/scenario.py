@@ -75,7 +75,7 @@ class Scenario:
 
     def __init__(self, run, mapping, program=None, workers=1, joint=(), rounds=ROUNDS):
         source, self.map, _ = with_works(read_run(run), read_map(mapping), mapping, (), joint)
-        self.loaded = source.load.command
+        self.load = source.load.command
         self.signals = {line.command["node"]: line.command for line in source.first if line.command["cmd"] == "signal"}
         source, self.yielding = giving_way_to_scripts(source, self.map, rounds, program, workers)
         if self.yielding.why_not:
@@ -199,8 +199,8 @@ class Scenario:
         shut = shut_edges(self.map, [edge], closed)
         if not shut:
             return []
-        round_ = WaysRound(self.map, self.loaded.get("dawdle", 0) / 1000)
-        ways = round_.found(self.waiting(), self.signals.values(), shut, (self.clock, until), self.loaded.get("seed", 0))
+        round_ = WaysRound(self.map, self.load.get("dawdle", 0) / 1000)
+        ways = round_.found(self.waiting(), self.signals.values(), shut, (self.clock, until), self.load.get("seed", 0))
         for name, plan in ways.items():
             self.client.takeout(self.cars[name])
             self.tell_of(name, list(plan), self.departure_lane(plan), max(self.clock, self.departs[name]))
@@ -219,7 +219,7 @@ class Scenario:
         """Rows as those of trips.csv, by the clock of now; who was taken out and entered anew has one."""
         replies = self.client.batch({"cmd": "vehicle", "car": car} for car in self.cars.values())
         lines = [Line(0, "", {"plan": plan, "depart": self.departs[name]}) for name, plan in self.plans.items()]
-        run = Run("", Line(0, "", {"dawdle": 0, **self.loaded}), enters=lines)
+        run = Run("", Line(0, "", {"dawdle": 0, **self.load}), enters=lines)
         return list(tables.trips(Records(ends=replies), run, replace(self.map, cars=list(self.plans), links_of={})))
 
     def write_trips(self, path):
