@@ -30,6 +30,7 @@ CASES = {  # the configuration, or the network and the routes; the last second, 
     **{name: (SCENARIOS / f"RealWorld/{name}/run.sumo.cfg", 9000) for name in ("acosta", "joined", "pasubio")},
     "BasicRiLSACorridor3": (SCENARIOS / "BasicRiLSACorridor3", 5400),
 }
+LACKING = '<vType id="passenger"/><vType id="hdv"/>'  # of a demand without a configuration, which SUMO refuses as it is shipped
 TOLD = ("weights.random-factor",)  # of configurations, of how vehicles choose their ways
 
 
@@ -61,7 +62,9 @@ def row(program, folder, path, end):
     run = [folder / "run.jsonl", "--map", folder / "map.json", "--until", end, "--period", period, "--out", folder / "out"]
     told = done([TOP / "tools/streetsim-run", *run, "--program", program])
     edges, trips, wanted = folder / "edges.xml", folder / "trips.xml", folder / "edges.add.xml"
-    wanted.write_text(f'<additional><edgeData id="counts" freq="{period}" file="{edges}"/></additional>', encoding="utf-8")
+    kind = LACKING if path.is_dir() else ""
+    text = f'<additional>{kind}<edgeData id="counts" freq="{period}" file="{edges}"/></additional>'
+    wanted.write_text(text, encoding="utf-8")
     additional = [path for path in additional if not path.endswith("input_additional.add.xml")]  # outputs, beside it
     files = ["-n", net, "-a", ",".join([*additional, str(wanted)]), *(["-r", ",".join(routes)] if routes else [])]
     done(["sumo", *files, *more, "--end", end, "--tripinfo-output", trips, "--no-step-log", "-W", "--ignore-route-errors"])
