@@ -32,7 +32,7 @@ pub fn desk_of_two(
     ensures sessions { IfSome result (λ r. r.0.sessions ≡ 2) }
     ensures passes { IfSome result (λ r. IsNew r.0 0 r.1 × IsNew r.0 1 r.2) }
 {
-    let engine = Engine::new(alloc, 1, Unwatched);
+    let engine = Engine::new(alloc, 1, Unwatched::new());
     let Ok((desk, mut one)) = Desk::start(alloc, engine, calls, 2) else {
         return None;
     };

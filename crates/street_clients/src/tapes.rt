@@ -51,7 +51,8 @@ pub fn retell<R: Threads + Sync>(rt: &R, alloc: Global, tape: &[u8]) -> Result<R
     ensures retold { IfOk result (λ told. IsRetold tape.now told) }
     ensures stopped { IfErr result (λ fault. IsStopped tape.now fault) }
 {
-    let mut engine = Engine::new(alloc, 1, Unwatched);
+    let gate = Unwatched::new();
+    let mut engine = Engine::new(alloc, 1, gate);
     let mut reader = Counted::new(tape);
     let mut writer = Counted::new(Vec::new(alloc));
     match replay(rt, alloc, &mut reader, &mut engine, &mut writer) {

@@ -106,9 +106,9 @@ module _ (v u w g x : SeatView) (n : ℕ) (slots : List (ℕ × Option Recorded)
         unused = λ k lo hi. calls_other k g.seen e (λ same. omega arith) ∙ took.sees.unused owns k (omega arith) (omega arith);
       }
 
-  pub answered : (t t' : TableId) (r : Reply) → t' ≡ t → Goes v u → Looks u n w → Grabs w n g slots → r ≡ reply_to (state_of g.seen) c o
+  pub answered : (t t' : TableId) (r : Reply) → t' ≡ t → Goes v u → Looks u n w → Grabs w n g slots → length g.seen < v.calls → r ≡ reply_to (state_of g.seen) c o
       → IsLegal (g.seen ++ entry v.least c o ∷ []) → x ≡ with_turn g (g.seen ++ entry v.least c o ∷ []) false → Answered (pass_view t v) c r (pass_view t' x)
-  answered t t' r table went look took reply legal is =
+  answered t t' r table went look took room reply legal is =
       let e = entry v.least c o in
       let here = goes_on v u w n went look in
       let rests = rests_after went look took legal is in
@@ -125,6 +125,7 @@ module _ (v u w g x : SeatView) (n : ℕ) (slots : List (ℕ × Option Recorded)
         outcome = o;
         begins = starts_trans g.seen w.seen v.seen took.sees.seen here.seen;
         count = omega arith;
+        room = room;
         seen = seen;
         is_history = subst (λ (k : ℕ). IsHistory k x.seen) x_sessions rests.seen;
         reply = reply;
@@ -190,6 +191,7 @@ pub record Whole (calls sessions : ℕ) (v : SeatView) (slot : Option Recorded) 
   pub begins : BeginsWith history v.seen
   pub count : v.count ≤ length history
   pub own : v.owns ≡ true → calls_of v.least history ≡ calls_of v.least v.seen
+  pub room : v.live ≡ true → length history ≤ v.calls
   pub of_desk : v.live ≡ true → v.sessions ≡ sessions
 
 word_is : (ws : List ℕ) (n word : ℕ) → ws ≡ n ∷ [] → get_elem? ws 0 ≡ maybe.some word → word ≡ n
@@ -210,6 +212,7 @@ closed_even calls sessions id v ws xs word slot f at in_slot even =
       begins = k.seen;
       count = k.count;
       own = k.own;
+      room = λ live. subst (λ (n : ℕ). length r.history ≤ n) (sym (k.limits live).0) r.room;
       of_desk = λ live. (k.limits live).1;
     }
   where
@@ -232,6 +235,7 @@ pub finished : (t : TableId) (v : SeatView) (calls sessions : ℕ) (slot : Optio
 finished t v calls sessions slot r journal w is all rests =
     let same : w.history ≡ journal = ap (λ (x : Recorded). x.history) (ap (value_of r) (sym w.is ∙ is)) ∙ sym all in record {
       is_history = subst (λ (l : List Entry). IsHistory v.sessions l) same (subst (λ (k : ℕ). IsHistory k w.history) (sym (w.of_desk rests.live)) w.is_history);
+      room = subst (λ (l : List Entry). length l ≤ v.calls) same (w.room rests.live);
       begins = subst (λ (l : List Entry). BeginsWith l v.seen) same w.begins;
       count = subst (λ (l : List Entry). v.count ≤ length l) same w.count;
       own = subst (λ (l : List Entry). calls_of v.least l ≡ calls_of v.least v.seen) same (w.own rests.owns);

@@ -57,12 +57,13 @@ abbrev pub Same : PassView → PassView → Type 0
 Same p q = (q.desk ≡ p.desk) × (q.least ≡ p.least) × (q.greatest ≡ p.greatest)
 
 -- the command was answered: the history seen then is legal, begins with all that was seen and with as many calls as were known
--- of, and ends with this call; the reply is the machine's there, and this call is one more of its own
+-- of, and ends with this call, for which the desk had a place; the reply is the machine's there, and this call is one more of its own
 pub record Answered (p : PassView) (command : Command) (answer : Reply) (q : PassView) : Type 0 where
   pub before : List Entry
   pub outcome : Outcome
   pub begins : BeginsWith before p.seen
   pub count : p.count ≤ length before
+  pub room : length before < p.desk.calls
   pub seen : q.seen ≡ before ++ entry p.least command outcome ∷ []
   pub is_history : IsHistory p.desk.sessions q.seen
   pub reply : answer ≡ reply_to (state_of before) command outcome
@@ -96,9 +97,10 @@ pub record Heard (p : PassView) (note : NoteView) (q : PassView) : Type 0 where
   pub heard : BeginsWith q.seen note.seen
   pub count : note.count ≤ q.count
 
--- the journal at the end
+-- the journal at the end, of as many calls as the desk takes at most
 pub record Finished (p : PassView) (journal : List Entry) : Type 0 where
   pub is_history : IsHistory p.desk.sessions journal
+  pub room : length journal ≤ p.desk.calls
   pub begins : BeginsWith journal p.seen
   pub count : p.count ≤ length journal
   pub own : calls_of p.least journal ≡ calls_of p.least p.seen

@@ -2,6 +2,7 @@
 //!
 //! Source: this profile.
 
+use std::fmt;
 use street_base::Command;
 use thiserror::Error;
 
@@ -23,6 +24,15 @@ pub struct Full {
     pub command: Command,
     /// How many calls were served: all that the desk takes.
     pub served: u64,
+}
+
+/// Without the command.
+impl fmt::Debug for Full {
+    fn fmt<W: fmt::Write>(&self, f: &mut fmt::Formatter<W>) -> fmt::Result {
+        f.debug_struct("Full")
+            .field("served", &self.served)
+            .finish_non_exhaustive()
+    }
 }
 
 /// A desk that was finished within a turn, of which nothing is left.

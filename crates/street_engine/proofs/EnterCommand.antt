@@ -1,21 +1,16 @@
 -- Vehicles that enter.
-use Rattle.std.proofs.Common.{◌≡◌, ℕ, ◌<◌, ◌≤◌, true, false, List, [], ◌∷◌, length, refl, sym, ◌∙◌, ap, subst, arith, inl, inr}
-use Rattle.std.specs.Prelude.{Option, Some, None, filter_map, ◌==◌}
-use Rattle.std.proofs.lemmas.Bool.{true≢false, cases_Bool, cases_lt, le-leb, cond-true, cond-false}
-use Rattle.std.proofs.lemmas.Option.{none-some}
-use Rattle.street_base.specs.declared.net.NetSpec.{NetSpec}
+use Rattle.std.proofs.Common.{◌≡◌, ℕ, ◌<◌, ◌≤◌, List, length, refl, sym, ◌∙◌, ap, subst, arith}
+use Rattle.std.specs.Prelude.{Option, Some, None}
+use Rattle.std.proofs.lemmas.Bool.{le-leb}
 use Rattle.street_base.specs.declared.command.Command.TheVariants.{Enter}
 use Rattle.street_base.specs.declared.refusal.Refusal.{Refusal}
 use Rattle.street_base.specs.declared.refusal.Refusal.TheVariants.{TooMany}
 use Rattle.street_base.specs.declared.reply.Reply.TheVariants.{Entered, Refused, Starved as StarvedReply}
 use Rattle.street_base.specs.declared.reply.Outcome.TheVariants.{Whole, Starved}
-use Rattle.street_base.specs.Limits.{most_vehicles, most_plan}
-use Rattle.street_base.specs.Network.{link_of}
-use Rattle.street_base.specs.Faults.{first_bad, is_bad_entry, plan_fault}
+use Rattle.street_base.specs.Limits.{most_vehicles}
 use Rattle.street_base.specs.State.{Traffic}
-use Rattle.street_base.specs.Machine.{plan_links, enter_refusal, entered}
+use Rattle.street_base.specs.Machine.{enter_refusal, entered}
 use Rattle.street_base.specs.Outcomes.{MayStarveUnder}
-use Rattle.street_base.proofs.FirstBadLemmas.{first_bad-none}
 use Rattle.street_engine.specs.Streets.{StreetsView, StreetsStandFor, StreetsGo}
 use Rattle.street_engine.specs.Refines.{Serves}
 use Rattle.street_engine.proofs.Serves.{same-network, same-ends, streets-refused, streets-starved, streets-starving, streets-done}

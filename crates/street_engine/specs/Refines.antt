@@ -1,8 +1,10 @@
 -- What an engine stands for, and what it owes at each command.
 -- Source: this profile.
-use Rattle.std.specs.Prelude.{List, Option, Some, None}
+use Rattle.std.specs.Prelude.{◌≡◌, List, Option, Some, None}
 use Rattle.street_base.specs.declared.command.Command.{Command}
+use Rattle.street_base.specs.declared.refusal.Refusal.{Refusal}
 use Rattle.street_base.specs.declared.reply.Reply.{Reply}
+use Rattle.street_base.specs.declared.reply.Reply.TheVariants.{Refused}
 use Rattle.street_base.specs.declared.reply.Outcome.{Outcome}
 use Rattle.street_base.specs.State.{State}
 use Rattle.street_base.specs.Outcomes.{Answers}
@@ -24,6 +26,10 @@ StandsFor (Some x) (Some m) = StreetsStandFor x m
 abbrev pub Serves : EngineView → Command → Reply → Outcome → EngineView → Type 0
 Serves before command reply outcome after = (old : State) → StandsFor before old → (new : State) × Answers old command reply outcome new × StandsFor after new
 
--- the same for a list of commands
+-- what was refused is as it was
+abbrev pub KeepsRefused : EngineView → Reply → EngineView → Type 0
+KeepsRefused before reply after = (refusal : Refusal) → reply ≡ Refused refusal → after ≡ before
+
+-- as `Serves`, for a list of commands
 abbrev pub ServesAll : EngineView → List Command → List (Reply × Outcome) → EngineView → Type 0
 ServesAll before commands replies after = (old : State) → StandsFor before old → (new : State) × Runs old commands replies new × StandsFor after new

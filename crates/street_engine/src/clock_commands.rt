@@ -6,7 +6,7 @@ ghost use Rattle.street_base.specs.declared.command.Command.TheVariants.{Advance
 ghost use Rattle.street_base.specs.Limits.{last_clock};
 ghost use Rattle.street_base.specs.Machine.{advance_refusal};
 ghost use Rattle.street_base.specs.State.{Traffic};
-ghost use Rattle.street_engine.specs.Refines.{Serves};
+ghost use Rattle.street_engine.specs.Refines.{Serves, KeepsRefused};
 ghost use Rattle.street_engine.specs.Streets.{StreetsStandFor};
 
 use crate::Streets;
@@ -37,7 +37,8 @@ pub(crate) fn advance<R: Threads + Sync, G: Gate + Sync>(
     streets: &mut Streets,
     steps: u64,
 ) -> (Reply, Outcome)
-    ensures { Serves (Some streets.old) (Advance steps) result.0 result.1 (Some streets.new) }
+    ensures serves { Serves (Some streets.old) (Advance steps) result.0 result.1 (Some streets.new) }
+    ensures refused { KeepsRefused (Some streets.old) result.0 (Some streets.new) }
 {
     if let Some(refusal) = advance_refusal(streets, steps) {
         return (Reply::Refused(refusal), Outcome::Whole);

@@ -3,7 +3,7 @@
 //! Source: this profile.
 ghost use Rattle.std.specs.Prelude.{◌≤◌, Some, None};
 ghost use Rattle.street_base.specs.declared.command.Command.TheVariants.{Load};
-ghost use Rattle.street_engine.specs.Refines.{Serves};
+ghost use Rattle.street_engine.specs.Refines.{Serves, KeepsRefused};
 
 use crate::Streets;
 use crate::clock_commands::{advance, count};
@@ -27,7 +27,8 @@ pub(crate) fn apply<R: Threads + Sync, G: Gate + Sync>(
 ) -> (Reply, Outcome)
     requires some { 1 ≤ workers }
     requires few { workers ≤ 64 }
-    ensures { Serves state.old command.now result.0 result.1 state.new }
+    ensures serves { Serves state.old command.now result.0 result.1 state.new }
+    ensures refused { KeepsRefused state.old result.0 state.new }
 {
     match state {
         Some(streets) => serve(rt, gate, alloc, streets, command),
@@ -50,7 +51,8 @@ fn serve<R: Threads + Sync, G: Gate + Sync>(
     streets: &mut Streets,
     command: &Command,
 ) -> (Reply, Outcome)
-    ensures { Serves (Some streets.old) command.now result.0 result.1 (Some streets.new) }
+    ensures serves { Serves (Some streets.old) command.now result.0 result.1 (Some streets.new) }
+    ensures refused { KeepsRefused (Some streets.old) result.0 (Some streets.new) }
 {
     match command {
         Command::Load(_) => (Reply::Refused(Refusal::AlreadyLoaded), Outcome::Whole),
@@ -96,7 +98,8 @@ fn serve<R: Threads + Sync, G: Gate + Sync>(
 fn load(alloc: Global, workers: usize, net: &NetSpec) -> (Option<Streets>, Reply, Outcome)
     requires some { 1 ≤ workers }
     requires few { workers ≤ 64 }
-    ensures { Serves None (Load net.now) result.1 result.2 result.0 }
+    ensures serves { Serves None (Load net.now) result.1 result.2 result.0 }
+    ensures refused { KeepsRefused None result.1 result.0 }
 {
     match Streets::load(alloc, net, workers) {
         Ok(streets) => {

@@ -3,7 +3,7 @@
 //! Source: this profile.
 ghost use Rattle.std.specs.Prelude.{◌≡◌};
 ghost use Rattle.street_base.specs.declared.command.Command.TheVariants.{PlaceMeter, ReadMeter};
-ghost use Rattle.street_engine.specs.Refines.{Serves};
+ghost use Rattle.street_engine.specs.Refines.{Serves, KeepsRefused};
 
 use crate::Streets;
 use crate::names::named_cells;
@@ -23,7 +23,8 @@ pub(crate) fn place_meter(
     cell: u64,
     period: u64,
 ) -> (Reply, Outcome)
-    ensures { Serves (Some streets.old) (PlaceMeter link lane cell period) result.0 result.1 (Some streets.new) }
+    ensures serves { Serves (Some streets.old) (PlaceMeter link lane cell period) result.0 result.1 (Some streets.new) }
+    ensures refused { KeepsRefused (Some streets.old) result.0 (Some streets.new) }
 {
     let cells = match named_cells(streets.network(), link, lane, cell, cell) {
         Ok(cells) => cells,

@@ -3,6 +3,8 @@
 //! Source: this profile.
 ghost use Rattle.std.specs.Prelude.{◌≡◌, ◌≤◌, IfOk, OnErr, None};
 ghost use Rattle.street_base.specs.declared.command.Command.TheVariants.{Advance};
+ghost use Rattle.street_base.specs.declared.refusal.Refusal.{Refusal};
+ghost use Rattle.street_base.specs.declared.reply.Reply.TheVariants.{Refused};
 ghost use Rattle.street_base.specs.Machine.{refusal};
 ghost use Rattle.street_base.specs.State.{State};
 ghost use Rattle.street_engine.specs.Refines.{StandsFor, Serves, ServesAll};
@@ -61,9 +63,10 @@ impl<G: Gate + Sync + Drop> Engine<G> {
     }
 
     /// Serves one command: whatever state of the machine the engine stood for, it then stands for the machine's state after
-    /// the command, and the reply is the machine's, both under the outcome answered.
+    /// the command, and the reply is the machine's, both under the outcome answered. A refused command leaves it equal.
     pub fn apply<R: Threads + Sync>(&mut self, rt: &R, command: &Command) -> (Reply, Outcome)
-        ensures { Serves self.old command.now result.0 result.1 self.new }
+        ensures serves { Serves self.old command.now result.0 result.1 self.new }
+        ensures refused { (refusal : Refusal) → result.0 ≡ Refused refusal → self.new ≡ self.old }
     {
         commands::apply(
             rt,

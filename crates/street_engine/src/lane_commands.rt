@@ -3,7 +3,7 @@
 //! Source: this profile.
 ghost use Rattle.std.specs.Prelude.{◌≡◌};
 ghost use Rattle.street_base.specs.declared.command.Command.TheVariants.{Signal, CloseLane, ReopenLane, Lane};
-ghost use Rattle.street_engine.specs.Refines.{Serves};
+ghost use Rattle.street_engine.specs.Refines.{Serves, KeepsRefused};
 
 use crate::Streets;
 use crate::names::{named_cells, named_lane};
@@ -19,7 +19,8 @@ pub(crate) fn signal(
     offset: u64,
     phases: &[PhaseSpec],
 ) -> (Reply, Outcome)
-    ensures { Serves (Some streets.old) (Signal node offset phases.now) result.0 result.1 (Some streets.new) }
+    ensures serves { Serves (Some streets.old) (Signal node offset phases.now) result.0 result.1 (Some streets.new) }
+    ensures refused { KeepsRefused (Some streets.old) result.0 (Some streets.new) }
 {
     let Some(position) = streets.network().node_of(node) else {
         return (Reply::Refused(Refusal::NoNode), Outcome::Whole);
@@ -45,7 +46,8 @@ pub(crate) fn close_lane(
     first: u64,
     last: u64,
 ) -> (Reply, Outcome)
-    ensures { Serves (Some streets.old) (CloseLane link lane first last) result.0 result.1 (Some streets.new) }
+    ensures serves { Serves (Some streets.old) (CloseLane link lane first last) result.0 result.1 (Some streets.new) }
+    ensures refused { KeepsRefused (Some streets.old) result.0 (Some streets.new) }
 {
     let cells = match named_cells(streets.network(), link, lane, first, last) {
         Ok(cells) => cells,
@@ -65,7 +67,8 @@ pub(crate) fn reopen_lane(
     first: u64,
     last: u64,
 ) -> (Reply, Outcome)
-    ensures { Serves (Some streets.old) (ReopenLane link lane first last) result.0 result.1 (Some streets.new) }
+    ensures serves { Serves (Some streets.old) (ReopenLane link lane first last) result.0 result.1 (Some streets.new) }
+    ensures refused { KeepsRefused (Some streets.old) result.0 (Some streets.new) }
 {
     let cells = match named_cells(streets.network(), link, lane, first, last) {
         Ok(cells) => cells,

@@ -8,7 +8,7 @@ ghost use Rattle.street_base.specs.Faults.{is_within};
 ghost use Rattle.street_base.specs.State.{Traffic};
 ghost use Rattle.street_base.specs.Machine.{enter_refusal};
 ghost use Rattle.street_net.specs.Refused.{plan_refusal};
-ghost use Rattle.street_engine.specs.Refines.{Serves};
+ghost use Rattle.street_engine.specs.Refines.{Serves, KeepsRefused};
 
 use crate::Streets;
 use crate::names::lane_number;
@@ -46,7 +46,8 @@ pub(crate) fn enter(
     depart: u64,
     size: u64,
 ) -> (Reply, Outcome)
-    ensures { Serves (Some streets.old) (Enter plan.now lane depart size) result.0 result.1 (Some streets.new) }
+    ensures serves { Serves (Some streets.old) (Enter plan.now lane depart size) result.0 result.1 (Some streets.new) }
+    ensures refused { KeepsRefused (Some streets.old) result.0 (Some streets.new) }
 {
     let car = streets.admitted();
     if car >= MOST_VEHICLES {
@@ -73,7 +74,8 @@ pub(crate) fn enter(
 
 /// Takes no memory.
 pub(crate) fn take_out(streets: &mut Streets, car: u64) -> (Reply, Outcome)
-    ensures { Serves (Some streets.old) (TakeOut car) result.0 result.1 (Some streets.new) }
+    ensures serves { Serves (Some streets.old) (TakeOut car) result.0 result.1 (Some streets.new) }
+    ensures refused { KeepsRefused (Some streets.old) result.0 (Some streets.new) }
 {
     if car >= u64::from(streets.admitted()) {
         return (Reply::Refused(Refusal::NoVehicle), Outcome::Whole);

@@ -12,7 +12,7 @@ use street_engine::{Engine, Unwatched};
 use street_line::{Counted, EngineSession, run_engine};
 
 /// What is answered to the lines of a text where nothing is loaded at first: what the machine says to them, whatever the
-/// number of workers. That is 1 to 64.
+/// number of workers, 1 to 64, and from how many vehicles on they share a step.
 ///
 /// # Errors
 ///
@@ -21,6 +21,7 @@ pub fn answers<R: Threads + Sync>(
     rt: &R,
     alloc: Global,
     workers: u32,
+    gate: Unwatched,
     lines: &[u8],
 ) -> io::Result<Vec<u8>>
     requires { (1 ≤ workers) × (workers ≤ 64) }
@@ -28,7 +29,7 @@ pub fn answers<R: Threads + Sync>(
 {
     let mut reader = Counted::new(lines);
     let mut writer = Counted::new(Vec::new(alloc));
-    let mut session = EngineSession::new(rt, Engine::new(alloc, workers, Unwatched));
+    let mut session = EngineSession::new(rt, Engine::new(alloc, workers, gate));
     match run_engine(alloc, &mut session, &mut reader, &mut writer) {
         Ok(_tally) => Ok(writer.stream),
         Err(_fault) => Err(io::Error::from(io::ErrorKind::OutOfMemory)),

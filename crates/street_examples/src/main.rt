@@ -1,9 +1,10 @@
-//! The sessions of documents and of folders of examples: each is served by 1, 2, 3 and 64 workers in turn, and its replies
-//! are compared with those that stand beside it.
+//! The sessions of documents and of folders of examples: each is served by 1, 2, 3 and 64 workers in turn, as the program
+//! serves it and then with every step shared, on threads, and its replies are compared with those that stand beside it.
 //!
 //! Each word of the command line is a document `NAME.md`, or a folder whose files `NAME.jsonl` and `NAME.out` are the lines
 //! and the replies of a session. The status is 1 where a session is answered otherwise.
 #![tactic(auto)]
+ghost use Rattle.std.specs.Prelude.{◌≤◌};
 
 mod document;
 mod engine_answers;
@@ -15,6 +16,7 @@ use session::{Session, same_lines};
 use std::process::ExitCode;
 use std::thread::Threads;
 use std::{env, fs, io};
+use street_engine::Unwatched;
 
 fn main(rt: HostRuntime) -> ExitCode {
     let agree = match named_sessions(&rt) {
@@ -55,8 +57,32 @@ const WORKERS: [u32; 4] = [1, 2, 3, 64];
 struct Difference {
     /// How many workers served it.
     workers: u32,
+    /// Whether they shared every step.
+    shared: bool,
     /// How many replies agree before the first that does not.
     same: usize,
+}
+
+/// How many replies agree before the first that does not, if one does not. Each step is shared among the workers, or only
+/// those that the program shares.
+fn same_before<R: Threads + Sync + AllocGlobal>(
+    rt: &R,
+    session: &Session,
+    workers: u32,
+    shared: bool,
+) -> io::Result<Option<usize>>
+    requires { (1 ≤ workers) × (workers ≤ 64) }
+{
+    let gate = if shared {
+        Unwatched { from: 0 }
+    } else {
+        Unwatched::new()
+    };
+    let answered = answers(rt, rt.alloc(), workers, gate, session.lines.as_slice())?;
+    if answered == session.replies {
+        return Ok(None);
+    }
+    Ok(Some(same_lines(answered.as_slice(), session.replies.as_slice())))
 }
 
 /// Serves a session by each number of workers.
@@ -65,10 +91,14 @@ fn first_difference<R: Threads + Sync + AllocGlobal>(
     session: &Session,
 ) -> io::Result<Option<Difference>> {
     for workers in WORKERS {
-        let answered = answers(rt, rt.alloc(), workers, session.lines.as_slice())?;
-        if answered != session.replies {
-            let same = same_lines(answered.as_slice(), session.replies.as_slice());
-            return Ok(Some(Difference { workers, same }));
+        for shared in [false, true] {
+            if let Some(same) = same_before(rt, session, workers, shared)? {
+                return Ok(Some(Difference {
+                    workers,
+                    shared,
+                    same,
+                }));
+            }
         }
     }
     Ok(None)
@@ -86,9 +116,16 @@ fn report<R: Threads + Sync + Print + AllocGlobal>(
                 agreeing = agreeing.saturating_add(1);
                 println!(rt; "{}: agrees", session.name)?;
             }
-            Some(Difference { workers, same }) => {
+            Some(
+                Difference {
+                    workers,
+                    shared,
+                    same,
+                },
+            ) => {
+                let how = if shared { ", on threads" } else { "" };
                 println!(rt;
-                    "{}: differs after {same} replies, served by {workers}",
+                    "{}: differs after {same} replies, served by {workers}{how}",
                     session.name
                 )?;
             }

@@ -84,6 +84,7 @@ answered_alone p c reply q h alone =
         subst (λ (l : List Entry). Allows (state_of l) c h.outcome) same (legal_last None h.before _ legal),
         subst (λ (l : List Entry). reply ≡ reply_to (state_of l) c h.outcome) same h.reply,
         subst (λ (n : ℕ). q.seen ≡ p.seen ++ entry n c h.outcome ∷ []) alone.least grown,
+        subst (λ (l : List Entry). length l < p.desk.calls) same h.room,
       ),
       after,
     )

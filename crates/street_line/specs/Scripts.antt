@@ -1,9 +1,10 @@
 -- What became of a script.
 -- Source: this profile.
-use Rattle.std.specs.Prelude.{◌≡◌, ℕ, List, [], Option, Some, None}
+use Rattle.std.specs.Prelude.{◌≡◌, ℕ, ◌<◌, List, [], Option, Some, None, ⊤}
 use Rattle.std.specs.Io.KnownBytes.{Consumes, IsAtEnd}
 use Rattle.street_desk.specs.Passes.{PassView}
 use Rattle.street_stream.specs.Lines.{lines_of}
+use Rattle.street_stream.specs.declared.counted.Counted.{Counted}
 use Rattle.street_stream.specs.declared.tally.FaultKind.{FaultKind}
 use Rattle.street_stream.specs.declared.tally.FaultKind.TheVariants.{Read, Write, Starved, Endless}
 use Rattle.street_stream.specs.declared.tally.Tally.{Tally}
@@ -19,6 +20,13 @@ in_memory Write = Starved
 in_memory Starved = Starved
 in_memory Endless = Endless
 
+-- each fault comes only where its cause was counted: a read that failed; so many reads; else memory ran out
+abbrev pub IsCausedInMemory : {R : Type 0} → FaultKind → Counted R → ℕ → Type 0
+IsCausedInMemory Read reader reads = 0 < reader.failures
+IsCausedInMemory Endless reader reads = reader.calls ≡ reads
+IsCausedInMemory Starved reader reads = ⊤
+IsCausedInMemory Write reader reads = ⊥
+
 -- the replies are the output of the lines of this text, or as far as a fault let them be served
 abbrev pub ScriptServed : PassView → List ℕ → List ℕ → Option FaultKind → PassView → Type 0
 ScriptServed old text replies None new = Goes DeskServes old (lines_of text) replies new
@@ -26,9 +34,8 @@ ScriptServed old text replies (Some fault) new = (kind : FaultKind) × (tally : 
     × (fault ≡ in_memory kind) × Breaks DeskServes old (Some []) text new (Some replies) kind tally
 
 -- so of the text that was read: all of it, where no fault ended it
-pub record ReaderServed (old : PassView) (unread : Option (List ℕ)) (replies : List ℕ) (fault : Option FaultKind) (new : PassView) : Type 0 where
+pub record ReaderServed (old : PassView) (unread left : Option (List ℕ)) (replies : List ℕ) (fault : Option FaultKind) (new : PassView) : Type 0 where
   pub text : List ℕ
-  pub left : Option (List ℕ)
   pub read : Consumes unread left text
   pub at_end : fault ≡ None → IsAtEnd left
   pub served : ScriptServed old text replies fault new

@@ -1,6 +1,6 @@
 -- What a desk serves to one of its callers.
 -- Source: this profile.
-use Rattle.std.specs.Prelude.{◌≡◌, ℕ, List, [], ◌∷◌, ◌++◌, length}
+use Rattle.std.specs.Prelude.{◌≡◌, ◌<◌, ℕ, List, [], ◌∷◌, ◌++◌, length}
 use Rattle.street_base.specs.declared.command.Command.{Command}
 use Rattle.street_base.specs.declared.reply.Outcome.{Outcome}
 use Rattle.street_base.specs.Outcomes.{Allows, reply_to}
@@ -21,10 +21,11 @@ pub record IsAlone (p : PassView) : Type 0 where
   pub least : p.least ≡ 0
   pub history : IsHistory 1 p.seen
 
--- what one session that nobody stands beside is served, as its history grows: the machine's reply at that point; nothing as soon as there are so many calls
+-- what one session that nobody stands beside is served, as its history grows: the machine's reply at that point, while there are fewer calls than may be; nothing from then on
 abbrev pub AloneServes : ℕ → List Entry → Command → Served → List Entry → Type 0
 AloneServes most old command (Answered reply) new = (outcome : Outcome)
     × Allows (state_of old) command outcome
     × (reply ≡ reply_to (state_of old) command outcome)
     × (new ≡ old ++ entry 0 command outcome ∷ [])
+    × (length old < most)
 AloneServes most old command Full new = (new ≡ old) × (length old ≡ most)

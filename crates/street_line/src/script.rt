@@ -1,11 +1,12 @@
 //! Scripts: files of commands, each served as a session on a thread of its own.
 //!
 //! Source: this profile.
-ghost use Rattle.std.specs.Prelude.{◌≡◌, ◌↔◌, ◌⊎◌, ◌<◌, ℕ, List, [], ◌∷◌, All, IfSome, IsNone, IsSome, length, slice_index_or};
+ghost use Rattle.std.specs.Prelude.{◌≡◌, ◌↔◌, ◌⊎◌, ◌<◌, ◌≤◌, ℕ, List, [], ◌∷◌, All, IfSome, IsNone, IsSome, length, slice_index_or};
 ghost use Rattle.street_desk.specs.Passes.{DeskView};
+ghost use Rattle.street_stream.specs.Streams.{IsFresh};
 ghost use Rattle.street_stream.specs.declared.tally.FaultKind.TheVariants as kinds;
 ghost use Rattle.street_line.specs.declared.script.Script.{Script};
-ghost use Rattle.street_line.specs.Scripts.{IsRun, ReaderServed, in_memory as memory_kind};
+ghost use Rattle.street_line.specs.Scripts.{IsRun, ReaderServed, IsCausedInMemory, in_memory as memory_kind};
 
 use crate::session::DeskSession;
 use crate::sessions::run_session;
@@ -67,24 +68,28 @@ impl<'a, R: Threads + Wait + Sync> Script<'a, R> {
         ensures run { IsRun self.old self.new }
     {
         if let Some(file) = self.file.take() {
-            (self.replies, self.fault) = answer_all(alloc, &mut self.session, file);
+            let mut reader = Counted::new(file);
+            (self.replies, self.fault) = answer_all(alloc, &mut self.session, &mut reader);
         }
     }
 }
 
 /// The replies to the lines that a reader gives, served as `run_session` does, and what ended them before the reader did: lack
-/// of memory to keep them is told as that, and never as a failed write.
-pub fn answer_all<R: Threads + Wait + Sync, D: Read + Drop>(
+/// of memory to keep them is told as that, and never as a failed write. The reader is fresh: nothing was called of it yet.
+pub fn answer_all<R: Threads + Wait + Sync, D: Read>(
     alloc: Global,
     session: &mut DeskSession<'_, R>,
-    reader: D,
+    reader: &mut Counted<D>,
 ) -> (Vec<u8>, Option<FaultKind>)
+    requires reader { IsFresh reader.old }
     ensures desk { session.new.desk ≡ session.old.desk }
-    ensures served { ReaderServed session.old (D.remaining reader) result.0.items result.1 session.new }
+    ensures served { ReaderServed session.old (D.remaining reader.old.stream) (D.remaining reader.new.stream)
+        result.0.items result.1 session.new }
+    ensures caused { IfSome result.1 (λ kind. IsCausedInMemory kind reader.new 1000000000) }
+    ensures bounded { reader.new.calls ≤ 1000000000 }
 {
-    let mut reader = Counted::new(reader);
     let mut writer = Counted::new(Vec::new(alloc));
-    match run_session(alloc, session, &mut reader, &mut writer) {
+    match run_session(alloc, session, reader, &mut writer) {
         Ok(_) => (writer.stream, None),
         Err(fault) => (writer.stream, Some(in_memory(fault.kind))),
     }

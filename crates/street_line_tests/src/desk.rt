@@ -185,7 +185,7 @@ fn desk_of_two<R: Abort + AllocGlobal>(
 ) -> (Desk<Unwatched>, Pass<Unwatched>, Pass<Unwatched>)
     ensures { (result.1.desk ≡ result.0) × (result.2.desk ≡ result.0) }
 {
-    let engine = Engine::new(rt.alloc(), 1, Unwatched);
+    let engine = Engine::new(rt.alloc(), 1, Unwatched::new());
     let Ok((desk, mut one)) = Desk::start(rt.alloc(), engine, 6, 2) else {
         panic!(rt; "no desk")
     };

@@ -16,7 +16,7 @@ use street_line::{Counted, DeskSession, Tally, run_alone};
 fn desk_of_two(rt: &(impl Abort + AllocGlobal)) -> (Desk<Unwatched>, Pass<Unwatched>)
     ensures { result.1.desk ≡ result.0 }
 {
-    let engine = Engine::new(rt.alloc(), 1, Unwatched);
+    let engine = Engine::new(rt.alloc(), 1, Unwatched::new());
     match Desk::start(rt.alloc(), engine, 2, 2) {
         Ok(made) => made,
         Err(_) => panic!(rt; "no desk"),
@@ -38,7 +38,7 @@ fn one_call_of<R: Threads + Wait + Abort + AllocGlobal + Sync>(
     rt: &R,
     lines: &[u8],
 ) -> (Option<Tally>, Vec<u8>, usize) {
-    let engine = Engine::new(rt.alloc(), 1, Unwatched);
+    let engine = Engine::new(rt.alloc(), 1, Unwatched::new());
     let Ok((desk, pass)) = Desk::start(rt.alloc(), engine, 1, 1) else {
         panic!(rt; "no desk")
     };

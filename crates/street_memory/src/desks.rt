@@ -43,7 +43,7 @@ fn serve_both<R: Threads + Wait + Sync>(
 fn start_once(alloc: Global) -> Option<(Desk<Unwatched>, Pass<Unwatched>, Pass<Unwatched>)>
     ensures { IfSome result (λ r. (r.1.desk ≡ r.0) × (r.2.desk ≡ r.0)) }
 {
-    let engine = Engine::new(alloc, 1, Unwatched);
+    let engine = Engine::new(alloc, 1, Unwatched::new());
     let Ok((desk, mut one)) = Desk::start(alloc, engine, CALLS, 2) else {
         return None;
     };
@@ -129,7 +129,7 @@ fn replay_once<R: Threads + Sync>(
 ) -> Option<(Vec<u8>, u64, u64)> {
     let mut reader = Counted::new(tape);
     let mut writer = Counted::new(Vec::new(alloc));
-    let mut engine = Engine::new(alloc, 1, Unwatched);
+    let mut engine = Engine::new(alloc, 1, Unwatched::new());
     if replay(rt, alloc, &mut reader, &mut engine, &mut writer).is_err() {
         return None;
     }

@@ -37,7 +37,7 @@ fn engine_with_memory<R: Threads + Sync>(
     at: usize,
     steps: u64,
 ) -> Result<Engine<Unwatched>, Stop> {
-    let mut engine = Engine::new(alloc, 1, Unwatched);
+    let mut engine = Engine::new(alloc, 1, Unwatched::new());
     for (line, _want) in session.lines.iter().take(at) {
         let command = read(alloc, line)?;
         let _reply = call_with_memory(rt, &mut engine, &command)?;
@@ -113,7 +113,9 @@ pub(crate) fn serve_session<R: Threads + Sync>(
     session: &Session,
     met: &mut Met,
 ) -> Result<bool, Wrong> {
-    let mut engine = Engine::new(alloc, session.workers.clamp(1, 64), Unwatched);
+    // Steps are shared however few the vehicles are, so that threads are started while requests are refused.
+    let gate = Unwatched { from: 0 };
+    let mut engine = Engine::new(alloc, session.workers.clamp(1, 64), gate);
     for at in 0..session.lines.len() {
         let stop = match serve_line(rt, alloc, &mut engine, session, at, met) {
             Ok(()) => continue,

@@ -51,6 +51,6 @@ fn serve<R: Threads + Sync, D: Read, W: Write>(
         new (D.remaining reader.new.stream) (W.contents writer.new.stream) fault) }
     ensures caused { IfErr result (λ fault. IsCaused fault.kind reader.new writer.new 1000000000) }
 {
-    let mut session = EngineSession::new(rt, Engine::new(alloc, 1, Unwatched));
+    let mut session = EngineSession::new(rt, Engine::new(alloc, 1, Unwatched::new()));
     run_engine(alloc, &mut session, reader, writer)
 }

@@ -2,7 +2,10 @@
 //!
 //! Source: this profile.
 ghost use Rattle.std.specs.Io.KnownBytes.{Appends};
-ghost use Rattle.std.specs.Prelude.{◌≡◌, OnOk};
+ghost use Rattle.std.specs.Prelude.{◌≡◌, OnOk, OnErr};
+ghost use Rattle.street_runs.specs.Outputs.{IsBegun};
+ghost use Rattle.street_stream.specs.Streams.{IsFresh};
+ghost use Rattle.street_tape.specs.Tapes.{tape_text};
 
 use crate::Fault;
 use std::alloc::Global;
@@ -24,6 +27,7 @@ pub const STANDARD_OUTPUT: &str = "standard output";
 /// Writes a text to standard output, and passes it on.
 pub fn print_text<W: Write>(writer: &mut Counted<W>, text: &[u8]) -> Result<(), Fault<'static>>
     ensures written { OnOk result (Appends (W.contents writer.old.stream) (W.contents writer.new.stream) text.now) }
+    ensures part { OnErr result (IsBegun (W.contents writer.old.stream) (W.contents writer.new.stream) text.now) }
 {
     if street_stream::write_text(writer, text).is_err()
         || street_stream::flush_out(writer).is_err()
@@ -48,27 +52,34 @@ pub fn keep_tape<'a, R: Files<File = File>>(
         return Ok(());
     };
     match desk.finish(pass) {
-        Ok((_engine, journal)) => write_journal(rt, alloc, &journal, name),
+        Ok((_engine, journal)) => {
+            let file = create_file(rt, name)?;
+            write_journal(alloc, &journal, &mut Counted::new(file), name)
+        }
         Err(_torn) => Err(Fault::Write(name)),
     }
 }
 
-/// Writes a journal as a tape.
-fn write_journal<'a, R: Files<File = File>>(
-    rt: &R,
+/// Writes a journal as a tape, under this name in faults.
+fn write_journal<'a, W: Write>(
     alloc: Global,
     journal: &Journal,
+    writer: &mut Counted<W>,
     name: &'a str,
-) -> Result<(), Fault<'a>> {
-    let file = match File::create(rt, name) {
-        Ok(file) => file,
-        Err(error) => return Err(of_file(&error, Fault::Write(name))),
-    };
-    let mut writer = Counted::new(file);
-    match write_tape(alloc, journal, &mut writer) {
+) -> Result<(), Fault<'a>>
+    requires { IsFresh writer.old }
+    ensures written { OnOk result (Appends (W.contents writer.old.stream) (W.contents writer.new.stream) (tape_text journal.now)) }
+    ensures part { OnErr result (IsBegun (W.contents writer.old.stream) (W.contents writer.new.stream) (tape_text journal.now)) }
+{
+    match write_tape(alloc, journal, writer) {
         Ok(_bytes) => Ok(()),
         Err(fault) => Err(Fault::of_run(fault.kind, name, name)),
     }
+}
+
+/// Makes a file to be written.
+fn create_file<'a, R: Files<File = File>>(rt: &R, name: &'a str) -> Result<File, Fault<'a>> {
+    File::create(rt, name).map_err(|error| of_file(&error, Fault::Write(name)))
 }
 
 /// Opens a file to be read.

@@ -1,18 +1,25 @@
 //! A tape, replayed or upgraded.
 //!
 //! Source: this profile.
-ghost use Rattle.std.specs.Prelude.{◌≤◌};
+ghost use Rattle.std.specs.Prelude.{◌≤◌, IfErr, OnOk};
+ghost use Rattle.std.specs.Io.KnownBytes.{Appends};
+ghost use Rattle.street_runs.specs.Outputs.{IsBegun};
+ghost use Rattle.street_runs.specs.Replays.{ReplaysCounted, CountedStops};
+ghost use Rattle.street_stream.specs.Streams.{IsFresh};
+ghost use Rattle.street_text.specs.ReplyLines.{reply_line};
 
 use crate::Fault;
 use crate::outputs::{STANDARD_OUTPUT, open_file, print_text};
+use std::alloc::Global;
 use std::fs::File;
 use std::io;
+use std::io::{Read, Write};
 use std::rt::Files;
 use std::thread::Threads;
-use street_base::Command;
+use street_base::{Command, Reply};
 use street_engine::{Engine, Unwatched};
-use street_line::{Counted, reply_text};
-use street_tape::{replay, upgrade};
+use street_line::{Counted, FaultKind, RunFault, reply_text};
+use street_tape::{TapeFault, replay, upgrade};
 
 /// Replays a tape from nothing loaded, writes its replies in the tape's order, and then what a count answers.
 ///
@@ -26,17 +33,62 @@ pub fn replay_tape<'a, R: Threads + Sync + Print + AllocGlobal + Files<File = Fi
 ) -> Result<(), Fault<'a>>
     requires { (1 ≤ workers) × (workers ≤ 64) }
 {
-    let alloc = rt.alloc();
     let mut reader = Counted::new(open_file(rt, name)?);
     let mut writer = Counted::new(io::writer(rt));
-    let mut engine = Engine::new(alloc, workers, Unwatched);
-    match replay(rt, alloc, &mut reader, &mut engine, &mut writer) {
-        Ok(_tally) => {}
-        Err(fault) => return Err(Fault::of_tape(fault, name, STANDARD_OUTPUT)),
+    match replay_and_count(rt, rt.alloc(), workers, &mut reader, &mut writer) {
+        Ok(()) => Ok(()),
+        Err(fault) => Err(Fault::of_tape(fault, name, STANDARD_OUTPUT)),
     }
+}
+
+/// Replays a tape from nothing loaded, writes its replies in the tape's order, and then what a count answers.
+///
+/// # Errors
+///
+/// That of the replay; else `Run`, where the line of the count found no memory or was not written whole.
+fn replay_and_count<R: Threads + Sync, D: Read, W: Write>(
+    rt: &R,
+    alloc: Global,
+    workers: u32,
+    reader: &mut Counted<D>,
+    writer: &mut Counted<W>,
+) -> Result<(), TapeFault>
+    requires workers { (1 ≤ workers) × (workers ≤ 64) }
+    requires reader { IsFresh reader.old }
+    requires writer { IsFresh writer.old }
+    ensures counted { OnOk result (ReplaysCounted (D.remaining reader.old.stream) (W.contents writer.old.stream)
+        (D.remaining reader.new.stream) (W.contents writer.new.stream)) }
+    ensures stops { IfErr result (λ fault. CountedStops (D.remaining reader.old.stream) (W.contents writer.old.stream)
+        (D.remaining reader.new.stream) (W.contents writer.new.stream) fault) }
+{
+    let mut engine = Engine::new(alloc, workers, Unwatched::new());
+    let tally = match replay(rt, alloc, reader, &mut engine, writer) {
+        Ok(tally) => tally,
+        Err(fault) => return Err(fault),
+    };
     let (reply, _outcome) = engine.apply(rt, &Command::Count);
-    let text = reply_text(alloc, &reply)?;
-    print_text(&mut writer, text.as_slice())
+    match print_reply(alloc, &reply, writer) {
+        Ok(()) => Ok(()),
+        Err(kind) => Err(TapeFault::Run(RunFault { kind, tally })),
+    }
+}
+
+/// Writes the line of a reply, and passes it on.
+fn print_reply<W: Write>(
+    alloc: Global,
+    reply: &Reply,
+    writer: &mut Counted<W>,
+) -> Result<(), FaultKind>
+    ensures written { OnOk result (Appends (W.contents writer.old.stream) (W.contents writer.new.stream) (reply_line reply.now)) }
+    ensures part { IfErr result (λ kind. IsBegun (W.contents writer.old.stream) (W.contents writer.new.stream) (reply_line reply.now)) }
+{
+    let Ok(text) = reply_text(alloc, reply) else {
+        return Err(FaultKind::Starved);
+    };
+    match print_text(writer, text.as_slice()) {
+        Ok(()) => Ok(()),
+        Err(_) => Err(FaultKind::Write),
+    }
 }
 
 /// Writes a tape anew in version 2 to standard output.

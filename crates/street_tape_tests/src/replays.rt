@@ -52,7 +52,7 @@ fn replayed_whole<R: Threads + Sync>(
 ) -> (Option<Tally>, Vec<u8>, bool) {
     let mut reader = Counted::new(tape);
     let mut writer = Counted::new(Vec::new(alloc));
-    let mut engine = Engine::new(alloc, 1, Unwatched);
+    let mut engine = Engine::new(alloc, 1, Unwatched::new());
     let tally = replay(rt, alloc, &mut reader, &mut engine, &mut writer).ok();
     let (reply, _) = engine.apply(rt, &Command::Vehicle { car: 0 });
     let has_ended = matches!(

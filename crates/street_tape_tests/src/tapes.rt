@@ -55,7 +55,7 @@ fn call<R: Threads + Wait + Abort + AllocGlobal + Sync>(
 
 /// The journal of the four lines.
 fn journal_of<R: Threads + Wait + Abort + AllocGlobal + Sync>(rt: &R) -> Journal {
-    let engine = Engine::new(rt.alloc(), 1, Unwatched);
+    let engine = Engine::new(rt.alloc(), 1, Unwatched::new());
     let Ok((desk, mut pass)) = Desk::start(rt.alloc(), engine, 4, 1) else {
         panic!(rt; "no desk")
     };

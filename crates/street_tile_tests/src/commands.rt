@@ -39,7 +39,7 @@ fn served<R: Threads + Sync>(
     alloc: Global,
     commands: &[Command],
 ) -> Option<(usize, (u64, u64, u64))> {
-    let mut engine = Engine::new(alloc, 1, Unwatched);
+    let mut engine = Engine::new(alloc, 1, Unwatched::new());
     match engine.apply_all(rt, commands) {
         Ok(replies) => Some((replies.len(), told(replies.as_slice().get(3))?)),
         Err(_) => None,

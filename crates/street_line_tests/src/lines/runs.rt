@@ -69,7 +69,7 @@ pub(super) fn run<R: Threads + Sync>(
     let mut reader = Counted::new(reader);
     let mut writer = Counted::new(writer);
     let mut service = Watched {
-        engine: EngineSession::new(rt, Engine::new(alloc, 1, Unwatched)),
+        engine: EngineSession::new(rt, Engine::new(alloc, 1, Unwatched::new())),
         places,
         commands: 0,
     };
@@ -97,7 +97,7 @@ pub(super) fn run_whole<R: Threads + Sync>(
 ) -> (Option<FaultKind>, Tally, Vec<u8>) {
     let mut reader = Counted::new(text);
     let mut writer = Counted::new(writer);
-    let mut engine = EngineSession::new(rt, Engine::new(alloc, 1, Unwatched));
+    let mut engine = EngineSession::new(rt, Engine::new(alloc, 1, Unwatched::new()));
     let (kind, tally) = outcome(run_engine(alloc, &mut engine, &mut reader, &mut writer));
     (kind, tally, writer.stream.taken)
 }

@@ -55,7 +55,7 @@ fn replies<R: Threads + Wait + Abort + AllocGlobal + Sync>(
     rt: &R,
     session: &[u8],
 ) -> Option<Vec<u8>> {
-    let engine = Engine::new(rt.alloc(), 1, Unwatched);
+    let engine = Engine::new(rt.alloc(), 1, Unwatched::new());
     let Ok((desk, pass)) = Desk::start(rt.alloc(), engine, 100, 1) else {
         panic!(rt; "no desk")
     };

@@ -26,7 +26,7 @@ pub(super) fn replayed_from<R: Threads + Sync>(
 ) -> Ran {
     let mut reader = Counted::new(reader);
     let mut writer = Counted::new(writer);
-    let mut engine = Engine::new(alloc, 1, Unwatched);
+    let mut engine = Engine::new(alloc, 1, Unwatched::new());
     let (fault, tally) = match replay_within(
         rt,
         alloc,

@@ -6,5 +6,5 @@ use Rattle.street_engine.specs.Refines.{EngineView, Serves}
 use Rattle.street_engine.proofs.LoadCommand.{not-loaded}
 use Rattle.street_engine.proofs.commands.apply.Goals as goal
 
-pub returns-in_default : goal.returns-in_default
-returns-in_default g c = subst (λ (x : EngineView). Serves x c.args.command.now (Refused NotLoaded) Whole x) (sym c.in-None.is) (not-loaded c.args.command.now c.in_default.not-Load)
+pub returns-in_default-clause-serves : goal.returns-in_default-clause-serves
+returns-in_default-clause-serves g c = subst (λ (x : EngineView). Serves x c.args.command.now (Refused NotLoaded) Whole x) (sym c.in-None.is) (not-loaded c.args.command.now c.in_default.not-Load)

@@ -1,4 +1,4 @@
-use Rattle.std.proofs.Common.{◌≡◌, ◌+◌, ◌-◌, ◌≤◌, ◌*◌, All, vec_len}
+use Rattle.std.proofs.Common.{◌≡◌, ◌+◌, ◌-◌, ◌≤◌, All, vec_len}
 use Rattle.street_runs.proofs.clients.passes_of.Given as goal
 
 abbrev pub invariant-loop-pass : goal.invariant-loop-pass

@@ -1,4 +1,4 @@
-use Rattle.std.proofs.Common.{rules, ◌≡◌, List, All, sym, ap, subst, ◌∙◌, ◌++◌}
+use Rattle.std.proofs.Common.{◌≡◌, List, All, sym, ap, subst, ◌∙◌, ◌++◌}
 use Rattle.std.proofs.Math.ListN.{take, length, drop}
 use Rattle.std.proofs.Math.Seq.{take-append_seam}
 use Rattle.street_line.specs.declared.script.Script.{Script}

@@ -1,0 +1,44 @@
+-- A replay and its count.
+-- Source: this profile.
+use Rattle.std.specs.Prelude.{◌≡◌, ℕ, ◌⊎◌, List, ◌++◌, Option, Some, None}
+use Rattle.std.specs.Io.KnownBytes.{Appends, Consumes, IsAtEnd}
+use Rattle.street_base.specs.declared.command.Command.TheVariants.{Count}
+use Rattle.street_base.specs.declared.reply.Outcome.TheVariants.{Whole}
+use Rattle.street_base.specs.Outcomes.{reply_to}
+use Rattle.street_desk.specs.declared.journal.Entry.{Entry}
+use Rattle.street_desk.specs.History.{state_of}
+use Rattle.street_engine.specs.Refines.{EngineView}
+use Rattle.street_tape.specs.declared.fault.TapeFault.{TapeFault}
+use Rattle.street_tape.specs.Entries.{tape_reading}
+use Rattle.street_tape.specs.Faults.{ReplayStops, IsOfRun}
+use Rattle.street_tape.specs.Replies.{AreReplayable, output_from}
+use Rattle.street_text.specs.ReplyLines.{reply_line}
+use Rattle.street_runs.specs.Outputs.{IsBegun}
+
+-- the line that answers a count after these calls
+abbrev pub count_line : List Entry → List ℕ
+count_line entries = reply_line (reply_to (state_of entries) Count Whole)
+
+-- the tape was read to its end
+pub record ReadsTape (unread left : Option (List ℕ)) (entries : List Entry) : Type 0 where
+  pub text : List ℕ
+  pub read : Consumes unread left text
+  pub at_end : IsAtEnd left
+  pub says : tape_reading text ≡ Some entries
+  pub good : AreReplayable None entries
+
+-- the replies to the calls of the tape are written, and then what a count answers
+abbrev pub ReplaysCounted : Option (List ℕ) → Option (List ℕ) → Option (List ℕ) → Option (List ℕ) → Type 0
+ReplaysCounted unread before left after =
+    (entries : List Entry) × ReadsTape unread left entries × Appends before after (output_from None entries ++ count_line entries)
+
+-- all replies are written, and of the count's line perhaps the first bytes
+abbrev pub CountStops : Option (List ℕ) → Option (List ℕ) → Option (List ℕ) → Option (List ℕ) → TapeFault → Type 0
+CountStops unread before left after fault =
+    (entries : List Entry) × ReadsTape unread left entries × IsOfRun fault
+    × (mid : Option (List ℕ)) × Appends before mid (output_from None entries) × IsBegun mid after (count_line entries)
+
+-- the replay stopped, or the line of the count was not written whole
+abbrev pub CountedStops : Option (List ℕ) → Option (List ℕ) → Option (List ℕ) → Option (List ℕ) → TapeFault → Type 0
+CountedStops unread before left after fault =
+    ((view : EngineView) × ReplayStops unread before view left after fault) ⊎ CountStops unread before left after fault
