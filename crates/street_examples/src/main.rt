@@ -4,6 +4,7 @@
 //! Each word of the command line is a document `NAME.md`, or a folder whose files `NAME.jsonl` and `NAME.out` are the lines
 //! and the replies of a session. The status is 1 where a session is answered otherwise.
 #![tactic(auto)]
+
 ghost use Rattle.std.specs.Prelude.{◌≤◌};
 
 mod document;
