@@ -3,7 +3,7 @@
 //! Source: this profile.
 ghost use Rattle.std.specs.Prelude.{◌≡◌, ◌≤◌, IfOk, IfErr};
 ghost use Rattle.street_base.specs.State.{State};
-ghost use Rattle.street_stream.specs.Streams.{IsFresh};
+ghost use Rattle.street_stream.specs.Streams.{IsFresh, IsPrompt};
 ghost use Rattle.street_stream.specs.Faults.{IsCaused};
 ghost use Rattle.street_engine.specs.Refines.{StandsFor};
 ghost use Rattle.street_line.specs.Engines.{MachineServes};
@@ -96,6 +96,7 @@ pub fn run_engine<R: Threads + Sync, D: Read, W: Write>(
         new (D.remaining reader.new.stream) (W.contents writer.new.stream) fault) }
     ensures caused { IfErr result (λ fault. IsCaused fault.kind reader.new writer.new 1000000000) }
     ensures bounded { reader.new.calls ≤ 1000000000 }
+    ensures prompt { IsPrompt reader.new }
 {
     run_lines(alloc, session, reader, writer)
 }

@@ -2,7 +2,7 @@
 //!
 //! Source: this profile. Each reply is written, and passed on, before the next read.
 ghost use Rattle.std.specs.Prelude.{◌≡◌, ◌≤◌, IfOk, IfErr};
-ghost use Rattle.street_stream.specs.Streams.{IsFresh};
+ghost use Rattle.street_stream.specs.Streams.{IsFresh, IsPrompt};
 ghost use Rattle.street_stream.specs.Faults.{IsCaused};
 ghost use Rattle.street_line.specs.Faults.{ServedInPart, kind_of};
 ghost use Rattle.street_line.specs.Runs.{ServedWhole};
@@ -48,6 +48,7 @@ fn serve_all<S: Service, R: Read, W: Write>(
         (R.remaining reader.new.stream) (W.contents writer.new.stream) fault) }
     ensures caused { IfErr result (λ fault. IsCaused fault.kind reader.new writer.new reads) }
     ensures bounded { reader.new.calls ≤ reads }
+    ensures prompt { IsPrompt reader.new }
 {
     let limits = Limits {
         line: LONGEST_LINE,
@@ -89,6 +90,7 @@ pub fn run_lines_within<S: Service, R: Read, W: Write>(
         service.new (R.remaining reader.new.stream) (W.contents writer.new.stream) fault) }
     ensures caused { IfErr result (λ fault. IsCaused fault.kind reader.new writer.new reads) }
     ensures bounded { reader.new.calls ≤ reads }
+    ensures prompt { IsPrompt reader.new }
 {
     let mut server = LineServer { service };
     serve_all(alloc, &mut server, reader, writer, reads)
@@ -114,6 +116,7 @@ pub fn run_lines<S: Service, R: Read, W: Write>(
         service.new (R.remaining reader.new.stream) (W.contents writer.new.stream) fault) }
     ensures caused { IfErr result (λ fault. IsCaused fault.kind reader.new writer.new 1000000000) }
     ensures bounded { reader.new.calls ≤ 1000000000 }
+    ensures prompt { IsPrompt reader.new }
 {
     run_lines_within(alloc, service, reader, writer, MOST_READS)
 }

@@ -2,7 +2,7 @@
 //!
 //! Source: this profile.
 ghost use Rattle.std.specs.Prelude.{◌≡◌, ◌≤◌, IfOk, IfErr};
-ghost use Rattle.street_stream.specs.Streams.{IsFresh};
+ghost use Rattle.street_stream.specs.Streams.{IsFresh, IsPrompt};
 ghost use Rattle.street_stream.specs.Faults.{IsCaused};
 ghost use Rattle.street_line.specs.Faults.{ServedInPart};
 ghost use Rattle.street_line.specs.Runs.{ServedWhole};
@@ -36,6 +36,7 @@ pub fn run_session<R: Threads + Wait + Sync, D: Read, W: Write>(
         session.new (D.remaining reader.new.stream) (W.contents writer.new.stream) fault) }
     ensures caused { IfErr result (λ fault. IsCaused fault.kind reader.new writer.new 1000000000) }
     ensures bounded { reader.new.calls ≤ 1000000000 }
+    ensures prompt { IsPrompt reader.new }
     ensures same { session.new.desk ≡ session.old.desk }
 {
     run_lines(alloc, session, reader, writer)
@@ -65,6 +66,7 @@ pub fn run_alone<R: Threads + Wait + Sync, D: Read, W: Write>(
         session.new.seen (D.remaining reader.new.stream) (W.contents writer.new.stream) fault) }
     ensures caused { IfErr result (λ fault. IsCaused fault.kind reader.new writer.new 1000000000) }
     ensures bounded { reader.new.calls ≤ 1000000000 }
+    ensures prompt { IsPrompt reader.new }
     ensures same { session.new.desk ≡ session.old.desk }
 {
     run_session(alloc, session, reader, writer)

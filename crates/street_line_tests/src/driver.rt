@@ -1,6 +1,9 @@
 //! Lines that are cut out of reads, handled and answered.
 
 use std::alloc::Global;
+use std::cell::Cell;
+use std::io;
+use std::io::{Read, Write};
 use std::process::Abort;
 use std::test::Fail;
 use street_stream::{
@@ -107,5 +110,74 @@ fn reads_run_out(rt: HostRuntime) -> Result<(), Fail> {
     assert!(rt; kind == FaultKind::Endless);
     assert!(rt; counts(&halt.tally) == (1, 1, 1, 3));
     assert!(rt; out.as_slice() == b"ok\n".as_slice());
+    Ok(())
+}
+
+/// Gives the line `a` at each read, so many times, and keeps whether at one of them the replies to all lines before had not
+/// been passed on.
+#[derive(Drop)]
+struct AskingReader<'a> {
+    given: usize,
+    most: usize,
+    passed: &'a Cell<usize>,
+    is_late: bool,
+}
+
+impl<'a> Read for AskingReader<'a> {
+    fn read(&mut self, buffer: &mut [u8]) -> io::Result<usize> {
+        if self.passed.get() != self.given.saturating_mul(3) {
+            self.is_late = true;
+        }
+        if self.given >= self.most {
+            return Ok(0);
+        }
+        self.given += 1;
+        let line = b"a\n";
+        let count = line.len().min(buffer.len());
+        buffer[..count].copy_from_slice(&line[..count]);
+        Ok(count)
+    }
+}
+
+/// Takes all, and tells the reader beside it how much was passed on.
+#[derive(Drop)]
+struct PassingWriter<'a> {
+    taken: usize,
+    passed: &'a Cell<usize>,
+}
+
+impl<'a> Write for PassingWriter<'a> {
+    fn write(&mut self, bytes: &[u8]) -> io::Result<usize> {
+        self.taken = self.taken.saturating_add(bytes.len());
+        Ok(bytes.len())
+    }
+
+    fn flush(&mut self) -> io::Result<()> {
+        self.passed.set(self.taken);
+        Ok(())
+    }
+}
+
+#[test]
+fn replies_are_out_before_the_next_read(rt: HostRuntime) -> Result<(), Fail> {
+    let passed = Cell::new(0usize);
+    let mut reader = Counted::new(AskingReader {
+        given: 0,
+        most: 5,
+        passed: &passed,
+        is_late: false,
+    });
+    let mut writer = Counted::new(PassingWriter {
+        taken: 0,
+        passed: &passed,
+    });
+    let mut handler = Answerer { lines: 0 };
+    let limits = Limits { line: 3, reads: 9 };
+    let run = drive_lines(rt.alloc(), &mut handler, &mut reader, &mut writer, limits);
+    let Ok(tally) = run else {
+        return Err(Fail::from("the run broke"));
+    };
+    assert!(rt; counts(&tally) == (5, 5, 5, 15));
+    assert!(rt; reader.is_prompt() && !reader.stream.is_late);
     Ok(())
 }

@@ -150,6 +150,26 @@ fn reads_are_counted(rt: HostRuntime) -> Result<(), Fail> {
     Ok(())
 }
 
+/// Whether each read but the first came behind a flush, with one more behind this writer.
+fn is_prompt_behind(reader: &mut Counted<&[u8]>, writer: &Counted<Vec<u8>>) -> bool {
+    let mut buffer = [0u8; 2];
+    reader.read_behind(writer, &mut buffer).is_ok() && reader.is_prompt()
+}
+
+#[test]
+fn reads_behind_a_flush_are_told(rt: HostRuntime) -> Result<(), Fail> {
+    let mut reader = Counted::new(b"abcdefgh".as_slice());
+    let mut writer = Counted::new(Vec::new(rt.alloc()));
+    assert!(rt; is_prompt_behind(&mut reader, &writer));
+    assert!(rt; write_text(&mut writer, b"x") == Ok(()) && flush_out(&mut writer) == Ok(()));
+    assert!(rt; is_prompt_behind(&mut reader, &writer));
+    assert!(rt; write_text(&mut writer, b"y") == Ok(()));
+    assert!(rt; !is_prompt_behind(&mut reader, &writer));
+    assert!(rt; flush_out(&mut writer) == Ok(()));
+    assert!(rt; !is_prompt_behind(&mut reader, &writer) && reader.calls() == 4);
+    Ok(())
+}
+
 /// All these bytes come.
 fn push_all(part: &mut PartialLine, bytes: &[u8]) -> Result<(), Starved> {
     for byte in bytes {

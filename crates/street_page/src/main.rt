@@ -6,7 +6,7 @@
 
 ghost use Rattle.std.specs.Prelude.{None, IfOk, IfErr};
 ghost use Rattle.street_base.specs.State.{State};
-ghost use Rattle.street_stream.specs.Streams.{IsFresh};
+ghost use Rattle.street_stream.specs.Streams.{IsFresh, IsPrompt};
 ghost use Rattle.street_stream.specs.Faults.{IsCaused};
 ghost use Rattle.street_line.specs.Engines.{MachineServes};
 ghost use Rattle.street_line.specs.Faults.{ServedInPart};
@@ -50,6 +50,7 @@ fn serve<R: Threads + Sync, D: Read, W: Write>(
         (D.remaining reader.old.stream) (W.contents writer.old.stream)
         new (D.remaining reader.new.stream) (W.contents writer.new.stream) fault) }
     ensures caused { IfErr result (λ fault. IsCaused fault.kind reader.new writer.new 1000000000) }
+    ensures prompt { IsPrompt reader.new }
 {
     let mut session = EngineSession::new(rt, Engine::new(alloc, 1, Unwatched::new()));
     run_engine(alloc, &mut session, reader, writer)

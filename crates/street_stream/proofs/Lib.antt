@@ -5,3 +5,4 @@ pub mod Handles
 pub mod Feeds
 pub mod Breaks
 pub mod HandlerReferences
+pub mod Prompt

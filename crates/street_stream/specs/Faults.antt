@@ -1,7 +1,7 @@
 -- What causes each fault of a run, where in the run it comes, and what it leaves counted.
 -- Source: this profile.
 use Rattle.std.specs.Prelude.{◌≡◌, ℕ, ◌+◌, ◌<◌, ◌⊎◌, List, length, ⊤}
-use Rattle.street_stream.specs.Streams.{HasFailed}
+use Rattle.street_stream.specs.Streams.{HasFailed, IsLastRead}
 use Rattle.street_stream.specs.declared.answer.Cause.{Cause}
 use Rattle.street_stream.specs.declared.answer.Cause.TheVariants.{Run, Line}
 use Rattle.street_stream.specs.declared.counted.Counted.{Counted}
@@ -18,9 +18,9 @@ IsCausedByWriting Starved writer = ⊤
 IsCausedByWriting Read writer = ⊥
 IsCausedByWriting Endless writer = ⊥
 
--- each kind comes only where its cause was counted: a read that failed; so many reads; else as in writing
+-- each kind comes only where its cause was counted: a read that failed, behind which the writer was not called; so many reads; else as in writing
 abbrev pub IsCaused : {R W : Type 0} → FaultKind → Counted R → Counted W → ℕ → Type 0
-IsCaused Read reader writer reads = 0 < reader.failures
+IsCaused Read reader writer reads = (0 < reader.failures) × IsLastRead reader writer
 IsCaused Endless reader writer reads = reader.calls ≡ reads
 IsCaused Write reader writer reads = IsCausedByWriting Write writer
 IsCaused Starved reader writer reads = IsCausedByWriting Starved writer

@@ -1,6 +1,6 @@
 -- What a stream counts, and what a tally counts of a reply.
 -- Source: this profile.
-use Rattle.std.specs.Prelude.{◌≡◌, ℕ, ◌+◌, ◌-◌, ◌^◌, ◌<◌, min, List, length, take, Option}
+use Rattle.std.specs.Prelude.{◌≡◌, ℕ, ◌+◌, ◌-◌, ◌^◌, ◌<◌, min, List, length, take, Option, true}
 use Rattle.std.specs.Io.KnownBytes.{Appends}
 use Rattle.street_stream.specs.declared.counted.Counted.{Counted}
 use Rattle.street_stream.specs.declared.tally.Tally.{Tally}
@@ -18,6 +18,14 @@ pub record IsFresh {T : Type 0} (c : Counted T) : Type 0 where
 -- a call failed, or a write took no byte
 abbrev pub HasFailed : {T : Type 0} → Counted T → Type 0
 HasFailed c = 0 < c.failures + c.empty_writes
+
+-- each read but the first was made right behind a flush of the writer that did not fail
+abbrev pub IsPrompt : {T : Type 0} → Counted T → Type 0
+IsPrompt reader = 0 < reader.calls → reader.is_prompt ≡ true
+
+-- no call of the writer was made behind the last read
+abbrev pub IsLastRead : {R W : Type 0} → Counted R → Counted W → Type 0
+IsLastRead reader writer = reader.writer_calls ≡ writer.calls
 
 -- the text was written whole, and counted as a reply
 pub record IsWritten (before after : Option (List ℕ)) (text : List ℕ) (old new : Tally) : Type 0 where

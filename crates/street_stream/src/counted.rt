@@ -1,7 +1,7 @@
-//! Readers and writers that count their calls.
+//! Readers and writers that count their calls, and keep whether each read came behind a flush.
 //!
 //! Source: this profile. Counts stop at the greatest `u64`.
-ghost use Rattle.std.specs.Prelude.{◌≡◌, ◌==◌, OnOk, OnErr, IfOk, if◌then◌else◌};
+ghost use Rattle.std.specs.Prelude.{◌≡◌, ◌==◌, ◌||◌, ◌&&◌, OnOk, OnErr, IfOk, if◌then◌else◌, true, false};
 ghost use Rattle.std.specs.Io.KnownBytes.{Keeps, ReadConsumes, WriteAppends};
 ghost use Rattle.std.specs.Io.{ReadsAtMost, WritesAtMost};
 ghost use Rattle.street_stream.specs.Streams.{one_more, IsFresh};
@@ -10,6 +10,9 @@ use std::io;
 use std::io::{Read, Write};
 
 /// A reader or a writer with the numbers of its calls, of those that failed, and of writes that took no byte.
+///
+/// A writer keeps whether its last call was a flush that did not fail. A reader keeps of the writer that it is read behind
+/// whether that was so at each read but the first, and how often the writer had been called when it was last read.
 #[derive(Drop)]
 pub struct Counted<T> {
     /// The reader or writer.
@@ -17,6 +20,9 @@ pub struct Counted<T> {
     calls: u64,
     failures: u64,
     empty_writes: u64,
+    is_flushed: bool,
+    is_prompt: bool,
+    writer_calls: u64,
 }
 
 impl<T> Counted<T> {
@@ -30,6 +36,9 @@ impl<T> Counted<T> {
             calls: 0,
             failures: 0,
             empty_writes: 0,
+            is_flushed: false,
+            is_prompt: false,
+            writer_calls: 0,
         }
     }
 
@@ -53,6 +62,33 @@ impl<T> Counted<T> {
     {
         self.empty_writes
     }
+
+    /// Whether each read but the first was made right behind a flush of the writer that did not fail.
+    pub fn is_prompt(&self) -> bool
+        ensures { result ≡ self.now.is_prompt }
+    {
+        self.is_prompt
+    }
+}
+
+impl<R: Read> Counted<R> {
+    /// Reads as `read` does, and keeps where in the calls of the writer that was.
+    pub fn read_behind<W>(&mut self, writer: &Counted<W>, buffer: &mut [u8]) -> io::Result<usize>
+        ensures bound { ReadsAtMost result buffer.new }
+        ensures bytes { ReadConsumes (R.remaining self.old.stream) (R.remaining self.new.stream) result buffer.new }
+        ensures calls { self.new.calls ≡ one_more self.old.calls }
+        ensures given { OnOk result (self.new.failures ≡ self.old.failures) }
+        ensures failed { OnErr result (self.new.failures ≡ one_more self.old.failures) }
+        ensures empty { self.new.empty_writes ≡ self.old.empty_writes }
+        ensures prompt { self.new.is_prompt ≡ ((self.old.calls == 0) || (self.old.is_prompt && writer.now.is_flushed)) }
+        ensures place { self.new.writer_calls ≡ writer.now.calls }
+    {
+        let is_prompt = (self.calls == 0) | (self.is_prompt & writer.is_flushed);
+        let result = self.read(buffer);
+        self.is_prompt = is_prompt;
+        self.writer_calls = writer.calls;
+        result
+    }
 }
 
 impl<R: Read> Read for Counted<R> {
@@ -65,8 +101,10 @@ impl<R: Read> Read for Counted<R> {
         ensures given { OnOk result (self.new.failures ≡ self.old.failures) }
         ensures failed { OnErr result (self.new.failures ≡ one_more self.old.failures) }
         ensures empty { self.new.empty_writes ≡ self.old.empty_writes }
+        ensures prompt { self.new.is_prompt ≡ false }
     {
         self.calls = self.calls.saturating_add(1);
+        self.is_prompt = false;
         let result = self.stream.read(buffer);
         if result.is_err() {
             self.failures = self.failures.saturating_add(1);
@@ -87,8 +125,10 @@ impl<W: Write> Write for Counted<W> {
             ≡ (if n == 0 then one_more self.old.empty_writes else self.old.empty_writes)) }
         ensures failed { OnErr result (self.new.failures ≡ one_more self.old.failures) }
         ensures none { OnErr result (self.new.empty_writes ≡ self.old.empty_writes) }
+        ensures flushed { self.new.is_flushed ≡ false }
     {
         self.calls = self.calls.saturating_add(1);
+        self.is_flushed = false;
         let result = self.stream.write(bytes);
         match result {
             Ok(0) => self.empty_writes = self.empty_writes.saturating_add(1),
@@ -104,9 +144,12 @@ impl<W: Write> Write for Counted<W> {
         ensures done { OnOk result (self.new.failures ≡ self.old.failures) }
         ensures failed { OnErr result (self.new.failures ≡ one_more self.old.failures) }
         ensures empty { self.new.empty_writes ≡ self.old.empty_writes }
+        ensures passed { OnOk result (self.new.is_flushed ≡ true) }
+        ensures held { OnErr result (self.new.is_flushed ≡ false) }
     {
         self.calls = self.calls.saturating_add(1);
         let result = self.stream.flush();
+        self.is_flushed = result.is_ok();
         if result.is_err() {
             self.failures = self.failures.saturating_add(1);
         }

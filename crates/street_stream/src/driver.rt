@@ -1,9 +1,9 @@
 //! The lines of a text, cut out of reads and handled one after another.
 //!
 //! Source: this profile. Each reply is written, and passed on, before the next read.
-ghost use Rattle.std.specs.Prelude.{◌≡◌, ◌+◌, ◌^◌, ◌<◌, ◌≤◌, ℕ, List, [], ◌∷◌, IfOk, OnOk, IfErr, length};
+ghost use Rattle.std.specs.Prelude.{◌≡◌, ◌+◌, ◌^◌, ◌<◌, ◌≤◌, ℕ, List, [], ◌∷◌, IfOk, OnOk, IfErr, length, true};
 ghost use Rattle.std.specs.Io.KnownBytes.{Consumes, IsAtEnd};
-ghost use Rattle.street_stream.specs.Streams.{IsFresh};
+ghost use Rattle.street_stream.specs.Streams.{IsFresh, IsPrompt};
 ghost use Rattle.street_stream.specs.Faults.{IsCausedBy, IsCausedByLine};
 ghost use Rattle.street_stream.specs.HandledLines.{Whole, Broke, IsTally};
 ghost use Rattle.street_stream.specs.Lines.{IsPart};
@@ -136,6 +136,7 @@ fn feed_through<H: LineHandler, W: Write>(
     ensures broken { IfErr result (λ cause. FeedBreaks H.takes H.stops H.longest handler.old (W.contents writer.old.stream)
         progress.old bytes.now handler.new (W.contents writer.new.stream) cause progress.new.tally) }
     ensures caused { IfErr result (λ cause. IsCausedByLine cause writer.new) }
+    ensures passed { OnOk result (writer.new.is_flushed ≡ true) }
 {
     feed(alloc, handler, writer, progress, bytes)?;
     flush_out(writer)?;
@@ -208,10 +209,11 @@ fn drive_all<H: LineHandler, R: Read, W: Write>(
         handler.new (R.remaining reader.new.stream) (W.contents writer.new.stream) cause progress.new.tally) }
     ensures caused { IfErr result (λ cause. IsCausedBy cause reader.new writer.new reads) }
     ensures bounded { reader.new.calls ≤ reads }
+    ensures prompt { IsPrompt reader.new }
 {
     let mut buffer = [0u8; 4096];
     for _ in 0..reads {
-        let count = match reader.read(&mut buffer) {
+        let count = match reader.read_behind(writer, &mut buffer) {
             Ok(count) => count,
             Err(_) => return Err(Cause::Run(FaultKind::Read)),
         };
@@ -253,6 +255,7 @@ pub fn drive_lines<H: LineHandler, R: Read, W: Write>(
         handler.new (R.remaining reader.new.stream) (W.contents writer.new.stream) halt.cause halt.tally) }
     ensures caused { IfErr result (λ halt. IsCausedBy halt.cause reader.new writer.new limits.reads) }
     ensures bounded { reader.new.calls ≤ limits.reads }
+    ensures prompt { IsPrompt reader.new }
 {
     let mut progress = Progress {
         part: PartialLine::new(alloc, limits.line),

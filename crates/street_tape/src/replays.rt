@@ -3,7 +3,7 @@
 //! Source: this profile. Replies are passed on before the next read.
 ghost use Rattle.std.specs.Prelude.{◌≡◌, ◌≤◌, None, Some, IfOk, IfErr};
 ghost use Rattle.street_base.specs.State.{State};
-ghost use Rattle.street_stream.specs.Streams.{IsFresh};
+ghost use Rattle.street_stream.specs.Streams.{IsFresh, IsPrompt};
 ghost use Rattle.street_stream.specs.HandledLines.{Effect, Gives};
 ghost use Rattle.street_engine.specs.Refines.{StandsFor};
 ghost use Rattle.street_tape.specs.Faults.{ReplaysWhole, ReplayStops, IsTapeCaused};
@@ -104,6 +104,7 @@ fn replay_lines<R: Threads + Sync, D: Read, W: Write>(
         replayer.new.engine.now (D.remaining reader.new.stream) (W.contents writer.new.stream) fault) }
     ensures caused { IfErr result (λ fault. IsTapeCaused fault reader.new writer.new reads) }
     ensures bounded { reader.new.calls ≤ reads }
+    ensures prompt { IsPrompt reader.new }
 {
     let limits = Limits {
         line: LONGEST_TAPE_LINE,
@@ -141,6 +142,7 @@ pub fn replay_within<R: Threads + Sync, D: Read, W: Write>(
         engine.new (D.remaining reader.new.stream) (W.contents writer.new.stream) fault) }
     ensures caused { IfErr result (λ fault. IsTapeCaused fault reader.new writer.new reads) }
     ensures bounded { reader.new.calls ≤ reads }
+    ensures prompt { IsPrompt reader.new }
 {
     let mut replayer = Replayer {
         rt,
@@ -183,6 +185,7 @@ pub fn replay<R: Threads + Sync, D: Read, W: Write>(
         engine.new (D.remaining reader.new.stream) (W.contents writer.new.stream) fault) }
     ensures caused { IfErr result (λ fault. IsTapeCaused fault reader.new writer.new 1000000000) }
     ensures bounded { reader.new.calls ≤ 1000000000 }
+    ensures prompt { IsPrompt reader.new }
 {
     replay_within(rt, alloc, reader, engine, writer, MOST_READS)
 }

@@ -6,22 +6,24 @@ use Rattle.std.proofs.KnownBytes.{Consumes-nil, Consumes-trans, Consumes-kept}
 use Rattle.street_stream.proofs.Breaks.{breaks_at, read_breaks}
 use Rattle.street_stream.proofs.Feeds.{feeds_none, feeds_more, consumes_end, begun, whole_run}
 use Rattle.street_stream.proofs.Handles.{none_within}
+use Rattle.street_stream.proofs.Prompt.{prompt_again}
 use Rattle.street_stream.proofs.driver.drive_all.Goals as goal
 
 pub loop-init : goal.loop-init
 loop-init g c =
-    ([], Consumes-nil _, feeds_none g.H.LineHandler.takes g.H.LineHandler.longest _ _ _, record { lines = omega arith; within = none_within c.args.progress.now.tally c.requires.tally }, c.requires.fresh.calls)
+    ([], Consumes-nil _, feeds_none g.H.LineHandler.takes g.H.LineHandler.longest _ _ _, record { lines = omega arith; within = none_within c.args.progress.now.tally c.requires.tally }, c.requires.fresh.calls, λ some. absurd (omega (arith, some)))
 
 pub loop-preserved : goal.loop-preserved
 loop-preserved g c =
     let before = c.loop.invariant in
     let fed = c.in_ok-feed_through.ensures in
-    let got : List ℕ = take c.in-Ok.count c.read.new.buffer in (
+    let got : List ℕ = take c.in-Ok.count c.read_behind.new.buffer in (
       before.0 ++ got,
       Consumes-trans _ _ _ before.0 got before.1 c.in-Ok.ensures.bytes.0,
       feeds_more g.H.LineHandler.takes g.H.LineHandler.longest _ _ _ _ _ _ _ _ _ before.0 got before.2 fed.feeds,
-      record { lines = omega (arith, fed.grows.lines, before.3.lines, length-take c.in-Ok.count c.read.new.buffer); within = fed.grows.within },
+      record { lines = omega (arith, fed.grows.lines, before.3.lines, length-take c.in-Ok.count c.read_behind.new.buffer); within = fed.grows.within },
       omega (arith, c.in-Ok.ensures.calls, before.4),
+      λ some. (prompt_again c.loop.reader.calls c.loop.reader.is_prompt c.loop.writer.is_flushed _ c.in-Ok.ensures.prompt (λ more. before.5 (omega (arith, before.4, more))), fed.passed),
     )
 
 pub returns-in-Err-clause-broken : goal.returns-in-Err-clause-broken
@@ -38,7 +40,7 @@ returns-in_err-finish_through-clause-broken g c =
     let over = c.in-Ok.ensures.bytes.1 c.if-count-eq0.true (omega arith) in
     rw (p.1, p.2) (record {
       text = before.0;
-      read = consumes_end _ _ _ before.0 c.in-Ok.count c.read.new.buffer c.if-count-eq0.true before.1 c.in-Ok.ensures.bytes.0;
+      read = consumes_end _ _ _ before.0 c.in-Ok.count c.read_behind.new.buffer c.if-count-eq0.true before.1 c.in-Ok.ensures.bytes.0;
       breaks = breaks_at g.H.LineHandler.takes g.H.LineHandler.stops ⊤ _ _ _ before.0 _ _ _ _ (λ _. over) (c.in_err-finish_through.ensures.broken _ _ before.0 stands);
     })
 
@@ -46,14 +48,14 @@ pub returns-then-count-eq0-clause-whole : goal.returns-then-count-eq0-clause-who
 returns-then-count-eq0-clause-whole g c =
     let before = c.loop.invariant in
     whole_run g.H.LineHandler.takes g.H.LineHandler.longest _ _ _ _ _ _ c.args.progress.now c.loop.progress before.0 _ _ _ c.requires.part c.requires.tally before.2 c.in_ok-finish_through.ensures.finishes
-    (consumes_end _ _ _ before.0 c.in-Ok.count c.read.new.buffer c.if-count-eq0.true before.1 c.in-Ok.ensures.bytes.0) (c.in-Ok.ensures.bytes.1 c.if-count-eq0.true (omega arith))
+    (consumes_end _ _ _ before.0 c.in-Ok.count c.read_behind.new.buffer c.if-count-eq0.true before.1 c.in-Ok.ensures.bytes.0) (c.in-Ok.ensures.bytes.1 c.if-count-eq0.true (omega arith))
 
 pub returns-in_err-feed_through-clause-broken : goal.returns-in_err-feed_through-clause-broken
 returns-in_err-feed_through-clause-broken g c =
     let before = c.loop.invariant in
     let stands = begun g.H.LineHandler.takes g.H.LineHandler.longest _ _ _ _ c.args.progress.now before.0 c.loop.progress c.requires.part c.requires.tally before.2 in
     let p = err_from_is_err_and c.from_residual-in_err-feed_through.result c.from_residual-in_err-feed_through.ensures.1 in
-    let got : List ℕ = take c.in-Ok.count c.read.new.buffer in
+    let got : List ℕ = take c.in-Ok.count c.read_behind.new.buffer in
     rw (p.1, p.2) (record {
       text = before.0 ++ got;
       read = Consumes-trans _ _ _ before.0 got before.1 c.in-Ok.ensures.bytes.0;
@@ -65,3 +67,18 @@ returns-clause-broken g c =
     let before = c.loop.invariant in
     let stands = begun g.H.LineHandler.takes g.H.LineHandler.longest _ _ _ _ c.args.progress.now before.0 c.loop.progress c.requires.part c.requires.tally before.2 in
     record { text = before.0; read = before.1; breaks = read_breaks g.H.LineHandler.takes g.H.LineHandler.stops g.H.LineHandler.longest _ _ _ _ _ _ c.loop.progress _ stands }
+
+pub returns-in-Err-clause-prompt : goal.returns-in-Err-clause-prompt
+returns-in-Err-clause-prompt g c = λ some. prompt_again c.loop.reader.calls c.loop.reader.is_prompt c.loop.writer.is_flushed _ c.in-Err.ensures.prompt (λ more. c.loop.invariant.5 (omega (arith, c.loop.invariant.4, more)))
+
+pub returns-in_err-finish_through-clause-prompt : goal.returns-in_err-finish_through-clause-prompt
+returns-in_err-finish_through-clause-prompt g c = λ some. prompt_again c.loop.reader.calls c.loop.reader.is_prompt c.loop.writer.is_flushed _ c.in-Ok.ensures.prompt (λ more. c.loop.invariant.5 (omega (arith, c.loop.invariant.4, more)))
+
+pub returns-then-count-eq0-clause-prompt : goal.returns-then-count-eq0-clause-prompt
+returns-then-count-eq0-clause-prompt g c = λ some. prompt_again c.loop.reader.calls c.loop.reader.is_prompt c.loop.writer.is_flushed _ c.in-Ok.ensures.prompt (λ more. c.loop.invariant.5 (omega (arith, c.loop.invariant.4, more)))
+
+pub returns-in_err-feed_through-clause-prompt : goal.returns-in_err-feed_through-clause-prompt
+returns-in_err-feed_through-clause-prompt g c = λ some. prompt_again c.loop.reader.calls c.loop.reader.is_prompt c.loop.writer.is_flushed _ c.in-Ok.ensures.prompt (λ more. c.loop.invariant.5 (omega (arith, c.loop.invariant.4, more)))
+
+pub returns-clause-prompt : goal.returns-clause-prompt
+returns-clause-prompt g c = λ some. (c.loop.invariant.5 (omega (arith, c.loop.invariant.4, some))).0

@@ -1,4 +1,4 @@
-use Rattle.std.proofs.Common.{◌≡◌, List, ℕ, ◌*◌}
+use Rattle.std.proofs.Common.{◌≡◌, List, ℕ, ◌*◌, ◌<◌, true}
 use Rattle.std.specs.Io.KnownBytes.{Consumes}
 use Rattle.street_stream.specs.Progress.{Feeds, Grows}
 use Rattle.street_stream.proofs.driver.drive_all.Given as goal
@@ -10,3 +10,4 @@ invariant-loop g l =
     l.handler (g.W.Write.contents l.writer.stream) l.progress
     × Grows l.fn.progress.tally l.progress.tally (l.counter * 4096)
     × (l.reader.calls ≡ l.counter)
+    × (0 < l.counter → (l.reader.is_prompt ≡ true) × (l.writer.is_flushed ≡ true))
