@@ -229,6 +229,10 @@ fn drive_all<H: LineHandler, R: Read, W: Write>(
 /// Hands each line of a text to the handler, in order and once, and writes each reply, and passes it on, before the next
 /// read. Reads up to 4,096 bytes at a time.
 ///
+/// Each read but the first comes right behind a flush that did not fail. Where a read failed, the whole output of the lines
+/// that were read to their end was written before it, and the writer was not called behind it. Whether a read will fail is not
+/// known before it is made, so each finds the same: the flush before it held the output of all that was read till then.
+///
 /// A line ends with LF or where the text ends; a last part of no bytes is no line. Of a line no more is kept than one byte
 /// above the most that it may have. The ends are fresh: nothing was called of them yet.
 ///
