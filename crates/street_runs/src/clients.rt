@@ -10,7 +10,7 @@ ghost use Rattle.street_line.specs.Sessions.{AloneServes};
 ghost use Rattle.street_runs.specs.Outputs.{IsBegun, replies_of};
 ghost use Rattle.street_runs.specs.Words.{IsInRange};
 ghost use Rattle.street_stream.specs.Faults.{IsCaused};
-ghost use Rattle.street_stream.specs.Streams.{IsFresh};
+ghost use Rattle.street_stream.specs.Streams.{IsFresh, IsPrompt};
 
 use crate::outputs::{STANDARD_INPUT, STANDARD_OUTPUT, keep_tape, print_text};
 use crate::{Fault, Options};
@@ -81,6 +81,7 @@ fn serve_alone<R: Threads + Wait + Sync, D: Read, W: Write>(
         [] (D.remaining reader.old.stream) (W.contents writer.old.stream)
         r.2.seen (D.remaining reader.new.stream) (W.contents writer.new.stream) fault)) }
     ensures caused { IfOk result (λ r. IfErr r.0 (λ fault. IsCaused fault.kind reader.new writer.new 1000000000)) }
+    ensures prompt { OnOk result (IsPrompt reader.new) }
     ensures desk { IfOk result (λ r. r.2.desk ≡ r.1) }
     ensures starved { OnErr result ((reader.new ≡ reader.old) × (writer.new ≡ writer.old)) }
 {
