@@ -132,7 +132,7 @@ impl<'a> Read for AskingReader<'a> {
             return Ok(0);
         }
         self.given += 1;
-        let line = b"a\n";
+        let line = b"a\n".as_slice();
         let count = line.len().min(buffer.len());
         buffer[..count].copy_from_slice(&line[..count]);
         Ok(count)
