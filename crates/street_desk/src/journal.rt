@@ -37,13 +37,23 @@ impl Drop for Journal {
 impl Model for Journal {
     ghost use Rattle.std.specs.Prelude.{List};
     ghost use Rattle.street_desk.specs.declared.journal.Entry.{Entry};
+    ghost use Rattle.street_desk.specs.History.{IsLegal};
 
     ghost Value = { List Entry };
 
     ghost view = { λ j. j.entries.items };
+
+    ghost invariant = { λ j. IsLegal j.entries.items };
 }
 
 impl Journal {
+    /// The calls are a legal history.
+    pub fn legal(&self)
+        ensures { IsLegal self.now }
+    {
+        let _ = &self.entries;
+    }
+
     /// How many calls.
     pub fn len(&self) -> usize
         ensures { result ≡ length self.now }

@@ -8,3 +8,5 @@ pub mod Counts
 pub mod GoodTapes
 pub mod Replayed
 pub mod Upgraded
+pub mod Each
+pub mod Journals

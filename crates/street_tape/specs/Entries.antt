@@ -167,6 +167,16 @@ pub record EntryFits (e : Entry) : Type 0 where
   pub part : is_part e.command e.outcome ≡ true
   pub line : length (compact_text (entry_data e)) ≤ longest_tape_line
 
+-- each number of the call is one of 64 bits
+pub record IsOfWords (e : Entry) : Type 0 where
+  pub session : IsWord e.session
+  pub command : Fits e.command
+  pub outcome : OutcomeFits e.outcome
+
+-- its line is no longer than a tape line may be
+abbrev pub HasTapeLine : Entry → Type 0
+HasTapeLine e = length (compact_text (entry_data e)) ≤ longest_tape_line
+
 -- so of each call, and their number is one of 64 bits
 pub record TapeFits (es : List Entry) : Type 0 where
   pub few : IsWord (length es)

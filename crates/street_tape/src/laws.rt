@@ -3,9 +3,12 @@
 //! Source: this profile.
 ghost use Rattle.std.specs.Prelude.{◌≡◌, All, List, Some, false};
 ghost use Rattle.street_desk.specs.declared.journal.Entry.{Entry};
-ghost use Rattle.street_tape.specs.Entries.{tape_reading, EntryFits, TapeFits};
+ghost use Rattle.street_tape.specs.Entries.{tape_reading, EntryFits, HasTapeLine, TapeFits};
 ghost use Rattle.street_tape.specs.Tapes.{tape_text, old_tape_text};
 ghost use Rattle.street_text.specs.CommandTexts.{tells_size};
+
+use crate::fits::{count, each_call};
+use street_desk::Journal;
 
 /// The tape of any list of calls of numbers of 64 bits, so of every legal history, reads as that list, if none of its lines is
 /// longer than a tape line may be. So does its tape of version 1, where each vehicle that enters has size 1.
@@ -14,3 +17,15 @@ pub fn tape_reads_back()
     ensures before { (history : List Entry) → All EntryFits history → All (λ e. tells_size e.command ≡ false) history
         → tape_reading (old_tape_text history) ≡ Some history }
 {}
+
+/// The tape of a journal reads as that journal, if none of its lines is longer than a tape line may be: a journal is a legal
+/// history of numbers of 64 bits, whatever it has, and so a tape can hold it.
+pub fn journal_reads_back(journal: &Journal)
+    ensures fits { All HasTapeLine journal.now → TapeFits journal.now }
+    ensures reads { All HasTapeLine journal.now → tape_reading (tape_text journal.now) ≡ Some journal.now }
+{
+    journal.legal();
+    count(journal);
+    each_call(journal);
+    tape_reads_back();
+}

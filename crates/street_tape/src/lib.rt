@@ -11,6 +11,7 @@
 mod calls;
 mod entries;
 mod fault;
+mod fits;
 mod head;
 mod journal_tape;
 mod laws;
@@ -24,7 +25,7 @@ pub use entries::{LONGEST_TAPE_LINE, read_entry, read_head};
 pub use fault::TapeFault;
 pub use head::Head;
 pub use journal_tape::{write_lines, write_tape};
-pub use laws::tape_reads_back;
+pub use laws::{journal_reads_back, tape_reads_back};
 pub use replay_laws::{old_tape_replays, tape_replays};
 pub use replays::{replay, replay_within};
 pub use tape::{Stop, Tape};
