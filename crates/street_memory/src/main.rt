@@ -9,18 +9,32 @@
 mod callers;
 mod calls;
 mod desks;
+mod parts;
 mod served;
 mod sessions;
+mod steps;
 mod texts;
 
 use calls::Met;
 use desks::two_callers;
+use parts::parts_without;
 use served::{Wrong, serve_session};
 use sessions::SESSIONS;
 use std::io;
 use std::process::ExitCode;
 use std::sync::Wait;
 use std::thread::Threads;
+use steps::steps_without;
+
+/// Reports whether all was answered as it should be to the end, or as far as there was memory, or what is wrong. Whether nothing is.
+fn report<R: Print>(rt: &R, name: &str, told: Result<bool, &'static str>) -> io::Result<bool> {
+    match told {
+        Ok(true) => println!(rt; "{name}: as it should be")?,
+        Ok(false) => println!(rt; "{name}: as far as it should be without memory")?,
+        Err(why) => println!(rt; "{name}: {why}")?,
+    }
+    Ok(told.is_ok())
+}
 
 /// Serves each session, and reports whether it was answered as it should be. Whether all were.
 fn serve_all<R: Threads + Wait + Sync + Print + Eprint + AllocGlobal>(rt: &R) -> io::Result<bool> {
@@ -39,14 +53,13 @@ fn serve_all<R: Threads + Wait + Sync + Print + Eprint + AllocGlobal>(rt: &R) ->
             }
         }
     }
-    match two_callers(rt, rt.alloc()) {
-        Ok(true) => println!(rt; "two callers: as it should be")?,
-        Ok(false) => println!(rt; "two callers: as far as it should be without memory")?,
-        Err(why) => {
-            all = false;
-            println!(rt; "two callers: {why}")?;
-        }
-    }
+    let parts = match parts_without(rt.alloc()) {
+        Some(false) => Err("answered otherwise"),
+        parts => Ok(parts.is_some()),
+    };
+    all &= report(rt, "parts without memory", parts)?;
+    all &= report(rt, "steps without memory", steps_without(rt, rt.alloc()))?;
+    all &= report(rt, "two callers", two_callers(rt, rt.alloc()))?;
     // Which request was refused differs from run to run, so this stands apart from what is compared.
     eprintln!(rt; "starved {}, short {}", met.starved, met.short)?;
     Ok(all)
