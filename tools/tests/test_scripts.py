@@ -1,4 +1,5 @@
 """Scripts of one program that meet: a tape's last place, and one that is silent while another is served."""
+import json
 import os
 import subprocess
 import threading
@@ -19,6 +20,19 @@ class Scripts(Case):
         done = subprocess.run([PROGRAM, "--calls", "3", script, script], capture_output=True, text=True, timeout=SECONDS, check=False)
         self.assertEqual((done.returncode, done.stderr), (0, ""))
         self.assertIn(done.stdout, (NOT_LOADED * 3 + FULL, NOT_LOADED + FULL + NOT_LOADED * 2))
+
+    def test_the_tape_has_the_calls_of_all_where_the_first_script_made_none(self):
+        """A script that is empty makes no call, and so does one that is not there."""
+        script, empty = self.write("counts.jsonl", COUNT * 2), self.write("empty.jsonl", "")
+        tape = self.folder / "run.tape"
+        for first, status in ((empty, 0), (self.folder / "none.jsonl", 1)):
+            with self.subTest(first=first):
+                words = [PROGRAM, "--tape", tape, first, script, script]
+                done = subprocess.run(words, capture_output=True, text=True, timeout=SECONDS, check=False)
+                self.assertEqual((done.returncode, done.stdout), (status, NOT_LOADED * 4))
+                calls = [json.loads(line) for line in tape.read_text().splitlines()[1:]]
+                self.assertEqual(sorted(call["session"] for call in calls), [1, 1, 2, 2])
+                tape.unlink()
 
     def test_a_silent_script_holds_up_no_other(self):
         for first in (0, 1):
