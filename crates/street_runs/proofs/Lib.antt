@@ -1,2 +1,4 @@
 pub mod Begun
 pub mod Counts
+pub mod Scripts
+pub mod Told

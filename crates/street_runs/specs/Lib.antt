@@ -2,3 +2,6 @@ pub mod Words
 pub mod Faults
 pub mod Outputs
 pub mod Replays
+pub mod Scripts
+pub mod Ends
+pub mod Told

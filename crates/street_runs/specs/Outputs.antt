@@ -1,8 +1,13 @@
 -- What is printed of scripts, and what a fault leaves of a text.
 -- Source: this profile.
-use Rattle.std.specs.Prelude.{ℕ, ◌≤◌, List, [], ◌∷◌, ◌++◌, length, take, Option}
+use Rattle.std.specs.Prelude.{◌≡◌, ℕ, ◌≤◌, ◌⊎◌, List, [], ◌∷◌, ◌++◌, length, take, codes, Option}
+use Rattle.std.specs.Borrow.{Bor}
 use Rattle.std.specs.Io.KnownBytes.{Appends}
 use Rattle.street_line.specs.declared.script.Script.{Script}
+use Rattle.street_stream.specs.declared.counted.Counted.{Counted}
+use Rattle.street_stream.specs.Streams.{HasFailed}
+use Rattle.street_runs.specs.declared.fault.Fault.{Fault}
+use Rattle.street_runs.specs.declared.fault.Fault.TheVariants.{Write}
 
 -- the replies of these scripts, in their order
 abbrev pub replies_of : {R : Type 0} → List (Script R) → List ℕ
@@ -14,3 +19,13 @@ pub record IsBegun (before after : Option (List ℕ)) (text : List ℕ) : Type 0
   pub sent : ℕ
   pub within : sent ≤ length text
   pub written : Appends before after (take sent text)
+
+-- a text was written; or its first bytes were, and the writer has failed
+abbrev pub IsPrinted : {W : Type 0} → Option (List ℕ) → Option (List ℕ) → List ℕ → Counted W → Type 0
+IsPrinted before after text writer = Appends before after text ⊎ (IsBegun before after text × HasFailed writer)
+
+-- what is told where standard output fails
+pub record TellsOutput (fault : Fault) : Type 0 where
+  pub name : Bor (List ℕ)
+  pub is : fault ≡ Write name
+  pub says : name.now ≡ codes "standard output"

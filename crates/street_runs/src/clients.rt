@@ -2,15 +2,18 @@
 //!
 //! Source: this profile.
 ghost use Rattle.std.specs.Io.KnownBytes.{Appends};
-ghost use Rattle.std.specs.Prelude.{◌≡◌, ◌<◌, ◌≤◌, [], All, IfOk, IfErr, OnOk, OnErr, length, vec_len};
-ghost use Rattle.street_desk.specs.Passes.{DeskView};
+ghost use Rattle.std.specs.Prelude.{◌≡◌, ◌<◌, ◌≤◌, [], All, IfOk, IfErr, IsNone, OnOk, OnErr, length, slice_index_or, vec_len};
+ghost use Rattle.street_desk.specs.History.{BeginsWith};
+ghost use Rattle.street_desk.specs.Passes.{DeskView, Same, first_pass};
+ghost use Rattle.street_line.specs.declared.script.Script.{Script};
 ghost use Rattle.street_line.specs.Faults.{ServedInPart};
 ghost use Rattle.street_line.specs.Runs.{ServedWhole};
 ghost use Rattle.street_line.specs.Sessions.{AloneServes};
-ghost use Rattle.street_runs.specs.Outputs.{IsBegun, replies_of};
+ghost use Rattle.street_runs.specs.Outputs.{IsBegun, IsPrinted, TellsOutput, replies_of};
+ghost use Rattle.street_runs.specs.Scripts.{AreOpened, ArePassesFrom, ArePlayed, AreRun, IsFirstFault, Tells};
 ghost use Rattle.street_runs.specs.Words.{IsInRange};
 ghost use Rattle.street_stream.specs.Faults.{IsCaused};
-ghost use Rattle.street_stream.specs.Streams.{IsFresh, IsPrompt};
+ghost use Rattle.street_stream.specs.Streams.{HasFailed, IsFresh, IsPrompt};
 
 use crate::outputs::{STANDARD_INPUT, STANDARD_OUTPUT, keep_tape, print_text};
 use crate::{Fault, Options};
@@ -107,16 +110,99 @@ pub fn serve_scripts<'a, R: Threads + Wait + Sync + Print + AllocGlobal + Files<
     requires some { 0 < vec_len options.now.scripts }
 {
     let alloc = rt.alloc();
-    let names = options.scripts.as_slice();
-    let engine = Engine::new(alloc, options.workers, Unwatched::new());
-    let (desk, pass) = Desk::start(alloc, engine, options.calls, names.len() as u64)?;
-    let mut scripts = open_scripts(rt, alloc, &desk, pass, names)?;
-    run_scripts(rt, alloc, &mut scripts);
-    let served = first_fault(scripts.as_slice(), names);
-    let printed = print_replies(&mut Counted::new(io::writer(rt)), scripts.as_slice());
-    let pass = last_pass(scripts);
+    let mut writer = Counted::new(io::writer(rt));
+    let (served, desk, pass) = serve_named(
+        rt,
+        alloc,
+        options.workers,
+        options.calls,
+        options.scripts.as_slice(),
+        &mut writer,
+    )?;
     let taped = keep_tape(rt, alloc, desk, pass, options.tape);
-    served.and(printed).and(taped)
+    served.and(taped)
+}
+
+/// Serves each script as a session of a new desk, and writes their replies. It returns what went wrong first, the desk, and
+/// the first script's pass, which has heard of what every script was told.
+///
+/// # Errors
+///
+/// No memory for the desk or the scripts: no line was served, and nothing was written.
+fn serve_named<'a, R: Threads + Wait + Sync + Files<File = File>, W: Write>(
+    rt: &R,
+    alloc: Global,
+    workers: u32,
+    calls: u64,
+    names: &[&'a str],
+    writer: &mut Counted<W>,
+) -> Result<(Result<(), Fault<'a>>, Desk<Unwatched>, Pass<Unwatched>), Starved>
+    requires workers { (1 ≤ workers) × (workers ≤ 64) }
+    requires calls { (1 ≤ calls) × (calls ≤ 1000000) }
+    requires names { (1 ≤ length names.now) × (length names.now ≤ 1024) }
+    requires writer { IsFresh writer.old }
+    ensures desk { IfOk result (λ r. (r.1.calls ≡ calls) × (r.1.sessions ≡ length names.now) × (r.2.desk ≡ r.1)) }
+    ensures played { IfOk result (λ r. ArePlayed R r.1 names.now (W.contents writer.old.stream) (W.contents writer.new.stream)
+        writer.new r.0 r.2) }
+    ensures starved { OnErr result (writer.new ≡ writer.old) }
+{
+    let engine = Engine::new(alloc, workers, Unwatched::new());
+    let (desk, pass) = Desk::start(alloc, engine, calls, names.len() as u64)?;
+    let (served, pass) = serve_at(rt, alloc, &desk, pass, names, writer)?;
+    Ok((served, desk, pass))
+}
+
+/// Serves each script as a session of this desk, of which nobody has called yet, and writes their replies. It returns what
+/// went wrong first, and the first script's pass, which has heard of what every script was told.
+///
+/// # Errors
+///
+/// No memory for the scripts: no line was served, and nothing was written.
+fn serve_at<'a, R: Threads + Wait + Sync + Files<File = File>, W: Write>(
+    rt: &R,
+    alloc: Global,
+    desk: &Desk<Unwatched>,
+    pass: Pass<Unwatched>,
+    names: &[&'a str],
+    writer: &mut Counted<W>,
+) -> Result<(Result<(), Fault<'a>>, Pass<Unwatched>), Starved>
+    requires pass { (pass ≡ first_pass desk.now) × (desk.now.sessions ≡ length names.now) }
+    requires some { 1 ≤ length names.now }
+    requires writer { IsFresh writer.old }
+    ensures desk { IfOk result (λ r. r.1.desk ≡ desk.now) }
+    ensures played { IfOk result (λ r. ArePlayed R desk.now names.now (W.contents writer.old.stream) (W.contents writer.new.stream)
+        writer.new r.0 r.1) }
+    ensures starved { OnErr result (writer.new ≡ writer.old) }
+{
+    let mut scripts = open_scripts(rt, alloc, desk, pass, names)?;
+    let served = answer_scripts(rt, alloc, &mut scripts, names, writer);
+    let pass = told_pass(desk, scripts);
+    Ok((served, pass))
+}
+
+/// Serves each script, and then writes the replies of all in their order, also after a fault.
+///
+/// # Errors
+///
+/// The first fault of a script in their order, else that of the writer.
+fn answer_scripts<'a, R: Threads + Wait + Sync, W: Write>(
+    rt: &R,
+    alloc: Global,
+    scripts: &mut [Script<'_, R>],
+    names: &[&'a str],
+    writer: &mut Counted<W>,
+) -> Result<(), Fault<'a>>
+    requires names { length scripts.old ≡ length names.now }
+    requires writer { IsFresh writer.old }
+    ensures run { AreRun scripts.old scripts.new }
+    ensures desks { (desk : DeskView) → All (λ s. s.session.desk ≡ desk) scripts.old → All (λ s. s.session.desk ≡ desk) scripts.new }
+    ensures printed { IsPrinted (W.contents writer.old.stream) (W.contents writer.new.stream) (replies_of scripts.new) writer.new }
+    ensures told { Tells scripts.new names.now (W.contents writer.old.stream) (W.contents writer.new.stream) writer.new result }
+{
+    run_scripts(rt, alloc, scripts);
+    let served = first_fault(scripts, names);
+    let printed = print_replies(writer, scripts);
+    served.and(printed)
 }
 
 /// A pass for each session, the last first, as a pass gives away the greatest of its sessions.
@@ -126,10 +212,10 @@ fn passes_of(
     mut pass: Pass<Unwatched>,
     sessions: usize,
 ) -> Result<Vec<Pass<Unwatched>>, Starved>
-    requires desk { pass.desk ≡ desk.now }
+    requires pass { (pass ≡ first_pass desk.now) × (desk.now.sessions ≡ sessions) }
     requires some { 0 < sessions }
     ensures each { IfOk result (λ passes. vec_len passes ≡ sessions) }
-    ensures desk { IfOk result (λ passes. All (λ p. p.desk ≡ desk.now) passes.items) }
+    ensures places { IfOk result (λ passes. ArePassesFrom desk.now sessions passes.items) }
 {
     let mut passes = Vec::new(alloc);
     while passes.len() + 1 < sessions {
@@ -150,10 +236,10 @@ fn open_scripts<'a, R: Threads + Wait + Sync + Files<File = File>>(
     pass: Pass<Unwatched>,
     names: &[&str],
 ) -> Result<Vec<Script<'a, R>>, Starved>
-    requires desk { pass.desk ≡ desk.now }
+    requires pass { (pass ≡ first_pass desk.now) × (desk.now.sessions ≡ length names.now) }
     requires some { 0 < length names.now }
     ensures each { IfOk result (λ scripts. vec_len scripts ≡ length names.now) }
-    ensures desk { IfOk result (λ scripts. All (λ s. s.session.desk ≡ desk.now) scripts.items) }
+    ensures opened { IfOk result (λ scripts. AreOpened desk.now scripts.items) }
 {
     let mut passes = passes_of(alloc, desk, pass, names.len())?;
     let mut scripts = Vec::new(alloc);
@@ -169,7 +255,11 @@ fn open_scripts<'a, R: Threads + Wait + Sync + Files<File = File>>(
 fn first_fault<'a, R: Threads + Wait + Sync>(
     scripts: &[Script<'_, R>],
     names: &[&'a str],
-) -> Result<(), Fault<'a>> {
+) -> Result<(), Fault<'a>>
+    requires { length scripts.now ≡ length names.now }
+    ensures none { OnOk result (All (λ s. IsNone s.fault) scripts.now) }
+    ensures first { IfErr result (λ fault. IsFirstFault scripts.now names.now fault) }
+{
     for (script, name) in scripts.iter().zip(names) {
         if let Some(kind) = script.fault {
             return Err(Fault::of_run(kind, name, name));
@@ -185,6 +275,7 @@ fn print_replies<R: Threads + Wait + Sync, W: Write>(
 ) -> Result<(), Fault<'static>>
     ensures written { OnOk result (Appends (W.contents writer.old.stream) (W.contents writer.new.stream) (replies_of scripts.now)) }
     ensures part { OnErr result (IsBegun (W.contents writer.old.stream) (W.contents writer.new.stream) (replies_of scripts.now)) }
+    ensures failed { IfErr result (λ fault. HasFailed writer.new × TellsOutput fault) }
 {
     for script in scripts {
         print_text(writer, script.replies.as_slice())?;
@@ -192,16 +283,55 @@ fn print_replies<R: Threads + Wait + Sync, W: Write>(
     Ok(())
 }
 
-/// The pass of the last script.
-fn last_pass<R: Threads + Wait + Sync>(mut scripts: Vec<Script<'_, R>>) -> Pass<Unwatched>
-    requires { 0 < vec_len scripts }
-    ensures { (desk : DeskView) → All (λ s. s.session.desk ≡ desk) scripts.entry.items → result.desk ≡ desk }
+/// The first script's pass, when it has heard a note of every other's. A note for which there is no memory is left out.
+fn told_pass<R: Threads + Wait + Sync>(
+    desk: &Desk<Unwatched>,
+    mut scripts: Vec<Script<'_, R>>,
+) -> Pass<Unwatched>
+    requires some { 0 < vec_len scripts }
+    requires desk { All (λ s. s.session.desk ≡ desk.now) scripts.items }
+    ensures desk { result.desk ≡ desk.now }
+    ensures least { (d : Script R) → result.least ≡ (slice_index_or scripts.entry.items 0 d).session.least }
+    ensures told { All (λ s. BeginsWith result.seen s.session.seen) scripts.entry.items }
 {
-    match scripts.pop() {
-        Some(script) => {
-            let Script { session, .. } = script;
-            session.into_pass()
-        }
-        None => unreachable!(),
+    let mut pass = pass_of(scripts.remove(0));
+    hear_all(desk, &mut pass, scripts);
+    pass
+}
+
+/// Has a pass hear a note of each script's.
+fn hear_all<R: Threads + Wait + Sync>(
+    desk: &Desk<Unwatched>,
+    pass: &mut Pass<Unwatched>,
+    mut scripts: Vec<Script<'_, R>>,
+)
+    requires pass { pass.old.desk ≡ desk.now }
+    requires scripts { All (λ s. s.session.desk ≡ desk.now) scripts.items }
+    ensures same { Same pass.old pass.new }
+    ensures kept { BeginsWith pass.new.seen pass.old.seen }
+    ensures told { All (λ s. BeginsWith pass.new.seen s.session.seen) scripts.entry.items }
+{
+    while let Some(script) = scripts.pop() {
+        hear_of(desk, pass, pass_of(script));
+    }
+}
+
+/// The pass of a script.
+fn pass_of<R: Threads + Wait + Sync>(script: Script<'_, R>) -> Pass<Unwatched>
+    ensures { result ≡ script.entry.session }
+{
+    let Script { session, .. } = script;
+    session.into_pass()
+}
+
+/// Has a pass hear a note of another, where there is memory for one.
+fn hear_of(desk: &Desk<Unwatched>, pass: &mut Pass<Unwatched>, mut other: Pass<Unwatched>)
+    requires { (pass.old.desk ≡ desk.now) × (other.desk ≡ desk.now) }
+    ensures same { Same pass.old pass.new }
+    ensures kept { BeginsWith pass.new.seen pass.old.seen }
+    ensures told { BeginsWith pass.new.seen other.seen }
+{
+    if let Ok(note) = desk.note(&mut other) {
+        desk.hear(pass, note);
     }
 }

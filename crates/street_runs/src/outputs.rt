@@ -2,9 +2,10 @@
 //!
 //! Source: this profile.
 ghost use Rattle.std.specs.Io.KnownBytes.{Appends};
-ghost use Rattle.std.specs.Prelude.{◌≡◌, OnOk, OnErr};
-ghost use Rattle.street_runs.specs.Outputs.{IsBegun};
-ghost use Rattle.street_stream.specs.Streams.{IsFresh};
+ghost use Rattle.std.specs.Prelude.{◌≡◌, OnOk, OnErr, IfErr};
+ghost use Rattle.street_runs.specs.Ends.{IsTaped, StopsTape, TellsWriting};
+ghost use Rattle.street_runs.specs.Outputs.{IsBegun, TellsOutput};
+ghost use Rattle.street_stream.specs.Streams.{HasFailed, IsFresh};
 ghost use Rattle.street_tape.specs.Tapes.{tape_text};
 
 use crate::Fault;
@@ -28,6 +29,7 @@ pub const STANDARD_OUTPUT: &str = "standard output";
 pub fn print_text<W: Write>(writer: &mut Counted<W>, text: &[u8]) -> Result<(), Fault<'static>>
     ensures written { OnOk result (Appends (W.contents writer.old.stream) (W.contents writer.new.stream) text.now) }
     ensures part { OnErr result (IsBegun (W.contents writer.old.stream) (W.contents writer.new.stream) text.now) }
+    ensures failed { IfErr result (λ fault. HasFailed writer.new × TellsOutput fault) }
 {
     if street_stream::write_text(writer, text).is_err()
         || street_stream::flush_out(writer).is_err()
@@ -37,8 +39,7 @@ pub fn print_text<W: Write>(writer: &mut Counted<W>, text: &[u8]) -> Result<(), 
     Ok(())
 }
 
-/// Ends the desk and writes its journal to the tape that is asked for, if one is. A desk that was left within a turn is told
-/// as a tape that could not be written.
+/// Ends the desk and writes its tape to the file that is asked for, if one is.
 pub fn keep_tape<'a, R: Files<File = File>>(
     rt: &R,
     alloc: Global,
@@ -51,11 +52,27 @@ pub fn keep_tape<'a, R: Files<File = File>>(
     let Some(name) = name else {
         return Ok(());
     };
+    let file = create_file(rt, name)?;
+    end_with_tape(alloc, desk, pass, &mut Counted::new(file), name)
+}
+
+/// Ends the desk and writes its journal as a tape, under this name in faults. A desk that was left within a turn is told as
+/// a tape that could not be written.
+fn end_with_tape<'a, W: Write>(
+    alloc: Global,
+    desk: Desk<Unwatched>,
+    pass: Pass<Unwatched>,
+    writer: &mut Counted<W>,
+    name: &'a str,
+) -> Result<(), Fault<'a>>
+    requires desk { pass.desk ≡ desk }
+    requires writer { IsFresh writer.old }
+    ensures written { OnOk result (IsTaped pass (W.contents writer.old.stream) (W.contents writer.new.stream)) }
+    ensures stops { IfErr result (λ fault. StopsTape pass (W.contents writer.old.stream) (W.contents writer.new.stream)
+        writer.old writer.new name.entry fault) }
+{
     match desk.finish(pass) {
-        Ok((_engine, journal)) => {
-            let file = create_file(rt, name)?;
-            write_journal(alloc, &journal, &mut Counted::new(file), name)
-        }
+        Ok((_engine, journal)) => write_journal(alloc, &journal, writer, name),
         Err(_torn) => Err(Fault::Write(name)),
     }
 }
@@ -70,6 +87,7 @@ fn write_journal<'a, W: Write>(
     requires { IsFresh writer.old }
     ensures written { OnOk result (Appends (W.contents writer.old.stream) (W.contents writer.new.stream) (tape_text journal.now)) }
     ensures part { OnErr result (IsBegun (W.contents writer.old.stream) (W.contents writer.new.stream) (tape_text journal.now)) }
+    ensures told { IfErr result (λ fault. TellsWriting fault name.entry writer.new) }
 {
     match write_tape(alloc, journal, writer) {
         Ok(_bytes) => Ok(()),

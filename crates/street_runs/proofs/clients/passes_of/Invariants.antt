@@ -1,11 +1,12 @@
-use Rattle.std.proofs.Common.{◌≡◌, ◌+◌, ◌-◌, ◌≤◌, All, vec_len}
+use Rattle.std.proofs.Common.{◌≡◌, ◌+◌, ◌-◌, vec_len}
+use Rattle.street_runs.specs.Scripts.{ArePassesFrom, new_pass}
 use Rattle.street_runs.proofs.clients.passes_of.Given as goal
 
 abbrev pub invariant-loop-pass : goal.invariant-loop-pass
 invariant-loop-pass l = record {
-  desk : l.pass.desk ≡ l.desk;
-  room : vec_len l.passes + 1 ≤ l.sessions;
-  all : All (λ p. p.desk ≡ l.desk) l.passes.items;
+  pass : l.pass ≡ record (new_pass l.desk 0) { greatest = l.pass.greatest };
+  left : l.pass.greatest + vec_len l.passes + 1 ≡ l.sessions;
+  all : ArePassesFrom l.desk l.sessions l.passes.items;
 }
 
 abbrev pub decreases-loop-pass : goal.decreases-loop-pass

@@ -1,0 +1,67 @@
+-- Scripts that share one desk, from their passes to what is told of them.
+-- Source: this profile.
+use Rattle.std.specs.Prelude.{◌≡◌, ℕ, ◌+◌, ◌<◌, ◌⊎◌, ◌↔◌, List, [], length, slice_index_or, All, IsNone, IsSome, Option, Some, Result, Ok, Err}
+use Rattle.std.specs.Borrow.{Bor}
+use Rattle.std.specs.Io.KnownBytes.{Appends}
+use Rattle.street_desk.specs.History.{BeginsWith}
+use Rattle.street_desk.specs.Passes.{DeskView, PassView}
+use Rattle.street_line.specs.declared.script.Script.{Script}
+use Rattle.street_line.specs.Scripts.{IsRun}
+use Rattle.street_stream.specs.declared.counted.Counted.{Counted}
+use Rattle.street_stream.specs.declared.tally.FaultKind.{FaultKind}
+use Rattle.street_stream.specs.Streams.{HasFailed}
+use Rattle.street_runs.specs.declared.fault.Fault.{Fault}
+use Rattle.street_runs.specs.Faults.{fault_of_run}
+use Rattle.street_runs.specs.Outputs.{IsPrinted, TellsOutput, replies_of}
+
+-- the pass of a session that nothing was called with yet
+abbrev pub new_pass : DeskView → ℕ → PassView
+new_pass desk session = record { desk = desk; seen = []; count = 0; least = session; greatest = session }
+
+-- a pass for each session but these last, the last session's first
+abbrev pub ArePassesFrom : DeskView → ℕ → List PassView → Type 0
+ArePassesFrom desk sessions passes =
+    (k session : ℕ) (d : PassView) → k < length passes → session + k + 1 ≡ sessions → slice_index_or passes k d ≡ new_pass desk session
+
+-- the script of this place is the session of that number, and was not served yet; its file was opened, or it has a fault
+pub record IsOpened {R : Type 0} (desk : DeskView) (place : ℕ) (script : Script R) : Type 0 where
+  pub session : script.session ≡ new_pass desk place
+  pub replies : script.replies.items ≡ []
+  pub fault : IsNone script.fault ↔ IsSome script.file
+
+abbrev pub AreOpened : {R : Type 0} → DeskView → List (Script R) → Type 0
+AreOpened {R} desk scripts = (k : ℕ) (d : Script R) → k < length scripts → IsOpened desk k (slice_index_or scripts k d)
+
+-- each was served
+pub record AreRun {R : Type 0} (old new : List (Script R)) : Type 0 where
+  pub same : length new ≡ length old
+  pub each : (k : ℕ) (d : Script R) → k < length old → IsRun (slice_index_or old k d) (slice_index_or new k d)
+
+-- the fault of the first script that has one, in the order of the names, told by its name
+pub record IsFirstFault {R : Type 0} (scripts : List (Script R)) (names : List (Bor (List ℕ))) (fault : Fault) : Type 0 where
+  pub place : ℕ
+  pub kind : FaultKind
+  pub within : place < length scripts
+  pub has : (d : Script R) → (slice_index_or scripts place d).fault ≡ Some kind
+  pub before : (k : ℕ) (d : Script R) → k < place → IsNone (slice_index_or scripts k d).fault
+  pub told : (n : Bor (List ℕ)) → fault ≡ fault_of_run kind (slice_index_or names place n) (slice_index_or names place n)
+
+-- no fault is told only where no script has one, and all replies are written; else the first script's, and where none has one, that of standard output
+abbrev pub Tells : {R W : Type 0} → List (Script R) → List (Bor (List ℕ)) → Option (List ℕ) → Option (List ℕ) → Counted W → Result (Unit {0}) Fault → Type 0
+Tells scripts names before after writer (Ok u) = All (λ s. IsNone s.fault) scripts × Appends before after (replies_of scripts)
+Tells scripts names before after writer (Err fault) =
+    IsFirstFault scripts names fault ⊎ (All (λ s. IsNone s.fault) scripts × HasFailed writer × TellsOutput fault)
+
+-- what became of scripts at a desk: each was opened as the session of its place and served, all replies are written in their order, what is told is the first
+-- fault, and the pass is the first script's, and has seen what each script had seen
+pub record ArePlayed {W : Type 0} (R : Type 0) (desk : DeskView) (names : List (Bor (List ℕ))) (before after : Option (List ℕ)) (writer : Counted W)
+    (result : Result (Unit {0}) Fault) (pass : PassView) : Type 0 where
+  pub opened : List (Script R)
+  pub ran : List (Script R)
+  pub many : length opened ≡ length names
+  pub new : AreOpened desk opened
+  pub run : AreRun opened ran
+  pub printed : IsPrinted before after (replies_of ran) writer
+  pub told : Tells ran names before after writer result
+  pub first : (d : Script R) → pass.least ≡ (slice_index_or ran 0 d).session.least
+  pub heard : All (λ s. BeginsWith pass.seen s.session.seen) ran
