@@ -1,12 +1,20 @@
 """A client of streetsim: starts the program, sends commands as lines and gives typed replies."""
+from __future__ import annotations
+
 import fcntl
 import json
 import subprocess
 import tempfile
+from collections.abc import Iterable, Iterator, Sequence
 from dataclasses import dataclass
+from typing import Any, Self
 
 from . import limits
 from .program import find_program
+
+Command = dict[str, Any] | str | bytes  # a command, or its line
+Numbers = Sequence[Sequence[int]]
+Entries = tuple[tuple[int, ...], ...]
 
 CHUNK = 60_000  # bytes: fits in an empty pipe, so the two sides never wait for each other
 
@@ -16,18 +24,18 @@ class Refused(Exception):
 
     number = 0
 
-    def __init__(self, at=None, part=None):
+    def __init__(self, at: int | None = None, part: str | None = None) -> None:
         self.at, self.part = at, part
         place = f" at {at}" if part is None else f" at {at} of {part}"
         super().__init__(f"{self.number} {type(self).__name__}{'' if at is None else place}")
 
-    def __eq__(self, other):
-        return type(self) is type(other) and (self.at, self.part) == (other.at, other.part)
+    def __eq__(self, other: object) -> bool:
+        return isinstance(other, Refused) and type(self) is type(other) and (self.at, self.part) == (other.at, other.part)
 
     __hash__ = Exception.__hash__
 
 
-def refusal(number, name, words):
+def refusal(number: int, name: str, words: str) -> type[Refused]:
     return type(name, (Refused,), {"number": number, "__doc__": words, "__module__": __name__})
 
 
@@ -56,7 +64,7 @@ REFUSALS = {kind.number: kind for kind in Refused.__subclasses__()}
 class Starved(Exception):
     """Memory was wanting: the command was not done and may be sent again."""
 
-    def __eq__(self, other):
+    def __eq__(self, other: object) -> bool:
         return type(self) is type(other)
 
     __hash__ = Exception.__hash__
@@ -69,7 +77,7 @@ class NoReply(Exception):
 class ProgramEnded(Exception):
     """The program ended before it replied."""
 
-    def __init__(self, status, stderr):
+    def __init__(self, status: int, stderr: str) -> None:
         self.status, self.stderr = status, stderr
         super().__init__(f"the program ended with status {status}: {stderr.strip() or 'nothing on standard error'}")
 
@@ -99,7 +107,7 @@ class Vehicle:
     lane: int | None = None
     cell: int | None = None
     speed: int | None = None  # cells a step
-    plan: tuple = ()  # what remains, the present link included
+    plan: tuple[int, ...] = ()  # what remains, the present link included
     depart: int | None = None
     ready: int | None = None
     size: int = 1  # cells
@@ -108,10 +116,10 @@ class Vehicle:
 
 @dataclass(slots=True, frozen=True)
 class Lane:
-    cells: tuple  # of (car, cell of its front, speed), with the size where it is above 1; the greatest cell first
-    buffer: tuple  # of (car, speed, ready), from the front
-    waiting: tuple  # of (car, depart)
-    closed: tuple  # of (first, last)
+    cells: Entries  # of (car, cell of its front, speed), with the size where it is above 1; the greatest cell first
+    buffer: Entries  # of (car, speed, ready), from the front
+    waiting: Entries  # of (car, depart)
+    closed: Entries  # of (first, last)
 
 
 @dataclass(slots=True, frozen=True)
@@ -125,17 +133,17 @@ class Row:
     occupied: int
 
     @property
-    def flow(self):
+    def flow(self) -> float:
         """Vehicles a step."""
         return self.passes / self.steps if self.steps else 0.0
 
     @property
-    def density(self):
+    def density(self) -> float:
         """The share of steps with a vehicle on the cell: vehicles a cell."""
         return self.occupied / self.steps if self.steps else 0.0
 
     @property
-    def mean_speed(self):
+    def mean_speed(self) -> float | None:
         """Cells a step, over the vehicles that passed; none if none did."""
         return self.speeds / self.passes if self.passes else None
 
@@ -143,7 +151,7 @@ class Row:
 @dataclass(slots=True, frozen=True)
 class Rows:
     now: Row  # the running period, with the steps it has so far
-    rows: tuple  # the last full periods, at most 32, the oldest first
+    rows: tuple[Row, ...]  # the last full periods, at most 32, the oldest first
 
 
 @dataclass(slots=True, frozen=True)
@@ -157,7 +165,10 @@ class Census:
     waiting: int
 
 
-def reply_of(value):
+Reply = Refused | Starved | Loaded | Short | Vehicle | Lane | Rows | Census | int
+
+
+def reply_of(value: dict[str, Any]) -> Reply:
     """The typed reply of a JSON object; a refusal or Starved is given as a value. Plain numbers answer enter, advance,
     signal, close, takeout and meter."""
     if "error" in value:
@@ -165,11 +176,12 @@ def reply_of(value):
     if "starved" in value:
         return Starved()
     if "state" in value:
-        return Vehicle(**{**value, "plan": tuple(value.get("plan", ()))})
+        plan: Any = tuple(value.get("plan", ()))
+        return Vehicle(**{**value, "plan": plan})
     if "admitted" in value:
         return Census(**value)
     if "buffer" in value:
-        return Lane(*(tuple(map(tuple, value[key])) for key in ("cells", "buffer", "waiting", "closed")))
+        return Lane(*(entries(value[key]) for key in ("cells", "buffer", "waiting", "closed")))
     if "now" in value:
         now = Row(*value["now"])
         rows = [Row(start, 0, *rest) for start, *rest in value["rows"]]
@@ -185,7 +197,11 @@ def reply_of(value):
     return number
 
 
-def read_reply(line):
+def entries(lists: Numbers) -> Entries:
+    return tuple(tuple(one) for one in lists)
+
+
+def read_reply(line: bytes) -> Reply:
     """The typed reply of a line."""
     try:
         return reply_of(json.loads(line))
@@ -193,7 +209,7 @@ def read_reply(line):
         raise NoReply(f"no reply of streetsim: {line[:80].decode(errors='replace').strip()}") from None
 
 
-def line_of(command):
+def line_of(command: Command) -> bytes:
     """The line of a command: a dictionary, or a line that is ready (with or without its end). A blank line would get
     no reply, and two lines two: they are refused here."""
     if isinstance(command, dict):
@@ -204,7 +220,7 @@ def line_of(command):
     return line + b"\n"
 
 
-def most_calls(program):
+def most_calls(program: str) -> int:
     """The most calls that a run of the program may have, if its help says that it counts them; else 0."""
     told = subprocess.run([program, "--help"], capture_output=True, text=True, check=False).stdout
     return limits.CALLS if "--calls" in told else 0
@@ -217,7 +233,7 @@ class Client:
     be are asked for: polling uses many.
     """
 
-    def __init__(self, program=None, workers=1, calls=None):
+    def __init__(self, program: str | None = None, workers: int = 1, calls: int | None = None) -> None:
         program = find_program(program)
         self.calls = most_calls(program) if calls is None else calls
         words = [
@@ -225,33 +241,36 @@ class Client:
             *(["--workers", str(workers)] if workers != 1 else []),
             *(["--calls", str(self.calls)] if self.calls else []),
         ]
-        self.errors, self.ended = tempfile.TemporaryFile(), None
+        self.errors = tempfile.TemporaryFile()
+        self.ended: tuple[int, str] | None = None
         self.process = subprocess.Popen(
             words, stdin=subprocess.PIPE, stdout=subprocess.PIPE, stderr=self.errors, bufsize=1 << 16
         )
-        self.chunk = min(CHUNK, fcntl.fcntl(self.process.stdin.fileno(), fcntl.F_GETPIPE_SZ) * 9 // 10)
+        assert self.process.stdin and self.process.stdout
+        self.input, self.output = self.process.stdin, self.process.stdout
+        self.chunk = min(CHUNK, fcntl.fcntl(self.input.fileno(), fcntl.F_GETPIPE_SZ) * 9 // 10)
 
-    def __enter__(self):
+    def __enter__(self) -> Self:
         return self
 
-    def __exit__(self, kind, *_):
+    def __exit__(self, kind: type[BaseException] | None, *_: object) -> None:
         if kind is None:
             self.close()
         else:
             self.process.kill()
             self.end()
 
-    def close(self):
+    def close(self) -> None:
         """Ends the input and waits for the program; raises if its status is not 0."""
         status, told = self.end()
         if status:
             raise ProgramEnded(status, told)
 
-    def end(self):
+    def end(self) -> tuple[int, str]:
         """Waits for the program's end; gives its status and standard error."""
         if self.ended is not None:
             return self.ended
-        for pipe in (self.process.stdin, self.process.stdout):
+        for pipe in (self.input, self.output):
             try:
                 pipe.close()
             except OSError:
@@ -262,9 +281,10 @@ class Client:
         self.errors.close()
         return self.ended
 
-    def exchange(self, lines):
+    def exchange(self, lines: Iterable[bytes]) -> Iterator[bytes]:
         """Sends lines and gives their replies as bytes. Chunks fit in the pipe; a longer line goes alone."""
-        chunk, size = [], 0
+        chunk: list[bytes] = []
+        size = 0
         for line in lines:
             if size + len(line) > self.chunk and chunk:
                 yield from self.turn(chunk)
@@ -274,29 +294,39 @@ class Client:
         if chunk:
             yield from self.turn(chunk)
 
-    def turn(self, chunk):
+    def turn(self, chunk: list[bytes]) -> list[bytes]:
         try:
-            self.process.stdin.write(b"".join(chunk))
-            self.process.stdin.flush()
-            replies = [self.process.stdout.readline() for _ in chunk]
+            self.input.write(b"".join(chunk))
+            self.input.flush()
+            replies = [self.output.readline() for _ in chunk]
         except OSError:
             replies = [b""]
         if not replies[-1].endswith(b"\n"):
             raise ProgramEnded(*self.end())
         return replies
 
-    def batch(self, commands):
+    def batch(self, commands: Iterable[Command]) -> list[Reply]:
         """Sends many commands, dictionaries or ready lines, and gives all replies; refusals stand among them as
         values."""
         return [read_reply(reply) for reply in self.exchange(map(line_of, commands))]
 
-    def ask(self, cmd, **fields):
+    def ask(self, cmd: str, **fields: Any) -> Any:
         [reply] = self.batch([{"cmd": cmd, **fields}])
         if isinstance(reply, Exception):
             raise reply
         return reply
 
-    def load(self, nodes, links, turns, zone=0, dawdle=0, change=0, seed=0, start=0):
+    def load(
+        self,
+        nodes: Numbers,
+        links: Numbers,
+        turns: Numbers,
+        zone: int = 0,
+        dawdle: int = 0,
+        change: int = 0,
+        seed: int = 0,
+        start: int = 0,
+    ) -> Loaded:
         return self.ask(
             "load",
             nodes=nodes,
@@ -309,15 +339,15 @@ class Client:
             start=start,
         )
 
-    def signal(self, node, phases, offset=0):
+    def signal(self, node: int, phases: Sequence[Sequence[Any]], offset: int = 0) -> int:
         """Sets a node's plan, phases of (duration, [(link, lane, next), ..]); gives the cycle."""
         return self.ask("signal", node=node, offset=offset, phases=phases)
 
-    def enter(self, plan, lane=0, depart=0, size=1):
+    def enter(self, plan: Sequence[int], lane: int = 0, depart: int = 0, size: int = 1) -> int:
         """Gives the number of the vehicle, which takes so many cells."""
         return self.ask("enter", plan=plan, lane=lane, depart=depart, **({} if size == 1 else {"size": size}))
 
-    def advance(self, steps=1):
+    def advance(self, steps: int = 1) -> int:
         """Makes the steps, asking again for those that a short reply left, and gives the clock."""
         reply = self.ask("advance", steps=steps)
         while isinstance(reply, Short):
@@ -325,28 +355,28 @@ class Client:
             reply = self.ask("advance", steps=steps)
         return reply
 
-    def close_lane(self, link, lane, first, last):
+    def close_lane(self, link: int, lane: int, first: int, last: int) -> int:
         """Closes cells; gives how many of the lane are closed."""
         return self.ask("close", link=link, lane=lane, first=first, last=last)
 
-    def reopen_lane(self, link, lane, first, last):
+    def reopen_lane(self, link: int, lane: int, first: int, last: int) -> int:
         return self.ask("reopen", link=link, lane=lane, first=first, last=last)
 
-    def takeout(self, car):
+    def takeout(self, car: int) -> int:
         return self.ask("takeout", car=car)
 
-    def meter(self, link, lane, cell, period):
+    def meter(self, link: int, lane: int, cell: int, period: int) -> int:
         """Places a detector; gives its number."""
         return self.ask("meter", link=link, lane=lane, cell=cell, period=period)
 
-    def read(self, meter):
+    def read(self, meter: int) -> Rows:
         return self.ask("read", meter=meter)
 
-    def vehicle(self, car):
+    def vehicle(self, car: int) -> Vehicle:
         return self.ask("vehicle", car=car)
 
-    def lane(self, link, lane):
+    def lane(self, link: int, lane: int) -> Lane:
         return self.ask("lane", link=link, lane=lane)
 
-    def count(self):
+    def count(self) -> Census:
         return self.ask("count")

@@ -162,7 +162,7 @@ class SignalEnv:
         self.close()
 
 
-def signals_of(light) -> Signals:
+def signals_of(light: Light) -> Signals:
     links = [(link[0], link[1]) if link else ("", "") for link in light.links]
     greens = list(dict.fromkeys(state for _, state in light.phases if set(state) & set(GREEN) and "y" not in state.lower()))
     lanes = [lane for lane in dict.fromkeys(lane for lane, _ in links) if lane]

@@ -1,4 +1,6 @@
 """Files in and out: XML read element by element, outputs written whole or not at all."""
+from __future__ import annotations
+
 import contextlib
 import gzip
 import io
@@ -9,17 +11,35 @@ import signal
 import sys
 import xml.etree.ElementTree as ElementTree
 import zlib
+from collections.abc import Callable, Collection, Iterable, Iterator, Mapping
+from types import FrameType
+from typing import IO, Any, Literal, NoReturn, TypeVar, cast, overload
+from xml.etree.ElementTree import Element
 
 from .halves import half_file, half_folder, is_half
 
 GZIP = b"\x1f\x8b"  # with which a gzip file begins
+FilePath = str | os.PathLike[str]
+Value = TypeVar("Value")
+Number = TypeVar("Number", int, float)
+Main = Callable[[list[str]], int]  # a tool's main function: its words, and the status
 
 
 class Fault(Exception):
     """What is wrong with an input, in one line. The tools print it and end with status 2."""
 
 
-def open_text(path, mode="r"):
+@overload
+def open_text(path: FilePath, mode: Literal["r"] = "r") -> IO[str]:
+    ...
+
+
+@overload
+def open_text(path: FilePath, mode: str) -> IO[str] | ZippedText:
+    ...
+
+
+def open_text(path: FilePath, mode: str = "r") -> IO[str] | ZippedText:
     """Opens a text file. What is read is gzip by its content, and may begin with a byte order mark; what is written is
     gzip where the name ends with .gz (without time or name inside, so that equal runs give equal bytes)."""
     if mode == "r":
@@ -29,12 +49,12 @@ def open_text(path, mode="r"):
     return open(path, mode, encoding="utf-8", newline="")
 
 
-def open_bytes(path):
+def open_bytes(path: FilePath) -> IO[bytes]:
     """Opens a file of bytes to read; gzip by its first bytes, whatever its name, as SUMO does."""
-    return gzip.open(path) if is_gzip(path) else open(path, "rb")
+    return cast(IO[bytes], gzip.open(path)) if is_gzip(path) else open(path, "rb")
 
 
-def is_gzip(path):
+def is_gzip(path: FilePath) -> bool:
     """Whether a file is gzip; a pipe, which is read once, by its name."""
     if os.path.exists(path) and not os.path.isfile(path):
         return str(path).endswith(".gz")
@@ -45,26 +65,26 @@ def is_gzip(path):
 class ZippedText:
     """Writes text to a gzip file."""
 
-    def __init__(self, path, mode):
+    def __init__(self, path: FilePath, mode: str) -> None:
         self.raw = open(path, f"{mode}b")
         self.zipped = gzip.GzipFile(filename="", fileobj=self.raw, mode="wb", mtime=0, compresslevel=6)
 
-    def write(self, text):
+    def write(self, text: str) -> None:
         self.zipped.write(text.encode())
 
-    def close(self):
+    def close(self) -> None:
         self.zipped.close()
         self.raw.close()
 
-    def __enter__(self):
+    def __enter__(self) -> ZippedText:
         return self
 
-    def __exit__(self, *_):
+    def __exit__(self, *_: object) -> None:
         self.close()
 
 
 @contextlib.contextmanager
-def reading(path):
+def reading(path: FilePath) -> Iterator[None]:
     """Turns what can go wrong while a file is read into a Fault with the file's name."""
     try:
         yield
@@ -78,7 +98,7 @@ def reading(path):
         raise Fault(f"{path}: {fault.strerror or fault}") from None
 
 
-def elements(path, roots):
+def elements(path: FilePath, roots: Collection[str] | None) -> Iterator[Element]:
     """The children of the root of an XML file, each whole, one after another; the root must have one of the given
     names, where any are given."""
     with reading(path), open_bytes(path) as file:
@@ -94,13 +114,23 @@ def elements(path, roots):
                 root.clear()
 
 
-def told(path, element):
+def told(path: FilePath, element: Element) -> str:
     """An element of a file, as faults name it."""
     name = element.get("id") or element.get("from")
     return f"{path}: <{element.tag}{f' {name!r}' if name else ''}>"
 
 
-def attribute(path, element, name, convert=str):
+@overload
+def attribute(path: FilePath, element: Element, name: str) -> str:
+    ...
+
+
+@overload
+def attribute(path: FilePath, element: Element, name: str, convert: Callable[[str], Value]) -> Value:
+    ...
+
+
+def attribute(path: FilePath, element: Element, name: str, convert: Callable[[str], Any] = str) -> Any:
     """An attribute that must be there and must convert."""
     text = element.get(name)
     if text is None:
@@ -111,7 +141,7 @@ def attribute(path, element, name, convert=str):
         raise Fault(f"{told(path, element)}: {name}={text!r} cannot be read") from None
 
 
-def number(text):
+def number(text: str) -> float:
     """A finite number; ValueError otherwise."""
     value = float(text)
     if not math.isfinite(value):
@@ -119,10 +149,10 @@ def number(text):
     return value
 
 
-def at_least_zero(convert):
+def at_least_zero(convert: Callable[[str], Number]) -> Callable[[str], Number]:
     """A conversion that takes no negative number."""
 
-    def converted(text):
+    def converted(text: str) -> Number:
         value = convert(text)
         if value < 0:
             raise ValueError(text)
@@ -131,7 +161,7 @@ def at_least_zero(convert):
     return converted
 
 
-def seconds(text):
+def seconds(text: str) -> float:
     """Seconds of a SUMO time: 3.5, or 01:30:00, or 1:01:30:00 with days; ValueError otherwise."""
     value = 0.0
     for part, scale in zip(reversed(text.split(":")), (1, 60, 3600, 86400), strict=False):
@@ -141,7 +171,7 @@ def seconds(text):
     return value
 
 
-def read_json(path, keys):
+def read_json(path: FilePath, keys: Iterable[str]) -> dict[str, Any]:
     """A JSON object of a file, which must have the given keys."""
     with reading(path), open_text(path) as file:
         value = json.load(file)
@@ -151,7 +181,7 @@ def read_json(path, keys):
     return value
 
 
-def place_of(path):
+def place_of(path: FilePath) -> str:
     """Where an output is written: a link is followed, and what is there already must be a regular file."""
     place = os.path.realpath(path)
     if os.path.exists(place) and not os.path.isfile(place):
@@ -159,9 +189,9 @@ def place_of(path):
     return place
 
 
-def refuse_equal(outputs, inputs=()):
+def refuse_equal(outputs: Mapping[str, str], inputs: Iterable[str] = ()) -> None:
     """Refuses outputs, {what the user calls it: path}, of which two are one file, or one is an input."""
-    places = {}
+    places: dict[str, str] = {}
     for name, path in outputs.items():
         place = os.path.realpath(path)
         if place in places:
@@ -173,7 +203,7 @@ def refuse_equal(outputs, inputs=()):
 
 
 @contextlib.contextmanager
-def whole_path(path):
+def whole_path(path: FilePath) -> Iterator[str]:
     """A path to write to, whose file takes the place of an output when all is written; after a fault nothing is left."""
     place = place_of(path)
     try:
@@ -187,14 +217,14 @@ def whole_path(path):
 
 
 @contextlib.contextmanager
-def whole_file(path):
+def whole_file(path: FilePath) -> Iterator[IO[str] | ZippedText]:
     """A text file to write, which takes its name when all is written; after a fault nothing of it is left."""
     with whole_path(path) as half, open_text(half, "w") as file:
         yield file
 
 
 @contextlib.contextmanager
-def whole_folder(path, last):
+def whole_folder(path: str, last: str) -> Iterator[str]:
     """A folder to write to, whose files come to an output folder together; after a fault that folder is as it was.
 
     A file of the name `last` is away while the others take their places, so that a folder without it is not whole.
@@ -216,7 +246,7 @@ def whole_folder(path, last):
                 os.rmdir(path)
 
 
-def move_files(source, target, last):
+def move_files(source: str, target: str, last: str) -> None:
     """Moves all files below a folder to their places below another; those of the name `last` at the end."""
     names = [os.path.relpath(os.path.join(folder, name), source) for folder, _, files in os.walk(source) for name in files]
     for name in names:
@@ -234,7 +264,7 @@ ENDINGS = (signal.SIGTERM, signal.SIGINT, signal.SIGHUP)
 
 
 @contextlib.contextmanager
-def uninterrupted():
+def uninterrupted() -> Iterator[None]:
     """Holds back the signals that end a tool."""
     before = signal.pthread_sigmask(signal.SIG_BLOCK, ENDINGS)
     try:
@@ -243,19 +273,19 @@ def uninterrupted():
         signal.pthread_sigmask(signal.SIG_SETMASK, before)
 
 
-def end_by_signal(number, _frame):
+def end_by_signal(number: int, _frame: FrameType | None) -> NoReturn:
     """Ends the tool as by a fault, so that nothing half is left."""
     sys.exit(128 + number)
 
 
-def run_tool(main):
+def run_tool(main: Main) -> NoReturn:
     """Runs a tool's main function: a Fault is told in a line, with status 2."""
     for number in (signal.SIGTERM, signal.SIGHUP):
         signal.signal(number, end_by_signal)
     sys.exit(status_of(main))
 
 
-def status_of(main):
+def status_of(main: Main) -> int:
     """What a tool's main function gives, or the status of what went wrong, which is told."""
     try:
         try:
@@ -276,10 +306,10 @@ def status_of(main):
         return 130
 
 
-def tell_fault(text):
+def tell_fault(text: object) -> None:
     print(f"{os.path.basename(sys.argv[0])}: {text}", file=sys.stderr)
 
 
-def drop_output():
+def drop_output() -> None:
     """Sends what standard output still holds nowhere, so that it is not tried again at the end."""
     os.dup2(os.open(os.devnull, os.O_WRONLY), sys.stdout.fileno())

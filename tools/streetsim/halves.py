@@ -8,12 +8,13 @@ import glob
 import os
 import shutil
 import tempfile
+from collections.abc import Callable, Iterator
 
 FOLDER = ".half-"
 
 
 @contextlib.contextmanager
-def half_folder(inside: str):
+def half_folder(inside: str) -> Iterator[str]:
     """A hidden folder to write to inside another one; it is away in the end."""
     remove_left(os.path.join(glob.escape(inside), f"{FOLDER}*"))
     path, held = hold_new(lambda: tempfile.mkdtemp(prefix=FOLDER, dir=inside))
@@ -25,7 +26,7 @@ def half_folder(inside: str):
 
 
 @contextlib.contextmanager
-def half_file(path: str):
+def half_file(path: str) -> Iterator[str]:
     """The path of a hidden file to write beside another one; it is away in the end, or has another name."""
     folder, name = os.path.split(path)
     stem, dot, end = name.partition(".")
@@ -49,7 +50,7 @@ def new_file(path: str) -> str:
     return path
 
 
-def hold_new(make) -> tuple[str, int]:
+def hold_new(make: Callable[[], str]) -> tuple[str, int]:
     """The path of what `make` makes, and the descriptor by which it is held; made anew where another tool has just
     taken it for left."""
     while True:
@@ -72,7 +73,7 @@ def lock(held: int) -> bool | None:
     return True
 
 
-def remove_left(pattern: str):
+def remove_left(pattern: str) -> None:
     """Removes what no tool holds; what cannot be removed stays."""
     for path in glob.glob(pattern, include_hidden=True):
         with contextlib.suppress(OSError):

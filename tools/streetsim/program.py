@@ -10,7 +10,7 @@ BUILT = "crates/street_sim/out/street_sim"  # where `./build` of the repository 
 HELP = f"the simulator (default: ${VARIABLE})"
 
 
-def find_program(given=None):
+def find_program(given: str | None = None) -> str:
     """The path of the program that is given, else of the one that STREETSIM_PROGRAM names; Fault where there is none.
 
     The repository's script `streetsim` stands for the program that was built there: no tool starts a build.
@@ -18,14 +18,14 @@ def find_program(given=None):
     named = given or os.environ.get(VARIABLE)
     if not named:
         raise Fault(f"no simulator: give --program PATH or set {VARIABLE}; `./build` in streetsim's repository makes {BUILT}")
-    path = shutil.which(named)
-    if path is None:
+    found = shutil.which(named)
+    if found is None:
         raise Fault(f"{named}: no program that can be run; `./build` in streetsim's repository makes {BUILT}")
-    path = Path(path).resolve()
+    path = Path(found).resolve()
     return str(path.parent / BUILT) if is_script(path) else str(path)
 
 
-def is_script(path):
+def is_script(path: Path) -> bool:
     """Whether this is the repository's script; Fault where nothing was built there."""
     if path.name != "streetsim" or not (path.parent / "crates/street_sim").is_dir():
         return False

@@ -2,67 +2,67 @@
 from ..files import run_tool
 
 
-def import_():
+def import_() -> None:
     from ..sumo.importing import main
 
     run_tool(main)
 
 
-def run():
+def run() -> None:
     from ..run.running import main
 
     run_tool(main)
 
 
-def plot():
+def plot() -> None:
     from ..pictures.plots import main
 
     run_tool(main)
 
 
-def play():
+def play() -> None:
     from ..pictures.playing import main
 
     run_tool(main)
 
 
-def compare():
+def compare() -> None:
     from ..run.compare import main
 
     run_tool(main)
 
 
-def signals():
+def signals() -> None:
     from ..signals.planning import main
 
     run_tool(main)
 
 
-def study():
+def study() -> None:
     from ..study.studying import main
 
     run_tool(main)
 
 
-def live():
+def live() -> None:
     from ..live.command import main
 
     run_tool(main)
 
 
-def route():
+def route() -> None:
     from ..routes.routing import main
 
     run_tool(main)
 
 
-def report():
+def report() -> None:
     from ..reports.reporting import main
 
     run_tool(main)
 
 
-def export():
+def export() -> None:
     from ..gis.exporting import main
 
     run_tool(main)
