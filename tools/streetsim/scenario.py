@@ -6,7 +6,7 @@ from heapq import heappop, heappush
 from . import limits
 from .cli.words import ROUNDS
 from .client import Client, line_of, read_reply
-from .routes.underway import Waiting, WaysRound, shut_edges
+from .routes.underway import Waiting, WaysRound, shut_edges, turning
 from .run import tables
 from .run.mapping import read_map
 from .run.record import Records
@@ -86,6 +86,8 @@ class Scenario:
         self.cars, self.plans, self.sizes, self.departs = {}, {}, {}, {}  # by name: number, links, cells, wished departure
         self.later = []  # (depart, number, name) of vehicles that may not have departed, the earliest first
         self.going = {}  # number: name, of vehicles that may be on their way
+        self.turning = {}  # by name, those on the road who are to take another way
+        self.begun = {}  # by name, the links that were driven before it was entered anew on the road
         self.routes, self.detectors = {}, {}
         self.lane_of = {self.map.lane_name(link, lane): (link, lane) for link, lane in self.map.lanes()}
         self.send(line.text.encode() + b"\n" for line in [source.load, *source.first])
@@ -111,7 +113,9 @@ class Scenario:
         """One step, or all steps until a time in seconds."""
         target = max(self.clock + 1, int(time))
         while self.clock < target:
-            self.clock = self.client.advance(min(limits.STEPS, self.send_timed(target) - self.clock))
+            self.turn_off()
+            due = [max(1, one.due - self.clock) for one in self.turning.values()]
+            self.clock = self.client.advance(min([limits.STEPS, self.send_timed(target) - self.clock, *due]))
 
     def send_timed(self, target):
         """Sends the lines that are due; gives the clock at which the next one is, at most a target."""
@@ -183,8 +187,8 @@ class Scenario:
 
     def close(self, lane, begin=0.0, end=float(10**7), divert=False, until=float("inf")):
         """Closes a lane from one place to another, in metres: road works. ValueError beyond the lane, and where vehicles
-        could not change to the lane beside it. divert: where nobody can pass the edge any more, those who have not departed
-        and would come there before a second, `until`, take another way; gives their names."""
+        could not change to the lane beside it. divert: where nobody can pass the edge any more, those who would come there
+        before a second, `until`, take another way, from their begin on or from a crossing ahead of them; gives their names."""
         if why := why_parallel(self.map, lane):
             raise ValueError(f"{why}: Scenario(.., joint=[{lane!r}])")
         link, place = self.lane_of[lane]
@@ -192,28 +196,69 @@ class Scenario:
         return self.divert(self.map.links[link].edge, until) if divert else []
 
     def divert(self, edge, until):
-        """Those who have not departed take the shortest ways round an edge that is shut: they are taken out and entered anew,
-        with another number. Gives the names of those for whom there is a way."""
+        """Those who have not departed or are on the road take the shortest ways round an edge that is shut: they are taken out
+        and entered anew, with another number, who is on the road where its new way begins. Gives the names of those for whom
+        there is a way."""
         places = [(link, lane) for link in self.map.links_of[edge] for lane in range(len(self.map.links[link].lanes))]
         closed = {place: self.client.lane(*place).closed for place in places}
         shut = shut_edges(self.map, [edge], closed)
         if not shut:
             return []
         round_ = WaysRound(self.map, self.load.get("dawdle", 0) / 1000)
-        ways = round_.found(self.waiting(), self.signals.values(), shut, (self.clock, until), self.load.get("seed", 0))
+        waiting, driving = self.not_arrived()
+        vehicles = [*waiting, *driving.values()]
+        ways = round_.found(vehicles, self.signals.values(), shut, (self.clock, until), self.load.get("seed", 0))
         for name, plan in ways.items():
-            self.client.takeout(self.cars[name])
-            self.tell_of(name, list(plan), self.departure_lane(plan), max(self.clock, self.departs[name]))
-        return list(ways)
+            if name in driving:
+                self.turn_later(name, plan)
+            else:
+                self.enter_anew(name, plan, max(self.clock, self.departs[name]))
+        return [name for name in self.plans if name in ways]
 
-    def waiting(self):
-        """The vehicles that have not departed. Those whose time has come may wait for room."""
+    def turn_later(self, name, way):
+        """Has a vehicle on the road leave its plan for a way from where it is."""
+        plan = self.plans[name][self.begun.get(name, 0) :]
+        plan = plan[plan.index(self.vehicle.where(name).link) :]
+        self.turning.pop(name, None)
+        if way != plan:
+            self.turning[name] = turning(plan, way, self.clock)
+
+    def enter_anew(self, name, rest, depart):
+        """Takes a vehicle out, and has it go on over other links."""
+        self.client.takeout(self.cars[name])
+        done = self.plans[name][: self.begun.get(name, 0)]
+        self.tell_of(name, list(rest), self.departure_lane(rest), depart)
+        self.plans[name] = (*done, *rest)
+
+    def not_arrived(self):
+        """The vehicles that have not departed, of which some may wait for room, and those on the road by name."""
         late = [name for name, depart in self.departs.items() if depart < self.clock]
         replies = self.client.batch({"cmd": "vehicle", "car": self.cars[name]} for name in late)
-        gone = {name for name, reply in zip(late, replies, strict=True) if reply.state != "waiting"}
-        return [
-            Waiting(name, max(self.clock, depart), self.plans[name]) for name, depart in self.departs.items() if name not in gone
-        ]
+        seen, waiting, driving = dict(zip(late, replies, strict=True)), [], {}
+        for name, depart in self.departs.items():
+            plan = self.plans[name][self.begun.get(name, 0) :]
+            if name not in seen or seen[name].state == "waiting":
+                waiting.append(Waiting(name, max(self.clock, depart), plan))
+            elif seen[name].state in ("cell", "buffer"):
+                own = self.turning.get(name)
+                plan = own.ahead + own.rest if own and seen[name].link in own.ahead else plan
+                driving[name] = Waiting(name, self.clock, plan[plan.index(seen[name].link) :])
+        return waiting, driving
+
+    def turn_off(self):
+        """Those on the road for whom another way begins where they are enter its next link anew."""
+        names = [name for name, one in self.turning.items() if one.due <= self.clock]
+        replies = self.client.batch({"cmd": "vehicle", "car": self.cars[name]} for name in names)
+        for name, reply in zip(names, replies, strict=True):
+            one = self.turning[name]
+            if reply.state not in ("cell", "buffer") or reply.link not in one.ahead:
+                del self.turning[name]
+            elif reply.state == "cell" or reply.link != one.ahead[-1]:
+                one.due = self.clock + one.soonest(self.map.links, reply.link, reply.cell if reply.state == "cell" else None)
+            else:
+                del self.turning[name]
+                self.begun[name] = self.plans[name].index(reply.link, self.begun.get(name, 0)) + 1
+                self.enter_anew(name, one.rest, self.clock)
 
     def trips(self):
         """Rows as those of trips.csv, by the clock of now; who was taken out and entered anew has one."""

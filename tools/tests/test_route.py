@@ -303,6 +303,14 @@ class Equilibria(Commands):
         self.route("--iterations", 0, "--anew")
         self.assertEqual(self.routes(), {"v": ["in", "short", "out"]})
 
+    def test_a_route_back_to_its_begin(self):
+        """Its shortest way would be one edge."""
+        way = "AB BC CD DA AB"
+        self.given(ring(), f'<routes><vehicle id="v" depart="0"><route edges="{way}"/></vehicle></routes>')
+        _, said = self.route("--iterations", 1, "--anew")
+        self.assertIn("warning: 1 vehicles have a route back to the edge where it begins, which they keep\n", said)
+        self.assertEqual(self.routes(), {"v": way.split()})
+
     def test_the_run_is_that_of_streetsim_import(self):
         types = '<vType id="truck" length="12"/>'
         self.given(lit((15, "G"), (45, "r")), flow(100, 600, 'type="truck"').replace("<routes>", f"<routes>{types}"))
@@ -416,10 +424,21 @@ class BadInput(Commands):
             ('<trip id="t" depart="0"><stop lane="in_0" duration="9"/></trip>', "<trip 't'>: drives from stop to stop without from and to"),
             ('<trip id="t" depart="0" from="in" to="out"/>' * 2, "two vehicles are named 't'"),
             ("", "no trip that can drive"),
+            ('<trip id="t" depart="9e9" from="in" to="out"/>', "no trip that can drive; 1 left out: departs after 1,000,000,000 s"),
         ):
             with self.subTest(told):
                 self.given(two_ways(), f"<routes>{trips}</routes>")
                 self.check_refused(told)
+
+    def test_routes_without_a_connection(self):
+        given = '<vehicle id="v" depart="0"><route edges="in long out"/></vehicle><trip id="t" depart="5" from="in" to="out"/>'
+        self.given(two_ways(), f"<routes>{given}</routes>")
+        self.check_refused("trip 'v': the network has no connection from edge 'in' to edge 'long'")
+        _, said = self.route("--ignore-route-errors")
+        self.assertIn("skipped: 1 vehicles: two edges of the route have no connection\n", said)
+        self.assertEqual(list(self.routes()), ["t"])
+        self.route("--anew")
+        self.assertEqual(self.routes(), {name: ["in", "short", "out"] for name in "vt"})
 
     def test_more_trips_than_a_run_has_calls_for(self):
         self.given(two_ways(), flow(1_000_000, 86_400))

@@ -6,14 +6,14 @@ import unittest
 from dataclasses import replace
 
 from support import PROGRAM, Case, lane, needs_package, needs_simulator, net
-from test_route import Commands, flow, two_ways
+from test_route import Commands, flow, lit, two_ways
 from streetsim.files import Fault
 from streetsim.routes.closing import Closing, common, knows, turn_off
 from streetsim.routes.costs import flat_costs
 from streetsim.routes.graph import Graph
 from streetsim.routes.trips import Trip
-from streetsim.routes.underway import Waiting, WaysRound, shut_edges
-from streetsim.run.mapping import read_map
+from streetsim.routes.underway import Turning, Waiting, WaysRound, shut_edges, turning
+from streetsim.run.mapping import MapLink, read_map
 
 # From p to z over q, r and x; q also leads to w and z, and p to y and z.
 GRAPH = Graph(
@@ -23,6 +23,9 @@ GRAPH = Graph(
 )
 FREE = [10.0] * len(GRAPH.movements)
 X = GRAPH.number["x"]
+
+
+ONE = '<vehicle id="v" depart="0"><route edges="in long out"/></vehicle>'
 
 
 def numbers(names):
@@ -104,6 +107,14 @@ class UnderWay(Case):
 
     def test_no_way(self):
         self.assertEqual(self.plans([Waiting("v", 0, self.links("in short out"))], ("short", "one", "other")), {})
+
+    def test_where_another_way_begins(self):
+        """Three links of 40 cells and 2 cells a second: who is on cell 9 of the first is behind the second in 35 s at least."""
+        links = [MapLink(str(at), (0,), at, at + 1, 40, 2, 300.0, ()) for at in range(3)]
+        found = turning((0, 1, 2), (0, 1, 5, 6), 100)
+        self.assertEqual(found, Turning((0, 1), (5, 6), 100))
+        self.assertEqual([found.soonest(links, *place) for place in ((0, 9), (0, None), (1, 39), (1, None))], [35, 20, 1, 1])
+        self.assertEqual(turning((0, 1), (7, 6), 0), Turning((0,), (6,), 0))  # on the link beside
 
     def test_an_edge_is_shut_where_all_its_lanes_are(self):
         link = self.map.links_of["one"][0]
@@ -190,17 +201,45 @@ knowing = 0.5
             study[0] = self.write("study.toml", f"{self.STUDY}[variant.bad]\n{more}\n")
             self.assertIn(told, self.tool("study", *study, status=2)[1])
 
-    def test_refused(self):
+    def test_refused_before_anything_runs(self):
         self.given(two_ways(), flow(10, 100))
+        gap = '<vehicle id="f.0" depart="0"><route edges="in long out"/></vehicle>'
+        given = {name: self.write(f"{name}.rou.xml", f"<routes>{text}</routes>") for name, text in (("gap", gap), ("other", ONE))}
         for words, told in (
             (("--knowing", 0.5), "--knowing is of road works: give --close too"),
             (("--close", "none_0:1-2:3-4"), "the map has no lane 'none_0'"),
-            (("--close", "short_0:100-200:0-900", "--sign", "none"), "--sign: the network has no edge 'none'"),
-            (("--close", "out_0:100-200:0-900", "--iterations", 0), "ends on edge 'out' while it is closed"),
+            (("--close", "short_0:100-400:3-4"), "the lane ends at 300 m"),
+            (("--close", "short_0:100-200:9-900", "--until", 800, "--sign", "none"), "--sign: the network has no edge 'none'"),
+            (("--close", "short_0:100-200:900-990", "--until", 800), "begins after the end of the runs, 800 s"),
+            (("--close", "in_0:100-200:50-900"), "trip 'f.3' begins on edge 'in' while it is closed"),
+            ((*self.WORKS, "--before", given["gap"]), "the route of 'f.0' has two edges that follow each other and have no connection"),
+            ((*self.WORKS, "--before", given["other"]), "no route of 'f.0'"),
         ):
             with self.subTest(told):
-                _, said = self.route(*words, status=2)
-                self.assertIn(told, said)
+                self.check_refused(told, *words)
+
+    def test_who_ends_on_a_closed_edge(self):
+        self.given(two_ways(), flow(10, 100))
+        _, said = self.route("--close", "out_0:100-200:0-900", "--iterations", 0, status=2)
+        self.assertIn("ends on edge 'out' while it is closed", said)
+
+    def test_ways_without_works_that_miss_the_gap(self):
+        """Who asks for the way round is none, so that the gap with works is 0."""
+        self.given(lit((15, "G"), (45, "r")), flow(300, 900))
+        words = ("--close", "short_0:100-200:120-900", "--knowing", 0, "--gap", 0.001, "--iterations", 1)
+        told, _ = self.route(*words, status=1)
+        self.assertRegex(told, r"gap 0.00 % by 3 seeds .*: the gap of 0.1 % is not reached without works \([\d.]+ %\); ")
+        setting = json.loads((self.folder / "out/setting.json").read_text())
+        self.assertGreater(setting["without_works"]["relative_gap"], 0.001)
+
+    def test_more_come_than_the_open_lanes_pass(self):
+        """Of three lanes two are one link; one of them is closed."""
+        ends = {"in": ("W", "A", 3), "a": ("A", "B", 3), "out": ("B", "E", 3)}
+        edges = [(name, begin, end, [lane(name, at, 300.0) for at in range(count)]) for name, (begin, end, count) in ends.items()]
+        ways = [(name, at, following, at, "") for name, following in (("in", "a"), ("a", "out")) for at in range(3)]
+        self.given(net(edges, ways), flow(1000, 900))
+        _, said = self.route("--close", "a_0:100-200:0-900", "--iterations", 0, "--gap", 1)
+        self.assertRegex(said, r"warning: knowing 1: edge a: some [\d,]+ vehicles an hour come to works that leave 1 of 2 lanes")
 
 
 del Commands  # whose own tests stand in test_route

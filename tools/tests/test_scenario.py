@@ -195,21 +195,25 @@ class Diverting(Case):
         self.tool("import", *words, "-o", paths[0], "--map", paths[1])
         return self.enterContext(Scenario(*paths, PROGRAM))
 
-    def test_who_has_not_departed_takes_another_way(self):
+    def test_who_has_not_passed_takes_another_way(self):
+        """At 130 s the vehicle of 100 s is on the short way, and that of 120 s has that ahead; it goes on to the crossing."""
         sim = self.begun(*range(0, 1200, 20))
         sim.simulationStep(130)
         other = sim.close("short_0", 100, 200, divert=True)
-        self.assertEqual(other, [str(at) for at in range(7, 60)])
-        self.assertEqual({sim.vehicle.getRoute(name) for name in other}, {self.FAR})
+        self.assertEqual(other, [str(at) for at in range(6, 60)])
+        self.assertEqual({sim.vehicle.getRoute(name) for name in other[1:]}, {self.FAR})
         self.assertEqual({sim.vehicle.getRoute(str(at)) for at in range(7)}, {self.SHORT})
         sim.simulationStep(1400)
+        self.assertEqual(sim.vehicle.getRoute("6"), self.FAR)
         rows = [dict(zip(TRIPS, row, strict=True)) for row in sim.trips()]
         self.assertEqual([row["id"] for row in rows], [str(at) for at in range(60)])
-        self.assertEqual({row["state"] for row in rows[7:]}, {"arrived"})
-        self.assertEqual([(row["depart"], row["edges"]) for row in rows[6:8]], [(120, 3), (140, 4)])
-        self.assertEqual(rows[6]["state"], "cell")  # stands before the works
+        self.assertEqual({row["state"] for row in rows[6:]}, {"arrived"})
+        self.assertEqual([(row["depart"], row["edges"]) for row in rows[5:8]], [(100, 3), (120, 4), (140, 4)])
+        self.assertEqual(rows[5]["state"], "cell")  # stands before the works
+        times = [row["duration"] for row in rows[6:]]
+        self.assertLess(abs(times[0] - sum(times) / len(times)), 10)
         census = sim.client.count()
-        self.assertEqual((census.admitted, census.taken, census.arrived), (60 + 53, 53, sum(row["state"] == "arrived" for row in rows)))
+        self.assertEqual((census.admitted, census.taken, census.arrived), (60 + 54, 54, sum(row["state"] == "arrived" for row in rows)))
         self.assertEqual(sim.simulation.getMinExpectedNumber(), 60 - census.arrived)
         sim.reopen("short_0", 100, 200)
         sim.simulationStep(1600)
@@ -219,16 +223,41 @@ class Diverting(Case):
     def test_works_whose_end_is_known(self):
         sim = self.begun(*range(0, 1200, 20))
         sim.simulationStep(130)
-        self.assertEqual(sim.close("short_0", 100, 200, divert=True, until=610), [str(at) for at in range(7, 30)])
+        self.assertEqual(sim.close("short_0", 100, 200, divert=True, until=610), [str(at) for at in range(6, 30)])
+
+    def test_further_works_before_the_other_way_begins(self):
+        """Who is on its way to the crossing hears of the second works there, and takes the short way after all."""
+        sim = self.begun(0, 120)
+        sim.simulationStep(130)
+        self.assertEqual(sim.close("short_0", 100, 200, divert=True), ["1"])
+        sim.reopen("short_0", 100, 200)
+        self.assertEqual(sim.close("long_0", 100, 200, divert=True), ["1"])
+        sim.simulationStep(300)
+        self.assertEqual((sim.vehicle.getRoute("1"), sim.client.count().taken), (self.SHORT, 0))
+        self.assertEqual([row[-1] for row in sim.trips()], ["arrived", "arrived"])
+
+    def test_further_works_on_the_other_way(self):
+        """Who has entered anew behind the crossing, and who waits for room there, has no way round."""
+        sim = self.begun(0, 120)
+        sim.simulationStep(130)
+        sim.close("short_0", 100, 200, divert=True)
+        sim.simulationStep(150)
+        self.assertEqual((sim.vehicle.getRoute("1"), sim.vehicle.getRoadID("1")), (self.FAR, "far"))
+        self.assertEqual(sim.close("long_0", 100, 200, divert=True), [])
+        sim.reopen("long_0", 100, 200)
+        sim.simulationStep(400)
+        self.assertEqual([(row[0], row[6], row[-1]) for row in sim.trips()], [("0", 3, "arrived"), ("1", 4, "arrived")])
 
     def test_who_waits_for_room(self):
         """Its time has come; its trip lasts from then on."""
         sim = self.begun(0, 0, 0)
         sim.simulationStep(1)
-        self.assertEqual(sim.close("short_0", divert=True), ["1", "2"])
+        self.assertEqual(sim.close("short_0", divert=True), ["0", "1", "2"])
         sim.simulationStep(2)
         self.assertEqual(sim.vehicle.getIDList(), ("0", "1"))
         self.assertEqual([row[1] for row in sim.trips()], [0, 0, 0])
+        sim.simulationStep(300)
+        self.assertEqual([(row[6], row[-1]) for row in sim.trips()], [(4, "arrived")] * 3)
 
     def test_equal_runs_give_equal_rows(self):
         rows = []

@@ -61,7 +61,7 @@ def turn_off(trips: Iterable[Trip], closing: Closing, graph: Graph, costs: Costs
             continue
         path = way_round(trip, place, closing.signs, router, free[trip.path[place]])
         if not path and strict:
-            raise Fault(f"trip {trip.name!r} {why_not(trip, place, graph)}")
+            raise Fault(f"trip {trip.name!r} {why_not(trip.path, place, graph)}")
         turned += bool(path) and path != trip.path
         trip.path = path or trip.path
     return turned
@@ -79,8 +79,9 @@ def way_round(trip: Trip, shut: int, signs: Collection[int], router: Router, fre
     return ()
 
 
-def why_not(trip: Trip, place: int, graph: Graph) -> str:
-    edge = graph.edges[trip.path[place]]
-    if place == 0 or place == len(trip.path) - 1:
+def why_not(path: Path, place: int, graph: Graph) -> str:
+    """Why a trip can not drive whose path has a shut edge at a place."""
+    edge = graph.edges[path[place]]
+    if place == 0 or place == len(path) - 1:
         return f"{'ends' if place else 'begins'} on edge {edge!r} while it is closed: take it out, or change the times of the works"
     return f"has no way round edge {edge!r} while it is closed"

@@ -6,13 +6,16 @@ import dataclasses
 import os
 from collections.abc import Callable, Iterator, Sequence
 from dataclasses import dataclass
+from itertools import pairwise
 from statistics import fmean
 
 from ..files import Fault
-from ..run.works import works_of
+from ..run.crowding import crowded
+from ..run.works import sites_of, works_of
 from ..study.seeds import interval
-from .closing import Closing, knows, shut_edges
+from .closing import Closing, knows, shut_edges, why_not
 from .graph import Graph
+from .loading import Town
 from .search import Asked, Iteration, Judged, Search
 from .trips import Trip, Trips
 
@@ -38,6 +41,12 @@ class Diverted:
     def means(self) -> list[float]:
         return [one.mean for one in self.judged.outcomes]
 
+    def crowded(self) -> Iterator[str]:
+        """Says where more come to works than the lanes beside them pass."""
+        run, mapping = self.judged.loaded.run, self.judged.loaded.mapping
+        works = [works_of(text, mapping) for text in self.search.town.works]
+        return crowded(run, mapping, sites_of(works, mapping))
+
 
 def placed(path: str, share: float | None, many: bool) -> str:
     """Where an output of a share goes: where there are several shares, their number stands before the ending."""
@@ -48,7 +57,7 @@ def placed(path: str, share: float | None, many: bool) -> str:
     return os.path.join(folder, f"{stem}-{share:g}{dot}{ending}")
 
 
-def give_ways(trips: Sequence[Trip], before: Trips, where: str) -> None:
+def give_ways(trips: Sequence[Trip], before: Trips, graph: Graph, where: str) -> None:
     """Gives trips the ways that they have in another file."""
     ways = {trip.name: trip for trip in before.all}
     for trip in trips:
@@ -57,17 +66,28 @@ def give_ways(trips: Sequence[Trip], before: Trips, where: str) -> None:
             raise Fault(f"{where}: no route of {trip.name!r}")
         if (found.path[0], found.path[-1]) != (trip.origin, trip.target):
             raise Fault(f"{where}: the route of {trip.name!r} does not go from where it begins to where it ends")
+        if not all(way in graph.movement_of for way in pairwise(found.path)):
+            raise Fault(f"{where}: the route of {trip.name!r} has two edges that follow each other and have no connection")
         trip.path = found.path
+
+
+def check_works(texts: Sequence[str], signs: Sequence[str], trips: Sequence[Trip], town: Town, until: int) -> None:
+    """Refuses works that can not be, before anything runs; who ends on a closed edge is known after the runs without works."""
+    mapping = town.mapped()
+    works = [works_of(text, mapping) for text in texts]
+    if late := [one.text for one in works if one.first >= until]:
+        raise Fault(f"--close {late[0]!r}: begins after the end of the runs, {until:,} s")
+    if unknown := [name for name in signs if name not in town.graph.number]:
+        raise Fault(f"--sign: the network has no edge {unknown[0]!r}")
+    shut = shut_edges(works, town.graph, mapping, town.dawdle)
+    for trip in trips:
+        if any(begin <= trip.depart < end for begin, end in shut.get(trip.origin, ())):
+            raise Fault(f"trip {trip.name!r} {why_not((trip.origin,), 0, town.graph)}")
 
 
 def closing_of(texts: Sequence[str], signs: Sequence[str], graph: Graph, before: Search, judged: Judged) -> Closing:
     mapping = judged.loaded.mapping
-    works = [works_of(text, mapping) for text in texts]
-    if late := [one.text for one in works if one.first >= before.ground.until]:
-        raise Fault(f"--close {late[0]!r}: begins after the end of the runs, {before.ground.until:,} s")
-    if unknown := [name for name in signs if name not in graph.number]:
-        raise Fault(f"--sign: the network has no edge {unknown[0]!r}")
-    shut = shut_edges(works, graph, mapping, before.town.dawdle)
+    shut = shut_edges([works_of(text, mapping) for text in texts], graph, mapping, before.town.dawdle)
     return Closing(shut, frozenset(graph.number[name] for name in signs), judged.loaded.free)
 
 
@@ -79,7 +99,7 @@ def diverted(
     town = copy.copy(before.town)
     town.works = tuple(texts)
     for share in shares:
-        trips = [dataclasses.replace(trip, changes=knows(trip.name, share, asked.seeds[0])) for trip in before.trips]
+        trips = [dataclasses.replace(trip, changes=trip.changes and knows(trip.name, share, asked.seeds[0])) for trip in before.trips]
         label = f"knowing {share:g}, "
         search = Search(town, before.ground, trips, before.team, lambda one, label=label: told(label, one), closing)
         search.turn_off(judged.observed, strict=True)

@@ -77,6 +77,11 @@ class Town:
         mapping = map_of(network, [], [], report)
         return self.free(mapping, made), capacities(self.graph, mapping, made)
 
+    def mapped(self) -> Map:
+        """The map where no route is known yet."""
+        report = Report()
+        return map_of(Network(self.net, self.options, report, {}), [], [], report)
+
 
 def read_town(net_path: str, additional: Sequence[str], options: Options, report: Report) -> Town:
     net, types = read_net(net_path, options.classes, report), Types(options.seed, report)

@@ -6,7 +6,7 @@ import json
 import os
 import sys
 from collections.abc import Sequence
-from dataclasses import dataclass
+from dataclasses import asdict, dataclass
 from statistics import fmean
 
 from .. import limits, program
@@ -19,13 +19,13 @@ from ..study.seeds import seeds_of
 from ..study.sessions import digest_of
 from ..sumo.importing import add_options, options_of
 from ..sumo.report import Report
-from .diverting import SHARES, Diverted, closing_of, diverted, give_ways, placed, share_rows
+from .diverting import SHARES, Diverted, check_works, closing_of, diverted, give_ways, placed, share_rows
 from .loading import Town, read_town
 from .pictures import draw
-from .results import FLOWS, NAME, flow_rows, write_results
+from .results import FLOWS, NAME, figures, flow_rows, write_results
 from .search import STILL, Asked, Iteration, Judged, Search
 from .team import Team, team
-from .trips import Trips, read_trips, write_routes
+from .trips import Trips, connected, read_trips, write_routes
 from .watching import Ground
 
 AFTER = 7200  # seconds that a run may last after the last departure
@@ -158,16 +158,21 @@ def job_of(words: argparse.Namespace) -> Job:
     report = Report()
     town = read_town(words.net, words.additional, options_of(words), report)
     trips = read_trips(words.trips, town.net, town.graph, town.types, town.options, report)
+    if back := sum(not trip.changes for trip in trips.all):
+        report.warn(f"{back:,} vehicles have a route back to the edge where it begins, which they keep")
     if words.anew:
-        for trip in trips.all:
+        for trip in (one for one in trips.all if one.changes):
             trip.path = ()
+    trips.all = connected(trips.all, town.net, town.graph, town.options.ignore_route_errors, report)
     if words.before:
-        give_ways(trips.all, read_trips([words.before], town.net, town.graph, town.types, town.options, Report()), words.before)
+        before = read_trips([words.before], town.net, town.graph, town.types, town.options, Report())
+        give_ways(trips.all, before, town.graph, words.before)
     print(*report.lines(), sep="\n", end="\n" if any(report.lines()) else "", file=sys.stderr)
     last = int(trips.all[-1].depart)
     until = min(limits.CLOCK, last + AFTER) if words.until is None else words.until
     if until <= last:
         raise Fault(f"--until {until}: the last trip departs at {last:,} s")
+    check_works(words.close, words.sign, trips.all, town, until)
     ground = Ground(words.program, digest_of(words.program), town.graph, words.slice, until, words.rounds)
     asked = Asked(words.iterations, words.gap, words.share, seeds_of(words.seeds, "--seeds"), words.tried)
     return Job(words, town, trips, ground, asked, seeds_of(words.check, "--check"))
@@ -204,7 +209,7 @@ def write(job: Job, all_: Sequence[Diverted]) -> None:
         for one in all_[len(all_) > 1 :]:
             place = f"{folder}/{one.label.replace(' ', '-')}" if many else folder
             os.makedirs(place, exist_ok=True)
-            write_results(place, job.town, one.trips, one.search.iterations, one.judged, setting_of(job, one))
+            write_results(place, job.town, one.trips, one.search.iterations, one.judged, setting_of(job, one, all_[0]))
             draw(place, all_[0], one)
         if words.close:
             write_routes(f"{folder}/before.rou.xml", job.trips, job.town.graph)
@@ -212,7 +217,8 @@ def write(job: Job, all_: Sequence[Diverted]) -> None:
             write_table(f"{folder}/flows.csv", FLOWS, flow_rows(job.town.graph, all_))
         if many:
             with whole_file(f"{folder}/{NAME}") as file:
-                json.dump({**setting_of(job, all_[0]), "knowing": words.knowing}, file, indent=1)
+                json.dump({**setting_of(job, all_[0], all_[0]), "knowing": words.knowing}, file, indent=1)
+                file.write("\n")
 
 
 def write_run_of(job: Job, one: Diverted, run_path: str, map_path: str) -> None:
@@ -225,28 +231,40 @@ def write_run_of(job: Job, one: Diverted, run_path: str, map_path: str) -> None:
         json.dump(mapping.written(), mapped, separators=(",", ":"))
 
 
-def setting_of(job: Job, one: Diverted) -> dict:
+def setting_of(job: Job, one: Diverted, before: Diverted) -> dict:
     words = job.words
-    names = ("net", "additional", "trips", "slice", "iterations", "gap", "share", "tried", "rounds", "seeds", "check")
-    setting = {name: getattr(words, name) for name in names} | {"until": job.ground.until, "iteration": one.search.best.number}
+    names = ("net", "additional", "trips", "anew", "slice", "iterations", "gap", "share", "tried", "rounds", "seeds", "check")
+    setting = {name: getattr(words, name) for name in names} | {"import": asdict(job.town.options)}
+    setting |= {"until": job.ground.until, "iteration": one.search.best.number}
     if words.close:
         setting |= {"close": words.close, "knowing": one.share, "sign": words.sign, "before": words.before}
+        setting |= {"without_works": figures(before.judged)}
     return setting
 
 
 def tell(job: Job, one: Diverted, before: Diverted) -> int:
     """Says what was found and what speaks against it; gives the status."""
     label = f"{one.label}: " * (one.share is not None)
-    for text in warnings(job, one.search, one.judged):
+    for text in (*warnings(job, one.search, one.judged), *one.crowded()):
         print(f"warning: {label}{text}", file=sys.stderr)
-    reached = one.judged.gap <= job.words.gap
-    mean, runs = fmean(one.means()), len(one.judged.outcomes)
+    mean, runs, missed = fmean(one.means()), len(one.judged.outcomes), missing(job, one, before)
     print(
         f"{label}mean trip {mean:.1f} s{f' ({mean - fmean(before.means()):+.1f} s by the works)' * bool(label)}, "
         f"gap {100 * one.judged.gap:.2f} % by {runs} seed{'s' * (runs > 1)} that the search did not see"
-        f"{'' if reached else f': the gap of {100 * job.words.gap:g} % is not reached'}; routes of iteration {one.search.best.number}"
+        f"{f': the gap of {100 * job.words.gap:g} % is not reached{missed}' if missed is not None else ''}; "
+        f"routes of iteration {one.search.best.number}"
     )
-    return 0 if reached else 1
+    return 0 if missed is None else 1
+
+
+def missing(job: Job, one: Diverted, before: Diverted) -> str | None:
+    """Where the gap that was asked for is not reached, if it is not. Ways without works that were given are not judged."""
+    without = before.judged.gap if before.search.iterations and one is not before else 0.0
+    if max(one.judged.gap, without) <= job.words.gap:
+        return None
+    if without <= job.words.gap:
+        return ""
+    return f"{', nor' * (one.judged.gap > job.words.gap)} without works ({100 * without:.2f} %)"
 
 
 def warnings(job: Job, search: Search, judged: Judged) -> list[str]:

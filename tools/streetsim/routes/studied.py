@@ -16,7 +16,7 @@ from .diverting import closing_of, diverted
 from .loading import read_town
 from .search import Asked, Iteration, Search
 from .team import team
-from .trips import read_trips
+from .trips import connected, read_trips
 from .watching import Ground
 
 ASKED = Asked(iterations=10, gap=0.02, share=0.2, seeds=range(1, 2))
@@ -35,6 +35,7 @@ def routed(
     options = Options(**{**known, "joint": (*known.get("joint", ()), *joint)})
     town = read_town(sources.net, sources.additional, options, Report())
     trips = read_trips([*sources.routes, *sources.trips], town.net, town.graph, town.types, options, Report())
+    trips.all = connected(trips.all, town.net, town.graph, options.ignore_route_errors, Report())
     ground = Ground(program, digest_of(program), town.graph, SLICE, until, rounds)
 
     def told(label: str, one: Iteration) -> bool:

@@ -3,6 +3,7 @@ from __future__ import annotations
 
 from collections.abc import Iterable, Sequence
 from dataclasses import dataclass
+from itertools import pairwise
 from xml.etree import ElementTree
 from xml.sax.saxutils import quoteattr
 
@@ -35,7 +36,7 @@ class Trip:
     type: str
     path: Path
     entry: float
-    changes: bool = True  # whether it may take another way
+    changes: bool = True  # whether it may take another way; not where its way leads back to the edge where it begins
     route: str = ""  # the name of the route that it was given
 
 
@@ -114,10 +115,36 @@ def read_trips(paths: Iterable[str], net: SumoNet, graph: Graph, types: Types, o
             continue
         path = () if one.name in demand.without else tuple(graph.number[name] for name in one.edges)
         ends = graph.number[one.edges[0]], graph.number[one.edges[-1]]
-        found.append(Trip(one.name, one.depart, *ends, one.type, path, one.depart, route=one.route))
+        back = ends[0] == ends[1] and len(path) > 1
+        found.append(Trip(one.name, one.depart, *ends, one.type, path, one.depart, not back, one.route))
     if not found:
-        raise Fault(f"{', '.join(paths)}: no trip that can drive")
+        why = "".join(f"; {count:,} left out: {reason}" for reason, count in sorted(report.skipped.items()))
+        raise Fault(f"{', '.join(paths)}: no trip that can drive{why}")
     return Trips(found, demand.told_types)
+
+
+def connected(trips: Sequence[Trip], net: SumoNet, graph: Graph, ignore: bool, report: Report) -> list[Trip]:
+    """The trips but for those whose routes have two edges without a connection, which are counted in the report. They are refused
+    where the network has none for any class, unless these are to be left out (ignore)."""
+    found = []
+    for trip in trips:
+        ways = [way for way in pairwise(trip.path) if way not in graph.movement_of]
+        if not ways:
+            found.append(trip)
+            continue
+        source, target = graph.names(next((way for way in ways if graph.names(way) not in net.closed_ways), ways[0]))
+        if (source, target) in net.closed_ways:
+            report.skipped["two edges of the route have no connection for the classes"] += 1
+        elif ignore:
+            report.skipped["two edges of the route have no connection"] += 1
+        else:
+            raise Fault(
+                f"trip {trip.name!r}: the network has no connection from edge {source!r} to edge {target!r}, which follow each other in its "
+                "route (--anew forgets routes, --ignore-route-errors leaves such trips out)"
+            )
+    if not found:
+        raise Fault(f"none of {len(trips):,} trips has a route whose edges are connected")
+    return found
 
 
 def reason_against(vehicle: Vehicle, net: SumoNet, begin: int) -> str | None:

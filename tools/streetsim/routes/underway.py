@@ -1,11 +1,11 @@
-"""Ways round road works for those who have not departed, in a run under way."""
+"""Ways round road works in a run under way, for those who have not departed and for those on the road."""
 from __future__ import annotations
 
 from collections.abc import Collection, Iterable, Mapping, Sequence
 from dataclasses import dataclass, replace
 
 from ..run.freeflow import FreeFlow
-from ..run.mapping import Map
+from ..run.mapping import Map, MapLink
 from .costs import Costs, flat_costs
 from .graph import graph_of_map
 from .router import FAR, Found, Path, Router, Shut, Wish
@@ -16,16 +16,39 @@ from .trips import Trip
 
 @dataclass(frozen=True, slots=True)
 class Waiting:
-    """A vehicle that has not departed. plan: links."""
+    """A vehicle that has not departed, or one on the road, which departs now. plan: links, from the one where it is."""
 
     name: str
     depart: int
     plan: Path
 
 
+@dataclass(slots=True)
+class Turning:
+    """Another way of a vehicle on the road. ahead: links up to the one behind which it begins; rest: the links from there on; due:
+    the clock before which nobody can be there."""
+
+    ahead: Path
+    rest: Path
+    due: int
+
+    def soonest(self, links: Sequence[MapLink], link: int, cell: int | None) -> int:
+        """Steps, at least, until a vehicle is behind the links ahead. cell: None at the end of its link."""
+        left = self.ahead[self.ahead.index(link) :]
+        cells = sum(links[at].cells for at in left) - (links[link].cells if cell is None else cell + 1)
+        return max(1, int(cells / max(links[at].limit for at in left)))
+
+
+def turning(plan: Path, way: Path, clock: int) -> Turning:
+    """How a vehicle leaves its plan for a way from the same link on, or from one beside it."""
+    both = enumerate(zip(plan, way))
+    common = max(1, next((at for at, (one, other) in both if one != other), min(len(plan), len(way))))
+    return Turning(plan[:common], way[common:], clock)
+
+
 class WaysRound:
-    """Shortest ways over the links of a run's map, by free speed, the waits at signals, and the delays that the volumes of those who
-    have not departed would make. Links and not edges are searched, as turns between parallel links cannot be added under way."""
+    """Shortest ways over the links of a run's map, by free speed, the waits at signals, and the delays that the volumes of all whose
+    plans are given would make. Links and not edges are searched, as turns between parallel links cannot be added under way."""
 
     def __init__(self, mapping: Map, dawdle: float) -> None:
         links = [replace(link, edge=str(at)) for at, link in enumerate(mapping.links)]
@@ -41,7 +64,7 @@ class WaysRound:
         closed = self.shut(shut, times)
         trips = sorted((trip_of(one) for one in vehicles), key=lambda trip: trip.depart)
         router = Router(self.graph, flat_costs(self.graph, free), closed)
-        through = (trip for trip in trips if trip.origin not in closed and trip.target not in closed)
+        through = (trip for trip in trips if closed.keys().isdisjoint((trip.origin, trip.target)) and not self.is_round(trip))
         coming = [trip for trip in through if router.met(trip.path, trip.depart) is not None]
         plans = {trip.name: trip.path for trip in coming}
         for trip in coming:
@@ -49,6 +72,10 @@ class WaysRound:
         capacity = capacities(self.graph, self.by_link, signals)
         first_ways(self.graph, trips, free, capacity, seed, lambda wishes, costs: self.search(wishes, costs, closed))
         return {trip.name: trip.path for trip in coming if trip.path and trip.path != plans[trip.name]}
+
+    def is_round(self, trip: Trip) -> bool:
+        """Whether a trip ends on the edge where it begins, so that its way is what it is for."""
+        return self.mapping.links[trip.origin].edge == self.mapping.links[trip.target].edge
 
     def shut(self, edges: Collection[str], times: tuple[float, float]) -> Shut:
         """The times in which links are not to be entered: also so shortly before that one would not come past the works."""
