@@ -9,7 +9,7 @@ from streetsim.sumo.importing import convert
 from streetsim.sumo.network import Options
 from streetsim.sumo.report import Report
 from streetsim.sumo.net import request_of
-from streetsim.sumo.yielding import gap_capacity, green_here, headway, hidden_start
+from streetsim.sumo.yielding import gap_capacity, green_here, hidden_middle, hidden_start, leaving, passing_here
 
 # SUMO's vehicles a green by case and way, of the demand with seed 1; a tenth or 0.6 of a vehicle off is allowed.
 SUMO = {
@@ -55,12 +55,19 @@ class Formulas(unittest.TestCase):
         self.assertEqual(gap_capacity(0), float("inf"))
 
     def test_starts(self):
-        # SUMO lets 21.1 straight on and 16.4 to the right (6.5 m/s) pass in 42 s: all of it is shown of the first, and
-        # of the second some three quarters.
-        self.assertEqual(hidden_start(42, 13.89, 2), 0)
-        self.assertEqual(42 - hidden_start(42, 6.5, 2), green_here((42 - 0.8) / headway(6.5), 2))
-        self.assertTrue(30 <= 42 - hidden_start(42, 6.5, 2) <= 34)
+        # SUMO's vehicles a green at the lone cross, straight on and to the right (6.5 m/s), by seconds of green.
+        straight, right = {9: 4.0, 12: 5.5, 20: 10.0, 42: 21.1, 60: 30.2}, {9: 3.7, 12: 4.9, 20: 7.9, 42: 16.4, 60: 23.2}
+        for speed, measured in ((13.89, straight), (6.5, right)):
+            for seconds, vehicles in measured.items():
+                self.assertAlmostEqual(leaving(seconds, speed), vehicles, delta=0.4)
+                first, after = hidden_middle(seconds, speed, 2)
+                whole, parts = passing_here(seconds, 2), passing_here(first, 2) + passing_here(seconds - after, 2)
+                self.assertAlmostEqual(parts if after > first else whole, leaving(seconds, speed), delta=0.6)
+                shown = min(seconds, green_here(leaving(seconds, speed), 2))
+                self.assertEqual(seconds - hidden_start(seconds, speed, 2), shown)
         self.assertEqual([hidden_start(1, 13.89, 2), hidden_start(0, 13.89, 2)], [0, 0])
+        for seconds, left_out in {0: (0, 0), 1: (0, 0), 8: (0, 2), 42: (21, 21)}.items():
+            self.assertEqual(hidden_middle(seconds, 13.89, 2), left_out)
 
     def test_requests_of_inner_lanes(self):
         # The lanes of one inner edge follow each other: ":c_13_1" is the connection after ":c_13_0".

@@ -1,5 +1,6 @@
 """Signal programs: SUMO's place in the cycle, what is shown green, rounding, limits."""
 import unittest
+from itertools import groupby
 
 from support import PROGRAM, Case, lane, needs_simulator, net
 from streetsim.pictures import series
@@ -38,16 +39,16 @@ class Signals(Case):
         return [second for second in range(seconds) if series.shows_green(command, second, [0], [1])]
 
     def test_offset_is_sumos(self):
-        # SUMO 1.15 shows red in 0 to 6, green in 7 to 16, yellow in 17 to 21, red in 22 to 36; yellow is red here, and
-        # the first two of ten seconds, in which SUMO's queue starts: (10 - 0.8) / (1.42 + 7.5 / 13.9) = 4.7 vehicles,
-        # for which 4.7 * 2.07 - 1.35 = 8.4 s are enough here.
+        # SUMO 1.15 shows red in 0 to 6, green in 7 to 16, yellow in 17 to 21, red in 22 to 36; yellow is red here, and two
+        # of the ten seconds: (10 - 0.8) / (1.42 + 7.5 / 13.9) = 4.7 vehicles leave a queue in SUMO, here 2.8 and 1.7 in 5
+        # and 3 s.
         [command], _ = self.made(street(phases((10, "G"), (5, "y"), (15, "r")), offset=7))
-        self.assertEqual(self.greens(command, 37), list(range(9, 17)))
+        self.assertEqual(self.greens(command, 37), [*range(7, 12), *range(14, 17)])
         self.assertEqual(command["offset"], 23)
 
     @needs_simulator
     def test_offset_in_the_simulator(self):
-        # The vehicle stands in the only cell of the first link; it can leave in step 9, the first green one.
+        # The vehicle stands in the only cell of the first link; it can leave in step 7, the first green one.
         report = Report()
         _, _, commands, _ = convert(
             self.write("x.net.xml", street(phases((10, "G"), (5, "y"), (15, "r")), offset=7)),
@@ -59,10 +60,10 @@ class Signals(Case):
         with Client(PROGRAM) as sim:
             sim.batch(commands)
             sim.enter([0, 1], 0, 0)
-            sim.advance(9)
+            sim.advance(7)
             self.assertEqual(sim.vehicle(0).state, "cell")
             sim.advance(1)
-            self.assertEqual((sim.vehicle(0).state, sim.vehicle(0).ready), ("buffer", 9 + 2))
+            self.assertEqual((sim.vehicle(0).state, sim.vehicle(0).ready), ("buffer", 7 + 2))
 
     def test_last_program_of_a_light_counts(self):
         light = f'<tlLogic id="L" programID="1" type="static" offset="0">{phases((4, "G"), (6, "r"))}</tlLogic>'
@@ -79,23 +80,24 @@ class Signals(Case):
 
     def test_permissive_green_is_shown_at_the_end_of_its_run(self):
         turn = Turn(0, "L", 0, False, 13.9, 2)
-        self.assertEqual(shown_green("ggggggggggrrrrr", {0: (7, 1)}, turn, 1), [False] * 3 + [True] * 7 + [False] * 5)
+        self.assertEqual(shown_green("ggggggggggrrrrr", {0: (7, 1)}, turn, 1, True), [False] * 3 + [True] * 7 + [False] * 5)
         self.assertEqual(
-            shown_green("gggggrrrrrggggg", {10: (7, 1)}, turn, 1), [True] * 5 + [False] * 8 + [True] * 2
+            shown_green("gggggrrrrrggggg", {10: (7, 1)}, turn, 1, True), [True] * 5 + [False] * 8 + [True] * 2
         )  # the run goes round the cycle
         # Eight of 20 seconds in two parts: six seconds of waiting before each.
         two = [False] * 6 + [True] * 4
-        self.assertEqual(shown_green("g" * 20 + "r", {0: (8, 2)}, turn, 1), two * 2 + [False])
-        self.assertEqual(shown_green("gggg", {}, turn, 1), [True] * 4)
+        self.assertEqual(shown_green("g" * 20 + "r", {0: (8, 2)}, turn, 1, True), two * 2 + [False])
+        self.assertEqual(shown_green("gggg", {}, turn, 1, True), [True] * 4)
 
     def test_gaps(self):
         # 400 e^-0.5 / (1 - e^-0.2778) = 1,000 an hour.
         self.assertAlmostEqual(gap_capacity(400), 1000, delta=2)
 
     def test_rounding_keeps_the_cycle(self):
-        # 10.4, 20.8 and 31.2 s are 10, 21 and 31; the green of 20 s round the cycle is shown a second later.
+        # 10.4, 20.8 and 31.2 s are 10, 21 and 31; of the green of 20 s round the cycle two are left out from half on.
         [command], _ = self.made(street(phases((10.4, "G"), (10.4, "r"), (10.4, "G"))))
-        self.assertEqual([duration for duration, _ in command["phases"]], [10, 12, 9])
+        self.assertEqual([duration for duration, _ in command["phases"]], [2, 8, 11, 10])
+        self.assertEqual([bool(green) for _, green in command["phases"]], [False, True, False, True])
 
     def test_a_long_phase_is_several(self):
         [command], warnings = self.made(street(phases((1300, "G"), (500, "r"))))
@@ -106,8 +108,33 @@ class Signals(Case):
     def test_of_a_long_green_no_more_is_hidden_than_of_a_usual_one(self):
         # A right turn at 6.5 m/s: a queue leaves slower in SUMO, but for the first minutes alone.
         turn = Turn(0, "L", 0, False, 6.5, 2)
-        usual, long = (shown_green("G" * length + "r", {}, turn, 1).index(True) for length in (90, 10_000))
-        self.assertEqual(usual, long)
+        for middle in (True, False):
+            usual, long = (shown_green("G" * length + "r", {}, turn, 1, middle) for length in (90, 10_000))
+            self.assertEqual((usual.index(False), usual.count(False)), (long.index(False), long.count(False)))
+
+    def test_seconds_are_left_out_in_the_middle(self):
+        # A vehicle alone, or few, need not wait when the green begins: 4 s and more are green first, and 2 s at last.
+        for length in range(9, 91):
+            for speed in (6.5, 8.1, 13.9):
+                shown = shown_green("G" * length + "r", {}, Turn(0, "L", 0, False, speed, 2), 1, True)
+                runs = [(on, len(list(run))) for on, run in groupby(shown[:length])]
+                self.assertIn([on for on, _ in runs], ([True], [True, False, True]))
+                self.assertTrue(runs[0][1] >= 4 and runs[-1][1] >= 2, runs)
+        self.assertNotIn(False, shown_green("G" * 42 + "r", {}, Turn(0, "L", 0, False, 13.9, 2), 1, True)[:42])
+
+    def test_seconds_are_left_out_at_the_begin_where_phases_would_be_too_many(self):
+        # Seven streets one after the other, of ten seconds each: of three phases each 21, of two 14.
+        def crossing(count):
+            cycle = [(10, "".join("G" if at == own else "r" for at in range(count))) for own in range(count)]
+            edges = [(f"a{at}", f"A{at}", "B", [lane(f"a{at}", 0)]) for at in range(count)]
+            turns = [(f"a{at}", 0, "b", 0, f'tl="L" linkIndex="{at}"') for at in range(count)]
+            light = f'<tlLogic id="L" type="static" programID="0" offset="0">{phases(*cycle)}</tlLogic>'
+            [command], warnings = self.made(net([*edges, ("b", "B", "C", [lane("b", 0)])], turns, light))
+            self.assertEqual(warnings, [])
+            return [seconds for seconds, _ in command["phases"]], [bool(green) for _, green in command["phases"]]
+
+        self.assertEqual(crossing(5), ([5, 2, 3] * 5, [True, False, True] * 5))
+        self.assertEqual(crossing(7), ([2, 8] * 7, [False, True] * 7))
 
     def test_a_cycle_that_fits_in_no_plan_is_lines(self):
         # Ten minutes of red of 10,000 s are left at the begin, as the offset is 600 s; then 5,000 s of green.

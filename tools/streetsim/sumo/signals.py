@@ -1,18 +1,19 @@
 """Signal commands, made of SUMO's signal programs."""
 from collections import defaultdict
 from itertools import cycle as cycle_of
-from itertools import groupby, takewhile
+from itertools import chain, groupby, product, takewhile
 
 from .. import limits
 from ..files import Fault
 from .report import some
-from .yielding import GREEN, PERMISSIVE, hidden_start, movements_of, places, runs_of, settle
+from .yielding import GREEN, PERMISSIVE, hidden_middle, hidden_start, movements_of, places, runs_of, settle
 
 DEFAULT_SHARE = 0.7  # of a permissive green that is shown, where nothing is known of who gives way
 LONGEST = 200_000  # seconds of a cycle that are read
 AFTER = 86_400  # seconds after the last departure for which a program is told that does not fit in one plan
 QUEUED = 90  # seconds of a green above 600 s in which a queue leaves
 GRAINS = (1, 2, 3, 5, 8, 12, 20)  # seconds to which greens are rounded: the first that gives few phases
+FINE = GRAINS[:2]  # of these, to which the seconds left out in the middle of greens are rounded, as they are two at least
 
 
 def movements(net, network, flows, report):
@@ -105,7 +106,7 @@ def phase_lines(own, begin):
     node, turns, _, light, program, permissive, report, found = own
     states = each_second(light, program, report)
     told = by_gaps(found) if found else by_share(light, turns, states, permissive)
-    greens = green_seconds(light, turns, states, told, 1)
+    greens = green_seconds(light, turns, states, told, 1, True)
     place = (begin + round(-program.offset)) % len(greens)
     runs = [(green, len(list(run))) for green, run in groupby(greens[place:] + greens[:place])]
     clock, shown = begin, None
@@ -123,13 +124,13 @@ def signal(node, turns, edges, light, program, permissive, report, found=None):
     if len(states) > limits.PHASES * limits.PHASE_STEPS:
         raise TooLong(f"light {light!r}: a cycle of {len(states):,} s does not fit in {limits.PHASES} phases of {limits.PHASE_STEPS} s")
     told = by_gaps(found) if found else by_share(light, turns, states, permissive)
-    for grain in GRAINS:
-        phases = run_lengths(green_seconds(light, turns, states, told, grain))
+    for middle, grain in chain(product([True], FINE), product([False], GRAINS)):
+        phases = run_lengths(green_seconds(light, turns, states, told, grain, middle))
         if len(phases) <= limits.PHASES:
             break
     if len(phases) > limits.PHASES:
         report.warn(f"light {light!r}: more than {limits.PHASES} phases, so permissive greens are green throughout")
-        phases = run_lengths(green_seconds(light, turns, states, {}, 1))
+        phases = run_lengths(green_seconds(light, turns, states, {}, 1, False))
     if len(phases) > limits.PHASES:
         report.warn(
             f"light {light!r}: still more than {limits.PHASES} phases; the shortest are joined to those before them"
@@ -196,12 +197,12 @@ def by_share(light, turns, states, permissive):
     return told
 
 
-def green_seconds(light, turns, states, told, grain):
+def green_seconds(light, turns, states, told, grain, middle):
     """The green turns of each second. Turns that the light does not control are always green."""
     greens = [set() for _ in states]
     for link, lane, following, turn in turns:
         shown = (
-            shown_green("".join(state[turn.index] for state in states), told.get(turn.index, {}), turn, grain)
+            shown_green("".join(state[turn.index] for state in states), told.get(turn.index, {}), turn, grain, middle)
             if turn.light == light
             else [True] * len(states)
         )
@@ -211,10 +212,10 @@ def green_seconds(light, turns, states, told, grain):
     return [frozenset(green) for green in greens]
 
 
-def shown_green(states, told, turn, grain):
+def shown_green(states, told, turn, grain, middle):
     """For each second whether a turn shows green. Of each permissive green only so many seconds as are told, in so many
-    parts. Of each other green that no permissive one goes before the begin is left out in which SUMO's queues start.
-    Begins are rounded down to a grain of seconds."""
+    parts. Of each other green that no permissive one goes before seconds are left out, as SUMO's queues start later and
+    turn slower: in its middle, or else at its begin. All is rounded down to a grain of seconds."""
     count = len(states)
     shown = [state in GREEN for state in states]
     for start, length in runs_of(states, PERMISSIVE).items():
@@ -225,10 +226,17 @@ def shown_green(states, told, turn, grain):
                 shown[(start + second) % count] = True
     for start, length in runs_of(states, GREEN).items():
         if length < count and states[start - 1] not in PERMISSIVE:
-            queued = length if length <= limits.PHASE_STEPS else QUEUED
-            for second in range(hidden_start(queued, turn.speed, turn.limit) // grain * grain):
+            for second in hidden(length if length <= limits.PHASE_STEPS else QUEUED, turn, grain, middle):
                 shown[(start + second) % count] = False
     return shown
+
+
+def hidden(length, turn, grain, middle):
+    """The seconds of a green that are not shown, in its middle or at its begin."""
+    own = length, turn.speed, turn.limit
+    begin, end = hidden_middle(*own) if middle else (0, hidden_start(*own))
+    begin, seconds = begin // grain * grain, (end - begin) // grain * grain
+    return range(begin, begin + seconds)
 
 
 def run_lengths(greens):

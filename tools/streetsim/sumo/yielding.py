@@ -8,6 +8,7 @@ SUMO and here at a lone cross, under a queue that does not end. The seconds of a
 import math
 from collections import Counter, defaultdict
 from dataclasses import dataclass, field
+from functools import cache
 from itertools import pairwise
 
 CRITICAL_GAP = 4.5  # seconds
@@ -17,9 +18,11 @@ SNEAKERS = 1  # vehicles that pass in a permissive green, whatever comes
 SPREAD = ((1 / 6, -(3**0.5)), (2 / 3, 0.0), (1 / 6, 3**0.5))  # weights of three cycles, and their standard deviations
 MOST_EQUIVALENT = 10.0  # vehicles, for one that waits
 ROUNDS, CLOSE = 30, 1.0  # of the search for flows that fit to each other, vehicles an hour
-BEHIND, ROOM, START = 1.42, 7.5, 0.8  # in SUMO (g - START) / (BEHIND + ROOM / speed) pass in a green of g seconds
+BEHIND, ROOM = 1.42, 7.5  # in SUMO (g - start) / (BEHIND + ROOM / speed) pass in a green of g seconds, where the
+EARLY, ACCELERATION = 1.87, 2.6  # start is what a vehicle loses that speeds up, speed / (2 * ACCELERATION), less EARLY
 HEADWAYS, AHEAD = (3.0, 2.07, 1.89, 1.83, 1.83), 1.35  # here (g + AHEAD) / HEADWAYS, by the link's limit;
 SHORT = (0.8, 0.97, 1.68, 2.45, 2.82, 3.37)  # in 1 to 6 seconds so many
+TWO_PARTS = 9  # seconds of green, from which on seconds in its middle hold a queue up as wanted
 USUAL_SPEED = 13.9  # metres a second, where a junction's is not known
 GREEN, PERMISSIVE = "GsO", "go"
 SHOWN = GREEN + PERMISSIVE
@@ -232,10 +235,37 @@ def capacity(sharing, wish):
     return min(whole, passed + shown) * 3600 / cycle
 
 
+def leaving(green, speed):
+    """Vehicles that leave a queue in SUMO in so many seconds of green."""
+    return max(1.0, (green - speed / (2 * ACCELERATION) + EARLY) / headway(speed))
+
+
+def passing_here(seconds, limit):
+    """Vehicles that leave a queue here in so many seconds of green."""
+    return SHORT[seconds - 1] if seconds <= len(SHORT) else (seconds + AHEAD) / HEADWAYS[limit - 1]
+
+
 def hidden_start(length, speed, limit):
     """The seconds at the begin of a green that are not shown, so that as many pass here as in SUMO, where a queue
     starts later and turns are slower."""
-    return max(0, length - green_here(max(1.0, (length - START) / headway(speed)), limit))
+    return max(0, length - green_here(leaving(length, speed), limit))
+
+
+@cache
+def hidden_middle(length, speed, limit):
+    """The same from half of a green on, as (begin, end): who has waited alone for its begin goes at once, as in SUMO. As a
+    queue starts twice they are more seconds; one alone does not hold it up. A short green has them at its begin."""
+    if length < TWO_PARTS:
+        return 0, hidden_start(length, speed, limit)
+    half, vehicles = length // 2, leaving(length, speed)
+
+    def off(pause):
+        passing = passing_here(length, limit)
+        if pause:
+            passing = passing_here(half, limit) + passing_here(length - half - pause, limit)
+        return abs(passing - vehicles)
+
+    return half, half + min((0, *range(2, length - half)), key=off)
 
 
 def equivalents(movements):
