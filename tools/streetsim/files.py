@@ -163,10 +163,9 @@ def at_least_zero(convert: Callable[[str], Number]) -> Callable[[str], Number]:
 
 def seconds(text: str) -> float:
     """Seconds of a SUMO time: 3.5, or 01:30:00, or 1:01:30:00 with days; ValueError otherwise."""
-    value = 0.0
-    for part, scale in zip(reversed(text.split(":")), (1, 60, 3600, 86400), strict=False):
-        value += float(part) * scale
-    if text.count(":") > 3 or not -1e9 < value < 1e12:
+    parts = text.split(":")
+    value = sum(float(part) * scale for part, scale in zip(reversed(parts), (1, 60, 3600, 86400), strict=False))
+    if len(parts) not in (1, 3, 4) or not -1e9 < value < 1e12:
         raise ValueError(text)
     return value
 

@@ -1,7 +1,7 @@
 """Vehicles, flows and routes; the departures of flows are those of SUMO 1.15."""
 import unittest
 
-from support import FORK, SHARED, Case
+from support import FORK, SHARED, Case, lane, net
 from streetsim.files import Fault
 from streetsim.sumo.importing import convert
 from streetsim.sumo.network import Options
@@ -10,9 +10,9 @@ from streetsim.sumo.report import Report
 
 class Demand(Case):
     def enters(self, *routes, report=None, **options):
-        net = self.write("x.net.xml", FORK)
+        street = self.write("x.net.xml", FORK)
         paths = [self.write(f"r{at}.rou.xml", f"<routes>{text}</routes>") for at, text in enumerate(routes)]
-        self.network, _, commands, names = convert(net, [], paths, Options(**options), report or Report())
+        self.network, _, commands, names = convert(street, [], paths, Options(**options), report or Report())
         self.commands = commands
         return [
             (name, command["depart"])
@@ -60,9 +60,9 @@ class Demand(Case):
     def test_departure_lanes_take_turns(self):
         flow = '<flow id="f" begin="0" end="4" period="1"><route edges="a b"/></flow>'
         others = "".join(f'<vehicle id="{to}" depart="9"><route edges="a {to}"/></vehicle>' for to in "cd")
-        net, routes = self.write("x.net.xml", SHARED), self.write("r.rou.xml", f"<routes>{flow}{others}</routes>")
+        street, routes = self.write("x.net.xml", SHARED), self.write("r.rou.xml", f"<routes>{flow}{others}</routes>")
         for strict, lanes in ((False, [0, 1, 0, 1]), (True, [0, 0, 0, 0])):
-            _, _, commands, _ = convert(net, [], [routes], Options(strict_turns=strict), Report())
+            _, _, commands, _ = convert(street, [], [routes], Options(strict_turns=strict), Report())
             self.assertEqual([command["lane"] for command in commands if command["cmd"] == "enter"][:4], lanes)
 
     def test_skipped_and_ignored_are_counted(self):
@@ -78,12 +78,32 @@ class Demand(Case):
                 "skipped: 1 vehicles: a person, which streetsim does not have",
                 "skipped: 1 vehicles: depart='triggered' is no time",
                 "skipped: 1 vehicles: two edges of the route have no connection",
+                "warning: 1 stops of vehicles or routes are not made: x (who stands in others' way: streetsim-run --close, for as long)",
                 "warning: 1 edges became parallel links of one or two lanes, between which nobody changes lane: a "
                 "(--joint EDGES joins their lanes)",
+                "warning: no vehicle drives",
                 "ignored: 1 x departPos of vehicles",
-                "ignored: 1 x stops",
             ],
         )
+
+    def test_what_is_not_done_is_told_with_names(self):
+        report = Report()
+        stop = '<stop lane="a_0" duration="9"/>'
+        route, buses = f'<route id="line" edges="a b">{stop}{stop}</route>', '<flow id="bus" number="1" end="9" route="line"/>'
+        vehicle = f'<vehicle id="v" depart="3"><route edges="a b"/>{stop}</vehicle>'
+        self.assertEqual(self.enters(route + buses + vehicle, report=report), [("bus.0", 0), ("v", 3)])
+        [row] = [row for row in report.rows() if "stops" in row[1]]
+        self.assertEqual(row[:3], ["changes results", "3 stops of vehicles or routes are not made: line, v", "line v"])
+        report = Report()
+        self.assertEqual(self.enters('<vehicel id="v" depart="3"/>', report=report), [])
+        self.assertEqual(list(report.lines())[-2:], ["warning: no vehicle drives", "ignored: 1 x <vehicel> of route files"])
+
+    def test_repeated_routes(self):
+        """SUMO drives the edges once, and so many times again."""
+        ring = net([("a", "A", "B", [lane("a", 0)]), ("b", "B", "A", [lane("b", 0)])], [("a", 0, "b", 0, ""), ("b", 0, "a", 0, "")])
+        route = '<routes><vehicle id="v" depart="0"><route edges="a b" repeat="2"/></vehicle></routes>'
+        _, _, commands, _ = convert(self.write("x.net.xml", ring), [], [self.write("r.rou.xml", route)], Options(), Report())
+        self.assertEqual([one["plan"] for one in commands if one["cmd"] == "enter"], [[0, 1, 0, 1, 0, 1]])
 
     def test_distributions_of_routes(self):
         # 2 of 3 by weights: of 3,000 vehicles 2,000, with a standard deviation of 26.
@@ -108,10 +128,10 @@ class Demand(Case):
         self.assertIn("3 vehicles that depart at the end, 4 s, or later are left out", list(report.lines()))
 
     def test_demand_in_additional_files(self):
-        net, more = self.write("x.net.xml", FORK), self.write("m.add.xml", '<additional><route id="r" edges="a b"/></additional>')
+        street, more = self.write("x.net.xml", FORK), self.write("m.add.xml", '<additional><route id="r" edges="a b"/></additional>')
         routes = self.write("r.rou.xml", '<routes><vehicle id="v" depart="1" route="r"/></routes>')
         for additional, files in (([more], [routes]), ([more, routes], [])):
-            _, _, _, names = convert(net, additional, files, Options(), Report())
+            _, _, _, names = convert(street, additional, files, Options(), Report())
             self.assertEqual(names, ["v"])
 
     def test_faults_name_file_and_element(self):

@@ -7,6 +7,7 @@ from operator import mul
 from statistics import fmean
 
 from support import DATA, PROGRAM, Case, lane, needs_simulator, net
+from streetsim.files import read_json
 from streetsim.run.detectors import longest_jam
 
 # One lane of 10 cells, 5 cells a step.
@@ -36,11 +37,32 @@ class Detectors(Case):
             ('<inductionLoop id="x" lane="a_0" pos="0" freq="0" file="f"/>', "freq='0' is no period"),
             ('<inductionLoop id="x" lane="a_0" freq="60" file="f"/>', "no attribute 'pos'"),
             ('<inductionLoop id="x" lane="a_0" pos="1"/><inductionLoop id="x" lane="a_0" pos="2"/>', "a second detector"),
+            ('<inductionLoop id="x" lane="a_0" pos="76"/>', "begins at 76 m, and lane 'a_0' is 75 m long"),
+            ('<inductionLoop id="x" lane="a_0" pos="-76"/>', "begins at -76 m, and lane 'a_0' is 75 m long"),
+            ('<e2Detector id="x" lane="a_0" pos="90" length="10"/>', "begins at 90 m, and lane 'a_0' is 75 m long"),
+            ('<e2Detector id="x" lane="a_0" pos="10" endPos="90"/>', "ends at 90 m, and lane 'a_0' is 75 m long"),
         ):
             with self.subTest(told):
                 self.assertIn(told, self.run_import(f"<additional>{element}</additional>", status=2))
+        told = self.run_import('<additional><e2Detector id="x" lane="a_0" pos="10" length="90"/></additional>')
+        self.assertIn("warning: detector x reaches beyond a_0, and sees what is on that lane alone", told)
         told = self.run_import('<additional><inductionLoop id="x" lane="a_7" pos="0"/></additional>')
         self.assertIn("warning: detector x lies on a_7, which is left out", told)
+
+    def test_places(self):
+        """Cells of 7.5 m; SUMO takes each of these, with friendlyPos also those beyond the lane."""
+        area, friendly = '<e2Detector id="x" lane="a_0" {}/>', 'friendlyPos="true"'
+        for element, cells in (
+            (area.format('pos="15" length="15"'), [2, 3]),
+            (area.format('endPos="-45" length="15"'), [2, 3]),
+            (area.format('pos="-15" length="15"'), [8, 9]),
+            (area.format(f'pos="60" endPos="90" {friendly}'), [8, 9]),
+            (f'<e1Detector id="x" lane="a_0" pos="90" {friendly}/>', [9, 9]),
+        ):
+            with self.subTest(element):
+                self.run_import(f"<additional>{element}</additional>")
+                [found] = read_json(self.folder / "map.json", ["detectors"])["detectors"]
+                self.assertEqual(found[4:6], cells)
 
     @needs_simulator
     def test_tables(self):

@@ -152,6 +152,11 @@ class Signals(Case):
             ["light 'L': a turn is never green on edges a", "light 'L' is actuated: its listed durations are used"],
         )
 
+    def test_a_light_that_the_network_does_not_have(self):
+        other = '<additional><tlLogic id="M" type="static" programID="1" offset="0"><phase duration="9" state="G"/></tlLogic></additional>'
+        with self.assertRaisesRegex(Fault, "more0.add.xml: <tlLogic 'M'>: the network has no light of this name"):
+            self.made(street(phases((10, "G"))), [other])
+
     def test_too_many_phases(self):
         self.assertEqual(
             joined([(5, "a"), (9, "b"), (2, "c"), *[(9, "d")] * 14]), [(5, "a"), (11, "b"), *[(9, "d")] * 14]

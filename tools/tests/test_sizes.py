@@ -44,6 +44,11 @@ class Import(Case):
         self.assertEqual(self.sizes(types + one_each), [1, 1, 1, 1, 1, 1, 2, 2, 3, 3, 4])
         self.assertIn("1 vehicles are longer than 4 cells of 7.5 m and take 4: types rail", self.report.warnings)
 
+    def test_former_names_of_classes(self):
+        """SUMO 1.15 takes public_transport for bus, which is 12 m long, and rail_slow for rail."""
+        types = '<vType id="x" vClass="public_transport"/><vType id="y" vClass="rail_slow"/><vType id="z" vClass="ignoring"/>'
+        self.assertEqual(self.sizes(types + "".join(vehicles(1, kind, at) for at, kind in enumerate("xyz"))), [2, 4, 1])
+
     def test_the_rest_is_carried_on(self):
         # 9.6 m are 1.28 cells: 960 m are 128 cells, and so for each first part of the vehicles to half a cell.
         types = '<vType id="truck" vClass="truck"/><vType id="long" length="18"/>'
@@ -96,6 +101,7 @@ class Import(Case):
             ('<vType id="t" length="-1"/>', "<vType 't'>: length='-1' cannot be read"),
             ('<vType id="t" minGap="wide"/>', "<vType 't'>: minGap='wide' cannot be read"),
             ('<vType length="5"/>', "<vType>: no attribute 'id'"),
+            ('<vType id="t" vClass="lorry"/>', "<vType 't'>: SUMO has no vehicle class 'lorry'"),
             ('<vTypeDistribution id="m" vTypes="t"/>', "<vTypeDistribution 'm'>: there is no type 't'"),
             ('<vTypeDistribution id="m"/>', "<vTypeDistribution 'm'>: a distribution without a type"),
         ):

@@ -87,8 +87,9 @@ class Tables(Studies):
             (self.text(variants=one + "dawdle = 1001\n"), "variant 'given': dawdle = 1001 is not 0 to 1,000"),
             (self.text(variants=one + "plans = []\n"), "plans = []: the network is the first of them"),
             (self.text(variants=one + 'plans = "x"\n'), "plans = 'x' is no list of texts"),
-            (self.text(variants=one + 'close = ["J1J2_7:1-2:3-4"]\n'), "the map has no lane 'J1J2_7'"),
-            (self.text(variants=one + 'run = "none.jsonl"\n'), "none.jsonl: No such file or directory"),
+            (self.text(variants=one + 'close = ["J1J2_7:1-2:3-4"]\n'), "one.toml: variant 'given': --close 'J1J2_7:1-2:3-4': the map has no lane"),
+            (self.text(variants=one + 'close = ["J1J2_0:1-2:9000-9001"]\n'), "variant 'given': --close 'J1J2_0:1-2:9000-9001': begins at the end"),
+            (self.text(variants=one + '[variant.b]\nrun = "none.jsonl"\n'), f"variant 'b': {self.folder}/none.jsonl: No such file or directory"),
             (self.text(variants="variant = 3\n"), "variants are tables [variant.NAME]"),
             (self.text(seeds="4-1"), "expected FIRST-LAST"),
             (self.text(until=0), "until = 0 is not 1 to"),
@@ -215,6 +216,10 @@ class NoCluster(Studies):
         self.assertEqual(len(said.splitlines()), 1, said)
         self.assertFalse((self.folder / "out").exists())
         return said, time.monotonic() - begin
+
+    def test_no_address(self):
+        _, said = self.tool("study", *self.words(self.study("1-2"), "--cluster", "nowhere"), status=2)
+        self.assertEqual(said, "streetsim-study: --cluster nowhere: expected HOST:PORT\n")
 
     def test_without_the_package(self):
         """A module that cannot be loaded stands before the package, if there is one."""

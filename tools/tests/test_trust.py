@@ -55,6 +55,16 @@ class Marks(unittest.TestCase):
         told = list(trust.of_entries(made, [Census(60, 5), Census(120, 6), Census(180, 2)]))
         self.assertEqual(told, ["6 vehicles waited to enter at 120 s, and are in no queue or count"])
 
+    def test_actuated_lights(self):
+        """More than a tenth of those who depart pass light L; who only comes to it, or departs after the end, does not."""
+        mapping = map_from("map", {**MAP, "actuated": ["L"]})
+        for past, before, told in ((1, 9, []), (2, 9, ["2 of 11 vehicles pass lights that are actuated in SUMO and show"])):
+            plans = [*past * [([0, 1], 0)], *before * [([0], 0)], ([0, 1], 1000)]
+            enters = [Line(2, "", {"plan": plan, "depart": depart}) for plan, depart in plans]
+            found = list(trust.of_actuated(1000, Run("run", Line(1, "", {}), enters=enters), mapping, mapping.actuated))
+            self.assertEqual([text.partition(" their ")[0] for text in found], told)
+            self.assertEqual([text.rpartition(": ")[2] for text in found], ["most of all L"] * len(told))
+
     def test_lengths(self):
         """Street a has 75 m and 10 cells, b 10 cells for 50 m: over both 20 % more than in SUMO, over a alone as many."""
         mapping = map_from("map", {**MAP, "links": [MAP["links"][0], [*MAP["links"][1][:6], 50.0, MAP["links"][1][7]]]})

@@ -1,4 +1,5 @@
 """The words of the commands: faults in one line, times and lists as SUMO reads them, and output that cannot be written."""
+import gzip
 import json
 import subprocess
 import unittest
@@ -33,7 +34,7 @@ class Words(Case):
         self.assertEqual(told, [90, 90, 3600, 90, 86_401])
         made = Parser(prog="x")
         made.add_argument("--until", type=time_within(1, 86_400))
-        for text in ("0", "1.5", "24:00:01", "soon", "1:2:3:4:5", "nan"):
+        for text in ("0", "1.5", "24:00:01", "soon", "2:00", "1:2:3:4:5", "nan"):
             with self.subTest(text), self.assertRaisesRegex(Fault, f"--until: '{text}' is not 1 to 86,400 s"):
                 made.parse_args(["--until", text])
 
@@ -59,6 +60,16 @@ class Runs(Case):
         self.assertEqual(read_json(self.folder / "out/setting.json", ["every"])["every"], 10)
         _, said = self.tool("run", *self.words("--until", 60, "--edges", "a,z"), status=2)
         self.assertEqual(said, "streetsim-run: --edges: the map has no edge 'z'\n")
+
+    def test_stretches_with_commas(self):
+        """Both lanes are closed in the last step; an edge is told its lanes."""
+        works = "a_0:0-75:20-30,b_0:0-75:00:00:10-00:00:50"
+        self.tool("run", *self.words("--until", 25, "--every", 1, "--close", works))
+        with gzip.open(self.folder / "out/lanes.jsonl.gz", "rt", encoding="utf-8") as file:
+            last = json.loads(file.readlines()[-1])
+        self.assertEqual([(lane[0], lane[4]) for lane in last["lanes"]], [(0, [[0, 9]]), (1, [[0, 9]])])
+        _, said = self.tool("run", *self.words("--until", 60, "--close", "b:0-75:10-50"), status=2)
+        self.assertEqual(said, "streetsim-run: --close 'b:0-75:10-50': the map has no lane 'b', but b_0\n")
 
     def test_times_of_a_study(self):
         self.words()

@@ -120,7 +120,7 @@ class Works(Case):
         run, mapped = self.imported()
         for text in ("a_0:5000-6000:0-900", "a_0:200-310:0-900"):
             self.assertIn(f"--close '{text}': the lane ends at 300 m", self.run_with(run, mapped, text, status=2))
-        self.assertIn("--close 'a_0:0-9:1200-1300': begins after --until", self.run_with(run, mapped, "a_0:0-9:1200-1300", status=2))
+        self.assertIn("--close 'a_0:0-9:1200-1300': begins at the end, 1200 s, or later", self.run_with(run, mapped, "a_0:0-9:1200-1300", status=2))
 
     def test_joint_from_the_start(self):
         run, mapped = self.imported(more=("--joint", "a"))

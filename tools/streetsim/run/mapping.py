@@ -63,6 +63,7 @@ class Map:
     sources: dict = field(default_factory=dict)  # the files of the import, as sumo.sources keeps them
     kinds: dict = field(default_factory=dict)  # of the vehicles, as sumo.demand.kinds_of
     location: dict = field(default_factory=dict)  # where the network lies: offset, projection
+    actuated: list = field(default_factory=list)  # lights that SUMO times by detectors
 
     def __post_init__(self):
         for number, link in enumerate(self.links):
@@ -96,6 +97,7 @@ class Map:
             "sources": self.sources,
             "vehicles": self.kinds,
             "location": self.location,
+            "actuated": self.actuated,
         }
 
 
@@ -124,6 +126,7 @@ def map_of(network, lights, names, report):
         yields=network.yields,
         kinds=network.kinds,
         location=network.location,
+        actuated=network.actuated,
     )
 
 
@@ -139,7 +142,7 @@ def map_from(path, value):
         more = {"detectors": detectors, "yields": waiting_of(value.get("yields", ()))}
         more |= {"sources": value.get("sources", {}), "kinds": value.get("vehicles", {})}
         more["told"] = value.get("told", [])
-        more["location"] = value.get("location", {})
+        more |= {"location": value.get("location", {}), "actuated": value.get("actuated", [])}
         more |= {key: value[key] for key in KEYS if key not in ("links", "turns")}
         return Map(links=links, turns=turns, **more)
     except (KeyError, TypeError, ValueError) as fault:

@@ -26,7 +26,7 @@ from .record import Recorder, Repeater, Settings
 from .rounds import giving_way
 from .runs import read_run, with_load
 from .serving import serving as serve
-from .works import with_works, works_of
+from .works import all_works, with_works
 
 
 def parser():
@@ -86,7 +86,8 @@ def parser():
         action="append",
         default=[],
         metavar="LANE:METRES-METRES:S-S",
-        help="road works: close a lane (edge_index) between two places, from one second to another; may be repeated",
+        help="road works: close a lane (edge_index) between two places, from one second to another; several with commas between, or "
+        "by the word again",
     )
     made.add_argument(
         "--joint",
@@ -160,9 +161,7 @@ def main(arguments):
     for kind in {"e1", "e2"} & set(words.sumo_output):
         if not any(one.kind == kind for one in mapping.detectors):
             raise Fault(f"--sumo-output {kind}: the map has no such detector")
-    works = [works_of(text, mapping) for text in words.close]
-    if late := [one.text for one in works if one.first >= words.until and not open_end]:
-        raise Fault(f"--close {late[0]!r}: begins after --until {words.until}")
+    works = all_works(words.close, mapping, None if open_end else words.until)
     run, mapping, told = with_works(run, mapping, words.map, works, listed(words.joint))
     print(*told, sep="\n", end="\n" if told else "", file=sys.stderr)
     if words.until <= run.start():

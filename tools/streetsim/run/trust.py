@@ -4,9 +4,10 @@ The marks are chosen, not measured: above them a run is of another town than the
 """
 import json
 from bisect import bisect_right
+from collections import Counter
 from collections.abc import Iterator, Mapping, Sequence
 from dataclasses import dataclass
-from itertools import compress
+from itertools import compress, pairwise
 from statistics import fmean
 
 from .. import limits
@@ -19,7 +20,8 @@ MOST_LATE = 0.1  # of those that would have arrived, were nobody in their way
 MOST_WAITING = 0.05  # of the vehicles that wait to enter, at the worst minute
 STILL = 600  # seconds without an arrival
 OTHER_LENGTH = 0.1  # of the metres that are driven
-NAMED = 3  # edges
+MOST_ACTUATED = 0.1  # of the vehicles, that pass lights which SUMO times by detectors
+NAMED = 3  # edges, or lights
 
 
 @dataclass(slots=True)
@@ -86,7 +88,8 @@ def of_missing(arrived: Mapping[str, float], due: int) -> list[str]:
 
 def doubts(trips: Trips, rescues: int, censuses: Sequence, run, mapping) -> list[str]:
     """What speaks against a run, each in some words; nothing where it is to be trusted."""
-    return [*of_rescues(trips, rescues), *of_arrivals(trips), *of_entries(trips, censuses), *of_lengths(trips.clock, run, mapping)]
+    found = [*of_rescues(trips, rescues), *of_arrivals(trips), *of_entries(trips, censuses)]
+    return [*found, *of_lengths(trips.clock, run, mapping), *of_actuated(trips.clock, run, mapping, mapping.actuated)]
 
 
 def of_rescues(trips: Trips, rescues: int) -> Iterator[str]:
@@ -117,11 +120,29 @@ def of_waiting(waiting: Mapping[str, Sequence[tuple[int, int]]], vehicles: int) 
             yield f"{name} {count:,.0f} of {vehicles:,} {told}".strip()
 
 
+def plans_before(clock: int, run) -> list[list[int]]:
+    """Of the vehicles that wish to depart before a clock."""
+    return [line.command["plan"] for line in run.enters if line.command["depart"] < clock]
+
+
+def of_actuated(clock: int, run, mapping, lights: Sequence[str]) -> Iterator[str]:
+    """Where many vehicles pass lights that SUMO times by detectors: here they show the seconds that their program lists."""
+    ways = {(turn.link, turn.next): turn.light for turn in mapping.turns if turn.light in lights}
+    plans = plans_before(clock, run) if ways else []
+    passed = [{ways[pair] for pair in pairwise(plan) if pair in ways} for plan in plans]
+    if (count := sum(map(bool, passed))) > MOST_ACTUATED * len(plans):
+        most = [light for light, _ in Counter(light for met in passed for light in sorted(met)).most_common(NAMED)]
+        yield (
+            f"{count:,} of {len(plans):,} vehicles pass lights that are actuated in SUMO and show their listed seconds here: "
+            f"most of all {', '.join(most)}"
+        )
+
+
 def of_lengths(clock: int, run, mapping) -> Iterator[str]:
     """Where the routes are of another length than in SUMO, as edges are whole cells."""
     here = [link.cells * limits.CELL_METRES for link in mapping.links]
     there = [link.metres for link in mapping.links]
-    plans = [line.command["plan"] for line in run.enters if line.command["depart"] < clock]
+    plans = plans_before(clock, run)
     metres = [sum(sum(map(lengths.__getitem__, plan)) for plan in plans) for lengths in (here, there)]
     if abs(metres[0] - metres[1]) > OTHER_LENGTH * metres[1]:
         used = {link for plan in plans for link in plan if here[link] != there[link]}

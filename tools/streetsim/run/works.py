@@ -16,7 +16,7 @@ from dataclasses import dataclass, replace
 from itertools import product
 
 from ..cli.progress import Slow
-from ..cli.words import whole_seconds
+from ..cli.words import listed, whole_seconds
 from ..files import Fault
 from ..sumo.importing import convert, run_and_map
 from ..sumo.network import Options
@@ -51,15 +51,24 @@ class Site:
     cells: tuple  # the first and the last
 
 
+def all_works(texts: Iterable[str], mapping: Map, until: int | None) -> list[Works]:
+    """The works of texts that may each name several, with commas between; none may begin at the end or after it."""
+    works = [works_of(one, mapping) for text in texts for one in listed(text)]
+    if late := [one.text for one in works if until is not None and one.first >= until]:
+        raise Fault(f"--close {late[0]!r}: begins at the end, {until} s, or later")
+    return works
+
+
 def works_of(text: str, mapping: Map) -> Works:
     """The works that LANE:METRES-METRES:S-S asks for."""
     found = FORM.fullmatch(text)
     clocks = [whole_seconds(clock) for clock in found.groups()[3:]] if found else []
     if not found or None in clocks or int(found[2]) >= int(found[3]) or clocks[0] >= clocks[1]:
-        raise Fault(f"--close {text!r}: expected LANE:METRES-METRES:S-S, rising")
+        raise Fault(f"--close {text!r}: expected LANE:METRES-METRES:S-S, whole numbers that rise")
     place = mapping.place_of(found[1])
     if place is None:
-        raise Fault(f"--close {text!r}: the map has no lane {found[1]!r}")
+        lanes = [mapping.lane_name(link, lane) for link, lane in mapping.lanes() if mapping.links[link].edge == found[1]]
+        raise Fault(f"--close {text!r}: the map has no lane {found[1]!r}{f', but {some(lanes)}' if lanes else ''}")
     metres = mapping.links[place[0]].metres
     if int(found[3]) > math.ceil(metres):
         raise Fault(f"--close {text!r}: the lane ends at {metres:g} m")

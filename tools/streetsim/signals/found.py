@@ -131,6 +131,7 @@ def doubts_of(town, before, after, sumo):
     waiting = {name: [(one.waiting, one.waiting_at) for one in runs] for name, runs in named.items()}
     yield from trust.of_waiting(waiting, len(town.session.departs))
     yield from trust.of_lengths(until, town.run, town.mapping)
+    yield from trust.of_actuated(until, town.run, town.mapping, [one for one in town.mapping.actuated if one not in town.lights])
     if town.lines.permissive and not sumo:
         lights = some(sorted(town.lines.permissive))
         yield f"without --verify-sumo, as turns find their gaps in oncoming traffic by formula at {lights}"

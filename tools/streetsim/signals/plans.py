@@ -7,9 +7,9 @@ from xml.sax.saxutils import quoteattr
 
 from .. import limits
 from ..files import whole_file
+from ..sumo.net import STATIC
 
 LEAST = 5  # seconds of a green that may be stretched
-STATIC = "static"
 
 
 @dataclass(frozen=True, slots=True)

@@ -7,6 +7,7 @@ import contextlib
 import logging
 import multiprocessing
 import os
+import re
 import signal
 import tempfile
 import warnings
@@ -19,6 +20,7 @@ from .sessions import digest_of
 
 PATIENCE = 10  # seconds for a cluster to answer
 TRIES = 3  # to make its workers ready
+HOST = re.compile(r"(\w+://)?.+:\d+")
 LOST = (BrokenExecutor, CancelledError)
 HELD = []  # in a process of the pool: the sessions
 
@@ -94,6 +96,8 @@ def cluster_of(address, sessions):
         from distributed import Client
     except ImportError:
         raise Fault("--cluster needs dask.distributed (Debian: apt install python3-distributed)") from None
+    if not HOST.fullmatch(address):
+        raise Fault(f"--cluster {address}: expected HOST:PORT")
     logging.getLogger("distributed").setLevel(logging.CRITICAL)
     warnings.filterwarnings("ignore", module="distributed")
     try:

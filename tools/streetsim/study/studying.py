@@ -1,5 +1,6 @@
 """streetsim-study: seeds times variants, each run once, and how sure their differences are."""
 import argparse
+import contextlib
 import os
 import sys
 from dataclasses import dataclass
@@ -17,11 +18,12 @@ from ..run import trust
 from ..run.ending import first_guess
 from ..run.mapping import read_map
 from ..run.tables import write_table
-from ..run.works import lanes_to_join, with_works, works_of
+from ..run.works import all_works, lanes_to_join, with_works
 from ..signals.light_lines import LightLines, read_plans
 from ..signals.planning import add_machines
 from ..signals.plans import light_of
 from ..signals.town import Reading, lights_of, read_pair
+from ..sumo.net import actuated
 from .giving import giving_session, outcome_giving_way
 from .machines import machines
 from .seeds import paired, runs_needed, seeds_of, unpaired
@@ -132,8 +134,20 @@ def read_study(path, simulator, rounds=None):
     value["rounds"] = named if rounds is None else rounds
     seeds = seeds_of(value["seeds"], f"{path}: seeds")
     lanes = joint_lanes(path, value)
-    made = {name: read_variant(f"{path}: variant {name!r}", path, value, one, lanes, simulator) for name, one in variants.items()}
+    made = {}
+    for name, one in variants.items():
+        with naming(where := f"{path}: variant {name!r}"):
+            made[name] = read_variant(where, path, value, one, lanes, simulator)
     return Study(until, seeds, base, made)
+
+
+@contextlib.contextmanager
+def naming(where):
+    """Has a fault name the variant that it is of."""
+    try:
+        yield
+    except Fault as fault:
+        raise fault if str(fault).startswith(where) else Fault(f"{where}: {fault}") from None
 
 
 def read_until(path, until):
@@ -161,11 +175,12 @@ def joint_lanes(path, study):
     """The lanes that works of a variant need to be joint, and so are in all variants of the same run: {(run, map): lanes}."""
     found = {}
     for name, variant in study["variant"].items():
-        check_types(f"{path}: variant {name!r}", {**study, **variant})
-        lanes = found.setdefault(pair_of(study, variant), {})
-        if closed := variant.get("close"):
-            mapping = read_map(os.path.join(os.path.dirname(os.path.abspath(path)), pair_of(study, variant)[1]))
-            lanes.update(dict.fromkeys(lanes_to_join([works_of(text, mapping) for text in closed], mapping)))
+        with naming(where := f"{path}: variant {name!r}"):
+            check_types(where, {**study, **variant})
+            lanes = found.setdefault(pair_of(study, variant), {})
+            if closed := variant.get("close"):
+                mapping = read_map(os.path.join(os.path.dirname(os.path.abspath(path)), pair_of(study, variant)[1]))
+                lanes.update(dict.fromkeys(lanes_to_join(all_works(closed, mapping, study["until"]), mapping)))
     return found
 
 
@@ -180,7 +195,7 @@ def read_variant(where, path, study, variant, joint, simulator):
     beside = partial(os.path.join, os.path.dirname(os.path.abspath(path)))
     run_path, map_path = map(beside, pair_of(study, variant))
     run, mapping = read_pair(run_path, map_path, study["until"])
-    works = [works_of(text, mapping) for text in variant.get("close", ())]
+    works = all_works(variant.get("close", ()), mapping, study["until"])
     until = study["until"] or first_guess(run)
     if variant.get("route"):
         asked = variant.get("close", ()), variant.get("knowing", 1.0), list(joint[pair_of(study, variant)])
@@ -189,13 +204,14 @@ def read_variant(where, path, study, variant, joint, simulator):
         run, mapping, told = with_works(run, mapping, map_path, works, joint[pair_of(study, variant)])
     print(*(f"{where}: {text}" for text in told), sep="\n", end="\n" if told else "", file=sys.stderr)
     load = {"dawdle": variant["dawdle"]} if "dawdle" in variant else {}
-    nodes, signals = frozenset(), b""
+    nodes, signals, sensing = frozenset(), b"", mapping.actuated
     if "plans" in variant:
         plans = list(map(beside, variant["plans"]))
-        signals = signals_of(Reading(run_path, map_path, plans, until, simulator, 0, ()), run, mapping)
+        signals, sensing = signals_of(Reading(run_path, map_path, plans, until, simulator, 0, ()), run, mapping)
         nodes = frozenset(node for _, node in mapping.signals)
     session = giving_session(simulator, run, mapping, until, study["rounds"], nodes, study["until"] is None, **load)
-    return Variant(session, signals, trust.free_arrivals(run, mapping), list(trust.of_lengths(until, run, mapping)))
+    doubts = [*trust.of_lengths(until, run, mapping), *trust.of_actuated(until, run, mapping, sensing)]
+    return Variant(session, signals, trust.free_arrivals(run, mapping), doubts)
 
 
 def check_types(where, value):
@@ -219,11 +235,12 @@ def check_types(where, value):
 
 
 def signals_of(asked, run, mapping):
-    """The signal lines of all lights of the map under the plans of a variant."""
+    """The signal lines of all lights of the map under the plans of a variant, and which of them SUMO times by detectors."""
     net = read_plans(asked.plans, mapping)
     found = {name: light_of(name, net.programs[name]) for name in lights_of(asked, mapping, net)}
     plan = {name: timing for name, (_, timing) in found.items()}
-    return LightLines(net, run, mapping).of(plan, {name: light for name, (light, _) in found.items()})
+    lines = LightLines(net, run, mapping).of(plan, {name: light for name, (light, _) in found.items()})
+    return lines, actuated(net, found)
 
 
 def run_all(words, study):

@@ -8,10 +8,11 @@ from itertools import pairwise
 from .. import limits
 from ..files import Fault, at_least_zero, attribute, elements, seconds, told
 from .flows import departs
+from .report import some
 from .types import weights_of
 
 READ = {"id", "type", "depart", "route", "edges", "begin", "end"}
-READ |= {"number", "period", "probability", "vehsPerHour", "perHour"}
+READ |= {"number", "period", "probability", "vehsPerHour", "perHour", "repeat"}
 NOT_DRIVEN = {
     "trip": "a trip",
     "person": "a person",
@@ -44,6 +45,7 @@ class Demand:
         self.routes = {}  # name: edges
         self.mixes = {}  # distribution of routes: names and weights
         self.vehicles = []
+        self.stopping = Counter()  # by vehicle or route: stops, which are not made
         self.later = []  # (vehicle, file and element, route's name): routes may be told after the vehicles
 
     def read(self, path):
@@ -105,7 +107,7 @@ class Demand:
         return self.choices.choices(*self.mixes[name])[0] if name in self.mixes else name
 
     def edges(self, path, owner, route):
-        """The edges of a route, each of which the network must have."""
+        """The edges of a route, each of which the network must have; again so many times as `repeat` says."""
         names = tuple(attribute(path, route, "edges").split())
         unknown = [name for name in names if name not in self.net.edges and name not in self.net.dropped]
         if unknown or not names:
@@ -113,7 +115,7 @@ class Demand:
                 f"{told(path, owner)}: "
                 + (f"the network has no edge {unknown[0]!r}" if unknown else "a route without edges")
             )
-        return names
+        return names * (1 + attribute(path, route, "repeat", at_least_zero(int))) if route.get("repeat") else names
 
     def add(self, path, element, departs):
         """Vehicles of an element, one for each (name, depart)."""
@@ -133,8 +135,9 @@ class Demand:
                 self.later.append((vehicle, told(path, element)))
 
     def note_ignored(self, element):
-        """Counts what has no effect: stops, and all attributes but those that are read."""
-        self.report.ignored["stops"] += sum(1 for _ in element.iter("stop"))
+        """Counts what is not done: stops, and all attributes but those that are read."""
+        if stops := sum(1 for _ in element.iter("stop")):
+            self.stopping[element.get("id")] += stops
         for name in set(element.keys()) - READ:
             self.report.ignored[f"{name} of {element.tag}s"] += 1
 
@@ -159,6 +162,7 @@ class Demand:
             if vehicle.route not in self.routes:
                 raise Fault(f"{where}: there is no route {vehicle.route!r}")
             vehicle.edges = self.routes[vehicle.route]
+        self.tell_stops()
         names = Counter(vehicle.name for vehicle in self.vehicles)
         double = next((name for name, count in names.items() if count > 1), None)
         if double is not None:
@@ -169,6 +173,13 @@ class Demand:
         if after := len(self.vehicles) - len(before):
             self.report.notes.append(f"{after:,} vehicles that depart at the end, {end:,} s, or later are left out")
         return sorted(before, key=lambda vehicle: vehicle.depart)
+
+
+    def tell_stops(self):
+        if self.stopping:
+            stops, names = self.stopping.total(), list(self.stopping)
+            do = "who stands in others' way: streetsim-run --close, for as long"
+            self.report.warn(f"{stops:,} stops of vehicles or routes are not made: {some(names)}", names, do)
 
 
 def enters(vehicles, net, network, sizes, report):

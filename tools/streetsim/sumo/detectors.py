@@ -2,9 +2,11 @@
 from dataclasses import dataclass
 
 from .. import limits
-from ..files import Fault, attribute, number, seconds, told
+from ..files import Fault, at_least_zero, attribute, number, seconds, told
 from ..run.detectors import E1, E2, Detector
 
+TRUE = ("true", "yes", "on", "1", "x", "t")  # as SUMO reads it
+NEAR = 0.1  # metres, by which lengths are rounded
 KINDS = {"inductionLoop": E1, "e1Detector": E1, "laneAreaDetector": E2, "e2Detector": E2}
 
 
@@ -17,6 +19,8 @@ class SumoDetector:
     begin: float  # metres; below 0: from the lane's end
     end: float | None  # of an e2; none: to the lane's end
     period: int
+    friendly: bool  # a place beyond the lane is moved onto it
+    goes_on: bool  # beyond the lane it goes on, in SUMO, on the next one
 
 
 def read_detector(path, element, report):
@@ -25,18 +29,26 @@ def read_detector(path, element, report):
     if element.get("lanes"):
         report.ignored[f"<{element.tag}> over several lanes"] += 1
         return None
-    end = None
-    begin = attribute(path, element, "pos", number)
-    if kind == E2 and element.get("endPos"):
-        end = attribute(path, element, "endPos", number)
-    elif kind == E2 and element.get("length"):
-        end = begin + attribute(path, element, "length", number)
+    begin, end = stretch(path, element) if kind == E2 else (attribute(path, element, "pos", number), None)
+    friendly, goes_on = element.get("friendlyPos", "").lower() in TRUE, not element.get("endPos")
     names = [name for name in ("freq", "period") if element.get(name)]
     period = round(attribute(path, element, names[0], seconds)) if names else limits.PERIOD
     if period < 1:
         raise Fault(f"{told(path, element)}: {names[0]}={element.get(names[0])!r} is no period")
     name, lane = attribute(path, element, "id"), attribute(path, element, "lane")
-    return SumoDetector(told(path, element), name, kind, lane, begin, end, min(period, limits.PERIOD))
+    return SumoDetector(told(path, element), name, kind, lane, begin, end, min(period, limits.PERIOD), friendly, goes_on)
+
+
+def stretch(path, element):
+    """Where an area begins and ends, of which two of its place, end and length tell both; without an end: the lane's."""
+    end = attribute(path, element, "endPos", number) if element.get("endPos") else None
+    if not element.get("length"):
+        return attribute(path, element, "pos", number), end
+    length = attribute(path, element, "length", at_least_zero(number))
+    begin = attribute(path, element, "pos", number) if end is None or element.get("pos") else end - length
+    if end is None and begin < 0 and begin + length >= 0:
+        return begin, None
+    return begin, begin + length if end is None else end
 
 
 def placed(detectors, mapping, dropped, report):
@@ -48,7 +60,7 @@ def placed(detectors, mapping, dropped, report):
             raise Fault(f"{one.where}: a second detector of this name")
         if one.lane in places:
             link, lane = places[one.lane]
-            found[one.name] = Detector(one.name, one.kind, link, lane, *cells(one, mapping.links[link]), one.period)
+            found[one.name] = Detector(one.name, one.kind, link, lane, *cells(one, mapping.links[link], report), one.period)
         elif one.lane.rpartition("_")[0] in mapping.links_of or one.lane.rpartition("_")[0] in dropped:
             report.warn(f"detector {one.name} lies on {one.lane}, which is left out")
         else:
@@ -58,9 +70,15 @@ def placed(detectors, mapping, dropped, report):
     return list(found.values())
 
 
-def cells(one, link):
+def cells(one, link, report):
     """The first and the last cell: the one that a loop lies in, or all of which an area has a part."""
     begin, end = (place + link.metres if place is not None and place < 0 else place for place in (one.begin, one.end))
+    if not one.friendly and not -NEAR <= begin <= link.metres + NEAR:
+        raise Fault(f"{one.where}: begins at {one.begin:g} m, and lane {one.lane!r} is {link.metres:g} m long")
+    if end is not None and end > link.metres + NEAR and not one.friendly:
+        if not one.goes_on:
+            raise Fault(f"{one.where}: ends at {one.end:g} m, and lane {one.lane!r} is {link.metres:g} m long")
+        report.warn(f"detector {one.name} reaches beyond {one.lane}, and sees what is on that lane alone")
     first, _ = link.cells_between(begin, begin)
     if one.kind == E1:
         return first, first

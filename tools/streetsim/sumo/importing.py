@@ -12,13 +12,13 @@ from .configuration import DEFAULTS, files_named, read_configuration, tell_optio
 from .conflicts import conflicts_of
 from .demand import Demand, Unrouted, enters, kinds_of
 from .detectors import placed
-from .net import CLASSES, read_additional, read_net
+from .net import actuated, read_additional, read_net
 from .network import Network, Options
 from .report import COLUMNS, Report
 from .rules import warn_of_rules
 from .signals import movements, signals
 from .sources import Sources
-from .types import Sizes, Types
+from .types import CLASSES, Sizes, Types
 from .yielding import equivalents, hourly_flows
 
 
@@ -219,10 +219,15 @@ def convert(net_path, additional, routes, options, report, trips=()):
     if trips:
         from ..routes.imported import vehicles_with_ways  # which stands on this module
 
-        return converted(net, types, vehicles_with_ways(net, types, [*routes, *trips], options, report), options, report)
-    for path in routes:
-        demand.read(path)
-    return converted(net, types, demand.finish(options.end), options, report)
+        vehicles = vehicles_with_ways(net, types, [*routes, *trips], options, report)
+    else:
+        for path in routes:
+            demand.read(path)
+        vehicles = demand.finish(options.end)
+    made = converted(net, types, vehicles, options, report)
+    if not made[-1] and (routes or trips):
+        report.warn("no vehicle drives")
+    return made
 
 
 def converted(net, types, vehicles, options, report):
@@ -241,6 +246,7 @@ def converted(net, types, vehicles, options, report):
     made = signals(net, network, found, report)
     lights = [[light, command["node"]] for light, command in made if "at" not in command]
     network.yields = conflicts_of(net, network, flows)
+    network.actuated = actuated(net, (light for light, _ in made))
     return network, lights, [network.load(), *(command for _, command in made), *entered], [vehicle.name for vehicle in driven]
 
 

@@ -1,19 +1,21 @@
 """Reads a SUMO network (.net.xml, and signal programs of additional files)."""
+from collections import defaultdict
 from dataclasses import dataclass, field, replace
 
 from ..files import Fault, at_least_zero, attribute, elements, number, seconds, told
 from .detectors import KINDS, read_detector
+from .report import some
 from .types import TAGS
 
+STATIC = "static"  # the kind of a signal program that is seconds alone
+UNDONE = {  # elements of additional files that change traffic in SUMO: what to do here
+    "rerouter": "ways round works: streetsim-route --close; closed lanes: streetsim-run --close",
+    "calibrator": "give its flows as routes",
+    "variableSpeedSign": "the lanes keep their speed: judge by SUMO",
+    "WAUT": 'signal lines of the run file with "at" change plans by time of day',
+}
 INNER = ("internal", "walkingarea", "crossing")
 DEMAND = ("route", "routeDistribution", "vehicle", "flow", "trip", "person", "personFlow", "container", "containerFlow")
-# SUMO's vehicle classes.
-CLASSES = (
-    *("private", "emergency", "authority", "army", "vip", "passenger", "hov", "taxi", "bus", "coach", "delivery"),
-    *("truck", "trailer", "tram", "rail_urban", "rail", "rail_electric", "rail_fast", "motorcycle", "moped", "bicycle"),
-    *("pedestrian", "evehicle", "ship", "container", "cable_car", "subway", "aircraft", "wheelchair", "scooter", "drone"),
-    *("custom1", "custom2"),
-)
 
 
 @dataclass(slots=True)
@@ -116,8 +118,10 @@ def read_net(path, classes, report):
 def read_additional(path, net, types, report, demand=None):
     """Signal programs, vehicle types and detectors of an additional file, and vehicles, flows and routes for a demand where
     one is given; all else there is counted as ignored."""
+    undone = defaultdict(list)
     for element in elements(path, ["additional", "add", "routes", "tlLogics"]):
         if element.tag == "tlLogic":
+            refuse_unknown_light(path, element, net)
             read_program(path, element, net, ())
         elif element.tag in TAGS:
             types.read(path, element)
@@ -127,8 +131,12 @@ def read_additional(path, net, types, report, demand=None):
             demand.read_element(path, element)
         elif element.tag in DEMAND:
             raise Fault(f"{told(path, element)} in an additional file: give files of routes after --routes")
+        elif element.tag in UNDONE:
+            undone[element.tag].append(element.get("id", "without a name"))
         else:
             report.ignored[f"<{element.tag}> of additional files"] += 1
+    for tag, names in undone.items():
+        report.warn(f"{path}: <{tag}> does nothing here: {some(names)}", names, UNDONE[tag])
 
 
 def read_edge(path, element, net, classes):
@@ -247,7 +255,19 @@ def read_program(path, element, net, _classes):
     if not phases and light in net.programs:  # an offset alone, as SUMO's tlsCoordinator writes it
         net.programs[light] = replace(net.programs[light], offset=offset)
     else:
-        net.programs[light] = Program(offset, phases, element.get("type", "static"), bounds)
+        net.programs[light] = Program(offset, phases, element.get("type", STATIC), bounds)
+
+
+def actuated(net, lights):
+    """Those of some lights that SUMO times by detectors, or by anything but seconds."""
+    return [light for light in dict.fromkeys(lights) if net.programs[light].kind != STATIC]
+
+
+def refuse_unknown_light(path, element, net):
+    """As SUMO does, which knows the lights of the network alone."""
+    light = attribute(path, element, "id")
+    if light not in net.programs and all(light != one.light for one in net.connections):
+        raise Fault(f"{told(path, element)}: the network has no light of this name")
 
 
 def bound_of(path, phase, name):

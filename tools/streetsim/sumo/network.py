@@ -96,6 +96,7 @@ class Network:
         self.yields = []  # conflicts.Waiting
         self.last = options.begin  # departure
         self.kinds = {}  # of the vehicles, as demand.kinds_of
+        self.actuated = []  # lights that SUMO times by detectors
 
     def add_connections(self, net, report):
         """Of several connections from one lane to one next link the one to the same lane counts, else the lowest."""

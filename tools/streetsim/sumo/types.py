@@ -7,6 +7,18 @@ from .. import limits
 from ..files import Fault, at_least_zero, attribute, number, told
 from .report import some
 
+# SUMO's vehicle classes.
+CLASSES = (
+    *("private", "emergency", "authority", "army", "vip", "passenger", "hov", "taxi", "bus", "coach", "delivery"),
+    *("truck", "trailer", "tram", "rail_urban", "rail", "rail_electric", "rail_fast", "motorcycle", "moped", "bicycle"),
+    *("pedestrian", "evehicle", "ship", "container", "cable_car", "subway", "aircraft", "wheelchair", "scooter", "drone"),
+    *("custom1", "custom2"),
+)
+FORMER = {  # names that SUMO still takes for them
+    **{"public_emergency": "emergency", "public_authority": "authority", "public_army": "army", "public_transport": "bus"},
+    **{"transport": "truck", "lightrail": "tram", "cityrail": "rail_urban", "rail_slow": "rail"},
+}
+FREE = "ignoring"  # the class that may use every lane
 DEFAULT = "DEFAULT_VEHTYPE"
 USUAL = 5.0, 2.5  # metres of a vehicle, and of the gap to the one ahead of it when both stand
 BY_CLASS = {  # where SUMO's defaults are other ones
@@ -40,6 +52,15 @@ class Kind:
     speed: float | None = None  # metres a second at most, where the type tells it
 
 
+def class_of(path, element):
+    """The vehicle class of a type, by the name that SUMO has for it."""
+    name = element.get("vClass") or "passenger"
+    name = FORMER.get(name, name)
+    if name not in CLASSES and name != FREE:
+        raise Fault(f"{told(path, element)}: SUMO has no vehicle class {name!r}")
+    return name
+
+
 def weights_of(text):
     return [at_least_zero(number)(part) for part in text.split()]
 
@@ -64,14 +85,15 @@ class Types:
             self.read_mix(path, element)
 
     def read_type(self, path, element):
-        length, gap = BY_CLASS.get(element.get("vClass"), USUAL)
+        vclass = class_of(path, element)
+        length, gap = BY_CLASS.get(vclass, USUAL)
         if element.get("length"):
             length = attribute(path, element, "length", at_least_zero(number))
         if element.get("minGap"):
             gap = attribute(path, element, "minGap", at_least_zero(number))
         speed = attribute(path, element, "maxSpeed", at_least_zero(number)) if element.get("maxSpeed") else None
         self.metres[attribute(path, element, "id")] = length + gap
-        self.kinds[element.get("id")] = Kind(element.get("vClass") or "passenger", length, gap, speed)
+        self.kinds[element.get("id")] = Kind(vclass, length, gap, speed)
         for name in set(element.keys()) - READ:
             self.report.ignored[f"{name} of vTypes"] += 1
 
