@@ -113,6 +113,12 @@ class Vehicle:
     size: int = 1  # cells
     step: int | None = None  # of arriving, or the clock at taking out
 
+    @property
+    def place(self) -> tuple[int, int]:
+        """The link and the lane of one on cells or in a buffer."""
+        assert self.link is not None and self.lane is not None
+        return self.link, self.lane
+
 
 @dataclass(slots=True, frozen=True)
 class Lane:
@@ -146,6 +152,10 @@ class Row:
     def mean_speed(self) -> float | None:
         """Cells a step, over the vehicles that passed; none if none did."""
         return self.speeds / self.passes if self.passes else None
+
+    def kmh(self) -> str:
+        """The same in km/h, as it stands in a table."""
+        return "" if self.mean_speed is None else f"{self.mean_speed * limits.CELL_KMH:.1f}"
 
 
 @dataclass(slots=True, frozen=True)

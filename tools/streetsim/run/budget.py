@@ -1,10 +1,20 @@
 """How often a run asks, so that its calls are within those that the program takes."""
+from __future__ import annotations
+
 from collections import Counter
+from collections.abc import Collection, Sequence
 from dataclasses import dataclass, field
 from math import ceil
+from typing import TYPE_CHECKING
 
 from .. import limits
 from ..files import Fault
+
+if TYPE_CHECKING:
+    from .detectors import Detector
+    from .mapping import Place
+    from .record import Settings
+    from .runs import Run
 
 MINUTE = 60
 INTERVALS = (10, 20, 30, 60, 120, 300, 600, 900, 1800, 3600, 0)  # between polls, seconds; 0: never
@@ -20,23 +30,30 @@ class Asking:
 
     every: int  # seconds between polls of the lanes; 0: none
     all_watched: bool  # all lanes each minute for rescues; else those where late vehicles stand
-    measured: list  # (link, lane) with a detector, at which speeds and densities are sampled
+    measured: list[Place]  # (link, lane) with a detector, at which speeds and densities are sampled
     samples: int  # polls of those a period; 0: the polls of all lanes do
-    further: list = field(default_factory=list)  # of such lists, each for a further run that repeats this one
+    further: list[list[Place]] = field(default_factory=list)  # of such lists, each for a further run that repeats this one
     needed: int = 0  # calls, without samples
 
 
 class Budget:
     """The calls that a run of some lanes needs."""
 
-    def __init__(self, run, settings, places, polled, detectors):
+    def __init__(
+        self,
+        run: Run,
+        settings: Settings,
+        places: Sequence[Place],
+        polled: Collection[Place],
+        detectors: Collection[Detector],
+    ) -> None:
         self.run, self.settings, self.places, self.polled = run, settings, places, polled
         self.detectors = detectors
         self.steps = settings.until - run.start()
         self.minutes = self.steps // MINUTE + 1
         self.periods = ceil(self.steps / settings.period)
 
-    def base(self, meters):
+    def base(self, meters: int) -> int:
         """Calls that do not depend on how often lanes are polled: lines, vehicles, steps, counts, detectors."""
         vehicles = 2 * len(self.run.enters)
         reads = meters * (self.steps // (self.settings.period * limits.ROWS) + 2)
@@ -44,44 +61,45 @@ class Budget:
         lines = 2 + len(self.run.first) + 2 * len(self.run.timed)
         return vehicles + reads + lines + 3 * self.minutes + self.periods + self.steps // limits.STEPS
 
-    def owed(self, clock, entered, ended):
+    def owed(self, clock: int, entered: int, ended: int) -> int:
         """Calls that a run still needs at a clock: lines, vehicles, steps, counts, detectors, and some to spare."""
         left = self.settings.until - clock
         reads = sum(left // (period * limits.ROWS) + 2 for period in self.meter_periods())
         vehicles = 2 * (len(self.run.enters) - entered) + entered - ended
         return vehicles + reads + 2 * len(self.run.timed) + 3 * (left // MINUTE + 1) + left // limits.STEPS + SLACK
 
-    def meter_periods(self):
+    def meter_periods(self) -> list[int]:
         return [self.settings.period] * min(limits.METERS, len(self.places)) + [one.period for one in self.detectors]
 
-    def polls(self, every):
+    def polls(self, every: int) -> int:
         return self.steps // every * (len(self.polled) + 1) if every else 0
 
-    def watching(self, all_watched):
+    def watching(self, all_watched: bool) -> int:
         """Calls for rescues: each lane a minute, or half a call more for each vehicle."""
         if not self.settings.rescue:
             return 0
         return self.minutes * len(self.places) if all_watched else len(self.run.enters) // 2
 
-    def needed(self, every, all_watched):
+    def needed(self, every: int, all_watched: bool) -> int:
         meters = min(limits.METERS, len(self.places))
         return self.base(meters) + self.polls(every) + self.watching(all_watched)
 
-    def asking(self, most):
+    def asking(self, most: int) -> Asking:
         """The most frequent polls that fit in so many calls (0: any number), and who is counted where."""
         wished = self.settings.every
         intervals = INTERVALS if wished is None else (wished,)
         fitting = (
             (every, watched) for every in intervals for watched in (True, False) if not most or self.needed(every, watched) <= most
         )
-        every, watched = next(fitting, (None, None))
-        if every is None:
+        found = next(fitting, None)
+        if found is None:
             raise Fault(self.advice(wished, most))
+        every, watched = found
         asking = Asking(every, watched, [], 0, needed=self.needed(every, watched))
         self.share(asking, most - asking.needed if most else None)
         return asking
 
-    def advice(self, wished, most):
+    def advice(self, wished: int | None, most: int) -> str:
         """What helps a run that needs too many calls."""
         fitting = next((every for every in (2, 5, *INTERVALS) if every > (wished or 0) and self.needed(every, False) <= most), 0)
         told = f"the run needs {self.needed(wished or 0, False):,} calls and the program takes {most:,}: try "
@@ -92,7 +110,7 @@ class Budget:
         share = max(1, int(self.settings.until * most / max(1, self.base(0))))
         return told + f"a run up to {share:,} s, or fewer vehicles: each takes two calls"
 
-    def share(self, asking, left):
+    def share(self, asking: Asking, left: int | None) -> None:
         """Deals the lanes to this run and further ones, and how often each is sampled."""
         free = limits.METERS - len(self.detectors)
         spare = SPARE if asking.all_watched else 0.5
@@ -102,7 +120,7 @@ class Budget:
         here = min(free, len(lanes))
         if not rich:
             each = SAMPLES + 1 if left is None else int(left * spare) // self.periods // max(1, here)
-            if each < FEW + 1 and here < len(lanes) and self.settings.all_counted:
+            if left is not None and each < FEW + 1 and here < len(lanes) and self.settings.all_counted:
                 here = max(1, int(left * spare) // self.periods // (FEW + 1))
                 each = FEW + 1
             asking.samples = max(0, min(SAMPLES, each - 1, self.settings.period // 2))
@@ -110,8 +128,8 @@ class Budget:
         if self.settings.all_counted:
             asking.further = [lanes[at : at + limits.METERS] for at in range(here, len(lanes), limits.METERS)]
 
-    def repeated(self, lanes, rescues, most):
+    def repeated(self, lanes: Sequence[Place], rescues: int, most: int) -> Asking:
         """What a further run asks, which repeats this one with detectors on other lanes."""
         left = most - self.base(len(lanes)) - 2 * rescues if most else None
         each = SAMPLES + 1 if left is None else int(left * SPARE) // self.periods // len(lanes)
-        return Asking(0, False, lanes, max(0, min(SAMPLES, each - 1, self.settings.period // 2)))
+        return Asking(0, False, list(lanes), max(0, min(SAMPLES, each - 1, self.settings.period // 2)))

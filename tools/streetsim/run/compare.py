@@ -1,16 +1,23 @@
 """streetsim-compare: how close a run is to SUMO's own outputs of the same demand."""
+from __future__ import annotations
+
+import argparse
 import sys
 from bisect import bisect_right
+from collections.abc import Iterable, Iterator, Mapping, Sequence
 from statistics import fmean
 
 from ..cli.progress import Slow
 from ..cli.words import Parser, files_of
 from ..files import Fault, attribute, elements, seconds
 from ..sumo.report import some
-from .folder import read_folder
+from .folder import Folder, read_folder
+
+Trip = tuple[float, float]  # wished departure and arrival
+EdgeKey = tuple[float, float, str]  # begin and end of a period, and an edge
 
 
-def parser():
+def parser() -> argparse.ArgumentParser:
     made = Parser(
         prog="streetsim-compare",
         description="Compares a run with SUMO's tripinfo and, if given, edgeData of the same periods.",
@@ -26,7 +33,7 @@ def parser():
     return made
 
 
-def read_tripinfo(path):
+def read_tripinfo(path: str) -> dict[str, Trip]:
     """SUMO's trips by vehicle, as (wished departure, arrival); those that arrived."""
     trips = {}
     for element in elements(path, ["tripinfos"]):
@@ -36,7 +43,7 @@ def read_tripinfo(path):
     return trips
 
 
-def read_edges(path):
+def read_edges(path: str) -> dict[EdgeKey, tuple[int, float]]:
     """SUMO's edges, {(begin, end, edge): (vehicles, seconds)}: those that left the edge or arrived on it, and the seconds
     that all vehicles were on it."""
     edges = {}
@@ -48,17 +55,17 @@ def read_edges(path):
     return edges
 
 
-def read_edgedata(path):
+def read_edgedata(path: str) -> dict[EdgeKey, int]:
     """The vehicles alone."""
     return {key: vehicles for key, (vehicles, _) in read_edges(path).items()}
 
 
-def trips_of(folder):
+def trips_of(folder: Folder) -> dict[str, Trip]:
     """The run's trips, as SUMO's."""
     return {row["id"]: (float(row["depart"]), float(row["arrival"])) for row in folder.trips() if row["arrival"]}
 
 
-def edges_of(folder):
+def edges_of(folder: Folder) -> dict[EdgeKey, tuple[int, float | None]]:
     """The run's edges, as SUMO's: those of which all lanes have counts, in whole periods; no seconds where there are none."""
     edges = {}
     for row in folder.edges():
@@ -69,17 +76,17 @@ def edges_of(folder):
     return edges
 
 
-def counts_of(folder):
+def counts_of(folder: Folder) -> dict[EdgeKey, int]:
     """The vehicles alone."""
     return {key: vehicles for key, (vehicles, _) in edges_of(folder).items()}
 
 
-def geh(here, there):
+def geh(here: float, there: float) -> float:
     """The GEH of two hourly volumes: below 5 is the usual mark of a good fit."""
     return (2 * (here - there) ** 2 / (here + there)) ** 0.5 if here + there else 0.0
 
 
-def correlation(first, second):
+def correlation(first: Sequence[float], second: Sequence[float]) -> float | None:
     """Pearson's r; none where one of them does not vary."""
     means = fmean(first), fmean(second)
     spread = [sum((value - mean) ** 2 for value in values) for values, mean in zip((first, second), means, strict=True)]
@@ -91,7 +98,7 @@ def correlation(first, second):
     )
 
 
-def greatest_gap(here, there, vehicles):
+def greatest_gap(here: Iterable[float], there: Iterable[float], vehicles: int) -> float:
     """The greatest gap of two arrival curves, as a share of all vehicles."""
     here, there = sorted(here), sorted(there)
     return max(
@@ -99,11 +106,11 @@ def greatest_gap(here, there, vehicles):
     ) / max(1, vehicles)
 
 
-def compare_trips(here, there, names):
+def compare_trips(here: Mapping[str, Trip], there: Mapping[str, Trip], names: Sequence[str]) -> Iterator[str]:
     """Lines on the trips of both; names: the vehicles of the run. Others, which the import skipped, are left out."""
-    names, vehicles = set(names), len(names)
-    skipped = [name for name in there if name not in names]
-    there = {name: trip for name, trip in there.items() if name in names}
+    known, vehicles = set(names), len(names)
+    skipped = [name for name in there if name not in known]
+    there = {name: trip for name, trip in there.items() if name in known}
     if skipped:
         yield f"left out: {len(skipped):,} vehicles of SUMO that the run does not have ({some(skipped, 3)})"
     both = sorted(here.keys() & there.keys())
@@ -121,7 +128,12 @@ def compare_trips(here, there, names):
         yield f"arrival curves: greatest gap {gap * 100:.1f} % of {vehicles:,} vehicles"
 
 
-def compare_edges(here, there, period, network):
+def compare_edges(
+    here: Mapping[EdgeKey, tuple[int, float | None]],
+    there: Mapping[EdgeKey, tuple[int, float]],
+    period: int,
+    network: int,
+) -> Iterator[str]:
     """Lines on the edges and periods that both have; an edge that SUMO does not list in a period had nobody. network: how
     many edges the run's network has."""
     periods = {key[:2] for key in here} & {key[:2] for key in there}
@@ -145,7 +157,7 @@ def compare_edges(here, there, period, network):
         yield f"time on these edges: {hours[0]:,.1f} vehicle hours here, {hours[1]:,.1f} in SUMO{more}"
 
 
-def main(arguments):
+def main(arguments: list[str]) -> int:
     words = parser().parse_args(arguments)
     words.sumo = files_of(words.sumo)
     if len(words.sumo) > 2:

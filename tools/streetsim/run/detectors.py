@@ -1,8 +1,16 @@
 """SUMO's detectors of additional files: induction loops (e1) and lane areas (e2)."""
+from __future__ import annotations
+
+from collections.abc import Callable, Iterable, Iterator, Sequence
 from dataclasses import dataclass, field
+from typing import TYPE_CHECKING
 
 from .. import limits
 
+if TYPE_CHECKING:
+    from .record import Records
+
+Cells = Sequence[Sequence[int]]  # as those of a lane's reply
 E1, E2 = "e1", "e2"
 
 
@@ -34,11 +42,11 @@ class Area:
 class Areas:
     """The areas of a run; each sample of a lane is one of its areas."""
 
-    detectors: list
+    detectors: list[Detector]
     start: int
-    seen: dict = field(default_factory=dict)  # (name, begin): Area
+    seen: dict[tuple[str, int], Area] = field(default_factory=dict)  # by name and begin
 
-    def sample(self, clock, cells_of):
+    def sample(self, clock: int, cells_of: Callable[[tuple[int, int]], Cells]) -> None:
         """Notes a sample; cells_of gives the cells of the reply of a (link, lane)."""
         for one in self.detectors:
             begin = self.start + (clock - 1 - self.start) // one.period * one.period
@@ -51,16 +59,16 @@ class Areas:
             area.covered += sum(metres_in(entry, one.first) for entry in inside)
 
 
-def size_of(entry):
+def size_of(entry: Sequence[int]) -> int:
     return entry[3] if len(entry) > 3 else 1
 
 
-def metres_in(entry, first):
+def metres_in(entry: Sequence[int], first: int) -> float:
     """Metres of a vehicle, without the gap, from a cell on."""
     return min(size_of(entry) * limits.CELL_METRES - limits.GAP_METRES, (entry[1] - first + 1) * limits.CELL_METRES)
 
 
-def longest_jam(cells):
+def longest_jam(cells: Cells) -> int:
     """The most vehicles that stand one behind the other without a gap; cells from the greatest."""
     longest = here = 0
     rear = None
@@ -70,15 +78,15 @@ def longest_jam(cells):
     return longest
 
 
-def loop_rows(records, detectors):
+def loop_rows(records: Records, detectors: Iterable[Detector]) -> Iterator[tuple[object, ...]]:
     """(begin, end, id, vehicles, an hour, km/h, occupancy) of each period of each e1."""
     for one in detectors:
         for row in records.loops.get(one.name, {}).values():
-            speed = f"{row.mean_speed * limits.CELL_KMH:.1f}" if row.passes else ""
-            yield row.start, row.start + row.steps, one.name, row.passes, f"{row.flow * 3600:.1f}", speed, f"{row.density * 100:.1f}"
+            flow, density = f"{row.flow * 3600:.1f}", f"{row.density * 100:.1f}"
+            yield row.start, row.start + row.steps, one.name, row.passes, flow, row.kmh(), density
 
 
-def area_rows(records, detectors, until):
+def area_rows(records: Records, detectors: Iterable[Detector], until: int) -> Iterator[tuple[object, ...]]:
     """(begin, end, id, mean and most vehicles, km/h, occupancy, mean and longest jam in vehicles) of each e2."""
     for one in detectors:
         for (_, begin), area in sorted(item for item in records.areas.seen.items() if item[0][0] == one.name):

@@ -1,6 +1,17 @@
 """Speeds and densities of edges by period, as SUMO's edgeData, from detectors at stop lines and polls of lanes."""
+from __future__ import annotations
+
 from collections import Counter, defaultdict
+from collections.abc import Iterable, Iterator, Mapping, Sequence
 from math import floor
+from typing import TYPE_CHECKING, Any
+
+if TYPE_CHECKING:
+    from ..client import Row
+    from .detectors import Cells
+    from .mapping import Map, Place
+
+    Seen = Iterable[tuple[int, Cells]]  # links, each with the cells of a lane's reply
 
 GOLDEN = 0.6180339887498949
 
@@ -9,17 +20,17 @@ class Samples:
     """When lanes are sampled: so many times in each period, spread evenly but not at equal steps, which a signal's cycle
     could fall in with."""
 
-    def __init__(self, start, period, count):
+    def __init__(self, start: int, period: int, count: int) -> None:
         self.start, self.period, self.count = start, period, count
 
-    def after(self, clock):
+    def after(self, clock: int) -> int | None:
         """The next such clock, or none."""
         if not self.count:
             return None
         at = (clock - self.start) // self.period
         return min(time for part in (at, at + 1) for time in self.within(part) if time > clock)
 
-    def within(self, at):
+    def within(self, at: int) -> list[int]:
         """Those of a period, which rise and lie after its begin."""
         size = self.period / self.count
         shares = ((place + at * self.count) * GOLDEN % 1 for place in range(self.count))
@@ -29,15 +40,16 @@ class Samples:
 class Edgedata:
     """What was seen on links, by period: sums over samples until `finish`, then means, which can be added."""
 
-    def __init__(self, start, period):
+    def __init__(self, start: int, period: int) -> None:
         self.start, self.period = start, period
-        self.samples = Counter()  # by period
-        self.vehicles, self.speeds = Counter(), Counter()  # by (period, link)
-        self.standing = defaultdict(Counter)  # by clock of a period's end: vehicles by link
-        self.taken = Counter()  # by (period, link): vehicles taken out
-        self.known = {}  # by (link, lane): the periods in which it was sampled
+        self.samples: Counter[int] = Counter()  # by period
+        self.vehicles: Counter[tuple[int, int]] = Counter()  # by (period, link)
+        self.speeds: Counter[tuple[int, int]] = Counter()  # by (period, link)
+        self.standing: defaultdict[int, Counter[int]] = defaultdict(Counter)  # by clock of a period's end: vehicles by link
+        self.taken: Counter[tuple[int, int]] = Counter()  # by (period, link): vehicles taken out
+        self.known: dict[Place, frozenset[int]] = {}  # by (link, lane): the periods in which it was sampled
 
-    def sample(self, clock, seen):
+    def sample(self, clock: int, seen: Seen) -> None:
         """Notes vehicles and speeds; seen: (link, the cells of a lane's reply)."""
         period = (clock - 1 - self.start) // self.period
         self.samples[period] += 1
@@ -45,25 +57,25 @@ class Edgedata:
             self.vehicles[period, link] += len(cells)
             self.speeds[period, link] += sum(entry[2] for entry in cells)
 
-    def end(self, clock, seen):
+    def end(self, clock: int, seen: Seen) -> None:
         """Notes the vehicles on links at a period's end."""
         at_end = self.standing[clock]
         for link, cells in seen:
             at_end[link] += len(cells)
 
-    def take(self, clock, link):
+    def take(self, clock: int, link: int) -> None:
         """Notes a vehicle that is taken out of the cells of a link from this clock on."""
         self.taken[(clock - self.start) // self.period, link] += 1
 
-    def finish(self, places):
+    def finish(self, places: Iterable[Place]) -> Edgedata:
         """Makes means of sums; places: the (link, lane) that were sampled."""
         for sums in (self.vehicles, self.speeds):
             for period, link in sums:
-                sums[period, link] /= self.samples[period]
+                sums[period, link] /= self.samples[period]  # type: ignore[assignment]  # the stubs have whole counts alone
         self.known = dict.fromkeys(places, frozenset(self.samples))
         return self
 
-    def add(self, other):
+    def add(self, other: Edgedata) -> None:
         """Takes what a run that repeats this one saw on other lanes."""
         self.vehicles.update(other.vehicles)
         self.speeds.update(other.speeds)
@@ -72,7 +84,7 @@ class Edgedata:
             self.standing[clock].update(links)
 
 
-def edge_rows(counts, data, mapping):
+def edge_rows(counts: Mapping[Place, Mapping[int, Row]], data: Edgedata, mapping: Map) -> Iterator[tuple[Any, ...]]:
     """(begin, end, edge, entered, left, vehicles a kilometre, km/h, travel time) of each period and edge of which all lanes
     have counts; none for what is not known."""
     periods = sorted({(row.start, row.steps) for rows in counts.values() for row in rows.values()})
@@ -88,7 +100,7 @@ def edge_rows(counts, data, mapping):
                 yield begin, begin + steps, edge, entered, left, *seen_on(data, mapping, places, begin)
 
 
-def entered_on(data, links, begin, end, left):
+def entered_on(data: Edgedata, links: Sequence[int], begin: int, end: int, left: int) -> int | None:
     """Those who left, who are there at the end and were not at the begin, and who were taken out."""
     if end not in data.standing or (begin != data.start and begin not in data.standing):
         return None
@@ -96,7 +108,9 @@ def entered_on(data, links, begin, end, left):
     return left + after - before + sum(data.taken[(begin - data.start) // data.period, link] for link in links)
 
 
-def seen_on(data, mapping, places, begin):
+def seen_on(
+    data: Edgedata, mapping: Map, places: Sequence[Place], begin: int
+) -> tuple[float | None, float | None, float | None]:
     """Vehicles a kilometre, km/h and seconds of travel: the way at the mean speed of all who were seen."""
     period = (begin - data.start) // data.period
     if not all(period in data.known.get(place, ()) for place in places):

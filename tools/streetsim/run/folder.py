@@ -1,11 +1,20 @@
 """A folder that streetsim-run wrote, read back."""
+from __future__ import annotations
+
 import json
 import os
+from collections.abc import Iterable, Iterator, Sequence
 from dataclasses import asdict, dataclass, field
+from typing import TYPE_CHECKING, Any
 
 from ..files import Fault, open_text, read_json, reading, whole_file
 from . import tables
 from .mapping import Map, map_from
+
+if TYPE_CHECKING:
+    from .record import Settings
+    from .rounds import Yielding
+    from .runs import Run
 
 NAME = "setting.json"
 
@@ -14,33 +23,33 @@ NAME = "setting.json"
 class Folder:
     path: str
     mapping: Map
-    signals: list  # commands with the clock at which each was sent: [clock, command]
+    signals: list[list[Any]]  # commands with the clock at which each was sent: [clock, command]
     dawdle: int
     every: int
     period: int
-    made: dict = field(default_factory=dict)  # of what the folder was made: run, seed, start, until, rescue, program
-    doubts: list = field(default_factory=list)  # why the run is not to be trusted
+    made: dict[str, Any] = field(default_factory=dict)  # of what the folder was made: run, seed, start, until, rescue, program
+    doubts: list[str] = field(default_factory=list)  # why the run is not to be trusted
 
-    def trips(self):
+    def trips(self) -> list[dict[str, str]]:
         return tables.read_table(f"{self.path}/trips.csv", tables.TRIPS)
 
-    def counts(self):
+    def counts(self) -> list[dict[str, str]]:
         return tables.read_table(f"{self.path}/counts.csv", tables.COUNTS)
 
-    def edges(self):
+    def edges(self) -> list[dict[str, str]]:
         return tables.read_table(f"{self.path}/edges.csv", tables.EDGES)
 
-    def queues(self):
+    def queues(self) -> list[dict[str, str]]:
         return tables.read_table(f"{self.path}/queues.csv", tables.QUEUES)
 
-    def polls(self):
+    def polls(self) -> Iterator[dict[str, Any]]:
         """What stood on the lanes at each poll: {"clock", "lanes": [link, lane, [[car, cell, speed], ..], [cars in the
         buffer], closed stretches]}; the size of a car stands after its speed where it is above 1."""
         path = f"{self.path}/lanes.jsonl.gz"
         with reading(path), open_text(path) as file:
             yield from map(json.loads, file)
 
-    def links_along(self, edges):
+    def links_along(self, edges: Iterable[str]) -> list[list[int]]:
         """The links of each edge of a path."""
         for edge in edges:
             if edge not in self.mapping.links_of:
@@ -48,7 +57,16 @@ class Folder:
         return [self.mapping.links_of[edge] for edge in edges]
 
 
-def write_setting(path, mapping, run, settings, every, yielding, doubts=(), program_sum=None):
+def write_setting(
+    path: str,
+    mapping: Map,
+    run: Run,
+    settings: Settings,
+    every: int,
+    yielding: Yielding,
+    doubts: Iterable[str] = (),
+    program_sum: str | None = None,
+) -> None:
     """run: without the signals by which its vehicles give way; yielding: rounds.Yielding; doubts: why the run is not to be
     trusted, empty where there is no reason; program_sum: the SHA-256 of the program."""
     made = {"run": os.path.basename(run.path), "seed": run.load.command.get("seed", 0), "start": run.start()}
@@ -72,7 +90,8 @@ def write_setting(path, mapping, run, settings, every, yielding, doubts=(), prog
         )
 
 
-def read_folder(path):
+def read_folder(path: str) -> Folder:
     value = read_json(f"{path}/{NAME}", ("map", "signals", "dawdle", "every", "period"))
-    kept = (value[key] for key in ("signals", "dawdle", "every", "period"))
-    return Folder(path, map_from(path, value["map"]), *kept, value.get("made", {}), value.get("not_trusted", []))
+    signals, dawdle, every, period = (value[key] for key in ("signals", "dawdle", "every", "period"))
+    more = value.get("made", {}), value.get("not_trusted", [])
+    return Folder(path, map_from(path, value["map"]), signals, dawdle, every, period, *more)

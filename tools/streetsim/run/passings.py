@@ -1,6 +1,14 @@
 """When vehicles pass stop lines, by where polls of the lanes see them."""
+from __future__ import annotations
+
 from collections import defaultdict
+from collections.abc import Sequence
 from dataclasses import dataclass
+from typing import TYPE_CHECKING
+
+if TYPE_CHECKING:
+    from .mapping import Map, Place
+    from .runs import Line
 
 
 @dataclass(slots=True)
@@ -18,15 +26,15 @@ class Passings:
     """{(link, lane): [(second, next link)]}. Between two polls vehicles are taken to have come from where the second one sees
     them at the speed of the free road."""
 
-    def __init__(self, mapping, enters, dawdle):
+    def __init__(self, mapping: Map, enters: Sequence[Line], dawdle: int) -> None:
         self.links = mapping.links
         self.plans = [line.command["plan"] for line in enters]
         self.speeds = [link.limit - dawdle / 1000 for link in mapping.links]
         self.stays = [node[3] for node in mapping.nodes]
         self.seen = [Sight(0, line.command["depart"], line.command.get("lane", 0), 0, False) for line in enters]
-        self.found = defaultdict(list)
+        self.found: defaultdict[Place, list[tuple[float, int]]] = defaultdict(list)
 
-    def note(self, car, clock, link, lane, cell, left=False):
+    def note(self, car: int, clock: int, link: int, lane: int, cell: int, left: bool = False) -> None:
         """A vehicle is seen at a cell of a lane, or in its buffer."""
         plan, before = self.plans[car], self.seen[car]
         place = before.place
@@ -38,12 +46,12 @@ class Passings:
         if (place, left) != (before.place, before.left):
             self.between(plan, before, now)
 
-    def arrived(self, car, clock):
+    def arrived(self, car: int, clock: int) -> None:
         """A vehicle has come to the end of its plan."""
         last = self.plans[car][-1]
         self.note(car, clock, last, 0, self.links[last].cells)
 
-    def between(self, plan, before, now):
+    def between(self, plan: Sequence[int], before: Sight, now: Sight) -> None:
         """Notes the stop lines between two sights: of the links from the first one on, and of the last if it is left."""
         first = self.links[plan[before.place]]
         usual = before.clock + max(0, first.cells - before.cell) / self.speeds[plan[before.place]]
@@ -58,7 +66,7 @@ class Passings:
                 self.add(plan, at, before.lane, max(second, min(usual, now.clock)))
             second -= self.driving(plan[at])
 
-    def left(self, plan, before, now, usual):
+    def left(self, plan: Sequence[int], before: Sight, now: Sight, usual: float) -> float:
         """Notes the stop line of the link in whose buffer a vehicle is; gives when it came to that link."""
         if now.place == before.place:
             self.add(plan, now.place, before.lane, min(now.clock, max(usual, now.clock - self.stay(plan[now.place]))))
@@ -66,12 +74,12 @@ class Passings:
         self.add(plan, now.place, 0, now.clock)
         return now.clock - self.driving(plan[now.place])
 
-    def stay(self, link):
+    def stay(self, link: int) -> int:
         return self.stays[self.links[link].end]
 
-    def driving(self, link):
+    def driving(self, link: int) -> float:
         return self.links[link].cells / self.speeds[link]
 
-    def add(self, plan, place, lane, second):
+    def add(self, plan: Sequence[int], place: int, lane: int, second: float) -> None:
         if place + 1 < len(plan):
             self.found[plan[place], lane].append((second, plan[place + 1]))

@@ -1,17 +1,26 @@
 """Runs a run file: sends its lines in time, polls, rescues, and keeps what the tables are made of."""
+from __future__ import annotations
+
 import json
 from collections import Counter, defaultdict
+from collections.abc import Callable, Collection, Iterable, Mapping, Sequence
 from dataclasses import dataclass, field
+from typing import IO, TYPE_CHECKING, Any
 
 from .. import limits
-from ..client import Lane, Rows, Vehicle, line_of, read_reply
-from ..files import Fault
-from .budget import MINUTE, Budget
-from .detectors import E1, E2, Areas
+from ..client import Census, Client, Lane, Row, Rows, Vehicle, line_of, read_reply
+from ..files import Fault, ZippedText
+from .budget import MINUTE, Asking, Budget
+from .detectors import E1, E2, Areas, Detector
 from .edgedata import Edgedata, Samples
 from .ending import Ending
 from .freeflow import FreeFlow
 from .late import Late
+from .mapping import Map, Place
+from .runs import Line, Run
+
+Tell = Callable[[int, Census | None], object]  # gets the clock and the last census
+Rescue = tuple[int, int, dict[str, Any]]  # clock, car, enter command
 
 EMPTY = b'{"buffer":[],"cells":[],"closed":[],"waiting":[]}\n'  # the reply of a lane where nothing is
 
@@ -22,7 +31,7 @@ class Settings:
     every: int | None = None  # between polls of the lanes; none: as often as the calls allow; 0: never
     period: int = 900  # of the counts
     rescue: int = 300  # after so many steps of standing at a stop line; 0: never
-    edges: tuple = ()  # those to poll; all where it is empty
+    edges: tuple[str, ...] = ()  # those to poll; all where it is empty
     calls: int | None = None  # at most; none: as many as the program takes
     all_counted: bool = True  # lanes beyond those of one run's detectors are counted by further runs
     open_end: bool = False  # until all have arrived or nobody moves; `until` is then a guess, and the end after the run
@@ -30,19 +39,19 @@ class Settings:
 
 @dataclass(slots=True)
 class Records:
-    counts: dict = field(default_factory=dict)  # (link, lane): rows by their begin
-    loops: dict = field(default_factory=dict)  # e1: rows by their begin
-    areas: Areas | None = None  # what e2 saw
-    edgedata: Edgedata | None = None
+    counts: dict[Place, dict[int, Row]] = field(default_factory=dict)  # (link, lane): rows by their begin
+    loops: dict[str, dict[int, Row]] = field(default_factory=dict)  # e1: rows by their begin
+    areas: Areas = field(default_factory=lambda: Areas([], 0))  # what e2 saw
+    edgedata: Edgedata = field(default_factory=lambda: Edgedata(0, 1))
     uncounted: int = 0  # lanes without a detector, as there are more than 1,024
-    queues: list = field(default_factory=list)  # (clock, link, lane, vehicles, cells)
-    censuses: list = field(default_factory=list)
-    ends: list = field(default_factory=list)  # for each vehicle of the file its last reply, or none if it never entered
+    queues: list[tuple[int, int, int, int, int]] = field(default_factory=list)  # (clock, link, lane, vehicles, cells)
+    censuses: list[Census] = field(default_factory=list)
+    ends: list[Vehicle | None] = field(default_factory=list)  # for each vehicle of the file its last reply, or none if it never entered
     unsent: int = 0  # timed lines whose clock did not come
     unpolled: int = 0  # polls that were left out, as the calls went to rescues
-    rescues: Counter = field(default_factory=Counter)  # by vehicle
-    rescued: list = field(default_factory=list)  # (clock, car, enter command), in the order in which they were done
-    asking: object = None  # budget.Asking
+    rescues: Counter[int] = field(default_factory=Counter)  # by vehicle
+    rescued: list[Rescue] = field(default_factory=list)  # in the order in which they were done
+    asking: Asking = field(default_factory=lambda: Asking(0, False, [], 0))
     ended: str = ""  # why a run without a last second ended
     calls: int = 0  # that were made
     clock: int = 0
@@ -51,29 +60,31 @@ class Records:
 class Desk:
     """One process of the program on a run: its lines in time, detectors and samples of some lanes."""
 
-    def __init__(self, sim, run, mapping, settings, detectors=()):
+    def __init__(
+        self, sim: Client, run: Run, mapping: Map, settings: Settings, detectors: Sequence[Detector] = ()
+    ) -> None:
         self.sim, self.run, self.mapping, self.settings, self.detectors = sim, run, mapping, settings, detectors
         self.start = run.start()
         self.records = Records(clock=self.start, edgedata=Edgedata(self.start, settings.period))
         self.places = mapping.lanes()
         self.lines = {(link, lane): line_of({"cmd": "lane", "link": link, "lane": lane}) for link, lane in self.places}
-        self.meters = []  # (where its rows go, key there, period), by number of detector
+        self.meters: list[tuple[dict[Any, dict[int, Row]], Any, int]] = []  # (where its rows go, key there, period), by number
         self.entered = self.sent = 0  # of the run's enters, of its timed lines
 
-    def begin(self, asking):
+    def begin(self, asking: Asking) -> None:
         """Loads, and places the detectors."""
         self.records.asking, self.measured = asking, set(asking.measured)
         self.samples = Samples(self.start, self.settings.period, asking.samples)
         self.send([self.run.load, *self.run.first])
         self.place_meters()
 
-    def exchange(self, lines):
+    def exchange(self, lines: Iterable[bytes]) -> list[bytes]:
         """Replies as bytes; counts the calls."""
         replies = list(self.sim.exchange(lines))
         self.records.calls += len(replies)
         return replies
 
-    def send(self, lines):
+    def send(self, lines: Iterable[Line]) -> None:
         """Sends lines of the run; a refused one ends it."""
         lines = list(lines)
         for line, reply in zip(lines, self.exchange(line.text.encode() + b"\n" for line in lines), strict=True):
@@ -81,14 +92,14 @@ class Desk:
                 where = f"line {line.number} ({line.command['cmd']})" if line.number else f"--close {line.text}"
                 raise Fault(f"{self.run.path}: {where} was refused: {read_reply(reply)}")
 
-    def send_timed(self, clock):
+    def send_timed(self, clock: int) -> None:
         due = []
         while self.sent < len(self.run.timed) and self.run.timed[self.sent][0] <= clock:
             due.append(self.run.timed[self.sent][1])
             self.sent += 1
         self.send(due)
 
-    def advance(self, clock, target):
+    def advance(self, clock: int, target: int) -> int:
         """Goes on to a clock or the one before it at which a line is due or lanes are sampled; those who depart until then
         enter before."""
         at = clock - self.start
@@ -107,38 +118,39 @@ class Desk:
         self.records.calls += 1
         return target
 
-    def enter(self, last):
+    def enter(self, last: int) -> None:
         self.send(self.run.enters[self.entered : last])
         self.entered = last
 
-    def lanes(self, wanted):
+    def lanes(self, wanted: Iterable[Place]) -> dict[Place, Lane]:
         """What stands on some lanes, of those where anything is."""
         wanted, found = list(wanted), {}
-        for place, reply in zip(wanted, self.exchange(self.lines[place] for place in wanted), strict=True):
-            if reply != EMPTY:
-                found[place] = read_reply(reply)
-                if not isinstance(found[place], Lane):
-                    raise Fault(f"a poll of the lanes was refused: {found[place]}")
+        for place, text in zip(wanted, self.exchange(self.lines[place] for place in wanted), strict=True):
+            if text != EMPTY:
+                reply = read_reply(text)
+                if not isinstance(reply, Lane):
+                    raise Fault(f"a poll of the lanes was refused: {reply}")
+                found[place] = reply
         return found
 
-    def wants_samples(self, clock):
+    def wants_samples(self, clock: int) -> tuple[bool, bool]:
         """Whether lanes are sampled now, and whether a period ends, at whose end vehicles on lanes are counted."""
         asking, at = self.records.asking, clock - self.start
         rich = not asking.samples and bool(asking.every)
         sampled = clock in self.samples.within((at - 1) // self.settings.period) if asking.samples else rich and clock % asking.every == 0
-        return sampled, (asking.samples or rich) and (at % self.settings.period == 0 or clock == self.settings.until)
+        ended = at % self.settings.period == 0 or clock == self.settings.until
+        return sampled, ended and bool(asking.samples or rich)
 
-    def measure(self, clock, lanes, sampled, ended):
+    def measure(self, clock: int, lanes: Mapping[Place, Lane], sampled: bool, ended: bool) -> None:
         """Notes what samples see of the measured lanes."""
         seen = [(place[0], reply.cells) for place, reply in lanes.items() if place in self.measured]
         if sampled:
             self.records.edgedata.sample(clock, seen)
-            if self.records.areas:
-                self.records.areas.sample(clock, lambda place: lanes[place].cells if place in lanes else ())
+            self.records.areas.sample(clock, lambda place: lanes[place].cells if place in lanes else ())
         if ended:
             self.records.edgedata.end(clock, seen)
 
-    def place_meters(self):
+    def place_meters(self) -> None:
         """A detector at the last cell of each measured lane, and the induction loops of the map."""
         period = self.settings.period
         placed = [(link, lane, self.mapping.links[link].cells - 1, period) for link, lane in self.records.asking.measured]
@@ -156,13 +168,13 @@ class Desk:
             by_period[period].append(number)
         self.meters_due = [(numbers, period, period * limits.ROWS) for period, numbers in by_period.items()]
 
-    def read_meters(self, clock):
+    def read_meters(self, clock: int) -> None:
         """Reads the detectors whose rows would be lost from now on; all at the end."""
         for numbers, _, rows in self.meters_due:
             if clock == self.settings.until or (clock - self.start) % rows == 0:
                 self.read(numbers)
 
-    def read(self, numbers):
+    def read(self, numbers: Sequence[int]) -> None:
         replies = self.exchange(line_of({"cmd": "read", "meter": number}) for number in numbers)
         for number, reply in zip(numbers, map(read_reply, replies), strict=True):
             if not isinstance(reply, Rows):
@@ -174,24 +186,35 @@ class Desk:
 class Recorder(Desk):
     """Drives a run from its load to the end."""
 
-    def __init__(self, sim, run, mapping, settings, lanes_file, tell, detectors=()):
+    def __init__(
+        self,
+        sim: Client,
+        run: Run,
+        mapping: Map,
+        settings: Settings,
+        lanes_file: IO[str] | ZippedText | None,
+        tell: Tell,
+        detectors: Sequence[Detector] = (),
+    ) -> None:
         super().__init__(sim, run, mapping, settings, detectors)
         self.lanes_file, self.tell = lanes_file, tell
         edges = set(settings.edges or mapping.links_of)
         self.polled = [place for place in self.places if mapping.links[place[0]].edge in edges]
         self.budget = Budget(run, settings, self.places, self.polled, detectors)
-        self.owners, self.cars = [], {}  # the vehicle of the file by car number, and its last number
-        self.standing = {}  # (car, link): the clock since which it stands at that link's end
-        self.watched = set()  # lanes that are polled each minute for rescues
-        self.polled_at = {}  # when they last were
+        self.owners: list[int] = []  # the vehicle of the file by car number
+        self.cars: dict[int, int] = {}  # its last number
+        self.standing: dict[tuple[int, int], int] = {}  # (car, link): the clock since which it stands at that link's end
+        self.watched: set[Place] = set()  # lanes that are polled each minute for rescues
+        self.polled_at: dict[Place, int] = {}  # when they last were
         self.most = 0  # calls
         self.free_flow = FreeFlow(mapping, run.load.command.get("dawdle", 0) / 1000)
         self.ending = Ending(run)
-        self.late, self.ended = Late(settings.rescue), {}  # those who have ended, by vehicle of the file
+        self.late = Late(settings.rescue)
+        self.ended: dict[int, Vehicle] = {}  # those who have ended, by vehicle of the file
         self.records.areas = Areas([one for one in detectors if one.kind == E2], self.start)
         self.areas = {(one.link, one.lane) for one in self.records.areas.detectors}
 
-    def record(self):
+    def record(self) -> Records:
         """Makes the whole run."""
         self.most = self.sim.calls if self.settings.calls is None else self.settings.calls
         asking = self.budget.asking(self.most)
@@ -212,7 +235,7 @@ class Recorder(Desk):
         self.records.edgedata.finish(known)
         return self.records
 
-    def enter(self, last):
+    def enter(self, last: int) -> None:
         for owner in range(self.entered, last):
             self.cars[owner] = len(self.owners)
             self.owners.append(owner)
@@ -221,7 +244,7 @@ class Recorder(Desk):
                 self.late.expect(owner, command["depart"] + self.free_flow(command["plan"]))
         super().enter(last)
 
-    def look(self, clock):
+    def look(self, clock: int) -> None:
         """All that is asked at a clock."""
         asking, settings = self.records.asking, self.settings
         wanted, minute = bool(asking.every) and clock % asking.every == 0, clock % MINUTE == 0
@@ -249,24 +272,24 @@ class Recorder(Desk):
             self.rescue(clock, lanes, set(watched))
         self.read_meters(clock)
 
-    def take_census(self, clock):
+    def take_census(self, clock: int) -> None:
         if not self.records.censuses or self.records.censuses[-1].clock != clock:
             self.records.censuses.append(self.sim.count())
             self.records.calls += 1
 
-    def spare(self, clock):
+    def spare(self, clock: int) -> int:
         """Calls that are left beside those that the run needs."""
         if not self.most:
             return limits.CALLS
         return self.most - self.records.calls - self.budget.owed(clock, self.entered, len(self.ended))
 
-    def allowance(self, clock):
+    def allowance(self, clock: int) -> int:
         """Calls for rescues at this minute: thrice what a minute can have if all are alike."""
         if self.records.asking.all_watched:
             return limits.CALLS
         return max(0, 3 * self.spare(clock) // ((self.settings.until - clock) // MINUTE + 1))
 
-    def watched_now(self, clock):
+    def watched_now(self, clock: int) -> list[Place]:
         """The watched lanes that are polled now: all, or as many as may be, those first that were not for longest."""
         if self.records.asking.all_watched:
             return list(self.watched)
@@ -274,7 +297,7 @@ class Recorder(Desk):
         self.polled_at.update(dict.fromkeys(chosen, clock))
         return chosen
 
-    def note_lanes(self, clock, lanes):
+    def note_lanes(self, clock: int, lanes: Mapping[Place, Lane]) -> None:
         shown = []
         for place in self.polled:
             if place in lanes:
@@ -285,9 +308,10 @@ class Recorder(Desk):
                 cells = [(self.owners[car], *rest) for car, *rest in reply.cells]
                 if cells or reply.buffer or reply.closed:
                     shown.append([link, lane, cells, [self.owners[car] for car, _, _ in reply.buffer], reply.closed])
+        assert self.lanes_file is not None
         self.lanes_file.write(json.dumps({"clock": clock, "lanes": shown}, separators=(",", ":")) + "\n")
 
-    def ask_late(self, clock):
+    def ask_late(self, clock: int) -> None:
         """Asks late vehicles where they are, and watches the lanes where they stand."""
         due, most = self.late.due(clock), self.allowance(clock)
         for wait, owner in due[most:]:
@@ -299,17 +323,17 @@ class Recorder(Desk):
                 continue
             self.late.again(owner, clock, wait)
             if reply.state == "buffer" or (reply.state == "cell" and not reply.speed):
-                self.watched.add((reply.link, reply.lane))
+                self.watched.add(reply.place)
 
-    def vehicles(self, owners):
+    def vehicles(self, owners: Iterable[int]) -> list[Vehicle]:
         """The replies on vehicles of the file, by the last number that each had."""
         replies = list(map(read_reply, self.exchange(b'{"cmd":"vehicle","car":%d}\n' % self.cars[owner] for owner in owners)))
         refused = [reply for reply in replies if not isinstance(reply, Vehicle)]
         if refused:
             raise Fault(f"asking for a vehicle was refused: {refused[0]}")
-        return replies
+        return [reply for reply in replies if isinstance(reply, Vehicle)]
 
-    def rescue(self, clock, lanes, watched):
+    def rescue(self, clock: int, lanes: Mapping[Place, Lane], watched: set[Place]) -> None:
         """Takes out who has stood at a stop line, or in front of a buffer, for too long, and enters it on the rest of
         its plan. watched: the lanes that were polled for it."""
         seen = {link for link, _ in watched}
@@ -333,7 +357,7 @@ class Recorder(Desk):
             self.standing.pop(key)
             self.take_and_enter(clock, key[0])
 
-    def take_and_enter(self, clock, car):
+    def take_and_enter(self, clock: int, car: int) -> None:
         """Takes a vehicle out and enters it anew on the next link of its plan."""
         vehicle = self.sim.vehicle(car)
         rest = list(vehicle.plan[1:])
@@ -341,12 +365,13 @@ class Recorder(Desk):
         if not rest:
             return
         if vehicle.state == "cell":
-            self.records.edgedata.take(clock, vehicle.link)
-        command = {"cmd": "enter", "plan": rest, "lane": self.departure_lane(vehicle.plan[1:]), "depart": clock}
+            self.records.edgedata.take(clock, vehicle.place[0])
+        lane = self.departure_lane(vehicle.plan[1:])
+        command = {"cmd": "enter", "plan": rest, "lane": lane, "depart": clock}
         if vehicle.size > 1:
             command["size"] = vehicle.size
         self.sim.takeout(car)
-        self.sim.enter(rest, command["lane"], clock, vehicle.size)
+        self.sim.enter(rest, lane, clock, vehicle.size)
         self.records.calls += 2
         self.records.rescued.append((clock, car, command))
         owner = self.owners[car]
@@ -354,13 +379,13 @@ class Recorder(Desk):
         self.owners.append(owner)
         self.records.rescues[owner] += 1
 
-    def departure_lane(self, plan):
+    def departure_lane(self, plan: Sequence[int]) -> int:
         """A lane of the first link that leads to the second."""
         return next(
             (turn.lane for turn in self.mapping.turns if len(plan) > 1 and (turn.link, turn.next) == plan[:2]), 0
         )
 
-    def find_ends(self):
+    def find_ends(self) -> None:
         """Where each vehicle of the file is at the end."""
         open_ = [owner for owner in range(self.entered) if owner not in self.ended]
         self.ended.update(zip(open_, self.vehicles(open_), strict=True))
@@ -370,7 +395,7 @@ class Recorder(Desk):
 class Repeater(Desk):
     """Repeats a run with detectors on other lanes: detectors and questions change nothing."""
 
-    def record(self, first, asking, tell):
+    def record(self, first: Records, asking: Asking, tell: Callable[[int], object]) -> Records:
         """The records of these lanes; first: the records of the run that is repeated."""
         self.begin(asking)
         clock, rescued = self.start, list(reversed(first.rescued))
@@ -388,17 +413,17 @@ class Repeater(Desk):
         self.records.edgedata.finish(asking.measured if asking.samples else ())
         return self.records
 
-    def repeat(self, clock, car, command):
+    def repeat(self, clock: int, car: int, command: dict[str, Any]) -> None:
         """Takes out and enters as the first run did."""
         vehicle = self.sim.vehicle(car)
         if vehicle.state == "cell":
-            self.records.edgedata.take(clock, vehicle.link)
+            self.records.edgedata.take(clock, vehicle.place[0])
         for reply in map(read_reply, self.exchange([line_of({"cmd": "takeout", "car": car}), line_of(command)])):
             if isinstance(reply, Exception):
                 raise Fault(f"{self.run.path}: a rescue that is repeated was refused: {reply}")
 
 
-def standing(cells, length):
+def standing(cells: Iterable[Sequence[int]], length: int) -> tuple[int, int]:
     """How many vehicles stand without a gap from the stop line, and the cells that they cover; cells from the greatest."""
     count = covered = 0
     for _, cell, speed, *size in cells:

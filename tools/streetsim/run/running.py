@@ -1,13 +1,20 @@
 """streetsim-run: runs a file and writes its tables."""
+from __future__ import annotations
+
+import argparse
 import os
 import sys
 import time
+from collections.abc import Callable, Iterator, Sequence
+from contextlib import AbstractContextManager
 from dataclasses import replace
 from functools import partial
 from statistics import fmean
+from typing import Any
 
 from .. import limits, program
 from ..cli.words import Parser, add_rounds, listed, time_within, within
+from ..client import Census, Client
 from ..files import Fault, whole_file, whole_folder
 from ..junctions.reporting import write_junctions
 from ..outputs.watching import watch
@@ -21,15 +28,15 @@ from .budget import INTERVALS, Budget
 from .detectors import area_rows, loop_rows
 from .ending import first_guess
 from .folder import NAME, write_setting
-from .mapping import read_map
-from .record import Recorder, Repeater, Settings
+from .mapping import Map, Place, read_map
+from .record import Recorder, Records, Repeater, Settings, Tell
 from .rounds import giving_way
-from .runs import read_run, with_load
+from .runs import Run, read_run, with_load
 from .serving import serving as serve
 from .works import all_works, with_works
 
 
-def parser():
+def parser() -> argparse.ArgumentParser:
     made = Parser(
         prog="streetsim-run",
         description="Runs a file that streetsim-import made, and writes counts, trips, queues, a summary "
@@ -121,11 +128,11 @@ def parser():
 class Progress:
     """A line on a terminal: clock, vehicles on their way, arrived, steps a second. Nothing elsewhere."""
 
-    def __init__(self, until, runs=1):
+    def __init__(self, until: int, runs: int = 1) -> None:
         self.until, self.shown, self.begin, self.last = until, sys.stderr.isatty(), time.monotonic(), 0.0
         self.clocks, self.ways, self.arrived = [0] * runs, [0] * runs, [0] * runs
 
-    def show(self, clock, census, run=0):
+    def show(self, clock: int, census: Census | None, run: int = 0) -> None:
         """Notes how far a run is, and shows the line at most five times a second."""
         if not self.shown or census is None:
             return
@@ -136,7 +143,7 @@ class Progress:
         self.last = now
         print(f"\r{self.line(now)} ", end="\n" if ended else "", file=sys.stderr, flush=True)
 
-    def line(self, now):
+    def line(self, now: float) -> str:
         done, runs = sum(self.clocks), len(self.clocks)
         bar = "#" * (30 * done // (self.until * runs))
         over = sum(clock >= self.until for clock in self.clocks)
@@ -147,7 +154,7 @@ class Progress:
         )
 
 
-def main(arguments):
+def main(arguments: list[str]) -> int:
     words = parser().parse_args(arguments)
     run, mapping = read_run(words.run), read_map(words.map)
     if not fits(run, mapping):
@@ -176,7 +183,7 @@ def main(arguments):
     return 0
 
 
-def fits(run, mapping):
+def fits(run: Run, mapping: Map) -> bool:
     """Whether a run loads the links of a map."""
     links = [
         [at, link.begin, link.end, len(link.lanes), link.cells, link.limit] for at, link in enumerate(mapping.links)
@@ -184,7 +191,9 @@ def fits(run, mapping):
     return run.load.command.get("links") == links
 
 
-def one_run(words, run, mapping, settings, folder, tell, jobs):
+def one_run(
+    words: argparse.Namespace, run: Run, mapping: Map, settings: Settings, folder: str, tell: Tell, jobs: int
+) -> dict[str, Any]:
     """One run into a folder that is there; gives its figures. `tell` gets the clock and the last census."""
     settings = replace(settings)  # whose end the run may set
     given, (run, yielding) = run, giving_way(run, mapping, settings, words.rounds, partial(serving, words), tell)
@@ -222,7 +231,16 @@ def one_run(words, run, mapping, settings, folder, tell, jobs):
     }
 
 
-def with_sumo_outputs(words, run, mapping, settings, records, trips, folder, jobs):
+def with_sumo_outputs(
+    words: argparse.Namespace,
+    run: Run,
+    mapping: Map,
+    settings: Settings,
+    records: Records,
+    trips: Sequence[Sequence[Any]],
+    folder: str,
+    jobs: int,
+) -> None:
     """Writes SUMO's output files, of looks at all lanes in every second."""
     os.mkdir(f"{folder}/sumo")
     paths = {kind: f"{folder}/sumo/{kind}.xml" for kind in words.sumo_output}
@@ -233,7 +251,7 @@ def with_sumo_outputs(words, run, mapping, settings, records, trips, folder, job
     write_outputs(paths, mapping, rows, frames, dawdle, settings.period, start)
 
 
-def report(figures, name):
+def report(figures: dict[str, Any], name: str) -> None:
     """Prints what a run gave."""
     for told in figures["notes"]:
         print(f"{name}{told}", file=sys.stderr)
@@ -242,15 +260,17 @@ def report(figures, name):
         print(f"{name}{trust.verdict(figures['doubts'])}")
 
 
-def serving(words):
+def serving(words: argparse.Namespace) -> AbstractContextManager[Client]:
     """The program of a run; what it refuses is a Fault."""
     return serve(words.program, words.run, words.workers)
 
 
-def count_further(words, run, mapping, settings, first, jobs):
+def count_further(
+    words: argparse.Namespace, run: Run, mapping: Map, settings: Settings, first: Records, jobs: int
+) -> None:
     """Counts the lanes that the first run has no detectors for, by runs that repeat it; adds to its records."""
 
-    def repeat(lanes, _tell):
+    def repeat(lanes: Sequence[Place], _tell: Callable[[Any], object]) -> Records:
         with serving(words) as sim:
             repeater = Repeater(sim, run, mapping, settings)
             asking = Budget(run, settings, lanes, (), ()).repeated(lanes, len(first.rescued), settings.calls or sim.calls)
@@ -262,7 +282,7 @@ def count_further(words, run, mapping, settings, first, jobs):
         first.uncounted -= len(records.counts)
 
 
-def notes(records, settings):
+def notes(records: Records, settings: Settings) -> Iterator[str]:
     """What the tables do not have."""
     if records.uncounted:
         yield (
@@ -278,23 +298,23 @@ def notes(records, settings):
         yield f"{records.unsent:,} lines were not sent, as their clock is after --until"
 
 
-def seeded(run, seed):
+def seeded(run: Run, seed: int) -> Run:
     """The run with another seed."""
     return with_load(run, seed=seed)
 
 
-def run_seeds(words, run, mapping, settings):
+def run_seeds(words: argparse.Namespace, run: Run, mapping: Map, settings: Settings) -> int:
     """A run for each seed, side by side; prints and writes each mean trip, their mean and its 95 % interval."""
     seeds = seeds_of(words.seeds, "--seeds")
     shown = Progress(words.until, len(seeds))
     with whole_folder(words.out, NAME) as folder:
 
-        def run_seed(seed, tell):
+        def run_seed(seed: int, tell: Callable[[Any], object]) -> dict[str, Any]:
             place = f"{folder}/seed-{seed}"
             os.mkdir(place)
             return one_run(words, seeded(run, seed), mapping, settings, place, lambda *values: tell(values), 1)
 
-        figures = side_by_side(run_seed, seeds, words.jobs, lambda place, values: shown.show(*values, place))
+        figures = side_by_side(run_seed, seeds, words.jobs, lambda place, values: shown.show(values[0], values[1], place))
         names = ("vehicles", "arrived", "mean_trip_s", "rescues")
         rows = [(seed, *(one[name] for name in names)) for seed, one in zip(seeds, figures, strict=True)]
         tables.write_table(f"{folder}/seeds.csv", ("seed", *names), rows)

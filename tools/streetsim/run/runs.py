@@ -1,39 +1,43 @@
 """Run files: lines of commands, in order. A line may say with "at" at which clock it is sent (streetsim ignores that
 field)."""
+from __future__ import annotations
+
 import json
+from collections.abc import Iterable, Iterator, Sequence
 from dataclasses import dataclass, field, replace
 from itertools import accumulate
+from typing import Any
 
-from ..files import Fault, open_text, reading
+from ..files import Fault, FilePath, open_text, reading
 
 
 @dataclass(slots=True)
 class Line:
     number: int  # in the file, from 1
     text: str
-    command: dict
+    command: dict[str, Any]
 
 
 @dataclass(slots=True)
 class Run:
-    path: str
+    path: FilePath
     load: Line
-    first: list = field(default_factory=list)  # sent after the load, before the first step
-    timed: list = field(default_factory=list)  # of (clock, Line), by clock
-    enters: list = field(default_factory=list)  # vehicles, by the order of lines
-    needed: list = field(default_factory=list)  # for each enter, the least depart of it and those after it
+    first: list[Line] = field(default_factory=list)  # sent after the load, before the first step
+    timed: list[tuple[int, Line]] = field(default_factory=list)  # by clock
+    enters: list[Line] = field(default_factory=list)  # vehicles, by the order of lines
+    needed: list[int] = field(default_factory=list)  # for each enter, the least depart of it and those after it
 
-    def start(self):
+    def start(self) -> int:
         return self.load.command.get("start", 0)
 
 
-def read_run(path):
+def read_run(path: FilePath) -> Run:
     """The run of a file. The load must be its first line."""
     with reading(path), open_text(path) as file:
         return run_of_texts(path, file)
 
 
-def run_of_texts(path, texts):
+def run_of_texts(path: FilePath, texts: Iterable[str]) -> Run:
     """The run of lines as texts."""
     lines = [line_of(path, number, text) for number, text in enumerate(texts, 1) if text.strip()]
     if not lines or lines[0].command["cmd"] != "load":
@@ -41,7 +45,7 @@ def run_of_texts(path, texts):
     return run_of(path, lines)
 
 
-def run_of(path, lines):
+def run_of(path: FilePath, lines: Sequence[Line]) -> Run:
     """The run of some lines, of which the first is the load."""
     run = Run(path, lines[0])
     for line in lines[1:]:
@@ -52,17 +56,19 @@ def run_of(path, lines):
         else:
             run.first.append(line)
     run.timed.sort(key=lambda pair: pair[0])
-    run.needed = list(accumulate((line.command["depart"] for line in reversed(run.enters)), min))[::-1]
+    departs: list[int] = [line.command["depart"] for line in reversed(run.enters)]
+    least: Iterator[int] = accumulate(departs, min)
+    run.needed = list(least)[::-1]
     return run
 
 
-def with_load(run, **values):
+def with_load(run: Run, **values: Any) -> Run:
     """The run with other values of its load."""
     command = {**run.load.command, **values}
     return replace(run, load=replace(run.load, command=command, text=json.dumps(command, separators=(",", ":"))))
 
 
-def line_of(path, number, text):
+def line_of(path: FilePath, number: int, text: str) -> Line:
     try:
         command = json.loads(text)
         if (

@@ -3,11 +3,11 @@ import contextlib
 from collections.abc import Iterator
 
 from ..client import Client, NoReply, ProgramEnded, Refused, Starved
-from ..files import Fault
+from ..files import Fault, FilePath
 
 
 @contextlib.contextmanager
-def serving(program: str | None, path: str, workers: int = 1, client: type[Client] = Client) -> Iterator[Client]:
+def serving(program: str | None, path: FilePath, workers: int = 1, client: type[Client] = Client) -> Iterator[Client]:
     """The program on the run of a file; what it refuses is a Fault."""
     try:
         with client(program, workers) as sim:

@@ -1,11 +1,22 @@
 """The tables of a run, as CSV under SUMO's names."""
+from __future__ import annotations
+
 import csv
+from collections.abc import Iterable, Iterator, Sequence
 from statistics import fmean, stdev
+from typing import TYPE_CHECKING, Any
 
 from .. import limits
 from ..files import Fault, open_text, reading, whole_file
 from .edgedata import edge_rows
 from .freeflow import FreeFlow
+
+if TYPE_CHECKING:
+    from .mapping import Map
+    from .record import Records
+    from .runs import Run
+
+Entry = tuple[Any, ...]  # a row of a table
 
 # Quantiles of Student's t at 97.5 %, for 1 to 30 degrees of freedom.
 STUDENT = (
@@ -63,11 +74,10 @@ QUEUES = ("time", "edge", "lane", "vehicles", "metres")
 SUMMARY = ("time", "entered", "waiting", "on_cells", "in_buffers", "arrived", "taken_out")
 
 
-def counts(records, mapping):
+def counts(records: Records, mapping: Map) -> Iterator[Entry]:
     """A row for each period and lane that has a detector."""
     for (link, lane), rows in sorted(records.counts.items()):
         for row in rows.values():
-            speed = f"{row.mean_speed * limits.CELL_KMH:.1f}" if row.passes else ""
             yield (
                 row.start,
                 row.start + row.steps,
@@ -76,25 +86,25 @@ def counts(records, mapping):
                 mapping.links[link].lanes[lane],
                 row.passes,
                 f"{row.flow * 3600:.1f}",
-                speed,
+                row.kmh(),
                 f"{row.density * 100:.1f}",
             )
 
 
-def edges(records, mapping):
+def edges(records: Records, mapping: Map) -> Iterator[Entry]:
     """A row for each period and edge of which all lanes have a detector, as SUMO's edgeData."""
     for begin, end, edge, entered, left, *seen in edge_rows(records.counts, records.edgedata, mapping):
         texts = ("" if value is None else f"{value:.2f}" for value in seen)
         yield begin, end, edge, "" if entered is None else entered, left, *texts
 
 
-def trips(records, run, mapping):
+def trips(records: Records, run: Run, mapping: Map) -> Iterator[Entry]:
     """A row for each vehicle of the run file, as SUMO's tripinfo; a trip lasts from the wished departure to arrival."""
     free_flow = FreeFlow(mapping, run.load.command["dawdle"] / 1000)
     for place, (name, line, end) in enumerate(zip(names(run, mapping), run.enters, records.ends, strict=True)):
         plan, depart = line.command["plan"], line.command["depart"]
         free = free_flow(plan)
-        arrival = end.step + 1 if end is not None and end.state == "arrived" else None
+        arrival = end.step + 1 if end is not None and end.state == "arrived" and end.step is not None else None
         trip = (
             (arrival, arrival - depart, f"{free:.1f}", f"{arrival - depart - free:.1f}")
             if arrival is not None
@@ -103,30 +113,30 @@ def trips(records, run, mapping):
         yield (name, depart, *trip, len(plan), records.rescues[place], end.state if end else "not departed")
 
 
-def names(run, mapping):
+def names(run: Run, mapping: Map) -> list[str]:
     """SUMO's names of the vehicles; those that were added to the run file by hand go by their number."""
     return [*mapping.cars, *(f"#{number}" for number in range(len(mapping.cars), len(run.enters)))][: len(run.enters)]
 
 
-def queues(records, mapping):
+def queues(records: Records, mapping: Map) -> Iterator[Entry]:
     """A row for each poll and lane where vehicles stand at the stop line."""
     for clock, link, lane, count, covered in records.queues:
         yield clock, mapping.links[link].edge, mapping.links[link].lanes[lane], count, covered * limits.CELL_METRES
 
 
-def summary(records):
+def summary(records: Records) -> Iterator[Entry]:
     for census in records.censuses:
         yield census.clock, census.admitted, census.waiting, census.cells, census.buffers, census.arrived, census.taken
 
 
-def write_table(path, header, rows):
+def write_table(path: str, header: Sequence[str], rows: Iterable[Iterable[object]]) -> None:
     with whole_file(path) as file:
         writer = csv.writer(file, lineterminator="\n")
         writer.writerow(header)
         writer.writerows(rows)
 
 
-def read_table(path, header):
+def read_table(path: str, header: Sequence[str]) -> list[dict[str, str]]:
     """The rows of a table, as dictionaries."""
     with reading(path), open_text(path) as file:
         rows = csv.DictReader(file)
@@ -135,7 +145,7 @@ def read_table(path, header):
         return list(rows)
 
 
-def interval(values):
+def interval(values: Sequence[float]) -> tuple[float, float | None]:
     """The mean of some values and half the width of its 95 % interval (none for one value)."""
     if len(values) < 2:
         return fmean(values), None

@@ -2,6 +2,8 @@
 
 The marks are chosen, not measured: above them a run is of another town than the one that was asked for.
 """
+from __future__ import annotations
+
 import json
 from bisect import bisect_right
 from collections import Counter
@@ -14,6 +16,8 @@ from .. import limits
 from ..files import whole_file
 from .folder import NAME
 from .freeflow import FreeFlow
+from .mapping import Map
+from .runs import Run
 
 MOST_RESCUES = 0.01  # of the vehicles; one alone is none too many
 MOST_LATE = 0.1  # of those that would have arrived, were nobody in their way
@@ -67,13 +71,13 @@ def trips_at(clock: int, start: int, rows: Sequence[tuple]) -> Trips:
     )
 
 
-def free_arrivals(run, mapping) -> list[float]:
+def free_arrivals(run: Run, mapping: Map) -> list[float]:
     """When the vehicles of a run would arrive, were nobody in their way, rising."""
     free_flow = FreeFlow(mapping, run.load.command["dawdle"] / 1000)
     return sorted(line.command["depart"] + free_flow(line.command["plan"]) for line in run.enters)
 
 
-def due_at(clock: int, run, mapping) -> int:
+def due_at(clock: int, run: Run, mapping: Map) -> int:
     """The vehicles of a run that would have arrived, were nobody in their way."""
     return bisect_right(free_arrivals(run, mapping), clock)
 
@@ -86,7 +90,7 @@ def of_missing(arrived: Mapping[str, float], due: int) -> list[str]:
     return [f"{name} {missing:,.0f} of {due:,.0f} {told}".strip() for name, missing in late.items()]
 
 
-def doubts(trips: Trips, rescues: int, censuses: Sequence, run, mapping) -> list[str]:
+def doubts(trips: Trips, rescues: int, censuses: Sequence, run: Run, mapping: Map) -> list[str]:
     """What speaks against a run, each in some words; nothing where it is to be trusted."""
     found = [*of_rescues(trips, rescues), *of_arrivals(trips), *of_entries(trips, censuses)]
     return [*found, *of_lengths(trips.clock, run, mapping), *of_actuated(trips.clock, run, mapping, mapping.actuated)]
@@ -120,12 +124,12 @@ def of_waiting(waiting: Mapping[str, Sequence[tuple[int, int]]], vehicles: int) 
             yield f"{name} {count:,.0f} of {vehicles:,} {told}".strip()
 
 
-def plans_before(clock: int, run) -> list[list[int]]:
+def plans_before(clock: int, run: Run) -> list[list[int]]:
     """Of the vehicles that wish to depart before a clock."""
     return [line.command["plan"] for line in run.enters if line.command["depart"] < clock]
 
 
-def of_actuated(clock: int, run, mapping, lights: Sequence[str]) -> Iterator[str]:
+def of_actuated(clock: int, run: Run, mapping: Map, lights: Sequence[str]) -> Iterator[str]:
     """Where many vehicles pass lights that SUMO times by detectors: here they show the seconds that their program lists."""
     ways = {(turn.link, turn.next): turn.light for turn in mapping.turns if turn.light in lights}
     plans = plans_before(clock, run) if ways else []
@@ -138,7 +142,7 @@ def of_actuated(clock: int, run, mapping, lights: Sequence[str]) -> Iterator[str
         )
 
 
-def of_lengths(clock: int, run, mapping) -> Iterator[str]:
+def of_lengths(clock: int, run: Run, mapping: Map) -> Iterator[str]:
     """Where the routes are of another length than in SUMO, as edges are whole cells."""
     here = [link.cells * limits.CELL_METRES for link in mapping.links]
     there = [link.metres for link in mapping.links]

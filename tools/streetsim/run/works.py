@@ -14,6 +14,7 @@ from collections import Counter, defaultdict
 from collections.abc import Iterable, Iterator
 from dataclasses import dataclass, replace
 from itertools import product
+from typing import Any
 
 from ..cli.progress import Slow
 from ..cli.words import listed, whole_seconds
@@ -62,8 +63,8 @@ def all_works(texts: Iterable[str], mapping: Map, until: int | None) -> list[Wor
 def works_of(text: str, mapping: Map) -> Works:
     """The works that LANE:METRES-METRES:S-S asks for."""
     found = FORM.fullmatch(text)
-    clocks = [whole_seconds(clock) for clock in found.groups()[3:]] if found else []
-    if not found or None in clocks or int(found[2]) >= int(found[3]) or clocks[0] >= clocks[1]:
+    clocks = [second for clock in found.groups()[3:] if (second := whole_seconds(clock)) is not None] if found else []
+    if not found or len(clocks) < 2 or int(found[2]) >= int(found[3]) or clocks[0] >= clocks[1]:
         raise Fault(f"--close {text!r}: expected LANE:METRES-METRES:S-S, whole numbers that rise")
     place = mapping.place_of(found[1])
     if place is None:
@@ -156,7 +157,9 @@ def lanes_to_join(works: Iterable[Works], mapping: Map) -> list[str]:
 
 def why_parallel(mapping: Map, lane: str) -> str | None:
     """Why a lane cannot be closed as the map is: nobody could change to the lane beside it. None where it can."""
-    link = mapping.links[mapping.place_of(lane)[0]]
+    place = mapping.place_of(lane)
+    assert place is not None
+    link = mapping.links[place[0]]
     if len(link.lanes) > 1 or len(mapping.links_of[link.edge]) == 1:
         return None
     return (
@@ -167,10 +170,11 @@ def why_parallel(mapping: Map, lane: str) -> str | None:
 
 def joint(run: Run, mapping: Map, map_path: str, names: list[str]) -> tuple[Run, Map]:
     """The run and its map, imported anew with more lanes joint."""
-    known = {name: tuple(value) if isinstance(value, list) else value for name, value in mapping.options.items()}
+    known: dict[str, Any] = {name: tuple(value) if isinstance(value, list) else value for name, value in mapping.options.items()}
     try:
         sources = sources_of(mapping.sources, map_path, run.path)
-        options = Options(**{**known, "joint": (*known.get("joint", ()), *names)})
+        known["joint"] = (*known.get("joint", ()), *names)
+        options = Options(**known)
         with Slow(f"importing {sources.net} anew"):
             report = Report()
             made = convert(sources.net, sources.additional, sources.routes, options, report, sources.trips)
@@ -190,7 +194,9 @@ def edges_of(names: Iterable[str], mapping: Map) -> set[str]:
 
 def round_works(run: Run, mapping: Map, shut: dict) -> Run:
     """The run where who may come to a shut link takes another one of its edge."""
-    ways, use, enters = defaultdict(list), Counter(), list(run.enters)
+    ways: defaultdict[tuple[int, int], list[int]] = defaultdict(list)
+    use: Counter[int] = Counter()
+    enters = list(run.enters)
     for turn in mapping.turns:
         ways[turn.link, turn.next].append(turn.lane)
     free_flow = FreeFlow(mapping, run.load.command.get("dawdle", 0) / 1000)
@@ -199,9 +205,9 @@ def round_works(run: Run, mapping: Map, shut: dict) -> Run:
             continue
         plan = plan_round(line.command, mapping, shut, ways, use, free_flow)
         if plan != line.command["plan"]:
-            command = {**line.command, "plan": plan}
+            command: dict[str, Any] = {**line.command, "plan": plan}
             if plan[0] != line.command["plan"][0]:
-                command["lane"] = ways[tuple(plan[:2])][0] if len(plan) > 1 else 0
+                command["lane"] = ways[plan[0], plan[1]][0] if len(plan) > 1 else 0
             enters[place] = replace(line, command=command, text=json.dumps(command, separators=(",", ":")))
     return replace(run, enters=enters)
 

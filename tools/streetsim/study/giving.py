@@ -1,4 +1,6 @@
 """Giving way without a light in studies and searches: rounds are made where a run is done, with its signals and its seed."""
+from __future__ import annotations
+
 import json
 from collections.abc import Iterator
 from dataclasses import dataclass, replace
@@ -68,6 +70,7 @@ def gaps(session: Session, signals: bytes, seed: int) -> tuple[list, Yielding]:
 def with_gaps(session: Session, lines: list) -> Session:
     """The session with signal lines of minor streets, and no more rounds."""
     giving = session.giving
+    assert giving is not None
     made = session_of(session.program, with_lines(giving.run, lines), giving.until, giving.without)
     return replace(made, digest=session.digest)
 
@@ -89,6 +92,7 @@ def open_outcome(session: Session, lines: list, signals: bytes, seed: int) -> Ou
     if digest_of(session.program) != session.digest:
         raise Fault(f"{session.program}: another program than the one that the runs were prepared for, or none")
     giving = session.giving
+    assert giving is not None
     run = with_signals(with_load(giving.run, seed=seed), signals, giving.without)
     return outcome_of(session.program, with_lines(run, lines), giving.mapping, giving.until)
 

@@ -1,26 +1,43 @@
 """Work in processes side by side."""
+from __future__ import annotations
+
 import multiprocessing
 import os
 import signal
-from multiprocessing.connection import wait
+from collections.abc import Callable, Iterable
+from multiprocessing.connection import Connection, wait
+from multiprocessing.process import BaseProcess
+from typing import Any, TypeVar
 
 from ..files import Fault
 
+Item = TypeVar("Item")
+Result = TypeVar("Result")
+Running = dict[Connection, tuple[int, BaseProcess]]
 CORES = len(os.sched_getaffinity(0))
 
 
-def side_by_side(work, items, jobs=CORES, told=lambda place, value: None):
+def side_by_side(
+    work: Callable[[Item, Callable[[Any], object]], Result],
+    items: Iterable[Item],
+    jobs: int = CORES,
+    told: Callable[[int, Any], object] = lambda place,
+    value: None,
+) -> list[Result]:
     """What a function gives for each item, in the items' order. Each runs in a process of its own, at most so many at once.
 
     The function gets an item and a function to tell how far it is; what it tells goes to `told(place, value)`. A Fault of
     one ends all the others and is raised.
     """
-    waiting, running, results = list(enumerate(items)), {}, {}
+    waiting = list(enumerate(items))
+    running: Running = {}
+    results: dict[int, Result] = {}
     try:
         while waiting or running:
             while waiting and len(running) < jobs:
                 begin(work, *waiting.pop(0), running)
             for pipe in wait(list(running)):
+                assert isinstance(pipe, Connection)
                 hear(pipe, running, results, told)
     finally:
         for _, process in running.values():
@@ -29,7 +46,7 @@ def side_by_side(work, items, jobs=CORES, told=lambda place, value: None):
     return [results[place] for place in sorted(results)]
 
 
-def begin(work, place, item, running):
+def begin(work: Callable[[Item, Callable[[Any], object]], Any], place: int, item: Item, running: Running) -> None:
     """Starts a process; what it tells comes from the pipe that is its key."""
     pipe, end = multiprocessing.Pipe(duplex=False)
     process = multiprocessing.get_context("fork").Process(target=do, args=(work, item, end))
@@ -38,7 +55,7 @@ def begin(work, place, item, running):
     running[pipe] = place, process
 
 
-def do(work, item, pipe):
+def do(work: Callable[[Item, Callable[[Any], object]], Any], item: Item, pipe: Connection) -> None:
     """Runs in the process: ends by signals as programs do, and tells a result or a Fault."""
     signal.signal(signal.SIGINT, signal.SIG_IGN)
     for number in (signal.SIGTERM, signal.SIGHUP):
@@ -49,7 +66,7 @@ def do(work, item, pipe):
         pipe.send(("fault", str(fault)))
 
 
-def hear(pipe, running, results, told):
+def hear(pipe: Connection, running: Running, results: dict[int, Any], told: Callable[[int, Any], object]) -> None:
     """Takes one message of a process."""
     place, process = running[pipe]
     try:

@@ -2,6 +2,7 @@
 from __future__ import annotations
 
 import hashlib
+from typing import Any
 
 from ..client import Client
 from ..run.budget import MINUTE, Asking, Budget
@@ -15,7 +16,7 @@ from .sessions import Outcome
 class Summed(Client):
     """A client that keeps the sum of all replies."""
 
-    def __init__(self, *words, **more) -> None:
+    def __init__(self, *words: Any, **more: Any) -> None:
         super().__init__(*words, **more)
         self.sum = hashlib.sha256()
 
@@ -48,12 +49,13 @@ class Counted(Recorder):
 def outcome_of(program: str, run: Run, mapping: Map, until: int) -> Outcome:
     """What a run gives; until: a first guess of its end. One that has not arrived counts until the end that the run had."""
     with serving(program, run.path, client=Summed) as sim:
+        assert isinstance(sim, Summed)
         records = Counted(sim, run, mapping, until).record()
         digest = sim.sum.hexdigest()
     seconds = arrived = 0
     for line, end in zip(run.enters, records.ends, strict=True):
         there = end is not None and end.state == "arrived"
         arrived += there
-        seconds += max(0, (end.step + 1 if there else records.clock) - line.command["depart"])
+        seconds += max(0, (end.step + 1 if end and there and end.step is not None else records.clock) - line.command["depart"])
     worst = max(records.censuses, key=lambda census: census.waiting)
     return Outcome(digest, arrived, seconds, records.clock, worst.waiting, worst.clock, records.ended)

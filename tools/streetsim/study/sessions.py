@@ -3,6 +3,8 @@
 A session holds all of a run but its seed and its signals, so that runs of many plans cost little besides the program's own
 time. It carries no path but the program's: its functions run on any machine that has the program.
 """
+from __future__ import annotations
+
 import functools
 import hashlib
 import json
@@ -10,13 +12,19 @@ import re
 import subprocess
 import tempfile
 from bisect import bisect_left
+from collections.abc import Collection, Iterable, Sequence
 from dataclasses import dataclass
 from itertools import pairwise
 from operator import itemgetter
+from typing import TYPE_CHECKING
 
 from .. import limits
 from ..client import most_calls
 from ..files import Fault
+
+if TYPE_CHECKING:
+    from ..run.runs import Line, Run
+    from .giving import Giving
 
 INTERVALS = (10, 20, 30, 60, 120, 300, 600)  # seconds between counts; the first that the program's calls allow
 MINUTE = 60  # seconds between looks at who waits to enter, at least
@@ -29,17 +37,17 @@ REFUSED = re.compile(rb'.*(?:"error":|"starved"|"short":).*')
 @dataclass(frozen=True, slots=True)
 class Session:
     program: str
-    digest: str  # SHA-256 of the program's file
+    digest: str | None  # SHA-256 of the program's file
     calls: int
     opening: bytes  # the load, up to its seed
     first: bytes  # what goes before the enters, but the signals
     enters: bytes
-    departs: tuple  # of the vehicles that depart before the end
-    clocks: tuple  # at which vehicles are counted: the start and the end, and between
+    departs: tuple[int, ...]  # of the vehicles that depart before the end
+    clocks: tuple[int, ...]  # at which vehicles are counted: the start and the end, and between
     counting: bytes  # the steps, with counts
-    minutes: tuple  # at which it is looked who waits to enter: the start and the end, and between
+    minutes: tuple[int, ...]  # at which it is looked who waits to enter: the start and the end, and between
     asking: bytes  # the steps, with counts at these, and then a question for each of these vehicles
-    giving: object = None  # what rounds need by which vehicles give way without a light: giving.Giving
+    giving: Giving | None = None  # what rounds need by which vehicles give way without a light
 
 
 @dataclass(frozen=True, slots=True)
@@ -58,7 +66,7 @@ class Outcome:
 
 
 @functools.cache
-def digest_of(path):
+def digest_of(path: str) -> str | None:
     """The SHA-256 of a file, or none where it cannot be read."""
     try:
         with open(path, "rb") as file:
@@ -67,7 +75,7 @@ def digest_of(path):
         return None
 
 
-def session_of(program, run, until, without=frozenset(), **load):
+def session_of(program: str, run: Run, until: int, without: Collection[int] = frozenset(), **load: int) -> Session:
     """The session of a run up to a clock, without the signals of some nodes, and with other values of the load."""
     command = {**run.load.command, **load}
     command.pop("seed", None)
@@ -93,11 +101,11 @@ def session_of(program, run, until, without=frozenset(), **load):
     )
 
 
-def lines_of(lines):
+def lines_of(lines: Iterable[Line]) -> bytes:
     return "".join(line.text + "\n" for line in lines).encode()
 
 
-def counted_clocks(run, until, calls, least=0):
+def counted_clocks(run: Run, until: int, calls: int, least: int = 0) -> tuple[int, ...]:
     """The clocks at which vehicles are counted, as often as so many calls allow, with at least so many seconds between."""
     start, timed = run.start(), {clock for clock, _ in run.timed if run.start() < clock < until}
     for every in (seconds for seconds in INTERVALS if seconds >= least):
@@ -107,7 +115,7 @@ def counted_clocks(run, until, calls, least=0):
     raise Fault(f"{run.path}: a run of {len(run.enters):,} vehicles up to {until:,} s takes more calls than the program allows")
 
 
-def steps(clocks, timed, counted):
+def steps(clocks: Sequence[int], timed: Sequence[tuple[int, Line]], counted: bytes) -> bytes:
     """The steps from clock to clock, what is sent meanwhile, and a line at each clock but the first."""
     told, clocks = set(clocks), sorted({*clocks, *(clock for clock, _ in timed if clocks[0] < clock < clocks[-1])})
     sent = {clock: b"" for clock in clocks}
@@ -120,7 +128,7 @@ def steps(clocks, timed, counted):
     return b"".join(parts)
 
 
-def replies(session, signals, seed, tail):
+def replies(session: Session, signals: bytes, seed: int, tail: bytes) -> bytes:
     """What the program says to a whole run. Files in place of pipes, so that nobody waits for the other side."""
     if digest_of(session.program) != session.digest:
         raise Fault(f"{session.program}: another program than the one that the runs were prepared for, or none")
@@ -140,7 +148,7 @@ def replies(session, signals, seed, tail):
     return text
 
 
-def vehicle_seconds(session, signals, seed):
+def vehicle_seconds(session: Session, signals: bytes, seed: int) -> float:
     """The seconds of all vehicles from the wished departure to the arrival or the end: the area above the curve of
     arrivals. These are whole seconds, taken as spread evenly between two counts."""
     text = replies(session, signals, seed, session.counting)
@@ -155,7 +163,7 @@ def vehicle_seconds(session, signals, seed):
     return area + 0.5 * arrived[-1] + count * start - sum(session.departs)
 
 
-def outcome(session, signals, seed):
+def outcome(session: Session, signals: bytes, seed: int) -> Outcome:
     """What a run gave, exactly."""
     text = replies(session, signals, seed, session.asking)
     count, until = len(session.departs), session.clocks[-1]
@@ -166,7 +174,7 @@ def outcome(session, signals, seed):
     return Outcome(digest, arrived, seconds, until, *most_waiting(session, map(int, WAITING.findall(text))))
 
 
-def most_waiting(session, counts):
+def most_waiting(session: Session, counts: Iterable[int]) -> tuple[int, int]:
     """How many vehicles waited to enter at the worst look, and its clock; counts: of all who wait, also for their second."""
     departs, clocks = sorted(session.departs), session.minutes[1:]
     later = (len(departs) - bisect_left(departs, clock) for clock in clocks)
