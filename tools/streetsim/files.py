@@ -72,6 +72,10 @@ class ZippedText:
     def write(self, text: str) -> None:
         self.zipped.write(text.encode())
 
+    def writelines(self, texts: Iterable[str]) -> None:
+        for text in texts:
+            self.write(text)
+
     def close(self) -> None:
         self.zipped.close()
         self.raw.close()

@@ -1,4 +1,5 @@
 """Networks: links, turns, values; faults and limits."""
+import gzip
 import json
 import unittest
 
@@ -22,6 +23,12 @@ class Networks(Case):
     def one_street(self, **fields):
         network, *_ = self.network(net([("a", "A", "B", [lane("a", 0, **fields)])], []))
         return network.links[0]
+
+    def test_a_run_is_zipped_where_its_name_says_so(self):
+        given, mapping = self.write("x.net.xml", FORK), self.folder / "map.json"
+        self.tool("import", given, "-o", self.folder / "run.jsonl", "--map", mapping)
+        self.tool("import", given, "-o", self.folder / "run.jsonl.gz", "--map", mapping)
+        self.assertEqual(gzip.decompress((self.folder / "run.jsonl.gz").read_bytes()), (self.folder / "run.jsonl").read_bytes())
 
     def test_speeds_and_lengths(self):
         # With dawdle 170 a limit of L cells gives (L - 0.17) * 27 km/h when free: 22, 49, 76, 103, 130.

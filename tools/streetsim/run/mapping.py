@@ -149,7 +149,7 @@ def map_from(path: FilePath, value: Mapping[str, Any]) -> Map:
     try:
         detectors = [Detector(*detector) for detector in value.get("detectors", ())]
         links, turns = [MapLink(*link) for link in value["links"]], [MapTurn(*turn) for turn in value["turns"]]
-        more = {"detectors": detectors, "yields": waiting_of(value.get("yields", ()))}
+        more: dict[str, Any] = {"detectors": detectors, "yields": waiting_of(value.get("yields", ()))}
         more |= {"sources": value.get("sources", {}), "kinds": value.get("vehicles", {})}
         more["told"] = value.get("told", [])
         more |= {"location": value.get("location", {}), "actuated": value.get("actuated", [])}

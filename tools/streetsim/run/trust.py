@@ -131,7 +131,7 @@ def plans_before(clock: int, run: Run) -> list[list[int]]:
 
 def of_actuated(clock: int, run: Run, mapping: Map, lights: Sequence[str]) -> Iterator[str]:
     """Where many vehicles pass lights that SUMO times by detectors: here they show the seconds that their program lists."""
-    ways = {(turn.link, turn.next): turn.light for turn in mapping.turns if turn.light in lights}
+    ways = {(turn.link, turn.next): turn.light for turn in mapping.turns if turn.light and turn.light in lights}
     plans = plans_before(clock, run) if ways else []
     passed = [{ways[pair] for pair in pairwise(plan) if pair in ways} for plan in plans]
     if (count := sum(map(bool, passed))) > MOST_ACTUATED * len(plans):

@@ -4,11 +4,22 @@ The seconds were measured in SUMO 1.15 at lone junctions, under a queue that doe
 each gap between two that they give way to, then chosen so that as many leave here against 200 to 1,000 vehicles an hour. They
 fall with the flow, as the traffic of SUMO, whose vehicles differ in speed, is more bunched and leaves more long gaps.
 """
+from __future__ import annotations
+
 from collections import Counter, defaultdict
+from collections.abc import Iterable, Mapping, Sequence
 from dataclasses import dataclass
+from typing import TYPE_CHECKING, Any
 
 from .signals import connections_of
 
+if TYPE_CHECKING:
+    from .net import Connection, SumoNet
+    from .network import Network
+
+TurnKey = tuple[int, int, int]  # link, lane, next link
+Way = tuple[str, str]  # an edge and the next one
+Flows = Mapping[Way, float]  # vehicles an hour
 FAST = 10.0  # metres a second inside the junction: a stream that is joined like that is a fast one
 SLOW = 0.8  # of the speed of the faster street, before it or after it: a junction is turned in with less
 TURNING, LOOKING = 2.3, 1.2  # seconds lost in it, and by one that goes straight on and has to look out
@@ -23,7 +34,7 @@ class Gap:
     less: float  # for each 1,000 of these an hour
     least: float
 
-    def before(self, hourly):
+    def before(self, hourly: float) -> float:
         return max(self.least, self.seconds - self.less * hourly / 1000)
 
 
@@ -41,7 +52,7 @@ class Foe:
     gap: Gap
     slow: bool  # whether those that use one gap follow each other more slowly than from a queue
 
-    def written(self):
+    def written(self) -> list[Any]:
         return [self.link, self.lane, self.next, self.gap.seconds, self.gap.less, self.gap.least, self.slow]
 
 
@@ -50,23 +61,27 @@ class Waiting:
     """Turns that show green when nobody comes who goes first."""
 
     node: int
-    turns: tuple  # of (link, lane, next link)
-    foes: tuple
+    turns: tuple[TurnKey, ...]
+    foes: tuple[Foe, ...]
 
-    def written(self):
+    def written(self) -> list[Any]:
         """As it stands in the map."""
-        return [self.node, list(map(list, self.turns)), [foe.written() for foe in self.foes]]
+        return [self.node, [list(turn) for turn in self.turns], [foe.written() for foe in self.foes]]
 
 
-def waiting_of(value):
+def waiting_of(value: Iterable[Sequence[Any]]) -> list[Waiting]:
     """What gives way, of a map's value."""
     return [
-        Waiting(node, tuple(map(tuple, turns)), tuple(Foe(*foe[:3], Gap(*foe[3:6]), foe[6]) for foe in foes))
+        Waiting(
+            node,
+            tuple((link, lane, following) for link, lane, following in turns),
+            tuple(Foe(foe[0], foe[1], foe[2], Gap(*foe[3:6]), foe[6]) for foe in foes),
+        )
         for node, turns, foes in value
     ]
 
 
-def conflicts_of(net, network, flows):
+def conflicts_of(net: SumoNet, network: Network, flows: Flows) -> list[Waiting]:
     """What gives way where no light is, of the movements that routes use."""
     turns_at = defaultdict(list)
     for link, lane, following in network.turns:
@@ -80,10 +95,13 @@ def conflicts_of(net, network, flows):
     ]
 
 
-def foes_by_way(connections, yields, network, flows):
+def foes_by_way(
+    connections: Iterable[Connection], yields: Mapping[int, Iterable[int]], network: Network, flows: Flows
+) -> dict[Way, dict[TurnKey, Foe]]:
     """Those who go before each way of a junction, {(edge, next edge): {(link, lane, next link): foe}}."""
-    of_request = {one.request: one for one in connections if flows.get((one.source, one.target))}
-    found = defaultdict(dict)
+    used = (one for one in connections if flows.get((one.source, one.target)))
+    of_request = {one.request: one for one in used if one.request is not None}
+    found: defaultdict[Way, dict[TurnKey, Foe]] = defaultdict(dict)
     for request, one in of_request.items():
         for foe in sorted(yields.get(request, ())):
             if foe in of_request:
@@ -91,7 +109,7 @@ def foes_by_way(connections, yields, network, flows):
     return found
 
 
-def foes(one, other, network):
+def foes(one: Connection, other: Connection, network: Network) -> dict[TurnKey, Foe]:
     """The vehicles of another connection that go before those of one, {(link, lane, next link): foe}."""
     link, lane = network.place_of[other.source, other.source_lane]
     joins = one.target == other.target
@@ -102,7 +120,9 @@ def foes(one, other, network):
     return {(link, lane, following): Foe(link, lane, following, gap, fast) for following in network.links_of[other.target]}
 
 
-def lost(connections, net, flows, longer):
+def lost(
+    connections: Sequence[Connection], net: SumoNet, flows: Flows, longer: Mapping[str, float]
+) -> tuple[float, float]:
     """Vehicles an hour at a junction, and the seconds that these lose beside one that goes straight on and first. longer: the
     seconds that a ring's edges take longer here than in SUMO, which are made up for at their ends."""
     sharing = Counter((connection.source, connection.target) for connection in connections)
@@ -112,7 +132,7 @@ def lost(connections, net, flows, longer):
         flow = flows.get(way, 0.0) / sharing[way]
         total += flow
         seconds -= longer.get(connection.source, 0.0) * flow
-        yields = net.yields.get(net.edges[connection.source].end, {}).get(connection.request)
+        yields = net.yields_of(connection)
         fastest = max(net.edges[name].lanes[0].speed for name in way)
         if connection.speed and connection.speed < SLOW * fastest:
             seconds += TURNING * flow

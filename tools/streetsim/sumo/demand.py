@@ -1,15 +1,26 @@
 """Reads SUMO vehicles, flows and routes (.rou.xml) and makes enter commands of them."""
+from __future__ import annotations
+
 import math
 import random
 from collections import Counter
+from collections.abc import Iterable, Sequence
 from dataclasses import astuple, dataclass
 from itertools import pairwise
+from typing import TYPE_CHECKING, Any
+from xml.etree.ElementTree import Element
 
 from .. import limits
-from ..files import Fault, at_least_zero, attribute, elements, seconds, told
+from ..files import Fault, FilePath, at_least_zero, attribute, elements, seconds, told
 from .flows import departs
-from .report import some
-from .types import weights_of
+from .net import SumoNet
+from .report import Report, some
+from .types import Sizes, Types, weights_of
+
+if TYPE_CHECKING:
+    from .network import Network
+
+Mix = tuple[list[str], list[float]]  # names and weights
 
 READ = {"id", "type", "depart", "route", "edges", "begin", "end"}
 READ |= {"number", "period", "probability", "vehsPerHour", "perHour", "repeat"}
@@ -31,7 +42,7 @@ class Unrouted(Fault):
 class Vehicle:
     name: str
     depart: float  # seconds
-    edges: tuple
+    edges: tuple[str, ...]
     type: str
     route: str = ""  # the name of its route, as SUMO has it; none where the route stands in the vehicle
 
@@ -39,20 +50,20 @@ class Vehicle:
 class Demand:
     """The vehicles of route files, and the routes that they name."""
 
-    def __init__(self, net, types, seed, report):
+    def __init__(self, net: SumoNet, types: Types, seed: int, report: Report) -> None:
         self.net, self.types, self.report = net, types, report
         self.draws, self.choices = random.Random(seed), random.Random(f"routes {seed}")
-        self.routes = {}  # name: edges
-        self.mixes = {}  # distribution of routes: names and weights
-        self.vehicles = []
-        self.stopping = Counter()  # by vehicle or route: stops, which are not made
-        self.later = []  # (vehicle, file and element, route's name): routes may be told after the vehicles
+        self.routes: dict[str, tuple[str, ...]] = {}  # name: edges
+        self.mixes: dict[str, Mix] = {}  # by distribution of routes
+        self.vehicles: list[Vehicle] = []
+        self.stopping: Counter[str] = Counter()  # by vehicle or route: stops, which are not made
+        self.later: list[tuple[Vehicle, str]] = []  # (vehicle, file and element): routes may be told after the vehicles
 
-    def read(self, path):
+    def read(self, path: FilePath) -> None:
         for element in elements(path, ["routes", "additional", "add"]):
             self.read_element(path, element)
 
-    def read_element(self, path, element):
+    def read_element(self, path: FilePath, element: Element) -> None:
         """An element of a file of routes, which may also stand in an additional file."""
         readers = {
             "route": self.read_route,
@@ -71,20 +82,20 @@ class Demand:
         else:
             self.report.ignored[f"<{element.tag}> of route files"] += 1
 
-    def read_route(self, path, element):
+    def read_route(self, path: FilePath, element: Element) -> None:
         name = attribute(path, element, "id")
         self.note_ignored(element)
         if name in self.routes or name in self.mixes:
             raise Fault(f"{told(path, element)}: a second route of this name")
         self.routes[name] = self.edges(path, element, element)
 
-    def read_mix(self, path, element):
+    def read_mix(self, path: FilePath, element: Element) -> None:
         name = attribute(path, element, "id")
         if name in self.routes or name in self.mixes:
             raise Fault(f"{told(path, element)}: a second route of this name")
         self.mixes[name] = self.mix(path, element, element, name)
 
-    def mix(self, path, owner, element, name):
+    def mix(self, path: FilePath, owner: Element, element: Element, name: str) -> Mix:
         """The names of the routes of a distribution and their weights; a route without a name is called by its place, as
         SUMO does."""
         names, weights = (element.get("routes") or "").split(), []
@@ -102,11 +113,11 @@ class Demand:
             raise Fault(f"{told(path, owner)}: a distribution without a route")
         return names, weights
 
-    def drawn(self, name):
+    def drawn(self, name: str) -> str:
         """The route that a vehicle takes: the one that is named, or one of the distribution that is named."""
         return self.choices.choices(*self.mixes[name])[0] if name in self.mixes else name
 
-    def edges(self, path, owner, route):
+    def edges(self, path: FilePath, owner: Element, route: Element) -> tuple[str, ...]:
         """The edges of a route, each of which the network must have; again so many times as `repeat` says."""
         names = tuple(attribute(path, route, "edges").split())
         unknown = [name for name in names if name not in self.net.edges and name not in self.net.dropped]
@@ -117,31 +128,32 @@ class Demand:
             )
         return names * (1 + attribute(path, route, "repeat", at_least_zero(int))) if route.get("repeat") else names
 
-    def add(self, path, element, departs):
+    def add(self, path: FilePath, element: Element, departs: Iterable[tuple[str, float]]) -> None:
         """Vehicles of an element, one for each (name, depart)."""
         inner, mix = element.find("route"), element.find("routeDistribution")
         if inner is None and mix is None and element.get("route") is None:
             raise Unrouted(f"{told(path, element)} {ROUTED_FIRST}")
         self.note_ignored(element)
-        route = element.get("route") if inner is None else f"!{element.get('id')}" if element.tag == "flow" else ""
+        route = element.get("route") or "" if inner is None else f"!{element.get('id')}" if element.tag == "flow" else ""
         if mix is not None:
             route = f"!{element.get('id')}"
             self.mixes[route] = self.mix(path, element, mix, route)
         edges = self.edges(path, element, inner) if inner is not None else None
         for name, depart in departs:
-            vehicle = Vehicle(name, depart, edges, element.get("type"), route)
+            kind: Any = element.get("type")  # none until `finish` where the file has none
+            vehicle = Vehicle(name, depart, edges or (), kind, route)
             self.vehicles.append(vehicle)
             if edges is None:
                 self.later.append((vehicle, told(path, element)))
 
-    def note_ignored(self, element):
+    def note_ignored(self, element: Element) -> None:
         """Counts what is not done: stops, and all attributes but those that are read."""
         if stops := sum(1 for _ in element.iter("stop")):
-            self.stopping[element.get("id")] += stops
+            self.stopping[element.get("id") or ""] += stops
         for name in set(element.keys()) - READ:
             self.report.ignored[f"{name} of {element.tag}s"] += 1
 
-    def read_vehicle(self, path, element):
+    def read_vehicle(self, path: FilePath, element: Element) -> None:
         text = attribute(path, element, "depart")
         if text in ("triggered", "containerTriggered", "now", "split", "begin"):
             self.report.skipped[f"depart={text!r} is no time"] += 1
@@ -149,13 +161,13 @@ class Demand:
             depart = attribute(path, element, "depart", at_least_zero(seconds))
             self.add(path, element, [(attribute(path, element, "id"), depart)])
 
-    def read_flow(self, path, element):
+    def read_flow(self, path: FilePath, element: Element) -> None:
         name = attribute(path, element, "id")
         self.add(
             path, element, [(f"{name}.{at}", depart) for at, depart in enumerate(departs(path, element, self.draws))]
         )
 
-    def finish(self, end=None):
+    def finish(self, end: float | None = None) -> list[Vehicle]:
         """All vehicles that depart before an end, each with its route and its type, in order of departure and file."""
         for vehicle, where in self.later:
             vehicle.route = self.drawn(vehicle.route)
@@ -175,16 +187,19 @@ class Demand:
         return sorted(before, key=lambda vehicle: vehicle.depart)
 
 
-    def tell_stops(self):
+    def tell_stops(self) -> None:
         if self.stopping:
             stops, names = self.stopping.total(), list(self.stopping)
             do = "who stands in others' way: streetsim-run --close, for as long"
             self.report.warn(f"{stops:,} stops of vehicles or routes are not made: {some(names)}", names, do)
 
 
-def enters(vehicles, net, network, sizes, report):
+def enters(
+    vehicles: Iterable[Vehicle], net: SumoNet, network: Network, sizes: Sizes, report: Report
+) -> tuple[list[dict[str, Any]], list[Vehicle]]:
     """Enter commands and their vehicles; vehicles that can not drive are counted by reason."""
-    commands, driven, used = [], [], Counter()
+    commands, driven = [], []
+    used: Counter[int] = Counter()
     for vehicle in vehicles:
         plan, why = plan_of(vehicle, net, network)
         if plan is None:
@@ -193,14 +208,14 @@ def enters(vehicles, net, network, sizes, report):
         lanes = network.serves(plan[0], plan[1]) if len(plan) > 1 else range(len(network.links[plan[0]].lanes))
         lane = lanes[used[plan[0]] % len(lanes)]
         used[plan[0]] += 1
-        command = {"cmd": "enter", "plan": list(plan), "lane": lane, "depart": max(0, math.ceil(vehicle.depart))}
+        command: dict[str, Any] = {"cmd": "enter", "plan": list(plan), "lane": lane, "depart": max(0, math.ceil(vehicle.depart))}
         size = sizes.of(vehicle.type) if network.options.sizes else 1
         commands.append({**command, "size": size} if size > 1 else command)
         driven.append(vehicle)
     return commands, driven
 
 
-def kinds_of(driven, types):
+def kinds_of(driven: Sequence[Vehicle], types: Types) -> dict[str, Any]:
     """The types that files tell, and by vehicle its type and the name of its route, as a map keeps them."""
     names = list(types.kinds)
     place = {name: at for at, name in enumerate(names)}
@@ -211,7 +226,7 @@ def kinds_of(driven, types):
     }
 
 
-def plan_of(vehicle, net, network):
+def plan_of(vehicle: Vehicle, net: SumoNet, network: Network) -> tuple[tuple[int, ...] | None, str]:
     """The links of a vehicle, or none and why."""
     if any(edge in net.dropped for edge in vehicle.edges):
         return None, "an edge of the route has no lane for the classes"
@@ -222,10 +237,10 @@ def plan_of(vehicle, net, network):
     if vehicle.depart > limits.CLOCK:
         return None, f"departs after {limits.CLOCK:,} s"
     plan = network.route(vehicle.edges)
-    return plan, None if plan else why_no_way(vehicle, net, network)
+    return plan, "" if plan else why_no_way(vehicle, net, network)
 
 
-def why_no_way(vehicle, net, network):
+def why_no_way(vehicle: Vehicle, net: SumoNet, network: Network) -> str:
     """Why a route has no way, where the network has one that is not for the classes; else a Fault, as in SUMO."""
     pairs = pairwise(vehicle.edges)
     source, target = next((pair for pair in pairs if pair not in network.movements and pair not in net.closed_ways), ("", ""))

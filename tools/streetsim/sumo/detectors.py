@@ -1,9 +1,18 @@
 """SUMO's induction loops (e1) and lane areas (e2) of additional files, placed on the cells of an import."""
+from __future__ import annotations
+
+from collections.abc import Container, Iterable
 from dataclasses import dataclass
+from typing import TYPE_CHECKING
+from xml.etree.ElementTree import Element
 
 from .. import limits
-from ..files import Fault, at_least_zero, attribute, number, seconds, told
+from ..files import Fault, FilePath, at_least_zero, attribute, number, seconds, told
 from ..run.detectors import E1, E2, Detector
+
+if TYPE_CHECKING:
+    from ..run.mapping import Map, MapLink
+    from .report import Report
 
 TRUE = ("true", "yes", "on", "1", "x", "t")  # as SUMO reads it
 NEAR = 0.1  # metres, by which lengths are rounded
@@ -23,7 +32,7 @@ class SumoDetector:
     goes_on: bool  # beyond the lane it goes on, in SUMO, on the next one
 
 
-def read_detector(path, element, report):
+def read_detector(path: FilePath, element: Element, report: Report) -> SumoDetector | None:
     """A detector of a file; none where streetsim has none of its sort, which is reported."""
     kind = KINDS[element.tag]
     if element.get("lanes"):
@@ -39,7 +48,7 @@ def read_detector(path, element, report):
     return SumoDetector(told(path, element), name, kind, lane, begin, end, min(period, limits.PERIOD), friendly, goes_on)
 
 
-def stretch(path, element):
+def stretch(path: FilePath, element: Element) -> tuple[float, float | None]:
     """Where an area begins and ends, of which two of its place, end and length tell both; without an end: the lane's."""
     end = attribute(path, element, "endPos", number) if element.get("endPos") else None
     if not element.get("length"):
@@ -51,7 +60,7 @@ def stretch(path, element):
     return begin, begin + length if end is None else end
 
 
-def placed(detectors, mapping, dropped, report):
+def placed(detectors: Iterable[SumoDetector], mapping: Map, dropped: Container[str], report: Report) -> list[Detector]:
     """Detectors on the cells of a map. A lane that the network does not have is a Fault; one that was left out is not."""
     places = {mapping.lane_name(*place): place for place in mapping.lanes()}
     found = {}
@@ -70,9 +79,10 @@ def placed(detectors, mapping, dropped, report):
     return list(found.values())
 
 
-def cells(one, link, report):
+def cells(one: SumoDetector, link: MapLink, report: Report) -> tuple[int, int]:
     """The first and the last cell: the one that a loop lies in, or all of which an area has a part."""
-    begin, end = (place + link.metres if place is not None and place < 0 else place for place in (one.begin, one.end))
+    begin = one.begin + link.metres if one.begin < 0 else one.begin
+    end = one.end + link.metres if one.end is not None and one.end < 0 else one.end
     if not one.friendly and not -NEAR <= begin <= link.metres + NEAR:
         raise Fault(f"{one.where}: begins at {one.begin:g} m, and lane {one.lane!r} is {link.metres:g} m long")
     if end is not None and end > link.metres + NEAR and not one.friendly:

@@ -1,14 +1,21 @@
 """When the vehicles of a SUMO flow depart."""
+from __future__ import annotations
+
 import math
+from collections.abc import Callable, Iterable, Iterator
 from itertools import count, islice, takewhile
+from random import Random
+from typing import TypeVar
+from xml.etree.ElementTree import Element
 
 from .. import limits
-from ..files import Fault, at_least_zero, attribute, number, seconds, told
+from ..files import Fault, FilePath, Value, at_least_zero, attribute, number, seconds, told
 
+Other = TypeVar("Other")
 DAY = 86_400.0
 
 
-def departs(path, element, draws):
+def departs(path: FilePath, element: Element, draws: Random) -> list[float]:
     """Seconds, rising: begin + k * period while below the end; of a probability, or of period="exp(rate)", by draws."""
     begin = optional(path, element, "begin", at_least_zero(seconds), 0.0)
     most = optional(path, element, "number", at_least_zero(int), None)
@@ -22,11 +29,15 @@ def departs(path, element, draws):
     return found
 
 
-def optional(path, element, name, convert, default):
+def optional(
+    path: FilePath, element: Element, name: str, convert: Callable[[str], Value], default: Other
+) -> Value | Other:
     return attribute(path, element, name, convert) if element.get(name) else default
 
 
-def moments(path, element, begin, end, most, draws):
+def moments(
+    path: FilePath, element: Element, begin: float, end: float, most: int | None, draws: Random
+) -> Iterable[float]:
     """All departures that the rate of a flow gives, without regard to its end."""
     for name in ("vehsPerHour", "perHour"):
         if element.get(name):
@@ -46,7 +57,7 @@ def moments(path, element, begin, end, most, draws):
     return (begin + at * period for at in count())
 
 
-def by_chance(begin, chance, draws):
+def by_chance(begin: float, chance: float, draws: Random) -> Iterator[float]:
     """Seconds in each of which a vehicle departs by a chance; the seconds until the next are drawn at once."""
     if chance <= 0:
         return
@@ -59,7 +70,7 @@ def by_chance(begin, chance, draws):
         yield begin + second
 
 
-def by_rate(begin, rate, draws):
+def by_rate(begin: float, rate: float, draws: Random) -> Iterator[float]:
     """Times whose gaps are drawn with a mean of 1 / rate."""
     clock = begin
     while rate > 0:

@@ -1,18 +1,23 @@
 """streetsim-import: SUMO networks and routes to streetsim's commands."""
+from __future__ import annotations
+
+import argparse
 import json
 import sys
+from collections.abc import Sequence
+from typing import Any
 
 from .. import limits
 from ..cli.progress import Slow
 from ..cli.words import FALSE, Parser, files_of, listed, time_within, within
 from ..files import Fault, place_of, refuse_equal, whole_file
-from ..run.mapping import map_of
+from ..run.mapping import Map, map_of
 from ..run.tables import write_table
 from .configuration import DEFAULTS, files_named, read_configuration, tell_options
 from .conflicts import conflicts_of
-from .demand import Demand, Unrouted, enters, kinds_of
+from .demand import Demand, Unrouted, Vehicle, enters, kinds_of
 from .detectors import placed
-from .net import actuated, read_additional, read_net
+from .net import SumoNet, actuated, read_additional, read_net
 from .network import Network, Options
 from .report import COLUMNS, Report
 from .rules import warn_of_rules
@@ -21,8 +26,11 @@ from .sources import Sources
 from .types import CLASSES, Sizes, Types
 from .yielding import equivalents, hourly_flows
 
+# The network, its lights with their nodes, the commands of the run, the names of its vehicles.
+Made = tuple[Network, list[list[Any]], list[dict[str, Any]], list[str]]
 
-def parser():
+
+def parser() -> argparse.ArgumentParser:
     made = Parser(
         prog="streetsim-import",
         description="Makes load, signal and enter lines, and a map of the names, of a SUMO network and its routes.",
@@ -56,7 +64,7 @@ def parser():
     return made
 
 
-def add_options(made):
+def add_options(made: argparse.ArgumentParser) -> None:
     """The words that say how a network and its vehicles become commands."""
     made.add_argument(
         "--classes", default="passenger", help="keep lanes that allow one of these vehicle classes, with commas between"
@@ -117,7 +125,7 @@ def add_options(made):
     )
 
 
-def options_of(words):
+def options_of(words: argparse.Namespace) -> Options:
     if words.permissive is not None and not 0 <= words.permissive <= 1:
         raise Fault("--permissive is a share from 0 to 1")
     classes = tuple(listed(words.classes))
@@ -131,7 +139,7 @@ def options_of(words):
     return Options(classes=classes, **given)
 
 
-def words_of(arguments):
+def words_of(arguments: list[str]) -> tuple[argparse.Namespace, dict[str, str]]:
     """The words of a command, and the options of the configuration that they name."""
     made = parser()
     words = made.parse_args(arguments)
@@ -140,7 +148,7 @@ def words_of(arguments):
             raise Fault("no network: give NET.net.xml, or -c FILE.sumocfg (what may be given: streetsim-import --help)")
         return words, {}
     options = read_configuration(words.configuration)
-    given = {name.replace("-", "_"): options[name] for name in DEFAULTS if options.get(name)}
+    given: dict[str, Any] = {name.replace("-", "_"): options[name] for name in DEFAULTS if options.get(name)}
     if "ignore_route_errors" in given:
         given["ignore_route_errors"] = given["ignore_route_errors"].lower() not in FALSE
     made.set_defaults(**given)
@@ -151,7 +159,7 @@ def words_of(arguments):
     return words, options
 
 
-def read_and_converted(sources, options, report, told):
+def read_and_converted(sources: Sources, options: Options, report: Report, told: dict[str, str]) -> Made:
     """What `convert` makes of the sources; those of a configuration may have trips among their routes. `told`: its options."""
     tell_options(told, report)
     try:
@@ -166,7 +174,7 @@ def read_and_converted(sources, options, report, told):
     return convert(sources.net, sources.additional, [], options, report, sources.trips)
 
 
-def main(arguments):
+def main(arguments: list[str]) -> int:
     words, told = words_of(arguments)
     words.additional, words.routes, words.trips = map(files_of, (words.additional, words.routes, words.trips))
     sources = Sources(words.net, words.additional, words.routes, words.trips)
@@ -188,7 +196,7 @@ def main(arguments):
     return 1 if words.strict and report.skipped else 0
 
 
-def write_run(output, map_output, made, report, sources=None):
+def write_run(output: str, map_output: str, made: Made, report: Report, sources: Sources | None = None) -> Map:
     """Writes what `converted` made: the run and its map, which keeps the sources. Gives the map."""
     lines, mapping = run_and_map(made, report)
     mapping.sources = sources.written(map_output, lines) if sources else {}
@@ -198,7 +206,7 @@ def write_run(output, map_output, made, report, sources=None):
     return mapping
 
 
-def run_and_map(made, report):
+def run_and_map(made: Made, report: Report) -> tuple[list[str], Map]:
     """The lines of the run as texts, and its map, of what `converted` made."""
     network, lights, commands, names = made
     mapping = map_of(network, lights, names, report)
@@ -209,7 +217,14 @@ def run_and_map(made, report):
     return lines, mapping
 
 
-def convert(net_path, additional, routes, options, report, trips=()):
+def convert(
+    net_path: str,
+    additional: Sequence[str],
+    routes: Sequence[str],
+    options: Options,
+    report: Report,
+    trips: Sequence[str] = (),
+) -> Made:
     """The network, its lights, the commands of the run and the names of its vehicles."""
     net = read_net(net_path, options.classes, report)
     types = Types(options.seed, report)
@@ -221,6 +236,7 @@ def convert(net_path, additional, routes, options, report, trips=()):
 
         vehicles = vehicles_with_ways(net, types, [*routes, *trips], options, report)
     else:
+        assert demand is not None
         for path in routes:
             demand.read(path)
         vehicles = demand.finish(options.end)
@@ -230,7 +246,7 @@ def convert(net_path, additional, routes, options, report, trips=()):
     return made
 
 
-def converted(net, types, vehicles, options, report):
+def converted(net: SumoNet, types: Types, vehicles: Sequence[Vehicle], options: Options, report: Report) -> Made:
     """The same of a network that was read, and of vehicles in order of departure."""
     flows = hourly_flows(vehicles)
     network = Network(net, options, report, flows)
@@ -250,7 +266,7 @@ def converted(net, types, vehicles, options, report):
     return network, lights, [network.load(), *(command for _, command in made), *entered], [vehicle.name for vehicle in driven]
 
 
-def refuse_over_limits(network, load, names):
+def refuse_over_limits(network: Network, load: str, names: Sequence[str]) -> None:
     over = list(network.over_limits())
     if len(names) > limits.VEHICLES:
         over.append(f"{len(names):,} vehicles, at most {limits.VEHICLES:,}")

@@ -1,11 +1,19 @@
 """Reads a SUMO network (.net.xml, and signal programs of additional files)."""
-from collections import defaultdict
-from dataclasses import dataclass, field, replace
+from __future__ import annotations
 
-from ..files import Fault, at_least_zero, attribute, elements, number, seconds, told
-from .detectors import KINDS, read_detector
-from .report import some
-from .types import TAGS
+from collections import defaultdict
+from collections.abc import Collection, Iterable, Sequence
+from dataclasses import dataclass, field, replace
+from typing import TYPE_CHECKING, Any
+from xml.etree.ElementTree import Element
+
+from ..files import Fault, FilePath, at_least_zero, attribute, elements, number, seconds, told
+from .detectors import KINDS, SumoDetector, read_detector
+from .report import Report, some
+from .types import TAGS, Types
+
+if TYPE_CHECKING:
+    from .demand import Demand
 
 STATIC = "static"  # the kind of a signal program that is seconds alone
 UNDONE = {  # elements of additional files that change traffic in SUMO: what to do here
@@ -14,6 +22,7 @@ UNDONE = {  # elements of additional files that change traffic in SUMO: what to 
     "variableSpeedSign": "the lanes keep their speed: judge by SUMO",
     "WAUT": 'signal lines of the run file with "at" change plans by time of day',
 }
+Point = tuple[float, float]
 INNER = ("internal", "walkingarea", "crossing")
 DEMAND = ("route", "routeDistribution", "vehicle", "flow", "trip", "person", "personFlow", "container", "containerFlow")
 
@@ -23,7 +32,7 @@ class Lane:
     index: int
     speed: float  # metres a second
     metres: float
-    shape: list  # of (x, y), metres
+    shape: list[Point]  # metres
 
 
 @dataclass(slots=True)
@@ -32,7 +41,7 @@ class Edge:
     begin: str
     end: str
     priority: int
-    lanes: list  # those that one of the classes may use, from the right
+    lanes: list[Lane]  # those that one of the classes may use, from the right
 
 
 @dataclass(slots=True)
@@ -51,47 +60,54 @@ class Connection:
 @dataclass(slots=True)
 class Program:
     offset: float
-    phases: list  # of (seconds, state)
+    phases: list[tuple[float, str]]  # seconds and state
     kind: str  # static, actuated, ..
-    bounds: list = field(default_factory=list)  # for each phase its minDur and maxDur, or none
+    bounds: list[tuple[float | None, float | None]] = field(default_factory=list)  # for each phase its minDur and maxDur, or none
 
 
 @dataclass(slots=True)
 class SumoNet:
-    junctions: dict = field(default_factory=dict)  # name: (x, y)
-    edges: dict = field(default_factory=dict)  # name: Edge
-    dropped: set = field(default_factory=set)  # edges without a lane for the classes
+    junctions: dict[str, Point] = field(default_factory=dict)
+    edges: dict[str, Edge] = field(default_factory=dict)  # by name
+    dropped: set[str] = field(default_factory=set)  # edges without a lane for the classes
     closed_lanes: int = 0  # lanes that are not for the classes
-    connections: list = field(default_factory=list)  # between kept lanes
-    closed_ways: set = field(default_factory=set)  # (edge, edge) of those that are not for the classes
-    roundabouts: set = field(default_factory=set)  # edges
-    programs: dict = field(default_factory=dict)  # light: Program, the last loaded
-    detectors: list = field(default_factory=list)  # of additional files
-    yields: dict = field(default_factory=dict)  # junction: for each request those that it gives way to
-    inner_speeds: dict = field(default_factory=dict)  # lane inside a junction: metres a second
-    location: dict = field(default_factory=dict)  # where it lies on Earth, as read_location keeps it
+    connections: list[Connection] = field(default_factory=list)  # between kept lanes
+    closed_ways: set[tuple[str, str]] = field(default_factory=set)  # (edge, edge) of those that are not for the classes
+    roundabouts: set[str] = field(default_factory=set)  # edges
+    programs: dict[str, Program] = field(default_factory=dict)  # by light, the last loaded
+    detectors: list[SumoDetector] = field(default_factory=list)  # of additional files
+    yields: dict[str, dict[int, set[int]]] = field(default_factory=dict)  # junction: for each request those that it gives way to
+    inner_speeds: dict[str, float] = field(default_factory=dict)  # lane inside a junction: metres a second
+    location: dict[str, Any] = field(default_factory=dict)  # where it lies on Earth, as read_location keeps it
+
+    def yields_of(self, connection: Connection) -> set[int]:
+        """The requests at its junction that a connection gives way to."""
+        at_junction = self.yields.get(self.edges[connection.source].end, {})
+        return at_junction.get(connection.request, set()) if connection.request is not None else set()
 
 
-def shape(text):
+def shape(text: str) -> list[Point]:
     """A list of two points or more; heights are left out."""
-    points = [tuple(number(part) for part in point.split(",")[:2]) for point in text.split()]
+    points: list[Any] = [tuple(number(part) for part in point.split(",")[:2]) for point in text.split()]
     if len(points) < 2 or any(len(point) < 2 for point in points):
         raise ValueError(text)
     return points
 
 
-def allows(element, classes):
+def allows(element: Element, classes: Collection[str]) -> bool:
     """Whether a lane or connection is open to one of the vehicle classes."""
-    if element.get("allow") is not None:
-        allowed = element.get("allow").split()
+    named = element.get("allow")
+    if named is not None:
+        allowed = named.split()
         return "all" in allowed or any(name in allowed for name in classes)
     closed = (element.get("disallow") or "").split()
     return "all" not in closed and any(name not in closed for name in classes)
 
 
-def read_net(path, classes, report):
+def read_net(path: FilePath, classes: Sequence[str], report: Report) -> SumoNet:
     """The network of a .net.xml, with the lanes that one of the classes may use."""
-    net, named = SumoNet(), set()
+    net = SumoNet()
+    named: set[str] = set()
     readers = {
         "edge": read_edge,
         "junction": read_junction,
@@ -115,7 +131,7 @@ def read_net(path, classes, report):
     return net
 
 
-def read_additional(path, net, types, report, demand=None):
+def read_additional(path: FilePath, net: SumoNet, types: Types, report: Report, demand: Demand | None = None) -> None:
     """Signal programs, vehicle types and detectors of an additional file, and vehicles, flows and routes for a demand where
     one is given; all else there is counted as ignored."""
     undone = defaultdict(list)
@@ -139,7 +155,7 @@ def read_additional(path, net, types, report, demand=None):
         report.warn(f"{path}: <{tag}> does nothing here: {some(names)}", names, UNDONE[tag])
 
 
-def read_edge(path, element, net, classes):
+def read_edge(path: FilePath, element: Element, net: SumoNet, classes: Collection[str]) -> None:
     if element.get("function") in INNER:
         for lane in element.iter("lane"):
             net.inner_speeds[attribute(path, lane, "id")] = attribute(path, lane, "speed", at_least_zero(number))
@@ -172,19 +188,19 @@ def read_edge(path, element, net, classes):
         net.dropped.add(name)
 
 
-def read_location(path, element, net, _classes):
+def read_location(path: FilePath, element: Element, net: SumoNet, _classes: Collection[str]) -> None:
     """The projection, and what was added to its metres; SUMO writes "!" where there is none."""
     offset = attribute(path, element, "netOffset", plane_point) if element.get("netOffset") else (0.0, 0.0)
     net.location = {"offset": offset, "projection": element.get("projParameter", "!")}
 
 
-def plane_point(text):
+def plane_point(text: str) -> Point:
     """Two numbers with a comma between; a height after them is left out."""
     x, y, *_ = (number(part) for part in text.split(","))
     return x, y
 
 
-def read_junction(path, element, net, _classes):
+def read_junction(path: FilePath, element: Element, net: SumoNet, _classes: Collection[str]) -> None:
     if element.get("type") != "internal":
         name = attribute(path, element, "id")
         net.junctions[name] = attribute(path, element, "x", number), attribute(path, element, "y", number)
@@ -196,7 +212,7 @@ def read_junction(path, element, net, _classes):
         }
 
 
-def read_connection(path, element, net, classes):
+def read_connection(path: FilePath, element: Element, net: SumoNet, classes: Collection[str]) -> None:
     """A connection between lanes that are kept; all edges stand before it in the file."""
     source, target = attribute(path, element, "from"), attribute(path, element, "to")
     for edge in (source, target):
@@ -229,27 +245,27 @@ def read_connection(path, element, net, classes):
         net.closed_ways.add((source, target))
 
 
-def request_of(inner):
+def request_of(inner: str) -> int | None:
     """The place among its junction's requests of a connection that runs over a lane inside it, ":junction_N_LANE": the
     lanes of one inner edge follow each other."""
     parts = inner.rsplit("_", 2)
     return int(parts[1]) + int(parts[2]) if len(parts) == 3 and all(map(str.isdecimal, parts[1:])) else None
 
 
-def has_lane(edge, index):
+def has_lane(edge: Edge, index: int) -> bool:
     return any(lane.index == index for lane in edge.lanes)
 
 
-def read_roundabout(path, element, net, _classes):
+def read_roundabout(path: FilePath, element: Element, net: SumoNet, _classes: Collection[str]) -> None:
     net.roundabouts.update(attribute(path, element, "edges").split())
 
 
-def read_program(path, element, net, _classes):
+def read_program(path: FilePath, element: Element, net: SumoNet, _classes: Collection[str]) -> None:
     phases = [
         (attribute(path, phase, "duration", at_least_zero(seconds)), attribute(path, phase, "state"))
         for phase in element.iter("phase")
     ]
-    bounds = [tuple(bound_of(path, phase, name) for name in ("minDur", "maxDur")) for phase in element.iter("phase")]
+    bounds = [(bound_of(path, phase, "minDur"), bound_of(path, phase, "maxDur")) for phase in element.iter("phase")]
     offset = attribute(path, element, "offset", seconds) if element.get("offset") else 0.0
     light = attribute(path, element, "id")
     if not phases and light in net.programs:  # an offset alone, as SUMO's tlsCoordinator writes it
@@ -258,17 +274,17 @@ def read_program(path, element, net, _classes):
         net.programs[light] = Program(offset, phases, element.get("type", STATIC), bounds)
 
 
-def actuated(net, lights):
+def actuated(net: SumoNet, lights: Iterable[str]) -> list[str]:
     """Those of some lights that SUMO times by detectors, or by anything but seconds."""
     return [light for light in dict.fromkeys(lights) if net.programs[light].kind != STATIC]
 
 
-def refuse_unknown_light(path, element, net):
+def refuse_unknown_light(path: FilePath, element: Element, net: SumoNet) -> None:
     """As SUMO does, which knows the lights of the network alone."""
     light = attribute(path, element, "id")
     if light not in net.programs and all(light != one.light for one in net.connections):
         raise Fault(f"{told(path, element)}: the network has no light of this name")
 
 
-def bound_of(path, phase, name):
+def bound_of(path: FilePath, phase: Element, name: str) -> float | None:
     return attribute(path, phase, name, at_least_zero(seconds)) if phase.get(name) else None

@@ -1,12 +1,20 @@
 """Nodes, links and turns of streetsim, made of a SUMO network."""
+from __future__ import annotations
+
 from collections import Counter, defaultdict
+from collections.abc import Collection, Iterable, Iterator, Mapping, Sequence
 from dataclasses import dataclass, replace
+from typing import TYPE_CHECKING, Any
 
 from .. import limits
 from ..files import Fault
-from .conflicts import lost
-from .report import some
+from .conflicts import Flows, TurnKey, Waiting, lost
+from .net import Connection, Edge, Lane, Point, SumoNet
+from .report import Report, some
 from .signals import connections_of
+
+LaneKey = tuple[str, int]  # an edge and SUMO's index of a lane of it
+Targets = Mapping[LaneKey, set[str]]  # the next edges to which a lane leads
 
 MISSING_TURN = 0.5  # what a change between parallel links costs that SUMO has no connection for
 WRONG_LANE = 100.0  # the same from lanes that do not lead to an edge to which others wait for a gap
@@ -18,7 +26,7 @@ CROWDING_BESIDE = 2.0  # the same where links of an edge lead to a common one an
 class Options:
     """What an import can be told; the values are explained in tools/README.md."""
 
-    classes: tuple = ("passenger",)
+    classes: tuple[str, ...] = ("passenger",)
     strict_turns: bool = False
     dawdle: int = 170
     change: int = 1000
@@ -31,20 +39,20 @@ class Options:
     sizes: bool = True  # of vehicles, by their types; else one cell each
     end: int | None = None  # vehicles that depart then or later are left out
     ignore_route_errors: bool = False  # leaves out vehicles whose route has edges without a connection
-    joint: tuple = ()  # edges, or lanes by SUMO's names, whose lanes are to be joint with the ones beside them
+    joint: tuple[str, ...] = ()  # edges, or lanes by SUMO's names, whose lanes are to be joint with the ones beside them
 
 
 @dataclass(slots=True)
 class Link:
     edge: str
-    lanes: tuple  # indexes of SUMO lanes; one or two
+    lanes: tuple[int, ...]  # indexes of SUMO lanes; one or two
     begin: int
     end: int
     cells: int
     limit: int
     metres: float
     speed: float
-    shape: list
+    shape: list[Point]
 
 
 @dataclass(slots=True)
@@ -60,7 +68,7 @@ class Turn:
 class Network:
     """Links and nodes go by number, their place in the load."""
 
-    def __init__(self, net, options, report, flows):
+    def __init__(self, net: SumoNet, options: Options, report: Report, flows: Flows) -> None:
         """Flows are the routes' vehicles an hour from edge to edge; none where no route is known."""
         self.options, self.detectors, self.dropped = options, net.detectors, net.dropped
         edges = ordered(net)
@@ -71,7 +79,9 @@ class Network:
             raise Fault(f"the network has no junction {min(ends - number.keys())!r}, where an edge begins or ends")
         self.places = [net.junctions[name] for name in self.nodes]
         self.location = net.location
-        self.links, self.links_of, self.place_of = [], {}, {}
+        self.links: list[Link] = []
+        self.links_of: dict[str, list[int]] = {}
+        self.place_of: dict[LaneKey, tuple[int, int]] = {}  # link and lane
         following, waiting = next_edges(net, flows)
         self.closing = closing_lanes(net, options.joint)
         bundles = bundles_of(edges, following, waiting, self.closing, report)
@@ -80,25 +90,26 @@ class Network:
             for lanes in bundles[edge.name]:
                 self.place_of.update({(edge.name, lane.index): (len(self.links), at) for at, lane in enumerate(lanes)})
                 self.links.append(link_of(edge, lanes, number, options))
-        self.turns = {}  # (link, lane, next link): Turn
-        self.waiting = set()  # (edge, next edge) to which a signal lets go only when there is a gap
+        self.turns: dict[TurnKey, Turn] = {}
+        self.waiting: set[tuple[str, str]] = set()  # (edge, next edge) to which a signal lets go only when there is a gap
         self.waiting.update((edge, target) for (edge, _), targets in waiting.items() for target in targets)
-        self.movements = defaultdict(list)  # (edge, next edge): connections
+        self.movements: defaultdict[tuple[str, str], list[Connection]] = defaultdict(list)  # (edge, next edge): connections
         self.add_connections(net, report)
         if not options.strict_turns:
             self.open_both_lanes(report)
         self.leads = {(link, self.links[following].edge) for link, _, following in self.turns}
         self.unlike = self.shared_ways() & {edge for edge, _ in self.waiting}
         self.residences = residences(edges, net, self.links, self.nodes, options, flows)
-        self.use = Counter()
-        self.equivalents = {}  # (edge, next edge): in how many others' place a vehicle counts that waits for a gap
-        self.joined = set()
-        self.yields = []  # conflicts.Waiting
+        self.use: Counter[int] = Counter()
+        # (edge, next edge): in how many others' place a vehicle counts that waits for a gap
+        self.equivalents: Mapping[tuple[str, str], float] = {}
+        self.joined: set[tuple[int, int]] = set()
+        self.yields: list[Waiting] = []
         self.last = options.begin  # departure
-        self.kinds = {}  # of the vehicles, as demand.kinds_of
-        self.actuated = []  # lights that SUMO times by detectors
+        self.kinds: dict[str, Any] = {}  # of the vehicles, as demand.kinds_of
+        self.actuated: list[str] = []  # lights that SUMO times by detectors
 
-    def add_connections(self, net, report):
+    def add_connections(self, net: SumoNet, report: Report) -> None:
         """Of several connections from one lane to one next link the one to the same lane counts, else the lowest."""
         doubled = set()
         for connection in net.connections:
@@ -118,11 +129,11 @@ class Network:
                 sorted(doubled),
             )
 
-    def turn(self, link, next_lane, connection, added):
+    def turn(self, link: int, next_lane: int, connection: Connection, added: bool) -> Turn:
         speed = connection.speed or self.links[link].speed
         return Turn(next_lane, connection.light, connection.index, added, speed, self.links[link].limit)
 
-    def open_both_lanes(self, report):
+    def open_both_lanes(self, report: Report) -> None:
         """Where one lane of two has a turn to a next link, the other gets it too: else two vehicles side by side, each
         needing the other's lane, stand for ever."""
         count = 0
@@ -137,11 +148,11 @@ class Network:
                 light=True,
             )
 
-    def serves(self, link, following):
+    def serves(self, link: int, following: int) -> list[int]:
         """The lanes of a link that have a turn to the next one."""
         return [lane for lane in range(len(self.links[link].lanes)) if (link, lane, following) in self.turns]
 
-    def join(self, link, following):
+    def join(self, link: int, following: int) -> None:
         """Adds turns from a link to a parallel one of those that the street leads to; their signal is that of the
         movement."""
         connections = self.movements[self.links[link].edge, self.links[following].edge]
@@ -151,7 +162,7 @@ class Network:
             self.turns[link, lane, following] = self.turn(link, next_lane, nearest, True)
         self.joined.add((link, following))
 
-    def open_beside_works(self):
+    def open_beside_works(self) -> None:
         """Where a link has no lane but ones that are to be closed, and its edge has others, these get its turns: so that
         plans can go round it."""
         for name, closing in self.closing.items():
@@ -165,11 +176,12 @@ class Network:
                 if not self.serves(link, following):
                     self.join(link, following)
 
-    def route(self, edges):
+    def route(self, edges: Sequence[str]) -> tuple[int, ...] | None:
         """The links of a route over parallel links, by least cost; turns that are wanting are added. None where two
         edges have no connection."""
         if any((edge, following) not in self.movements for edge, following in zip(edges, edges[1:])):
             return None
+        best: dict[int, tuple[float, tuple[int, ...]]]
         best = {link: (self.crowding(link), (link,)) for link in self.links_of[edges[0]]}
         for edge in edges[1:]:
             best = {
@@ -182,17 +194,18 @@ class Network:
         plan = min(best.values())[1]
         self.use[plan[-1]] += 1
         for link, following in zip(plan, plan[1:]):
-            self.use[link] += self.equivalents.get((self.links[link].edge, self.links[following].edge), 1)
+            more = self.equivalents.get((self.links[link].edge, self.links[following].edge), 1)
+            self.use[link] += more  # type: ignore[assignment]  # the stubs have whole counts alone
             if not self.serves(link, following):
                 self.join(link, following)
         return plan
 
-    def shared_ways(self):
+    def shared_ways(self) -> set[str]:
         """The edges of which two links lead to one next edge."""
         ways = Counter((self.links[link].edge, target) for link, target in self.leads)
         return {edge for (edge, _), count in ways.items() if count > 1}
 
-    def change_cost(self, link, following):
+    def change_cost(self, link: int, following: int) -> float:
         """What a plan costs more that goes from one link to another without a connection of SUMO's."""
         if self.serves(link, following):
             return 0.0
@@ -200,14 +213,14 @@ class Network:
         wrong = (edge, target) in self.waiting and (link, target) not in self.leads
         return WRONG_LANE if wrong else MISSING_TURN
 
-    def crowding(self, link):
+    def crowding(self, link: int) -> float:
         """The cost of a link for what each of its lanes carries already, against the mean of the edge's links."""
         links = self.links_of[self.links[link].edge]
         total = sum(self.use[other] for other in links)
         weight = CROWDING_BESIDE if self.links[link].edge in self.unlike else CROWDING
         return weight * self.use[link] / len(self.links[link].lanes) * len(links) / total if total else 0.0
 
-    def load(self):
+    def load(self) -> dict[str, Any]:
         """The load command."""
         options = self.options
         return {
@@ -225,7 +238,7 @@ class Network:
             "start": options.begin,
         }
 
-    def over_limits(self):
+    def over_limits(self) -> Iterator[str]:
         """The limits that this network passes, in words."""
         for what, count, most in (
             ("nodes", len(self.nodes), limits.NODES),
@@ -240,14 +253,15 @@ class Network:
             yield f"{len(long)} links above {limits.CELLS:,} cells of {limits.CELL_METRES} m: edges {edges}"
 
 
-def ordered(net):
+def ordered(net: SumoNet) -> list[Edge]:
     """Edges in load order, which is the only priority at a node: roundabouts, then main streets, then fast ones."""
-    major, all_of = Counter(), Counter()
+    major: Counter[str] = Counter()
+    all_of: Counter[str] = Counter()
     for connection in net.connections:
         all_of[connection.source] += 1
         major[connection.source] += connection.state == "M"
 
-    def key(edge):
+    def key(edge: Edge) -> tuple[bool, float, int, float]:
         return (
             edge.name not in net.roundabouts,
             -major[edge.name] / max(1, all_of[edge.name]),
@@ -258,7 +272,7 @@ def ordered(net):
     return sorted(net.edges.values(), key=key)
 
 
-def next_edges(net, flows):
+def next_edges(net: SumoNet, flows: Flows) -> tuple[Targets, Targets]:
     """The edges that each lane leads to, and of these the ones to which a signal lets it go only when there is a gap.
     Those alone that routes take, where a lane leads to any of these."""
     used = {(connection.source, connection.source_lane) for connection in net.connections if taken(connection, flows)}
@@ -272,20 +286,20 @@ def next_edges(net, flows):
     return following, waiting
 
 
-def taken(connection, flows):
+def taken(connection: Connection, flows: Flows) -> bool:
     """Whether a route takes the way of a connection."""
     return bool(flows.get((connection.source, connection.target)))
 
 
-def may_wait(connection, net):
+def may_wait(connection: Connection, net: SumoNet) -> bool:
     """Whether a signal shows a connection that it may go if nobody comes whom it has to give way to."""
-    program = net.programs.get(connection.light)
-    yields = net.yields.get(net.edges[connection.source].end, {}).get(connection.request)
+    program = net.programs.get(connection.light or "")
+    yields = net.yields_of(connection)
     shown = {state[connection.index : connection.index + 1] for _, state in program.phases} if program else set()
     return bool(yields) and not shown.isdisjoint("go")
 
 
-def closing_lanes(net, names):
+def closing_lanes(net: SumoNet, names: Iterable[str]) -> dict[str, set[int]]:
     """The lanes that are named, or whose edge is, {edge: lane indexes}."""
     found = defaultdict(set)
     for name in names:
@@ -300,7 +314,9 @@ def closing_lanes(net, names):
     return found
 
 
-def bundles_of(edges, following, waiting, closing, report):
+def bundles_of(
+    edges: Sequence[Edge], following: Targets, waiting: Targets, closing: Mapping[str, Collection[int]], report: Report
+) -> dict[str, list[list[Lane]]]:
     """The lanes of each edge by its links. Turn lanes are no links of their own where there would be too many."""
     bundles = {edge.name: parallel(edge, following, waiting, closing.get(edge.name, ())) for edge in edges}
     if sum(map(len, bundles.values())) <= limits.LINKS:
@@ -309,17 +325,20 @@ def bundles_of(edges, following, waiting, closing, report):
     return {edge.name: parallel(edge, following, None, closing.get(edge.name, ())) for edge in edges}
 
 
-def parallel(edge, following, waiting, closing=()):
+def parallel(
+    edge: Edge, following: Targets, waiting: Targets | None, closing: Collection[int] = ()
+) -> list[list[Lane]]:
     """The lanes of an edge in groups of one and two, from the right: as few lanes that are to be closed as there may be
     without an open one beside them, then as few groups, and of these the ones whose lanes share most next edges."""
     places = [(edge.name, lane.index) for lane in edge.lanes]
-    best = [(0, 0, 0, [])]  # for the first lanes: those without an open one, groups, less their shared edges
+    # For the first lanes: those without an open one, groups, less their shared edges.
+    best: list[tuple[int, int, int, list[list[Lane]]]] = [(0, 0, 0, [])]
     for end in range(1, len(places) + 1):
         found = []
         for size in (1, 2):
             lanes = [index for _, index in places[end - size : end]]
             shut = [index for index in lanes if index in closing]
-            if size <= end and (size == 1 or shut or may_share(*places[end - 2 : end], following, waiting)):
+            if size <= end and (size == 1 or shut or may_share(places[end - 2], places[end - 1], following, waiting)):
                 alone, groups, shared, made = best[end - size]
                 alone += len(shut) if len(shut) == size else 0
                 own = len(following[places[end - 1]] & following[places[end - 2]]) if size == 2 else 0
@@ -328,7 +347,7 @@ def parallel(edge, following, waiting, closing=()):
     return best[-1][3]
 
 
-def may_share(right, left, following, waiting):
+def may_share(right: LaneKey, left: LaneKey, following: Targets, waiting: Targets | None) -> bool:
     """Whether two lanes side by side may be one link: not where they lead to different edges, and not where one of them
     has vehicles that wait for a gap and the other has not, if it is told where vehicles wait."""
     if waiting is None or not following[right] or not following[left]:
@@ -336,7 +355,7 @@ def may_share(right, left, following, waiting):
     return bool(following[right] & following[left]) and waiting[right] == waiting[left]
 
 
-def link_of(edge, lanes, number, options):
+def link_of(edge: Edge, lanes: Sequence[Lane], number: Mapping[str, int], options: Options) -> Link:
     wished = lanes[0].speed / limits.CELL_METRES + options.dawdle / 1000
     limit = min(range(1, limits.LIMIT + 1), key=lambda cells: abs(cells - wished))
     cells = max(1, round(lanes[0].metres / limits.CELL_METRES))
@@ -353,17 +372,20 @@ def link_of(edge, lanes, number, options):
     )
 
 
-def middle(lanes):
+def middle(lanes: Sequence[Lane]) -> list[Point]:
     """The line between the lanes of a link, or the last lane's where they have not as many points."""
     if len({len(lane.shape) for lane in lanes}) > 1:
         return lanes[-1].shape
-    return [
+    line: list[Any] = [
         tuple(sum(part) / len(lanes) for part in zip(*points, strict=True))
         for points in zip(*(lane.shape for lane in lanes), strict=True)
     ]
+    return line
 
 
-def residences(edges, net, links, nodes, options, flows):
+def residences(
+    edges: Sequence[Edge], net: SumoNet, links: Sequence[Link], nodes: Sequence[str], options: Options, flows: Flows
+) -> list[int]:
     """Steps in a buffer for each node: the given ones at signals and real junctions, 1 elsewhere. At real junctions
     without a light, and where streets meet a roundabout, more, as many as its vehicles lose on average that turn or have to
     look out."""
@@ -377,13 +399,13 @@ def residences(edges, net, links, nodes, options, flows):
     return [min(limits.RESIDENCE, usual.get(name, 1) + more.get(name, 0)) for name in nodes]
 
 
-def longer_here(link, options):
+def longer_here(link: Link, options: Options) -> float:
     """The seconds that a free link takes longer here than in SUMO, as lengths and speeds are whole cells."""
     free = link.limit - options.dawdle / 1000
     return link.cells / free - link.metres / link.speed if free and link.speed else 0.0
 
 
-def losses(net, names, flows, longer):
+def losses(net: SumoNet, names: Sequence[str], flows: Flows, longer: Mapping[str, float]) -> dict[str, int]:
     """Whole seconds that vehicles lose at junctions, on average; what rounding owes is carried on to the next."""
     connections, found, owed = connections_of(net), {}, 0.0
     for name in names:

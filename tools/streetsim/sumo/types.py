@@ -1,11 +1,14 @@
 """Reads SUMO vehicle types and gives their vehicles sizes: how many cells each takes."""
+from __future__ import annotations
+
 import random
 from collections import Counter, defaultdict
 from dataclasses import dataclass
+from xml.etree.ElementTree import Element
 
 from .. import limits
-from ..files import Fault, at_least_zero, attribute, number, told
-from .report import some
+from ..files import Fault, FilePath, at_least_zero, attribute, number, told
+from .report import Report, some
 
 # SUMO's vehicle classes.
 CLASSES = (
@@ -52,7 +55,7 @@ class Kind:
     speed: float | None = None  # metres a second at most, where the type tells it
 
 
-def class_of(path, element):
+def class_of(path: FilePath, element: Element) -> str:
     """The vehicle class of a type, by the name that SUMO has for it."""
     name = element.get("vClass") or "passenger"
     name = FORMER.get(name, name)
@@ -61,7 +64,7 @@ def class_of(path, element):
     return name
 
 
-def weights_of(text):
+def weights_of(text: str) -> list[float]:
     return [at_least_zero(number)(part) for part in text.split()]
 
 
@@ -69,22 +72,22 @@ class Types:
     """The vehicle types that files tell, with the metres of road that a vehicle takes with the gap ahead of it; and the
     distributions, from which the type of each vehicle is drawn."""
 
-    def __init__(self, seed, report):
+    def __init__(self, seed: int, report: Report) -> None:
         self.report = report
         self.metres = {DEFAULT: sum(USUAL), "DEFAULT_TAXITYPE": sum(USUAL)}
         self.metres["DEFAULT_BIKETYPE"] = sum(BY_CLASS["bicycle"])
         self.kinds = {DEFAULT: Kind()}  # by name; those that files tell, and the usual one
-        self.mixes = {}  # distribution: types and their weights
+        self.mixes: dict[str, tuple[list[str], list[float]]] = {}  # distribution: types and their weights
         self.draws = random.Random(f"types {seed}")
-        self.unknown = set()
+        self.unknown: set[str] = set()
 
-    def read(self, path, element):
+    def read(self, path: FilePath, element: Element) -> None:
         if element.tag == "vType":
             self.read_type(path, element)
         else:
             self.read_mix(path, element)
 
-    def read_type(self, path, element):
+    def read_type(self, path: FilePath, element: Element) -> None:
         vclass = class_of(path, element)
         length, gap = BY_CLASS.get(vclass, USUAL)
         if element.get("length"):
@@ -92,12 +95,13 @@ class Types:
         if element.get("minGap"):
             gap = attribute(path, element, "minGap", at_least_zero(number))
         speed = attribute(path, element, "maxSpeed", at_least_zero(number)) if element.get("maxSpeed") else None
-        self.metres[attribute(path, element, "id")] = length + gap
-        self.kinds[element.get("id")] = Kind(vclass, length, gap, speed)
+        name = attribute(path, element, "id")
+        self.metres[name] = length + gap
+        self.kinds[name] = Kind(vclass, length, gap, speed)
         for name in set(element.keys()) - READ:
             self.report.ignored[f"{name} of vTypes"] += 1
 
-    def read_mix(self, path, element):
+    def read_mix(self, path: FilePath, element: Element) -> None:
         names, weights = (element.get("vTypes") or "").split(), []
         shares = attribute(path, element, "probabilities", weights_of) if element.get("probabilities") else []
         for place, name in enumerate(names):
@@ -106,13 +110,13 @@ class Types:
             weights.append(shares[place] if place < len(shares) else 1.0)
         for inner in element.iter("vType"):
             self.read_type(path, inner)
-            names.append(inner.get("id"))
+            names.append(attribute(path, inner, "id"))
             weights += attribute(path, inner, "probability", weights_of) if inner.get("probability") else [1.0]
         if not names or sum(weights) <= 0:
             raise Fault(f"{told(path, element)}: a distribution without a type")
         self.mixes[attribute(path, element, "id")] = names, weights
 
-    def drawn(self, name):
+    def drawn(self, name: str | None) -> str:
         """The type that a vehicle has: the one that is named, or one of the distribution that is named."""
         if name in self.mixes:
             names, weights = self.mixes[name]
@@ -126,14 +130,14 @@ class Sizes:
     """Gives vehicles their sizes in the order of departure. What a size lacks or has too much is carried on to the next
     vehicle of the type: else all trucks of 9.6 m took one cell."""
 
-    def __init__(self, types):
+    def __init__(self, types: Types) -> None:
         self.types = types
-        self.rests = defaultdict(float)  # by type: cells that are owed
-        self.count = Counter()  # vehicles by size
+        self.rests: defaultdict[str, float] = defaultdict(float)  # by type: cells that are owed
+        self.count: Counter[int] = Counter()  # vehicles by size
         self.metres = 0.0  # of all vehicles, in SUMO
-        self.too_long = Counter()  # vehicles by type
+        self.too_long: Counter[str] = Counter()  # vehicles by type
 
-    def of(self, name):
+    def of(self, name: str) -> int:
         """The cells that the next vehicle of a type takes."""
         metres = self.types.metres[name]
         wished = min(limits.SIZE, max(1.0, metres / limits.CELL_METRES)) + self.rests[name]
@@ -145,7 +149,7 @@ class Sizes:
             self.too_long[name] += 1
         return size
 
-    def tell(self, report):
+    def tell(self, report: Report) -> None:
         """How many took which size and the metres of all, where some are longer than a cell; what does not fit."""
         if self.types.unknown:
             report.warn(f"vehicle types that no file tells are taken for cars: {some(sorted(self.types.unknown))}")
