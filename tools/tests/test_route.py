@@ -13,11 +13,11 @@ from types import SimpleNamespace
 from clusters import ClusterCase, needs_distributed
 from support import DATA, PROGRAM, SCENARIOS, TOOLS, Case, lane, needs_simulator, needs_sumo_tools, net
 from streetsim.routes.costs import Costs, Table, costs_of, flat_costs, nothing_observed
+from streetsim.routes.diverting import Diverted
 from streetsim.routes.graph import END, Graph
 from streetsim.routes.passes import Passes, Sight
 from streetsim.routes.router import FAR, Found, Router, Wish, parts_of
-from streetsim.routes.routing import warnings
-from streetsim.routes.search import changes, gap_of, steps_of
+from streetsim.routes.search import changes, gap_of, is_still, steps_of
 from streetsim.routes.seconds import reds
 from streetsim.run.mapping import Map, MapLink, read_map
 from streetsim.run.runs import read_run
@@ -112,20 +112,27 @@ class Seconds(unittest.TestCase):
         self.assertEqual(gap_of([]), 0.0)
 
 
-class Warnings(unittest.TestCase):
-    def told(self, arrived=1000, rescues=0, best=5, gap=0.03):
-        outcomes = [SimpleNamespace(arrived=arrived, rescues=rescues), SimpleNamespace(arrived=1000, rescues=0)]
-        search = SimpleNamespace(iterations=[SimpleNamespace(number=number) for number in range(11)], best=SimpleNamespace(number=best))
-        job = SimpleNamespace(trips=SimpleNamespace(all=range(1000)), ground=SimpleNamespace(until=9000), words=SimpleNamespace(gap=0.02))
-        return warnings(job, search, SimpleNamespace(outcomes=outcomes, gap=gap))
+class Doubts(unittest.TestCase):
+    def told(self, arrived=1000, rescues=0, waiting=0):
+        outcomes = [SimpleNamespace(arrived=arrived, rescues=rescues, waiting=(waiting, 600)) for _ in range(2)]
+        outcomes[1].arrived, outcomes[1].rescues = 1000, 0
+        search = SimpleNamespace(ground=SimpleNamespace(until=9000), town=SimpleNamespace(works=()))
+        loaded = SimpleNamespace(run=SimpleNamespace(enters=[]), mapping=Map([], [], [], [], [], {}, []))
+        judged = SimpleNamespace(outcomes=outcomes, loaded=loaded)
+        return Diverted(None, range(1000), search, judged).named_doubts()
 
     def test_what_speaks_against_routes(self):
-        self.assertEqual(self.told(best=6), [])
-        self.assertEqual(self.told(arrived=997, best=6), ["3 of 1,000 trips have not arrived at 9,000 s (--until)"])
-        self.assertEqual(self.told(rescues=10, best=6), [])
-        self.assertEqual(self.told(rescues=11, best=6), ["11 rescues of 1,000 trips: the network locks in part, and the gap says little"])
-        self.assertEqual(self.told(), ["the gap does not fall any more: the least was seen in iteration 5"])
-        self.assertEqual(self.told(gap=0.01), [])
+        self.assertEqual(self.told(), [])
+        self.assertEqual(self.told(arrived=997), ["3 of 1,000 trips have not arrived at 9,000 s (--until)"])
+        self.assertEqual(self.told(rescues=10), [])
+        self.assertEqual(self.told(rescues=11), ["11 rescues of 1,000 trips, so the network locks in part, and the gap says little"])
+        self.assertEqual(self.told(waiting=51), ["51 of 1,000 vehicles waited to enter at some 600 s, and are in no queue or count"])
+
+    def test_a_gap_that_does_not_fall(self):
+        search = SimpleNamespace(iterations=[SimpleNamespace(number=number) for number in range(11)], best=SimpleNamespace(number=6))
+        self.assertFalse(is_still(search))
+        search.best.number = 5
+        self.assertTrue(is_still(search))
 
 
 class PassingTimes(unittest.TestCase):

@@ -189,7 +189,8 @@ knowing = 0.5
         self.given(two_ways(), flow(60, 1200))
         self.tool("import", self.net, "--trips", self.trips, "-o", self.folder / "run.jsonl", "--map", self.folder / "map.json")
         study = [self.write("study.toml", self.STUDY), "--out", self.folder / "study", "--program", PROGRAM, "--jobs", 2]
-        self.tool("study", *study)
+        said, _ = self.tool("study", *study)
+        self.assertIn("round: its ways were found by seed 1, which is one of the study's: give others", said.splitlines()[-1])
         with open(self.folder / "study/differences.csv", encoding="utf-8") as file:
             means = {row["variant"]: float(row["mean_trip_s"]) for row in csv.DictReader(file)}
         self.assertTrue(means["base"] + 15 < means["round"] < means["base"] + 60, means)
@@ -238,8 +239,10 @@ knowing = 0.5
         edges = [(name, begin, end, [lane(name, at, 300.0) for at in range(count)]) for name, (begin, end, count) in ends.items()]
         ways = [(name, at, following, at, "") for name, following in (("in", "a"), ("a", "out")) for at in range(3)]
         self.given(net(edges, ways), flow(1000, 900))
-        _, said = self.route("--close", "a_0:100-200:0-900", "--iterations", 0, "--gap", 1)
-        self.assertRegex(said, r"warning: knowing 1: edge a: some [\d,]+ vehicles an hour come to works that leave 1 of 2 lanes")
+        told, _ = self.route("--close", "a_0:100-200:0-900", "--iterations", 0, "--gap", 1)
+        self.assertRegex(told, r"\nnot to be trusted: .*knowing 1: edge a: some [\d,]+ vehicles an hour come to works that leave 1 of 2 lanes")
+        setting = json.loads((self.folder / "out/setting.json").read_text())
+        self.assertRegex(setting["not_trusted"][-1], "^edge a: ")
 
 
 del Commands  # whose own tests stand in test_route

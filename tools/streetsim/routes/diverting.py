@@ -10,6 +10,7 @@ from itertools import pairwise
 from statistics import fmean
 
 from ..files import Fault
+from ..run import trust
 from ..run.crowding import crowded
 from ..run.works import sites_of, works_of
 from ..study.seeds import interval
@@ -41,11 +42,23 @@ class Diverted:
     def means(self) -> list[float]:
         return [one.mean for one in self.judged.outcomes]
 
-    def crowded(self) -> Iterator[str]:
-        """Says where more come to works than the lanes beside them pass."""
+    def doubts(self) -> Iterator[str]:
+        """What speaks against the runs by which it is judged."""
+        outcomes, count, until = self.judged.outcomes, len(self.trips), self.search.ground.until
         run, mapping = self.judged.loaded.run, self.judged.loaded.mapping
+        arrived, rescues = min(one.arrived for one in outcomes), max(one.rescues for one in outcomes)
+        if arrived < count:
+            yield f"{count - arrived:,} of {count:,} trips have not arrived at {until:,} s (--until)"
+        if rescues > trust.MOST_RESCUES * count:
+            yield f"{rescues:,} rescues of {count:,} trips, so the network locks in part, and the gap says little"
+        yield from trust.of_waiting({"": [one.waiting for one in outcomes]}, count)
+        yield from trust.of_lengths(until, run, mapping)
+        yield from trust.of_actuated(until, run, mapping, mapping.actuated)
         works = [works_of(text, mapping) for text in self.search.town.works]
-        return crowded(run, mapping, sites_of(works, mapping))
+        yield from crowded(run, mapping, sites_of(works, mapping))
+
+    def named_doubts(self) -> list[str]:
+        return [f"{self.label}: {text}" if self.search.town.works else text for text in self.doubts()]
 
 
 def placed(path: str, share: float | None, many: bool) -> str:

@@ -13,6 +13,7 @@ from .. import limits, program
 from ..cli.progress import Slow, Stopping
 from ..cli.words import Parser, add_rounds, files_of, listed, time_within, within
 from ..files import Fault, place_of, refuse_equal, whole_file, whole_folder
+from ..run import trust
 from ..run.tables import write_table
 from ..signals.planning import add_machines
 from ..study.seeds import seeds_of
@@ -23,13 +24,12 @@ from .diverting import SHARES, Diverted, check_works, closing_of, diverted, give
 from .loading import Town, read_town
 from .pictures import draw
 from .results import FLOWS, NAME, figures, flow_rows, write_results
-from .search import STILL, Asked, Iteration, Judged, Search
+from .search import Asked, Iteration, Search, is_still
 from .team import Team, team
 from .trips import Trips, connected, read_trips, write_routes
 from .watching import Ground
 
 AFTER = 7200  # seconds that a run may last after the last departure
-MOST_RESCUES = 0.01  # of the trips, beyond which is warned of them
 
 
 def parser() -> argparse.ArgumentParser:
@@ -130,7 +130,10 @@ def main(arguments: Sequence[str]) -> int:
     with team(job.ground, words.jobs, words.cluster) as workers, Stopping() as stopping:
         all_ = found_routes(job, workers, stopping)
     write(job, all_)
-    return max([tell(job, one, all_[0]) for one in all_[len(all_) > 1 :]])
+    status = max([tell(job, one, all_[0]) for one in all_[len(all_) > 1 :]])
+    if named := list(dict.fromkeys(text for one in all_ for text in one.named_doubts())):
+        print(trust.verdict(named))
+    return status
 
 
 def check_words(words: argparse.Namespace) -> None:
@@ -235,7 +238,7 @@ def setting_of(job: Job, one: Diverted, before: Diverted) -> dict:
     words = job.words
     names = ("net", "additional", "trips", "anew", "slice", "iterations", "gap", "share", "tried", "rounds", "seeds", "check")
     setting = {name: getattr(words, name) for name in names} | {"import": asdict(job.town.options)}
-    setting |= {"until": job.ground.until, "iteration": one.search.best.number}
+    setting |= {"until": job.ground.until, "iteration": one.search.best.number, "not_trusted": list(one.doubts())}
     if words.close:
         setting |= {"close": words.close, "knowing": one.share, "sign": words.sign, "before": words.before}
         setting |= {"without_works": figures(before.judged)}
@@ -245,8 +248,8 @@ def setting_of(job: Job, one: Diverted, before: Diverted) -> dict:
 def tell(job: Job, one: Diverted, before: Diverted) -> int:
     """Says what was found and what speaks against it; gives the status."""
     label = f"{one.label}: " * (one.share is not None)
-    for text in (*warnings(job, one.search, one.judged), *one.crowded()):
-        print(f"warning: {label}{text}", file=sys.stderr)
+    if is_still(one.search) and one.judged.gap > job.words.gap:
+        print(f"warning: {label}the gap does not fall any more: the least was seen in iteration {one.search.best.number}", file=sys.stderr)
     mean, runs, missed = fmean(one.means()), len(one.judged.outcomes), missing(job, one, before)
     print(
         f"{label}mean trip {mean:.1f} s{f' ({mean - fmean(before.means()):+.1f} s by the works)' * bool(label)}, "
@@ -266,14 +269,3 @@ def missing(job: Job, one: Diverted, before: Diverted) -> str | None:
         return ""
     return f"{', nor' * (one.judged.gap > job.words.gap)} without works ({100 * without:.2f} %)"
 
-
-def warnings(job: Job, search: Search, judged: Judged) -> list[str]:
-    count, told = len(job.trips.all), []
-    arrived, rescues = min(one.arrived for one in judged.outcomes), max(one.rescues for one in judged.outcomes)
-    if arrived < count:
-        told.append(f"{count - arrived:,} of {count:,} trips have not arrived at {job.ground.until:,} s (--until)")
-    if rescues > MOST_RESCUES * count:
-        told.append(f"{rescues:,} rescues of {count:,} trips: the network locks in part, and the gap says little")
-    if search.iterations and search.iterations[-1].number - search.best.number >= STILL and judged.gap > job.words.gap:
-        told.append(f"the gap does not fall any more: the least was seen in iteration {search.best.number}")
-    return told

@@ -209,6 +209,11 @@ class Search:
         return Judged(loaded, seeds, outcomes, costs, found, gap_of(found))
 
 
+def is_still(search: Search) -> bool:
+    """Whether the gap has not fallen for some iterations."""
+    return bool(search.iterations) and search.iterations[-1].number - search.best.number >= STILL
+
+
 def give(trips: Sequence[Trip], ways: Sequence[tuple[Path, float]]) -> None:
     """Gives trips their ways and entries."""
     for trip, (path, entry) in zip(trips, ways, strict=True):

@@ -59,6 +59,7 @@ class Outcome:
     calls: int
     processor: float  # seconds, of the simulator
     passed: Passed  # when those passed who go first
+    waiting: tuple[int, int]  # vehicles that waited to enter at the worst minute, and its clock
 
     @property
     def arrived(self) -> int:
@@ -239,7 +240,9 @@ def outcome_of(
         total += (ground.until if end is None else end) - depart
         for place, (since, until) in enumerate(pairwise([*clocks, float(ground.until if end is None else end)] if clocks else [])):
             observed.add(passes.movement(plan, place), int(since // ground.width), until - since)
-    return Outcome(observed, entries, ends, total / len(run.enters), records.rescues.total(), records.calls, spent, passed)
+    worst = max(records.censuses, key=lambda census: census.waiting, default=None)
+    waiting = (worst.waiting, worst.clock) if worst else (0, 0)
+    return Outcome(observed, entries, ends, total / len(run.enters), records.rescues.total(), records.calls, spent, passed, waiting)
 
 
 def arrival_of(last: Vehicle | None) -> int | None:

@@ -196,10 +196,12 @@ def read_variant(where, path, study, variant, joint, simulator):
     run_path, map_path = map(beside, pair_of(study, variant))
     run, mapping = read_pair(run_path, map_path, study["until"])
     works = all_works(variant.get("close", ()), mapping, study["until"])
-    until = study["until"] or first_guess(run)
+    until, found = study["until"] or first_guess(run), []
     if variant.get("route"):
         asked = variant.get("close", ()), variant.get("knowing", 1.0), list(joint[pair_of(study, variant)])
-        (run, mapping), told = routed(run, mapping, map_path, *asked, simulator, until, study["rounds"], where), []
+        seeds = seeds_of(study["seeds"], f"{path}: seeds")
+        run, mapping, found = routed(run, mapping, map_path, *asked, simulator, until, study["rounds"], where, seeds)
+        told = []
     else:
         run, mapping, told = with_works(run, mapping, map_path, works, joint[pair_of(study, variant)])
     print(*(f"{where}: {text}" for text in told), sep="\n", end="\n" if told else "", file=sys.stderr)
@@ -210,7 +212,7 @@ def read_variant(where, path, study, variant, joint, simulator):
         signals, sensing = signals_of(Reading(run_path, map_path, plans, until, simulator, 0, ()), run, mapping)
         nodes = frozenset(node for _, node in mapping.signals)
     session = giving_session(simulator, run, mapping, until, study["rounds"], nodes, study["until"] is None, **load)
-    doubts = [*trust.of_lengths(until, run, mapping), *trust.of_actuated(until, run, mapping, sensing)]
+    doubts = [*found, *trust.of_lengths(until, run, mapping), *trust.of_actuated(until, run, mapping, sensing)]
     return Variant(session, signals, trust.free_arrivals(run, mapping), doubts)
 
 
