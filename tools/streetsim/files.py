@@ -35,11 +35,11 @@ def open_text(path: FilePath, mode: Literal["r"] = "r") -> IO[str]:
 
 
 @overload
-def open_text(path: FilePath, mode: str) -> IO[str] | ZippedText:
+def open_text(path: FilePath, mode: str) -> TextFile:
     ...
 
 
-def open_text(path: FilePath, mode: str = "r") -> IO[str] | ZippedText:
+def open_text(path: FilePath, mode: str = "r") -> TextFile:
     """Opens a text file. What is read is gzip by its content, and may begin with a byte order mark; what is written is
     gzip where the name ends with .gz (without time or name inside, so that equal runs give equal bytes)."""
     if mode == "r":
@@ -85,6 +85,9 @@ class ZippedText:
 
     def __exit__(self, *_: object) -> None:
         self.close()
+
+
+TextFile = IO[str] | ZippedText  # to write
 
 
 @contextlib.contextmanager
@@ -220,7 +223,7 @@ def whole_path(path: FilePath) -> Iterator[str]:
 
 
 @contextlib.contextmanager
-def whole_file(path: FilePath) -> Iterator[IO[str] | ZippedText]:
+def whole_file(path: FilePath) -> Iterator[TextFile]:
     """A text file to write, which takes its name when all is written; after a fault nothing of it is left."""
     with whole_path(path) as half, open_text(half, "w") as file:
         yield file

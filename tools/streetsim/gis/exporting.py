@@ -9,6 +9,7 @@ from collections.abc import Iterator
 from ..cli.words import Parser
 from ..files import Fault, place_of, whole_file, whole_path
 from ..reports.reading import Row, Runs, read_any
+from ..run.mapping import Map
 from .places import Places, places_of
 from .values import Traffic, Values, intervals_of, values_of
 
@@ -18,7 +19,7 @@ MEASURES = ("control_delay_s", "stops_per_vehicle", "queue_50_m", "queue_95_m", 
 FIXED = {"OGR_CURRENT_DATE": "2000-01-01T00:00:00.000Z"}  # so that equal runs give equal bytes
 
 
-def parser():
+def parser() -> Parser:
     made = Parser(
         prog="streetsim-export",
         description="Writes the edges and junctions of a run with flow, speed, control delay, level of service, v/c and queues "
@@ -30,7 +31,7 @@ def parser():
     return made
 
 
-def main(arguments):
+def main(arguments: list[str]) -> int:
     words = parser().parse_args(arguments)
     ending = os.path.splitext(words.output)[1].lower()
     if ending not in (".geojson", ".gpkg"):
@@ -76,7 +77,7 @@ def feature(kind: str, shape: str, coordinates: list, content: dict) -> dict:
     return {"type": "Feature", "geometry": {"type": shape, "coordinates": coordinates}, "properties": {"kind": kind, **content}}
 
 
-def of_edge(mapping, edge: str) -> dict:
+def of_edge(mapping: Map, edge: str) -> dict:
     links = [mapping.links[link] for link in mapping.links_of[edge]]
     ends = {"from": mapping.nodes[links[0].begin][0], "to": mapping.nodes[links[0].end][0]}
     return {"name": edge, **ends, "lanes": sum(len(link.lanes) for link in links), "metres": round(links[0].metres, 1)}

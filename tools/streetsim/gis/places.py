@@ -14,7 +14,7 @@ def places_of(location: dict, projection: str | None, path: str) -> Places:
         from pyproj.exceptions import CRSError
     except ImportError:
         raise Fault("an export needs pyproj (Debian: apt install python3-pyproj)") from None
-    told = projection or location.get("projection", NONE)
+    told: str = projection if projection else location.get("projection", NONE)
     if told == NONE:
         what = "the network has no projection" if location else "the map was made by another streetsim-import: import again, or"
         raise Fault(f"{path}: {what}: say where it lies by --projection, for example EPSG:25832 or '+proj=utm +zone=32'")

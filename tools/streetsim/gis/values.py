@@ -1,6 +1,6 @@
 """What is known of each edge in an interval: means over the seeds of a run."""
 from collections import defaultdict
-from collections.abc import Iterable
+from collections.abc import Iterable, Sequence
 from dataclasses import dataclass
 
 from ..reports.reading import Row, Runs
@@ -39,7 +39,7 @@ def traffic_of(rows: Iterable[dict], begin: int, end: int) -> dict[str, Traffic]
     return {edge: traffic(those) for edge, those in found.items()}
 
 
-def traffic(parts: list[tuple[dict, float, float]]) -> Traffic:
+def traffic(parts: Sequence[tuple[dict, float, float]]) -> Traffic:
     """Of (row, seconds, share of its period)."""
     left = sum(int(row["left"]) * share for row, _, share in parts)
     seconds = sum(those for _, those, _ in parts)

@@ -3,10 +3,13 @@
 The page's address holds a token that only who started the bridge knows, so that no other user and no other site can reach the
 simulator: the token, the host and the origin of each request are checked, and what a request may send is bounded.
 """
+from __future__ import annotations
+
 import hmac
 import json
 import secrets
 import threading
+from collections.abc import Callable
 from http import HTTPStatus
 from http.server import BaseHTTPRequestHandler, ThreadingHTTPServer
 
@@ -23,7 +26,7 @@ POLICY = "default-src 'none'; script-src 'unsafe-inline'; style-src 'unsafe-inli
 class Refusal(Exception):
     """A request that is not served: its status, and why in a sentence."""
 
-    def __init__(self, status: HTTPStatus, why: str):
+    def __init__(self, status: HTTPStatus, why: str) -> None:
         super().__init__(why)
         self.status, self.why = status, why
 
@@ -33,7 +36,7 @@ class Bridge(ThreadingHTTPServer):
 
     daemon_threads = True
 
-    def __init__(self, engine: Engine, page: bytes, port: int = 0):
+    def __init__(self, engine: Engine, page: bytes, port: int = 0) -> None:
         super().__init__((HOST, port), Handler)
         self.engine, self.page = engine, page
         self.token, self.owner, self.lock = secrets.token_urlsafe(24), "", threading.Lock()
@@ -75,7 +78,7 @@ class Handler(BaseHTTPRequestHandler):
     def do_POST(self) -> None:
         self.serve(self.post)
 
-    def serve(self, answer) -> None:
+    def serve(self, answer: Callable[[list[str]], tuple[bytes, str]]) -> None:
         try:
             self.send(HTTPStatus.OK, *answer(self.checked_path()))
         except Refusal as refusal:

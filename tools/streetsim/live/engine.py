@@ -1,4 +1,6 @@
 """The engine of a page: a program that serves lines, begun anew where the page asks for it."""
+from __future__ import annotations
+
 import threading
 from collections.abc import Iterable
 
@@ -9,9 +11,10 @@ from ..files import Fault
 class Engine:
     """One run of the program at a time. Each begin starts it from nothing and sends the run's own lines."""
 
-    def __init__(self, program: str, lines: list[bytes]):
+    def __init__(self, program: str, lines: list[bytes]) -> None:
         self.program, self.lines = program, lines
-        self.lock, self.client = threading.Lock(), None
+        self.lock = threading.Lock()
+        self.client: Client | None = None
 
     def begin(self) -> list[bytes]:
         """Starts anew; gives the replies to the run's lines."""

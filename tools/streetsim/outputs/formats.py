@@ -1,8 +1,13 @@
 """SUMO's output files that are made second by second: each class writes one, from what a second shows."""
+from __future__ import annotations
+
 from bisect import bisect_right
+from collections.abc import Sequence
 from xml.sax.saxutils import quoteattr
 
 from .. import limits
+from ..files import TextFile
+from ..run.mapping import Place
 from .places import Places
 from .seconds import At, Second, Trip
 
@@ -15,7 +20,7 @@ class XmlFile:
 
     root, schema = "", ""
 
-    def __init__(self, file, places: Places):
+    def __init__(self, file: TextFile, places: Places) -> None:
         self.file, self.places = file, places
         self.file.write(
             f'<?xml version="1.0" encoding="UTF-8"?>\n\n<{self.root} xmlns:xsi="http://www.w3.org/2001/XMLSchema-instance" '
@@ -29,7 +34,7 @@ class XmlFile:
         self.file.write(f"</{self.root}>\n")
 
 
-def attributes(**values) -> str:
+def attributes(**values: object) -> str:
     """Attributes of an element: numbers of seconds, metres and so on with two places, counts as they are."""
     texts = (f"{value:.2f}" if isinstance(value, float) else str(value) for value in values.values())
     return " ".join(f"{name}={quoteattr(text)}" for name, text in zip(values, texts, strict=True))
@@ -41,7 +46,7 @@ class Tripinfo(XmlFile):
 
     root, schema = "tripinfos", "tripinfo_file"
 
-    def step(self, second):
+    def step(self, second: Second) -> None:
         for _, trip in second.arrived:
             self.file.write(f"    <tripinfo {self.row(trip, second.clock)}/>\n")
 
@@ -77,12 +82,12 @@ class Summary(XmlFile):
 
     root, schema = "summary", "summary_file"
 
-    def __init__(self, file, places, wished):
+    def __init__(self, file: TextFile, places: Places, wished: Sequence[int]) -> None:
         super().__init__(file, places)
         self.wished = wished  # sorted seconds at which vehicles would depart, as far as they are known
         self.loaded = self.inserted = self.arrived = self.delays = self.durations = self.teleports = 0
 
-    def step(self, second):
+    def step(self, second: Second) -> None:
         self.loaded = bisect_right(self.wished, second.time)
         self.count(second)
         speeds = [self.places.speed(at) for at in second.here.values()]
@@ -106,7 +111,7 @@ class Summary(XmlFile):
         )
         self.file.write(f"    <step {row}/>\n")
 
-    def count(self, second):
+    def count(self, second: Second) -> None:
         """Takes who departed, arrived and was taken out."""
         self.inserted += len(second.departed)
         self.delays += sum(second.trips[car].depart - second.trips[car].wished for car in second.departed)
@@ -120,12 +125,12 @@ class Fcd(XmlFile):
 
     root, schema = "fcd-export", "fcd_file"
 
-    def __init__(self, file, places):
+    def __init__(self, file: TextFile, places: Places) -> None:
         super().__init__(file, places)
-        self.texts = {}  # of places: many vehicles come to each
-        self.names = {}  # of vehicles and their types
+        self.texts: dict[At, tuple[str, str]] = {}  # of places: many vehicles come to each
+        self.names: dict[int, tuple[str, str]] = {}  # of vehicles and their types
 
-    def step(self, second):
+    def step(self, second: Second) -> None:
         self.names.update((car, self.named(second.trips[car])) for car in second.departed)
         rows = [f'    <timestep time="{second.time:.2f}">\n']
         for car, at in second.here.items():
@@ -151,17 +156,18 @@ class Queue(XmlFile):
 
     root, schema = "queue-export", "queue_file"
 
-    def __init__(self, file, places):
+    def __init__(self, file: TextFile, places: Places) -> None:
         super().__init__(file, places)
-        self.standing = {}  # car: seconds
+        self.standing: dict[int, int] = {}  # car: seconds
 
-    def step(self, second):
+    def step(self, second: Second) -> None:
         cars = [(car, at) for car, at in second.here.items() if at.cell is not None and not at.speed]
         self.standing = {car: self.standing.get(car, 0) + 1 for car, _ in cars}
-        lengths, waits = {}, {}
+        lengths: dict[Place, float] = {}
+        waits: dict[Place, int] = {}
         for car, at in cars:
             place, link = (at.link, at.lane), self.places.mapping.links[at.link]
-            length = link.metres - max(0, at.cell + 1 - at.size) * self.places.cell_metres[at.link]
+            length = link.metres - max(0, at.front + 1 - at.size) * self.places.cell_metres[at.link]
             lengths[place] = max(length, lengths.get(place, 0.0))
             waits[place] = max(self.standing[car], waits.get(place, 0))
         rows = [

@@ -1,8 +1,16 @@
 """SUMO's output files that are sums over intervals: edgeData, e1, e2."""
-from dataclasses import dataclass, field
+from __future__ import annotations
 
-from ..run.detectors import E1, E2, longest_jam
+from collections.abc import Collection, Sequence
+from dataclasses import dataclass, field
+from typing import Any
+
+from ..files import TextFile
+from ..run.detectors import E1, E2, Detector, longest_jam
+from ..run.mapping import Place
 from .formats import XmlFile, attributes, vehicle_metres
+from .places import Places
+from .seconds import At, Second
 
 
 @dataclass(slots=True)
@@ -26,15 +34,16 @@ class Edgedata(XmlFile):
 
     root, schema = "meandata", "meandata_file"
 
-    def __init__(self, file, places, period: int, start: int = 0):
+    def __init__(self, file: TextFile, places: Places, period: int, start: int = 0) -> None:
         super().__init__(file, places)
         self.period, self.begin, self.clock = period, start, start
-        self.links, self.sums = places.mapping.links, {}
+        self.links = places.mapping.links
+        self.sums: dict[str, EdgeSums] = {}  # by edge
 
     def of(self, link: int) -> EdgeSums:
         return self.sums.setdefault(self.links[link].edge, EdgeSums())
 
-    def step(self, second):
+    def step(self, second: Second) -> None:
         if second.clock > self.begin + self.period:
             self.write()
         self.clock = second.clock
@@ -52,7 +61,7 @@ class Edgedata(XmlFile):
         for _, trip in second.arrived:
             self.of(trip.last.link).arrived += 1
 
-    def drive(self, at):
+    def drive(self, at: At) -> None:
         """A vehicle on an edge for a second."""
         sums, link = self.of(at.link), self.links[at.link]
         sums.seconds += 1
@@ -61,7 +70,7 @@ class Edgedata(XmlFile):
         sums.loss += max(0.0, 1 - at.speed / link.limit)
         sums.covered += vehicle_metres(at)
 
-    def write(self):
+    def write(self) -> None:
         """Writes the interval that has ended."""
         end = min(self.clock, self.begin + self.period)
         edges, seconds = self.places.mapping.links_of, end - self.begin
@@ -71,7 +80,7 @@ class Edgedata(XmlFile):
         self.file.write("    </interval>\n")
         self.begin, self.sums = end, {}
 
-    def row(self, edge, sums, seconds):
+    def row(self, edge: str, sums: EdgeSums, seconds: int) -> str:
         links = [self.links[link] for link in self.places.mapping.links_of[edge]]
         lanes, metres = sum(len(link.lanes) for link in links), links[0].metres
         seen = {}
@@ -91,7 +100,7 @@ class Edgedata(XmlFile):
         counts = {name: getattr(sums, name) for name in names}
         return attributes(id=edge, sampledSeconds=float(sums.seconds), **seen, **counts)
 
-    def end(self):
+    def end(self) -> None:
         if self.clock > self.begin:
             self.write()
         super().end()
@@ -102,30 +111,42 @@ class Detectors(XmlFile):
 
     root, kind = "detector", ""
 
-    def __init__(self, file, places, start: int = 0):
+    def __init__(self, file: TextFile, places: Places, start: int = 0) -> None:
         super().__init__(file, places)
         self.detectors = [one for one in places.mapping.detectors if one.kind == self.kind]
         self.begins, self.clock = {one.name: start for one in self.detectors}, start
-        self.sums = {one.name: self.empty(one, None) for one in self.detectors}
+        self.sums: dict[str, Any] = {one.name: self.empty(one, None) for one in self.detectors}
 
-    def step(self, second):
+    def empty(self, one: Detector, before: Any) -> Any:
+        """What an interval begins with, behind another one or first."""
+        raise NotImplementedError
+
+    def note(self, one: Detector, sums: Any, second: Second, here: Sequence[tuple[int, At]]) -> None:
+        """Adds a second, in which these vehicles are on the detector's lane."""
+        raise NotImplementedError
+
+    def row(self, one: Detector, sums: Any, seconds: int) -> str:
+        """The attributes of an interval that lasted so long."""
+        raise NotImplementedError
+
+    def step(self, second: Second) -> None:
         for one in self.detectors:
             if second.clock > self.begins[one.name] + one.period:
                 self.write(one)
         self.clock = second.clock
-        by_place = {}
+        by_place: dict[Place, list[tuple[int, At]]] = {}
         for car, at in second.here.items():
             by_place.setdefault((at.link, at.lane), []).append((car, at))
         for one in self.detectors:
             self.note(one, self.sums[one.name], second, by_place.get((one.link, one.lane), ()))
 
-    def write(self, one):
+    def write(self, one: Detector) -> None:
         begin, end = self.begins[one.name], min(self.clock, self.begins[one.name] + one.period)
         row = self.row(one, self.sums[one.name], end - begin)
         self.file.write(f"    <interval {attributes(begin=float(begin), end=float(end), id=one.name)} {row}/>\n")
         self.begins[one.name], self.sums[one.name] = end, self.empty(one, self.sums[one.name])
 
-    def end(self):
+    def end(self) -> None:
         for one in self.detectors:
             if self.clock > self.begins[one.name]:
                 self.write(one)
@@ -134,8 +155,8 @@ class Detectors(XmlFile):
 
 @dataclass(slots=True)
 class LoopSums:
-    speeds: list = field(default_factory=list)  # metres a second of those that passed
-    metres: list = field(default_factory=list)  # of these vehicles
+    speeds: list[float] = field(default_factory=list)  # metres a second of those that passed
+    metres: list[float] = field(default_factory=list)  # of these vehicles
     occupied: int = 0  # seconds
 
 
@@ -145,25 +166,25 @@ class Loops(Detectors):
 
     schema, kind = "det_e1_file", E1
 
-    def empty(self, one, _before):
+    def empty(self, one: Detector, _before: LoopSums | None) -> LoopSums:
         return LoopSums()
 
-    def note(self, one, sums, second, here):
+    def note(self, one: Detector, sums: LoopSums, second: Second, here: Sequence[tuple[int, At]]) -> None:
         sums.occupied += any(at.cell is not None and at.cell - at.size < one.first <= at.cell for _, at in here)
         for car, last in second.before.items():
             if last.link == one.link and last.cell is not None and last.cell <= one.first:
                 self.note_pass(one, sums, last, second.here.get(car))
 
-    def note_pass(self, one, sums, last, now):
+    def note_pass(self, one: Detector, sums: LoopSums, last: At, now: At | None) -> None:
         """Notes a vehicle that stood on the loop or before it if it is behind it; who left the edge keeps its lane."""
         gone = now is None or now.link != one.link or now.cell is None
         lane = now.lane if now is not None and now.link == one.link else last.lane
-        if lane == one.lane and (gone or now.cell > one.first):
+        if lane == one.lane and (gone or (now is not None and now.front > one.first)):
             speed = now.speed if now is not None and now.cell is not None and not gone else last.speed or 1.0
             sums.speeds.append(speed * self.places.cell_metres[one.link])
             sums.metres.append(vehicle_metres(last))
 
-    def row(self, one, sums, seconds):
+    def row(self, one: Detector, sums: LoopSums, seconds: int) -> str:
         count = len(sums.speeds)
         return attributes(
             nVehContrib=count,
@@ -180,20 +201,20 @@ class Loops(Detectors):
 class AreaSums:
     """What an area saw in an interval; halts are by car, seconds."""
 
-    inside: dict = field(default_factory=dict)  # car: At, of the last second
-    seen: set = field(default_factory=set)
+    inside: dict[int, At] = field(default_factory=dict)  # by car, of the last second
+    seen: set[int] = field(default_factory=set)
     entered: int = 0
     left: int = 0
     seconds: int = 0
     metres: float = 0.0
     loss: float = 0.0
     most: int = 0
-    covered: list = field(default_factory=list)  # share of the area, by second
-    jams: list = field(default_factory=list)  # vehicles in the longest jam, by second
+    covered: list[float] = field(default_factory=list)  # share of the area, by second
+    jams: list[int] = field(default_factory=list)  # vehicles in the longest jam, by second
     standing: int = 0  # vehicles, summed over seconds
-    halts: dict = field(default_factory=dict)  # going on: seconds in all
-    interval_halts: dict = field(default_factory=dict)  # going on: seconds of this interval
-    ended: list = field(default_factory=list)  # (seconds in all, of this interval)
+    halts: dict[int, int] = field(default_factory=dict)  # going on: seconds in all
+    interval_halts: dict[int, int] = field(default_factory=dict)  # going on: seconds of this interval
+    ended: list[tuple[int, int]] = field(default_factory=list)  # (seconds in all, of this interval)
     started: int = 0
 
 
@@ -202,12 +223,12 @@ class Areas(Detectors):
 
     schema, kind = "det_e2_file", E2
 
-    def empty(self, one, before):
+    def empty(self, one: Detector, before: AreaSums | None) -> AreaSums:
         if before is None:
             return AreaSums()
         return AreaSums(inside=before.inside, halts=before.halts, interval_halts=dict.fromkeys(before.halts, 0))
 
-    def note(self, one, sums, second, here):
+    def note(self, one: Detector, sums: AreaSums, second: Second, here: Sequence[tuple[int, At]]) -> None:
         inside = {car: at for car, at in here if at.cell is not None and one.first <= at.cell <= one.last}
         sums.entered += len(inside.keys() - sums.inside.keys())
         sums.left += len(sums.inside.keys() - inside.keys())
@@ -218,12 +239,12 @@ class Areas(Detectors):
         sums.loss += sum(max(0.0, 1 - at.speed / self.places.mapping.links[at.link].limit) for at in inside.values())
         area = (one.last - one.first + 1) * self.places.cell_metres[one.link]
         sums.covered.append(min(1.0, sum(map(vehicle_metres, inside.values())) / area))
-        ranked = sorted(inside.values(), key=lambda at: -at.cell)
-        sums.jams.append(longest_jam([(None, at.cell, at.speed, at.size) for at in ranked]))
+        ranked = sorted(inside.values(), key=lambda at: -at.front)
+        sums.jams.append(longest_jam([(0, at.front, bool(at.speed), at.size) for at in ranked]))
         sums.inside = inside
         self.note_halts(sums, {car for car, at in inside.items() if not at.speed})
 
-    def note_halts(self, sums, standing):
+    def note_halts(self, sums: AreaSums, standing: set[int]) -> None:
         for car in sums.halts.keys() - standing:
             sums.ended.append((sums.halts.pop(car), sums.interval_halts.pop(car)))
         sums.started += len(standing - sums.halts.keys())
@@ -232,7 +253,7 @@ class Areas(Detectors):
             sums.halts[car] = sums.halts.get(car, 0) + 1
             sums.interval_halts[car] = sums.interval_halts.get(car, 0) + 1
 
-    def row(self, one, sums, seconds):
+    def row(self, one: Detector, sums: AreaSums, seconds: int) -> str:
         car_metres = self.places.cell_metres[one.link]
         halts = [halt for halt, _ in sums.ended] + list(sums.halts.values())
         within = [halt for _, halt in sums.ended] + list(sums.interval_halts.values())

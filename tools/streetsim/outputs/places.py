@@ -1,7 +1,14 @@
 """Where cells lie: SUMO's lane names, metres along a lane, points and angles."""
+from __future__ import annotations
+
 from bisect import bisect_right
 from itertools import accumulate
 from math import atan2, degrees, dist
+from typing import TYPE_CHECKING
+
+if TYPE_CHECKING:
+    from ..run.mapping import Map, Shape
+    from .seconds import At
 
 LANE_WIDTH = 3.2  # metres, SUMO's default
 
@@ -9,22 +16,22 @@ LANE_WIDTH = 3.2  # metres, SUMO's default
 class Places:
     """The lanes of a map in metres."""
 
-    def __init__(self, mapping):
+    def __init__(self, mapping: Map) -> None:
         self.mapping = mapping
         self.names = {place: mapping.lane_name(*place) for place in mapping.lanes()}
         self.cell_metres = [link.metres / link.cells for link in mapping.links]
         self.lines = [Line(link.shape) for link in mapping.links]
 
-    def metres(self, at) -> float:
+    def metres(self, at: At) -> float:
         """Metres from the lane's begin to the front of a vehicle; in the junction the lane's length."""
         link = self.mapping.links[at.link]
         return link.metres if at.cell is None else (at.cell + 1) * self.cell_metres[at.link]
 
-    def speed(self, at) -> float:
+    def speed(self, at: At) -> float:
         """Metres a second."""
         return at.speed * self.cell_metres[at.link]
 
-    def point(self, at) -> tuple[float, float, float]:
+    def point(self, at: At) -> tuple[float, float, float]:
         """x and y of a vehicle's front in metres, and its angle in degrees, clockwise from north."""
         link = self.mapping.links[at.link]
         side = ((len(link.lanes) - 1) / 2 - at.lane) * LANE_WIDTH
@@ -34,7 +41,7 @@ class Places:
 class Line:
     """A line through points."""
 
-    def __init__(self, points):
+    def __init__(self, points: Shape) -> None:
         self.points = points
         self.sizes = [dist(one, other) for one, other in zip(points, points[1:])]
         self.ends = list(accumulate(self.sizes))

@@ -1,8 +1,13 @@
 """What each second of a run shows, vehicle by vehicle: who departed, entered an edge, left it, arrived."""
+from __future__ import annotations
+
+from collections.abc import Iterable, Sequence
 from dataclasses import dataclass, field
+from typing import Any
 
 from ..run.detectors import size_of
 from ..run.freeflow import FreeFlow
+from ..run.mapping import Map
 
 
 @dataclass(slots=True, frozen=True)
@@ -14,6 +19,12 @@ class At:
     cell: int | None  # of its front
     speed: float  # cells a second
     size: int = 1  # cells
+
+    @property
+    def front(self) -> int:
+        """The cell of one that is in a cell."""
+        assert self.cell is not None
+        return self.cell
 
 
 @dataclass(slots=True)
@@ -39,14 +50,14 @@ class Second:
     """One look at the lanes, and what has changed since the one before."""
 
     clock: int
-    trips: dict  # car: Trip, of those on their way
-    here: dict = field(default_factory=dict)  # car: At
-    departed: list = field(default_factory=list)  # cars
-    entered: list = field(default_factory=list)  # (car, link): into the cells of an edge from another one
-    left: list = field(default_factory=list)  # (car, At): out of the cells of an edge into the junction behind it
-    teleported: list = field(default_factory=list)  # (car, At): taken out of the cells
-    arrived: list = field(default_factory=list)  # (car, Trip)
-    before: dict = field(default_factory=dict)  # car: At of the second before
+    trips: dict[int, Trip]  # by car, of those on their way
+    here: dict[int, At] = field(default_factory=dict)  # by car
+    departed: list[int] = field(default_factory=list)  # cars
+    entered: list[tuple[int, int]] = field(default_factory=list)  # (car, link): into the cells of an edge from another one
+    left: list[tuple[int, At]] = field(default_factory=list)  # out of the cells of an edge into the junction behind it
+    teleported: list[tuple[int, At]] = field(default_factory=list)  # taken out of the cells
+    arrived: list[tuple[int, Trip]] = field(default_factory=list)
+    before: dict[int, At] = field(default_factory=dict)  # by car, of the second before
 
     @property
     def time(self) -> int:
@@ -57,16 +68,18 @@ class Second:
 class Follower:
     """Follows the vehicles of a run from second to second."""
 
-    def __init__(self, mapping, dawdle: float):
+    def __init__(self, mapping: Map, dawdle: float) -> None:
         self.mapping, self.free_flow = mapping, FreeFlow(mapping, dawdle)
-        self.trips, self.expected, self.before = {}, {}, {}
-        self.entered_at = {}  # car: the clock since which it is in a junction
+        self.trips: dict[int, Trip] = {}
+        self.expected: dict[int, tuple[str, int, str]] = {}  # name, wished second, type
+        self.before: dict[int, At] = {}
+        self.entered_at: dict[int, int] = {}  # car: the clock since which it is in a junction
 
-    def expect(self, car, name: str, wished: int, kind: str = "DEFAULT_VEHTYPE") -> None:
+    def expect(self, car: int, name: str, wished: int, kind: str = "DEFAULT_VEHTYPE") -> None:
         """A vehicle that may depart from a second on; all are told before they are seen."""
         self.expected[car] = name, wished, kind
 
-    def see(self, clock: int, lanes, arrived) -> Second:
+    def see(self, clock: int, lanes: Iterable[Sequence[Any]], arrived: Iterable[int]) -> Second:
         """The second that ends at a clock. lanes: [link, lane, cells, cars in the buffer, ..] as a folder's polls have
         them; arrived: the cars that arrived in it."""
         second = Second(clock, self.trips, before=self.before)
@@ -85,7 +98,7 @@ class Follower:
         self.before = second.here
         return second
 
-    def in_junction(self, car, link, lane, clock):
+    def in_junction(self, car: int, link: int, lane: int, clock: int) -> At:
         """A vehicle in the buffer of a lane: it drives for as long as the junction takes at least, and then stands."""
         last = self.before.get(car)
         if last is None or last.cell is not None or last.link != link:
@@ -94,7 +107,7 @@ class Follower:
         driving = clock - self.entered_at[car] < max(1, residence)
         return At(link, lane, None, 1.0 if driving else 0.0, last.size if last else 1)
 
-    def follow(self, second, car, at):
+    def follow(self, second: Second, car: int, at: At) -> None:
         """Notes what a vehicle did since the second before."""
         last, trip = self.before.get(car), self.trips.get(car)
         if trip is None:
@@ -112,7 +125,7 @@ class Follower:
         note_standing(trip, at)
         trip.last = at
 
-    def add_link(self, trip, link):
+    def add_link(self, trip: Trip, link: int) -> None:
         trip.free += trip.crossing + self.free_flow.driving[link]
         trip.crossing = self.free_flow.crossing[link]
         trip.metres += self.mapping.links[link].metres

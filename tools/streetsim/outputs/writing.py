@@ -1,13 +1,20 @@
 """Writes SUMO's output files, from a run's looks at the lanes in every second."""
+from __future__ import annotations
+
 import argparse
 import contextlib
 import itertools
 from bisect import insort
 from collections import defaultdict
+from collections.abc import Callable, Iterable, Iterator, Mapping, Sequence
+from types import TracebackType
+from typing import Any
 
 from ..cli.words import listed
-from ..files import Fault, whole_file
-from .formats import Fcd, Queue, Summary, Tripinfo
+from ..files import Fault, TextFile, whole_file
+from ..run.folder import Folder
+from ..run.mapping import Map
+from .formats import Fcd, Queue, Summary, Tripinfo, XmlFile
 from .intervals import Areas, Edgedata, Loops
 from .places import Places
 from .seconds import Follower
@@ -30,11 +37,12 @@ class Outputs(contextlib.ExitStack):
     their own; `dawdle` is the run's chance of slowing down (0 to 1), by which the free driving time is reckoned.
     """
 
-    def __init__(self, paths: dict, mapping, dawdle: float, period: int = 900, start: int = 0):
+    def __init__(self, paths: dict, mapping: Map, dawdle: float, period: int = 900, start: int = 0) -> None:
         super().__init__()
-        self.follower, self.wished = Follower(mapping, dawdle), []
+        self.follower = Follower(mapping, dawdle)
+        self.wished: list[int] = []
         places = Places(mapping)
-        makers = {
+        makers: dict[str, Callable[[TextFile], XmlFile]] = {
             "tripinfo": lambda file: Tripinfo(file, places),
             "summary": lambda file: Summary(file, places, self.wished),
             "edgedata": lambda file: Edgedata(file, places, period, start),
@@ -43,24 +51,24 @@ class Outputs(contextlib.ExitStack):
             "e1": lambda file: Loops(file, places, start),
             "e2": lambda file: Areas(file, places, start),
         }
-        self.writers = []
+        self.writers: list[XmlFile] = []
         with contextlib.ExitStack() as files:
             for kind, path in paths.items():
                 self.writers.append(makers[kind](files.enter_context(whole_file(path))))
             self.push(files.pop_all())
 
-    def __exit__(self, kind, *details):
+    def __exit__(self, kind: type[BaseException] | None, *details: Any) -> bool:
         if kind is None:
             for writer in self.writers:
                 writer.end()
         return super().__exit__(kind, *details)
 
-    def expect(self, car, name: str, wished: int, kind: str = "DEFAULT_VEHTYPE") -> None:
+    def expect(self, car: int, name: str, wished: int, kind: str = "DEFAULT_VEHTYPE") -> None:
         """A vehicle that would depart at a second, under the number by which looks name it; before it is seen."""
         self.follower.expect(car, name, wished, kind)
         insort(self.wished, wished)
 
-    def step(self, clock: int, lanes, arrived) -> None:
+    def step(self, clock: int, lanes: Iterable[Sequence[Any]], arrived: Iterable[int]) -> None:
         """The second that ends at a clock: [link, lane, cells, cars in the buffer, ..] of each lane where anything is, and
         the cars that arrived in it."""
         second = self.follower.see(clock, lanes, arrived)
@@ -68,7 +76,15 @@ class Outputs(contextlib.ExitStack):
             writer.step(second)
 
 
-def write_outputs(paths: dict, mapping, trips, frames, dawdle: float, period: int, start: int) -> None:
+def write_outputs(
+    paths: dict,
+    mapping: Map,
+    trips: Sequence[Mapping[str, Any]],
+    frames: Iterable[dict[str, Any]],
+    dawdle: float,
+    period: int,
+    start: int,
+) -> None:
     """Writes outputs from the rows of trips.csv and the frames of every second."""
     arrivals = defaultdict(list)
     for car, trip in enumerate(trips):
@@ -85,7 +101,7 @@ def write_outputs(paths: dict, mapping, trips, frames, dawdle: float, period: in
             outputs.step(clock, frame["lanes"], arrivals.pop(clock, ()))
 
 
-def write_from_folder(folder, kinds, out: str) -> None:
+def write_from_folder(folder: Folder, kinds: Iterable[str], out: str) -> None:
     """Writes outputs of a folder that streetsim-run wrote with --every 1 and all edges, into another folder."""
     paths = {kind: f"{out}/{kind}.xml" for kind in kinds}
     polls = folder.polls()

@@ -1,4 +1,8 @@
 """The streets of a run by what is known of them: density, delay, level of service, v/c, flow, queue."""
+from __future__ import annotations
+
+import argparse
+from collections.abc import Iterable, Sequence
 from dataclasses import dataclass
 from typing import Any
 
@@ -7,6 +11,8 @@ from ..gis.values import Values, intervals_of, values_of
 from ..junctions.service import LETTERS
 from ..reports.drawing import COLOURS, LIGHT
 from ..reports.reading import Runs, read_any
+from ..run.folder import Folder
+from ..run.mapping import Shape
 from . import series
 
 WHAT = ("density", "delay", "los", "vc", "flow", "queue")
@@ -25,11 +31,11 @@ ROUND = (0.5, 1, 2, 5, 10, 20, 50, 100, 200, 500, 1000, 2000, 5000, 10_000)
 class Shown:
     """An edge: its shape, its value or letter, none where it has none."""
 
-    shape: tuple
+    shape: Shape
     value: Any
 
 
-def draw(pyplot, source, words):
+def draw(pyplot: Any, source: Any, words: argparse.Namespace) -> Any:
     """source: a folder that was read, for density; else the path of a run."""
     if words.what == "density":
         return draw_density(pyplot, source)
@@ -51,7 +57,7 @@ def draw(pyplot, source, words):
     return figure
 
 
-def interval_of(runs: Runs, words) -> tuple[int, int]:
+def interval_of(runs: Runs, words: argparse.Namespace) -> tuple[int, int]:
     """The one that begins where the words say, else the busiest, else the first."""
     if words.what != "flow" and not runs.rows:
         raise Fault(f"{runs.first.path}: a map of {words.what} needs streetsim-run --junctions")
@@ -64,7 +70,7 @@ def interval_of(runs: Runs, words) -> tuple[int, int]:
     return those[0]
 
 
-def value_of(values: Values, what: str):
+def value_of(values: Values, what: str) -> Any:
     if what == "flow":
         return values.traffic.flow if values.traffic else None
     if values.row is None:
@@ -76,7 +82,7 @@ def clock(second: int) -> str:
     return f"{second // 3600:d}:{second // 60 % 60:02d}"
 
 
-def canvas(pyplot, shapes):
+def canvas(pyplot: Any, shapes: Sequence[Shape]) -> tuple[Any, Any, dict[str, Any]]:
     """A picture of all streets in grey; and where a bar of colours lies."""
     from matplotlib.collections import LineCollection
 
@@ -91,7 +97,7 @@ def canvas(pyplot, shapes):
     return figure, axes, {"orientation": "horizontal", "pad": 0.18} if wide else {}
 
 
-def draw_lines(axes, shown, colours="YlOrRd"):
+def draw_lines(axes: Any, shown: Iterable[Shown], colours: str = "YlOrRd") -> Any:
     """Edges by their values, wider where they are higher; gives what a bar of colours is of."""
     from matplotlib.collections import LineCollection
 
@@ -108,7 +114,7 @@ def draw_lines(axes, shown, colours="YlOrRd"):
     return lines
 
 
-def draw_letters(axes, shown, runs, interval):
+def draw_letters(axes: Any, shown: Sequence[Shown], runs: Runs, interval: tuple[int, int]) -> None:
     """Edges and junctions by letter, darker and wider where it is worse."""
     from matplotlib.collections import LineCollection
     from matplotlib.lines import Line2D
@@ -127,7 +133,7 @@ def draw_letters(axes, shown, runs, interval):
     axes.legend(handles=marks, loc="upper center", bbox_to_anchor=(0.5, -0.1), ncol=6, frameon=False)
 
 
-def draw_density(pyplot, folder):
+def draw_density(pyplot: Any, folder: Folder) -> Any:
     """By mean density over all polls, of each link."""
     densities = series.densities(folder)
     shown = [Shown(link.shape, value) for value, link in zip(densities, folder.mapping.links, strict=True)]
@@ -141,7 +147,7 @@ def draw_density(pyplot, folder):
     return figure
 
 
-def scale_bar(axes):
+def scale_bar(axes: Any) -> None:
     """A bar of a round number of metres, about a fifth of the width, below all that is shown."""
     left, right = axes.get_xlim()
     width = max(right - left, 1)

@@ -1,21 +1,24 @@
 """streetsim-play: one HTML file that plays what stood on the lanes."""
+from __future__ import annotations
+
 import base64
 import gzip
 import json
 import os
 from pathlib import Path
+from typing import Any
 
 from .. import limits
 from ..cli.words import Parser, time_within
 from ..files import Fault, whole_file
-from ..run.folder import read_folder
+from ..run.folder import Folder, read_folder
 
 PLACE = Path(__file__).parent
 MOST_BYTES = 100_000_000  # of the packed data; browsers are slow with more
 second = time_within(0, limits.CLOCK)
 
 
-def parser():
+def parser() -> Parser:
     made = Parser(
         prog="streetsim-play",
         description="Makes one HTML file, without anything from outside, that plays the vehicles of a run, or of two side by side. "
@@ -28,7 +31,7 @@ def parser():
     return made
 
 
-def data_of(folder, first, last):
+def data_of(folder: Folder, first: int, last: int) -> dict[str, Any]:
     """What the page plays: links, signal plans with the links that may go, and the polls."""
     links = [
         {"name": link.edge, "points": link.shape, "lanes": len(link.lanes), "cells": link.cells, "end": link.end}
@@ -54,7 +57,7 @@ def data_of(folder, first, last):
     }
 
 
-def main(arguments):
+def main(arguments: list[str]) -> int:
     words = parser().parse_args(arguments)
     if len(words.folders) > 2:
         raise Fault("a page plays one run, or two side by side")

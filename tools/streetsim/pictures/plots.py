@@ -1,13 +1,17 @@
 """streetsim-plot: pictures of a run, as PNG, SVG or PDF."""
+from __future__ import annotations
+
 import argparse
 import io
 import os
+from collections.abc import Sequence
+from typing import Any
 
 from .. import limits, program
 from ..cli.words import Parser, listed, time_within, within
 from ..files import Fault, place_of, whole_path
 from ..run.compare import read_tripinfo
-from ..run.folder import read_folder
+from ..run.folder import Folder, read_folder
 from . import maps, ring, series
 
 DPI, COLOURS = 95, 64
@@ -24,7 +28,7 @@ RING = (20, 40, 60, 70, 80, 90, 110, 140, 180, 250, 350, 500, 700)  # vehicles o
 second = time_within(0, limits.CLOCK)
 
 
-def parser():
+def parser() -> Parser:
     made = Parser(prog="streetsim-plot", description="Draws pictures of what streetsim-run wrote.")
     kinds = made.add_subparsers(dest="kind", required=True)
     for kind, words in (
@@ -35,7 +39,8 @@ def parser():
         ("arrivals", "departures and arrivals over time"),
     ):
         one = kinds.add_parser(kind, help=words, description=words)
-        one.add_argument("folder", nargs="?" if kind == "fundamental" else None, help="what streetsim-run wrote")
+        often = "?" if kind == "fundamental" else None
+        one.add_argument("folder", nargs=often, help="what streetsim-run wrote")  # type: ignore[arg-type]  # none is usual
         one.add_argument("-o", "--output", required=True, help="the picture (.png, .svg, .pdf)")
         if kind in ("corridor", "fundamental"):
             one.add_argument("--edges", required=kind == "corridor", default="", help="edges, with spaces or commas between")
@@ -66,7 +71,7 @@ def parser():
     return made
 
 
-def dawdles(text):
+def dawdles(text: str) -> list[int]:
     """Up to six chances of dawdling, of 1,000."""
     values = [within(0, 1000)(part) for part in text.split(",")]
     if len(values) > len(MARKERS):
@@ -74,7 +79,7 @@ def dawdles(text):
     return values
 
 
-def main(arguments):
+def main(arguments: list[str]) -> int:
     words = parser().parse_args(arguments)
     draw = {
         "corridor": draw_corridor,
@@ -99,7 +104,7 @@ def main(arguments):
     return 0
 
 
-def drawing():
+def drawing() -> Any:
     """matplotlib's pyplot, without a display."""
     try:
         import matplotlib
@@ -112,7 +117,7 @@ def drawing():
     return pyplot
 
 
-def ending_of(path):
+def ending_of(path: str) -> str:
     """The format of a picture, which its name tells."""
     ending = os.path.splitext(path)[1].lower().removeprefix(".")
     if ending not in ("png", *DATES):
@@ -120,7 +125,7 @@ def ending_of(path):
     return ending
 
 
-def save(figure, path):
+def save(figure: Any, path: str) -> None:
     """A picture in the format of its name; a PNG of few colours, which keeps it small."""
     ending = ending_of(path)
     with whole_path(path) as half:
@@ -134,7 +139,7 @@ def save(figure, path):
         Image.open(raw).convert("RGB").quantize(COLOURS).save(half, format="PNG", optimize=True)
 
 
-def path_of(folder, text):
+def path_of(folder: Folder, text: str) -> list[str]:
     """The edges of --edges, each of which must lead to the next."""
     edges = listed(text)
     if not edges:
@@ -147,7 +152,7 @@ def path_of(folder, text):
     return edges
 
 
-def draw_corridor(pyplot, folder, words):
+def draw_corridor(pyplot: Any, folder: Folder, words: argparse.Namespace) -> Any:
     edges = path_of(folder, words.edges)
     if words.first >= words.last:
         raise Fault(f"--first {words.first} is not before --last {words.last}")
@@ -165,7 +170,7 @@ def draw_corridor(pyplot, folder, words):
     return figure
 
 
-def draw_way(axes, folder, edges, words):
+def draw_way(axes: Any, folder: Folder, edges: Sequence[str], words: argparse.Namespace) -> None:
     """The vehicles along a path, with the junctions beside it."""
     from matplotlib.collections import LineCollection, PolyCollection
 
@@ -179,8 +184,8 @@ def draw_way(axes, folder, edges, words):
         axes.add_collection(LineCollection(fronts, colors=colour, linewidths=width, label=label))
         axes.add_collection(PolyCollection(series.bands(shown), facecolors=colour, linewidths=0, alpha=0.6))
     for at, (place, begin, end) in enumerate(series.reds(folder, edges, words.first, words.last)):
-        label = "red" if at == 0 else None
-        axes.plot((begin, end), (place, place), color="black", linewidth=4, solid_capstyle="butt", label=label)
+        named = "red" if at == 0 else None
+        axes.plot((begin, end), (place, place), color="black", linewidth=4, solid_capstyle="butt", label=named)
     title = f"From {edges[0]} to {edges[-1]}: each line is a vehicle"
     band = series.green_band(folder, edges, words.first)
     title += f"; green band {band[0]} of {band[1]} s" if band else ""
@@ -191,7 +196,7 @@ def draw_way(axes, folder, edges, words):
     names.tick_params(length=0)
 
 
-def draw_fundamental(pyplot, folder, words):
+def draw_fundamental(pyplot: Any, folder: Folder, words: argparse.Namespace) -> Any:
     figure, axes = pyplot.subplots(figsize=(7, 5))
     if words.ring:
         axes.set(
@@ -211,21 +216,21 @@ def draw_fundamental(pyplot, folder, words):
         axes.legend(frameon=False)
     else:
         found = series.flows if words.counts else series.middle_flows
-        points = found(folder, listed(words.edges))
+        counts = found(folder, listed(words.edges))
         axes.set(
             xlabel="density (vehicles/km and lane)",
             ylabel="flow (vehicles/h and lane)",
             title=f"Counts of {folder.period} s at the stop lines" if words.counts else f"Middle third of lanes, means of {folder.period} s",
         )
         axes.scatter(
-            *(zip(*points, strict=True) if points else ((), ())), s=10, color="#225588", alpha=0.6, linewidths=0
+            *(zip(*counts, strict=True) if counts else ((), ())), s=10, color="#225588", alpha=0.6, linewidths=0
         )
     axes.set_xlim(left=0)
     axes.set_ylim(bottom=0)
     return figure
 
 
-def draw_queues(pyplot, folder, _words):
+def draw_queues(pyplot: Any, folder: Folder, _words: argparse.Namespace) -> Any:
     lanes, count = series.longest_queues(folder, MOST_LANES)
     if not lanes:
         raise Fault(f"{folder.path}: no queues in this run")
@@ -249,10 +254,11 @@ def draw_queues(pyplot, folder, _words):
     return figure
 
 
-def draw_arrivals(pyplot, folder, words):
+def draw_arrivals(pyplot: Any, folder: Folder, words: argparse.Namespace) -> Any:
     """Departures and arrivals, and below them the difference: to SUMO's arrivals, else between the two curves."""
     departs, arrivals = series.arrival_curves(folder)
     figure, (axes, below) = pyplot.subplots(2, figsize=(8, 6.5), sharex=True, height_ratios=(3, 1))
+    curves: list[tuple[Sequence[float], str, str, str]]
     curves = [(departs, "wished departures", "#888888", "--"), (arrivals, "arrivals here", "#225588", "-")]
     if words.sumo:
         sumo = sorted(arrival for _, arrival in read_tripinfo(words.sumo).values())

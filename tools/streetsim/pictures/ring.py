@@ -18,15 +18,15 @@ class Point:
     speed: float  # cells a step, of those who passed it
 
     @property
-    def per_km(self):
+    def per_km(self) -> float:
         return self.density / limits.CELL_METRES * 1000
 
     @property
-    def per_hour(self):
+    def per_hour(self) -> float:
         return self.flow * 3600
 
 
-def measure(program, vehicles, limit=5, dawdle=0, seed=1):
+def measure(program: str | None, vehicles: int, limit: int = 5, dawdle: int = 0, seed: int = 1) -> Point:
     """A point of the diagram, of a ring of 1,000 cells, over ten rows of 300 steps."""
     with Client(program) as sim:
         sim.load(nodes=[[0, 1, 2]], links=[[0, 0, 0, 1, CELLS, limit]], turns=[[0, 0, 0, 0]], dawdle=dawdle, seed=seed)

@@ -1,15 +1,24 @@
 """The numbers behind the pictures, from what streetsim-run wrote; nothing here draws."""
+from __future__ import annotations
+
 from bisect import bisect_right
 from collections import Counter, defaultdict
+from collections.abc import Iterable, Iterator, Sequence
 from math import floor, log10
+from typing import Any
 
 from .. import limits
 from ..files import Fault
+from ..run.folder import Folder
+
+Spot = tuple[float, float]  # second and metres
+Piece = tuple[Spot, Spot, int, float]  # begin and end, speed in cells a step, metres of the vehicle's cells
 
 
-def stretches(folder, edges):
+def stretches(folder: Folder, edges: Iterable[str]) -> tuple[dict[int, tuple[float, float, int]], float]:
     """Where the links of a path lie, as {link: (metres from the path's begin, metres, cells)}, and its length."""
-    placed, begin = {}, 0.0
+    placed: dict[int, tuple[float, float, int]] = {}
+    begin = 0.0
     for links in folder.links_along(edges):
         placed.update(
             {link: (begin, folder.mapping.links[link].metres, folder.mapping.links[link].cells) for link in links}
@@ -18,11 +27,12 @@ def stretches(folder, edges):
     return placed, begin
 
 
-def trajectories(folder, edges, first, last):
+def trajectories(folder: Folder, edges: Iterable[str], first: int, last: int) -> list[Piece]:
     """Pieces of the vehicles' ways along a path between polls: ((second, metres), (second, metres), speed in cells a
     step, metres of the vehicle's cells)."""
     placed, _ = stretches(folder, edges)
-    pieces, before = [], {}
+    pieces: list[Piece] = []
+    before: dict[int, tuple[int, float, int, float]] = {}
     for poll in folder.polls():
         clock, now = poll["clock"], {}
         if not first <= clock <= last:
@@ -35,19 +45,19 @@ def trajectories(folder, edges, first, last):
                     now[car] = clock, begin + (cell + 1) * metres / count, speed, long
         for car, (_, place, speed, long) in now.items():
             if car in before and before[car][1] <= place:
-                pieces.append((before[car][:2], (clock, place), speed, long))
+                pieces.append(((before[car][0], before[car][1]), (clock, place), speed, long))
         before = now
     return pieces
 
 
-def bands(pieces):
+def bands(pieces: Iterable[Piece]) -> Iterator[tuple[Spot, Spot, Spot, Spot]]:
     """The areas that vehicles longer than a cell cover over time, from their fronts to their rears, as corners."""
     for (second, place), (later, other), _, long in pieces:
         if long > 1.5 * limits.CELL_METRES:
             yield (second, place), (later, other), (later, other - long), (second, place - long)
 
 
-def reds(folder, edges, first, last):
+def reds(folder: Folder, edges: Iterable[str], first: int, last: int) -> list[tuple[float, int, int]]:
     """When the signals along a path are red for going on along it: (metres, begin, end)."""
     placed, _ = stretches(folder, edges)
     links = folder.links_along(edges)
@@ -71,7 +81,7 @@ def reds(folder, edges, first, last):
     return found
 
 
-def shows_green(command, second, links, following):
+def shows_green(command: dict[str, Any], second: int, links: Sequence[int], following: Sequence[int]) -> bool:
     """Whether a signal plan shows green from any of some links to any of others."""
     place = (second + command["offset"]) % sum(duration for duration, _ in command["phases"])
     for duration, greens in command["phases"]:
@@ -81,10 +91,10 @@ def shows_green(command, second, links, following):
     return False
 
 
-def way_back(folder, edges):
+def way_back(folder: Folder, edges: Sequence[str]) -> list[str]:
     """The edges of a path's other direction: between the same junctions."""
     mapping = folder.mapping
-    found = {}
+    found: dict[tuple[int, int], str] = {}
     for edge, links in mapping.links_of.items():
         found.setdefault((mapping.links[links[0]].begin, mapping.links[links[0]].end), edge)
     back = []
@@ -96,7 +106,7 @@ def way_back(folder, edges):
     return back
 
 
-def junctions_along(folder, edges):
+def junctions_along(folder: Folder, edges: Sequence[str]) -> list[tuple[float, str]]:
     """(metres from the path's begin, name) of the junctions within a path."""
     placed, _ = stretches(folder, edges)
     firsts = [links[0] for links in folder.links_along(edges)]
@@ -104,12 +114,12 @@ def junctions_along(folder, edges):
     return ends[:-1] or ends
 
 
-def green_band(folder, edges, first):
+def green_band(folder: Folder, edges: Sequence[str], first: int) -> tuple[int, int] | None:
     """How many seconds of a cycle one after the other let a vehicle that starts at the first signal pass all others too at
     its free speed, and the cycle; none where there is no signal or no common cycle."""
-    stops = stop_lines(folder, edges)
+    lines = stop_lines(folder, edges)
     plans = {node: command for clock, command in folder.signals if clock <= first for node in [command["node"]]}
-    stops = [(after, plans[node], *links) for after, node, *links in stops if node in plans]
+    stops = [(after, plans[node], here, following) for after, node, here, following in lines if node in plans]
     cycles = {sum(duration for duration, _ in command["phases"]) for _, command, *_ in stops}
     if len(cycles) != 1:
         return None
@@ -125,7 +135,7 @@ def green_band(folder, edges, first):
     return min(longest, cycle), cycle
 
 
-def stop_lines(folder, edges):
+def stop_lines(folder: Folder, edges: Sequence[str]) -> list[tuple[float, int, list[int], list[int]]]:
     """(free seconds from the path's begin, node, links, next links) of each stop line within a path."""
     links, after, found = folder.links_along(edges), 0.0, []
     for here, following in zip(links, links[1:]):
@@ -136,9 +146,10 @@ def stop_lines(folder, edges):
     return found
 
 
-def densities(folder):
+def densities(folder: Folder) -> list[float]:
     """Vehicles a kilometre and lane of each link, the mean over all polls."""
-    standing, polls = Counter(), 0
+    standing: Counter[int] = Counter()
+    polls = 0
     for poll in folder.polls():
         polls += 1
         for link, _lane, cells, _buffer, _closed in poll["lanes"]:
@@ -151,17 +162,17 @@ def densities(folder):
     ]
 
 
-def longest_queues(folder, most):
+def longest_queues(folder: Folder, most: int) -> tuple[list[tuple[str, dict[int, float]]], int]:
     """The lanes with the longest queues, the longest first: (edge_lane, {time: metres}); and how many lanes with
     queues there are."""
-    by_lane = defaultdict(dict)
+    by_lane: defaultdict[str, dict[int, float]] = defaultdict(dict)
     for row in folder.queues():
         by_lane[f"{row['edge']}_{row['lane']}"][int(row["time"])] = float(row["metres"])
     ranked = sorted(by_lane.items(), key=lambda item: (-max(item[1].values()), item[0]))
     return ranked[:most], len(ranked)
 
 
-def flows(folder, edges):
+def flows(folder: Folder, edges: Sequence[str]) -> list[tuple[float, float]]:
     """(vehicles a kilometre, vehicles an hour) of each count of a whole period with traffic."""
     return [
         (float(row["occupancy_percent"]) / 100 / limits.CELL_METRES * 1000, float(row["vehicles_per_hour"]))
@@ -172,10 +183,12 @@ def flows(folder, edges):
     ]
 
 
-def middle_flows(folder, edges):
+def middle_flows(folder: Folder, edges: Sequence[str]) -> list[tuple[float, float]]:
     """(vehicles a kilometre, vehicles an hour) of the middle third of each lane with traffic there, of each whole period:
     means over its polls of the vehicles there and of their speeds, added up, over its length (Edie's definitions)."""
-    links, polls, seen = folder.mapping.links, Counter(), defaultdict(lambda: [0, 0])
+    links = folder.mapping.links
+    polls: Counter[int] = Counter()
+    seen: defaultdict[tuple[int, int, int], list[int]] = defaultdict(lambda: [0, 0])
     wanted, start = {place for place, link in enumerate(links) if not edges or link.edge in edges}, folder.made.get("start", 0)
     for poll in folder.polls():
         period = (poll["clock"] - 1 - start) // folder.period
@@ -198,25 +211,25 @@ def middle_flows(folder, edges):
     return found
 
 
-def middle(cells):
+def middle(cells: int) -> tuple[int, int]:
     """The first cell of a link's middle third, and the one behind its last."""
     first = cells // 3
     return first, max(first + 1, cells - first)
 
 
-def arrival_curves(folder):
+def arrival_curves(folder: Folder) -> tuple[list[int], list[int]]:
     """Sorted times of wished departures and of arrivals."""
     trips = folder.trips()
     return sorted(int(row["depart"]) for row in trips), sorted(int(row["arrival"]) for row in trips if row["arrival"])
 
 
-def difference(first, second):
+def difference(first: Sequence[float], second: Sequence[float]) -> tuple[list[float], list[int]]:
     """The times at which one of two curves of sorted times rises, and how far the first is then above the second."""
     times = sorted({*first, *second})
     return times, [bisect_right(first, time) - bisect_right(second, time) for time in times]
 
 
-def round_length(metres):
+def round_length(metres: float) -> float:
     """The greatest 1, 2 or 5 times a power of ten that is at most so long."""
     power = 10 ** floor(log10(metres))
     return next(times * power for times in (5, 2, 1) if times * power <= metres)

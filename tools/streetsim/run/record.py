@@ -5,11 +5,11 @@ import json
 from collections import Counter, defaultdict
 from collections.abc import Callable, Collection, Iterable, Mapping, Sequence
 from dataclasses import dataclass, field
-from typing import IO, TYPE_CHECKING, Any
+from typing import Any
 
 from .. import limits
 from ..client import Census, Client, Lane, Row, Rows, Vehicle, line_of, read_reply
-from ..files import Fault, ZippedText
+from ..files import Fault, TextFile
 from .budget import MINUTE, Asking, Budget
 from .detectors import E1, E2, Areas, Detector
 from .edgedata import Edgedata, Samples
@@ -192,7 +192,7 @@ class Recorder(Desk):
         run: Run,
         mapping: Map,
         settings: Settings,
-        lanes_file: IO[str] | ZippedText | None,
+        lanes_file: TextFile | None,
         tell: Tell,
         detectors: Sequence[Detector] = (),
     ) -> None:

@@ -82,7 +82,7 @@ def due_at(clock: int, run: Run, mapping: Map) -> int:
     return bisect_right(free_arrivals(run, mapping), clock)
 
 
-def of_missing(arrived: Mapping[str, float], due: int) -> list[str]:
+def of_missing(arrived: Mapping[str, float], due: float) -> list[str]:
     """What speaks against means of several runs, by how many arrived: {what was run: vehicles}. Who has not arrived counts
     until the end in such means."""
     late = {name: due - count for name, count in arrived.items() if due - count > MOST_LATE * due}

@@ -3,6 +3,8 @@
 concurrent.futures is all that is used of either. A process of the pool is given its sessions once, and what a run then needs is its
 signals and its seed; on a cluster each run has its session too.
 """
+from __future__ import annotations
+
 import contextlib
 import logging
 import multiprocessing
@@ -12,29 +14,31 @@ import signal
 import tempfile
 import warnings
 import zipfile
+from collections.abc import Callable, Iterable, Iterator, Sequence
 from concurrent.futures import BrokenExecutor, CancelledError, ProcessPoolExecutor
 from pathlib import Path
+from typing import Any
 
 from ..files import Fault
-from .sessions import digest_of
+from .sessions import Session, digest_of
 
 PATIENCE = 10  # seconds for a cluster to answer
 TRIES = 3  # to make its workers ready
 HOST = re.compile(r"(\w+://)?.+:\d+")
 LOST = (BrokenExecutor, CancelledError)
-HELD = []  # in a process of the pool: the sessions
+HELD: list[Any] = []  # in a process of the pool: the sessions
 
 
 class Machines:
     """Runs functions of (session, ..) on some workers; sessions go by their place in a list."""
 
-    def __init__(self, executor, held):
+    def __init__(self, executor: Any, held: Sequence[Any]) -> None:
         self.executor, self.held = executor, held
 
-    def submit(self, function, place, *arguments):
+    def submit(self, function: Callable[..., Any], place: int, *arguments: Any) -> Any:
         return self.executor.submit(work, function, self.held[place], *arguments)
 
-    def ordered(self, tasks):
+    def ordered(self, tasks: Iterable[Sequence[Any]]) -> Iterator[Any]:
         """Gives what tasks, each (name, function, place, ..), give: in their order, whatever the order in which they end.
         Who asks for no more ends the others."""
         futures = [(name, self.submit(*task)) for name, *task in tasks]
@@ -46,12 +50,12 @@ class Machines:
                 future.cancel()
 
 
-def work(function, session, *arguments):
+def work(function: Callable[..., Any], session: Any, *arguments: Any) -> Any:
     """One task, where it is done; a number is the place of a session that the process holds."""
     return function(HELD[session] if isinstance(session, int) else session, *arguments)
 
 
-def result_of(future, name):
+def result_of(future: Any, name: str) -> Any:
     """What a task gave; a Fault that names it where it was given up."""
     try:
         return future.result()
@@ -63,12 +67,12 @@ def result_of(future, name):
         raise Fault(f"{name} was given up, as more of its workers died than the cluster allows (distributed.scheduler.allowed-failures)") from None
 
 
-def told_of(fault):
+def told_of(fault: BaseException) -> str:
     return str(fault) or type(fault).__name__
 
 
 @contextlib.contextmanager
-def machines(jobs, cluster, sessions):
+def machines(jobs: int, cluster: str | None, sessions: Sequence[Session]) -> Iterator[Machines]:
     """The workers of a cluster, or of this machine, which know some sessions."""
     if cluster:
         with cluster_of(cluster, sessions) as made:
@@ -81,7 +85,7 @@ def machines(jobs, cluster, sessions):
         executor.shutdown(cancel_futures=True)
 
 
-def hold(sessions):
+def hold(sessions: Sequence[Session]) -> None:
     """Begins a process of the pool. Ctrl-C is the main process's: neither this one nor its programs see it."""
     HELD[:] = sessions
     signal.signal(signal.SIGINT, signal.SIG_IGN)
@@ -90,7 +94,7 @@ def hold(sessions):
 
 
 @contextlib.contextmanager
-def cluster_of(address, sessions):
+def cluster_of(address: str, sessions: Sequence[Session]) -> Iterator[Machines]:
     """The workers of a scheduler that runs; all must have the program that is here."""
     try:
         from distributed import Client
@@ -114,7 +118,7 @@ def cluster_of(address, sessions):
         yield Machines(client.get_executor(pure=False), sessions)
 
 
-def prepare(client, address, sessions):
+def prepare(client: Any, address: str, sessions: Sequence[Session]) -> None:
     """Makes the workers ready; once more where one of them is lost meanwhile."""
     for left in reversed(range(TRIES)):
         try:
@@ -126,7 +130,7 @@ def prepare(client, address, sessions):
                 raise Fault(f"--cluster {address}: its workers could not be made ready: {told_of(fault)}") from None
 
 
-def send_package(client):
+def send_package(client: Any) -> None:
     """Sends this package to all workers, and to those that come later."""
     place = Path(__file__).resolve().parents[1]
     with tempfile.TemporaryDirectory() as folder:
@@ -137,10 +141,10 @@ def send_package(client):
         client.upload_file(path)
 
 
-def check_programs(client, sessions):
+def check_programs(client: Any, sessions: Sequence[Session]) -> None:
     """Refuses a cluster with a worker whose program is another one."""
     for program, digest in sorted({(session.program, session.digest) for session in sessions}):
         for worker, found in sorted(client.run(digest_of, program).items()):
             if found != digest:
-                what = f"has another program ({found[:12]}, here {digest[:12]})" if found else "has no program"
+                what = f"has another program ({found[:12]}, here {(digest or 'none')[:12]})" if found else "has no program"
                 raise Fault(f"--cluster: worker {worker} {what} at {program}")

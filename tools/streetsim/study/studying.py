@@ -1,4 +1,6 @@
 """streetsim-study: seeds times variants, each run once, and how sure their differences are."""
+from __future__ import annotations
+
 import argparse
 import contextlib
 import os
@@ -8,6 +10,8 @@ from functools import partial
 from statistics import fmean, stdev
 
 import tomllib
+from collections.abc import Iterable, Iterator, Mapping, Sequence
+from typing import Any
 
 from .. import limits, program
 from ..cli.progress import Meanwhile, Slow
@@ -16,7 +20,8 @@ from ..files import Fault, open_text, reading, whole_folder
 from ..routes.studied import routed
 from ..run import trust
 from ..run.ending import first_guess
-from ..run.mapping import read_map
+from ..run.mapping import Map, read_map
+from ..run.runs import Run
 from ..run.tables import write_table
 from ..run.works import all_works, lanes_to_join, with_works
 from ..signals.light_lines import LightLines, read_plans
@@ -27,7 +32,7 @@ from ..sumo.net import actuated
 from .giving import giving_session, outcome_giving_way
 from .machines import machines
 from .seeds import paired, runs_needed, seeds_of, unpaired
-from .sessions import Session
+from .sessions import Outcome, Session
 from .telling import doubts, draw, tell, tell_ends, tell_giving_way
 
 LAST = "differences.csv"
@@ -41,6 +46,10 @@ DIFFERENCES = (
     *("variant", "mean_trip_s", "difference", "half_width_95_paired", "half_width_95_unpaired", "runs"),
     *("runs_needed_paired", "runs_needed_unpaired", "not_trusted"),
 )
+
+
+# Variant, mean, difference, half widths (paired, unpaired), runs, runs needed (paired, unpaired).
+Difference = tuple[str, float, float | None, float | None, float | None, int, int | None, int | None]
 
 
 @dataclass(slots=True)
@@ -59,7 +68,7 @@ class Study:
     variants: dict[str, Variant]
 
 
-def parser():
+def parser() -> Parser:
     made = Parser(
         prog="streetsim-study",
         description="Runs each variant of a study with each seed, and writes the differences of their mean trips with 95 % "
@@ -79,7 +88,7 @@ def parser():
     return made
 
 
-def percent(text):
+def percent(text: str) -> float:
     try:
         value = float(text)
     except ValueError:
@@ -89,7 +98,7 @@ def percent(text):
     return value
 
 
-def main(arguments):
+def main(arguments: list[str]) -> int:
     words = parser().parse_args(arguments)
     if os.path.exists(words.out) and not os.path.isdir(words.out):
         raise Fault(f"{words.out}: exists and is no folder")
@@ -113,7 +122,7 @@ def main(arguments):
     return 0
 
 
-def read_study(path, simulator, rounds=None):
+def read_study(path: str, simulator: str, rounds: int | None = None) -> Study:
     """A study, with its variants as bytes; the paths in it are beside it; rounds: in place of those that it names."""
     with reading(path), open_text(path) as file:
         value = load_toml(path, file.read())
@@ -142,7 +151,7 @@ def read_study(path, simulator, rounds=None):
 
 
 @contextlib.contextmanager
-def naming(where):
+def naming(where: str) -> Iterator[None]:
     """Has a fault name the variant that it is of."""
     try:
         yield
@@ -150,7 +159,7 @@ def naming(where):
         raise fault if str(fault).startswith(where) else Fault(f"{where}: {fault}") from None
 
 
-def read_until(path, until):
+def read_until(path: str, until: Any) -> int | None:
     """The last second of a study, or none where it names none."""
     if isinstance(until, str) and whole_seconds(until) is not None:
         until = whole_seconds(until)
@@ -159,21 +168,21 @@ def read_until(path, until):
     return until
 
 
-def load_toml(path, text):
+def load_toml(path: str, text: str) -> dict[str, Any]:
     try:
         return tomllib.loads(text)
     except tomllib.TOMLDecodeError as fault:
         raise Fault(f"{path}: not TOML: {fault}") from None
 
 
-def refuse_unknown(where, table, known, what):
+def refuse_unknown(where: str, table: Iterable[str], known: Iterable[str], what: str) -> None:
     if unknown := [key for key in table if key not in known]:
         raise Fault(f"{where}: unknown {what} {unknown[0]!r}; known are {', '.join(sorted(known))}")
 
 
-def joint_lanes(path, study):
+def joint_lanes(path: str, study: dict[str, Any]) -> dict[tuple[str, str], dict[str, None]]:
     """The lanes that works of a variant need to be joint, and so are in all variants of the same run: {(run, map): lanes}."""
-    found = {}
+    found: dict[tuple[str, str], dict[str, None]] = {}
     for name, variant in study["variant"].items():
         with naming(where := f"{path}: variant {name!r}"):
             check_types(where, {**study, **variant})
@@ -184,29 +193,38 @@ def joint_lanes(path, study):
     return found
 
 
-def pair_of(study, variant):
+def pair_of(study: dict[str, Any], variant: dict[str, Any]) -> tuple[str, str]:
     """The run and the map of a variant."""
-    return tuple(variant.get(key, study[key]) for key in ("run", "map"))
+    return variant.get("run", study["run"]), variant.get("map", study["map"])
 
 
-def read_variant(where, path, study, variant, joint, simulator):
+def read_variant(
+    where: str,
+    path: str,
+    study: dict[str, Any],
+    variant: dict[str, Any],
+    joint: Mapping[tuple[str, str], Iterable[str]],
+    simulator: str,
+) -> Variant:
     """A variant; joint: the lanes that are joint for works, by run and map."""
     refuse_unknown(where, variant, VARIANT, "key")
     beside = partial(os.path.join, os.path.dirname(os.path.abspath(path)))
     run_path, map_path = map(beside, pair_of(study, variant))
     run, mapping = read_pair(run_path, map_path, study["until"])
     works = all_works(variant.get("close", ()), mapping, study["until"])
-    until, found = study["until"] or first_guess(run), []
+    until = study["until"] or first_guess(run)
+    told: list[str] = []
+    found: list[str] = []
     if variant.get("route"):
         asked = variant.get("close", ()), variant.get("knowing", 1.0), list(joint[pair_of(study, variant)])
         seeds = seeds_of(study["seeds"], f"{path}: seeds")
         run, mapping, found = routed(run, mapping, map_path, *asked, simulator, until, study["rounds"], where, seeds)
-        told = []
     else:
         run, mapping, told = with_works(run, mapping, map_path, works, joint[pair_of(study, variant)])
     print(*(f"{where}: {text}" for text in told), sep="\n", end="\n" if told else "", file=sys.stderr)
     load = {"dawdle": variant["dawdle"]} if "dawdle" in variant else {}
-    nodes, signals, sensing = frozenset(), b"", mapping.actuated
+    nodes: frozenset[int] = frozenset()
+    signals, sensing = b"", mapping.actuated
     if "plans" in variant:
         plans = list(map(beside, variant["plans"]))
         signals, sensing = signals_of(Reading(run_path, map_path, plans, until, simulator, 0, ()), run, mapping)
@@ -216,7 +234,7 @@ def read_variant(where, path, study, variant, joint, simulator):
     return Variant(session, signals, trust.free_arrivals(run, mapping), doubts)
 
 
-def check_types(where, value):
+def check_types(where: str, value: dict[str, Any]) -> None:
     """Refuses values of another kind than their key's."""
     for key in ("run", "map"):
         if not isinstance(value[key], str):
@@ -236,7 +254,7 @@ def check_types(where, value):
         raise Fault(f"{where}: knowing is of who goes round works: close = [..] and route = true are needed too")
 
 
-def signals_of(asked, run, mapping):
+def signals_of(asked: Reading, run: Run, mapping: Map) -> tuple[bytes, list[str]]:
     """The signal lines of all lights of the map under the plans of a variant, and which of them SUMO times by detectors."""
     net = read_plans(asked.plans, mapping)
     found = {name: light_of(name, net.programs[name]) for name in lights_of(asked, mapping, net)}
@@ -245,11 +263,12 @@ def signals_of(asked, run, mapping):
     return lines, actuated(net, found)
 
 
-def run_all(words, study):
+def run_all(words: argparse.Namespace, study: Study) -> dict[str, list[Outcome]]:
     """What each variant gives with each seed, {variant: outcomes}."""
     sessions = [variant.session for variant in study.variants.values()]
     total = len(study.variants) * len(study.seeds)
-    meanwhile, results = Meanwhile("runs", total), {}
+    meanwhile = Meanwhile("runs", total)
+    results: dict[str, list[Outcome]] = {}
     with machines(words.jobs, words.cluster, sessions) as workers:
         tasks = [
             (f"variant {name!r}, seed {seed}", outcome_giving_way, place, variant.signals, seed)
@@ -266,23 +285,23 @@ def run_all(words, study):
     return results
 
 
-def means_of(study, results, name):
+def means_of(study: Study, results: Mapping[str, Sequence[Outcome]], name: str) -> list[float]:
     cars = len(study.variants[name].session.departs)
     return [one.seconds / cars for one in results[name]]
 
 
-def run_rows(study, results):
+def run_rows(study: Study, results: Mapping[str, Sequence[Outcome]]) -> Iterator[tuple[Any, ...]]:
     for name, outcomes in results.items():
         for seed, one, mean in zip(study.seeds, outcomes, means_of(study, results, name), strict=True):
             ends = one.seconds, one.end, one.ended.partition(": ")[2] or "until"
             yield name, seed, one.arrived, f"{mean:.3f}", *ends, one.waiting, one.junctions, one.lines, one.digest
 
 
-def differences(study, results, precision):
+def differences(study: Study, results: Mapping[str, Sequence[Outcome]], precision: float) -> list[Difference]:
     """A row for each variant, to the base: mean trips of equal seeds (paired), and as if their seeds were others."""
     base = means_of(study, results, study.base)
     error = fmean(base) * precision / 100
-    rows = []
+    rows: list[Difference] = []
     for name in study.variants:
         means = means_of(study, results, name)
         if name == study.base or len(means) < 2:
@@ -297,5 +316,5 @@ def differences(study, results, precision):
     return rows
 
 
-def written(row):
+def written(row: Iterable[Any]) -> tuple[Any, ...]:
     return tuple("" if value is None else f"{value:.3f}" if isinstance(value, float) else value for value in row)

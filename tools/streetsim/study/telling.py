@@ -1,15 +1,23 @@
 """What streetsim-study says of its runs: differences, a picture of them, ends, and why a variant is not to be trusted."""
+from __future__ import annotations
+
 import sys
 from bisect import bisect_right
+from collections.abc import Iterator, Mapping, Sequence
 from statistics import fmean
+from typing import TYPE_CHECKING
 
 from ..files import Fault
 from ..pictures import plots
 from ..run import trust
 from ..run.ending import ALL
 
+if TYPE_CHECKING:
+    from .sessions import Outcome
+    from .studying import Difference, Study
 
-def draw(study, rows, path):
+
+def draw(study: Study, rows: Sequence[Difference], path: str) -> None:
     """The differences with their intervals; without matplotlib no picture, which is said."""
     shown = [row for row in rows if row[0] != study.base]
     try:
@@ -22,9 +30,9 @@ def draw(study, rows, path):
     figure, axes = pyplot.subplots(figsize=(7, 1.2 + 0.4 * len(shown)))
     for place, (_, _, difference, half, other, *_) in enumerate(reversed(shown)):
         for width, size, label in ((other, 1.2, "unpaired"), (half, 4.0, "paired")):
-            if width is not None:
-                label = f"95 % interval, {label}" if place == 0 else None
-                axes.plot((difference - width, difference + width), (place, place), color="#225588", linewidth=size, label=label)
+            if width is not None and difference is not None:
+                named = f"95 % interval, {label}" if place == 0 else None
+                axes.plot((difference - width, difference + width), (place, place), color="#225588", linewidth=size, label=named)
         axes.plot([difference], [place], marker="o", color="black", markersize=5)
     axes.axvline(0, color="black", linewidth=0.8)
     axes.set_yticks(range(len(shown)), [row[0] for row in reversed(shown)])
@@ -35,7 +43,7 @@ def draw(study, rows, path):
     plots.save(figure, path)
 
 
-def doubts(study, name, outcomes):
+def doubts(study: Study, name: str, outcomes: Sequence[Outcome]) -> Iterator[str]:
     """What speaks against the runs of a variant."""
     variant = study.variants[name]
     arrived = fmean(one.arrived for one in outcomes)
@@ -47,11 +55,12 @@ def doubts(study, name, outcomes):
     yield from variant.doubts
 
 
-def tell_ends(study, results):
+def tell_ends(study: Study, results: Mapping[str, Sequence[Outcome]]) -> None:
     """Prints how runs without a last second ended."""
     if study.until is not None:
         return
-    clocks, others = [], {}
+    clocks = []
+    others: dict[tuple[str, str], list[str]] = {}
     for name, outcomes in results.items():
         for seed, one in zip(study.seeds, outcomes, strict=True):
             clocks.append(one.end)
@@ -64,7 +73,7 @@ def tell_ends(study, results):
         print(f"runs ended at {until} s: {ALL}")
 
 
-def tell(rows):
+def tell(rows: Sequence[Difference]) -> None:
     """Prints a line for each variant."""
     for name, mean, difference, half, _, runs, needed, _ in rows:
         line = f"{name}: mean trip {mean:.1f} s"
@@ -75,7 +84,7 @@ def tell(rows):
         print(line)
 
 
-def tell_giving_way(results):
+def tell_giving_way(results: Mapping[str, Sequence[Outcome]]) -> None:
     """Prints at how many junctions vehicles give way without a light, and by how many lines in the mean of the runs."""
     outcomes = [one for found in results.values() for one in found]
     if any(one.lines for one in outcomes):
