@@ -125,7 +125,7 @@ class Lane:
     cells: Entries  # of (car, cell of its front, speed), with the size where it is above 1; the greatest cell first
     buffer: Entries  # of (car, speed, ready), from the front
     waiting: Entries  # of (car, depart)
-    closed: Entries  # of (first, last)
+    closed: tuple[tuple[int, int], ...]  # of (first, last)
 
 
 @dataclass(slots=True, frozen=True)
@@ -191,7 +191,8 @@ def reply_of(value: dict[str, Any]) -> Reply:
     if "admitted" in value:
         return Census(**value)
     if "buffer" in value:
-        return Lane(*(entries(value[key]) for key in ("cells", "buffer", "waiting", "closed")))
+        closed = tuple((first, last) for first, last in value["closed"])
+        return Lane(entries(value["cells"]), entries(value["buffer"]), entries(value["waiting"]), closed)
     if "now" in value:
         now = Row(*value["now"])
         rows = [Row(start, 0, *rest) for start, *rest in value["rows"]]

@@ -12,6 +12,7 @@ from pathlib import Path
 from tempfile import TemporaryDirectory
 
 from . import limits
+from .traci.lights import Light
 from .traci.opening import open_session
 from .traci.options import options_of
 from .traci.session import Session

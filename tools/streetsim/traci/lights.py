@@ -4,12 +4,14 @@ from __future__ import annotations
 from collections.abc import Iterator, Sequence
 from dataclasses import dataclass, field
 
+from ..run.mapping import Map
 from .errors import TraCIException
 
 STATES = "rRyYgGsSuUoO"
 CONSTANT = 600  # seconds of a phase that is shown until the next is set
 
 Phases = list[tuple[float, str]]
+Link = tuple[str, str, str] | None  # lane, next lane, lane inside the junction
 
 
 @dataclass(slots=True)
@@ -19,7 +21,7 @@ class Light:
     phases: Phases
     begin: float
     program: str
-    links: list = field(default_factory=list)  # by index: (lane, next lane, lane inside) of each connection
+    links: list[Link] = field(default_factory=list)  # of each connection, by index
     states: int = 0  # how many letters a state has
     names: list[str] = field(default_factory=list)  # of the phases
     programs: dict[str, tuple[Phases, list[str]]] = field(default_factory=dict)  # that can be chosen: phases and their names
@@ -44,7 +46,7 @@ def shown_phases(light: Light) -> Phases:
     return [(duration, state.replace("g", "G") if alone else state) for duration, state in light.phases]
 
 
-def turns_to(node: int, light: str, mapping) -> Iterator[tuple[int, int, int, int | None]]:
+def turns_to(node: int, light: str, mapping: Map) -> Iterator[tuple[int, int, int, int | None]]:
     for turn in mapping.turns:
         if mapping.links[turn.link].end == node:
             yield turn.link, turn.lane, turn.next, turn.index if turn.light == light else None

@@ -1,21 +1,23 @@
 """What scripts have called after each step."""
 from __future__ import annotations
 
+from typing import Any
+
 
 class StepListener:
     """Is told of each step. Scripts make their own of it, as with SUMO's traci."""
 
-    def step(self, t=0):
+    def step(self, t: float = 0) -> bool:
         """After a step; False takes the listener off."""
         return True
 
-    def cleanUp(self):
+    def cleanUp(self) -> None:
         """At the end of the run."""
 
-    def setID(self, ID):
+    def setID(self, ID: int) -> None:
         self._ID = ID
 
-    def getID(self):
+    def getID(self) -> int:
         return self._ID
 
 

@@ -10,6 +10,7 @@ from pathlib import Path
 
 from ..cli.words import ROUNDS
 from ..files import whole_file
+from ..run.rounds import Yielding
 from ..sumo import importing
 from .errors import FatalTraCIError
 from .options import IMPORTED, LOGS, NOWHERE, warnings_of
@@ -47,7 +48,7 @@ def open_session(folder: Path, options: Options) -> Session:
     return session
 
 
-def told_of(yielding) -> str:
+def told_of(yielding: Yielding) -> str:
     """What there is to say of giving way without a light."""
     if yielding.why_not:
         return f"warning: {yielding.told()}\n"

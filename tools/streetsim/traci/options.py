@@ -1,5 +1,6 @@
 """The words of SUMO's command line: what is done by them here, what they do not change here, and what is refused."""
 import re
+from collections.abc import Mapping
 
 from ..cli.words import MOST_ROUNDS
 from ..cli.words import FALSE
@@ -76,7 +77,7 @@ def name_of(word: str) -> str:
     return SYNONYMS.get(name, name)
 
 
-def check_option(name: str, value: str):
+def check_option(name: str, value: str) -> None:
     """Refuses what cannot be done: unknown options, outputs, steps of another length, what changes the demand."""
     on = value.lower() not in FALSE
     if name == "step-length" and not is_one(value):
@@ -93,7 +94,7 @@ def check_option(name: str, value: str):
         raise FatalTraCIError(f"No option with the name '{name}' exists.")
 
 
-def warnings_of(options: dict[str, str]) -> list[str]:
+def warnings_of(options: Mapping[str, str]) -> list[str]:
     """What is to be said of SUMO's options that are read and do nothing here."""
     lacking = [name for name in options if KNOWN.fullmatch(name) and not SILENT.fullmatch(name) and not OUTPUT.fullmatch(name)]
     told = [f"--{name} {options[name]}".rstrip() + " has no effect here" for name in lacking if name not in IMPORTED]

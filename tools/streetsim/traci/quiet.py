@@ -3,6 +3,7 @@ from __future__ import annotations
 
 import sys
 from collections.abc import Callable
+from typing import Any
 
 from .advice import WINDOW
 from .errors import NotHere
@@ -23,7 +24,7 @@ class Quiet:
             raise NotHere(f"{self.name}.{call} is not here: {WINDOW}")
         return self.nothing
 
-    def nothing(self, *_, **__) -> None:
+    def nothing(self, *_: Any, **__: Any) -> None:
         if not self.told:
             print(f"warning: traci.{self.name} {SHOWN}", file=sys.stderr)
             self.told = True

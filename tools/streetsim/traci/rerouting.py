@@ -3,7 +3,7 @@ from __future__ import annotations
 
 from collections.abc import Sequence
 from operator import itemgetter
-from typing import TYPE_CHECKING
+from typing import TYPE_CHECKING, Any
 
 from ..routes.costs import Costs, flat_costs
 from ..routes.graph import END, Graph
@@ -47,7 +47,8 @@ class Ways:
         """The length of the shortest way, both edges whole, with the junctions between."""
         if self.by_metres is None:
             links, inside = self.session.map.links, self.session.inside
-            costs = [links[link].metres + (0.0 if to == END else inside.metres(link, None, to)) for link, to in self.graph.movements]
+            inner = ((link, 0.0 if to == END else inside.metres(link, None, to)) for link, to in self.graph.movements)
+            costs: list[Any] = [links[link].metres + metres for link, metres in inner]
             self.by_metres = Router(self.graph, Costs(float("inf"), 1, costs))
         return self.search(origin, target, self.by_metres)[1]
 

@@ -6,13 +6,14 @@ from itertools import pairwise
 from math import atan2, degrees, hypot
 
 Point = tuple[float, float]
+Line = Sequence[Sequence[float]]  # of points
 
 
-def lengths(line: Sequence[Point]) -> list[float]:
+def lengths(line: Line) -> list[float]:
     return [hypot(bx - ax, by - ay) for (ax, ay), (bx, by) in pairwise(line)]
 
 
-def along(line: Sequence[Point], share: float) -> Point:
+def along(line: Line, share: float) -> Point:
     """The point at a share of the length of a line."""
     at, rest = segment_at(line, share)
     if at is None:
@@ -21,14 +22,14 @@ def along(line: Sequence[Point], share: float) -> Point:
     return ax + (bx - ax) * rest, ay + (by - ay) * rest
 
 
-def heading(line: Sequence[Point], share: float) -> float:
+def heading(line: Line, share: float) -> float:
     """The direction at a share of the length of a line, in degrees clockwise from north."""
     at, _ = segment_at(line, share)
     (ax, ay), (bx, by) = line[at if at is not None else -2], line[at + 1 if at is not None else -1]
     return degrees(atan2(bx - ax, by - ay)) % 360
 
 
-def segment_at(line: Sequence[Point], share: float) -> tuple[int | None, float]:
+def segment_at(line: Line, share: float) -> tuple[int | None, float]:
     """The part of a line in which a share of its length lies, and the share of that part; no part behind its end."""
     left = share * sum(lengths(line))
     for at, size in enumerate(lengths(line)):
@@ -38,7 +39,7 @@ def segment_at(line: Sequence[Point], share: float) -> tuple[int | None, float]:
     return None, 0.0
 
 
-def nearest(point: Point, line: Sequence[Point]) -> tuple[float, float]:
+def nearest(point: Point, line: Line) -> tuple[float, float]:
     """How far a point is from a line of points or from a single one, and how far along the line that is."""
     (x, y), passed, best = point, 0.0, (hypot(point[0] - line[0][0], point[1] - line[0][1]), 0.0)
     for ((ax, ay), (bx, by)), size in zip(pairwise(line), lengths(line), strict=True):
@@ -50,5 +51,5 @@ def nearest(point: Point, line: Sequence[Point]) -> tuple[float, float]:
     return best
 
 
-def distance(point: Point, line: Sequence[Point]) -> float:
+def distance(point: Point, line: Line) -> float:
     return nearest(point, line)[0]

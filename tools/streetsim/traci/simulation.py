@@ -2,14 +2,17 @@
 from __future__ import annotations
 
 import sys
+from collections.abc import Iterable, Sequence
 from dataclasses import dataclass
 from math import hypot
+from typing import Any
 
 from . import constants as tc
 from .domain import Domain
 from .errors import NotHere, TraCIException
 from .saving import load_state, save_state
-from .shapes import along, nearest
+from .shapes import Point, along, nearest
+from .street_facts import LaneFacts
 
 
 @dataclass
@@ -46,71 +49,71 @@ class Simulation(Domain):
     }
     first = (tc.VAR_DEPARTED_VEHICLES_IDS,)
 
-    def subjects(self):
+    def subjects(self) -> tuple[str, ...]:
         return ("",)
 
     # Time and vehicles
 
-    def getTime(self):
+    def getTime(self) -> float:
         return float(self.now().clock)
 
-    def getCurrentTime(self):
+    def getCurrentTime(self) -> int:
         """Milliseconds."""
         return self.now().clock * 1000
 
-    def getDeltaT(self):
+    def getDeltaT(self) -> float:
         return 1.0
 
-    def getEndTime(self):
+    def getEndTime(self) -> float:
         """The end that the words name, which ends nothing under a script; -1 where none do."""
         return float(self.now().options.get("end", -1.0))
 
-    def getScale(self):
+    def getScale(self) -> float:
         return 1.0
 
-    def getOption(self, option):
+    def getOption(self, option: str) -> str:
         """What the words or the configuration say of an option of SUMO's."""
         if option not in self.now().options:
             raise TraCIException(f"Option '{option}' was not given.")
         return self.now().options[option]
 
-    def getLoadedIDList(self):
+    def getLoadedIDList(self) -> tuple[str, ...]:
         """Vehicles that the last step told the program: those that would depart in it, and those that were added."""
         return tuple(self.now().loaded)
 
-    def getLoadedNumber(self):
+    def getLoadedNumber(self) -> int:
         return len(self.now().loaded)
 
-    def getDepartedIDList(self):
+    def getDepartedIDList(self) -> tuple[str, ...]:
         session = self.now().follow()
         return tuple(session.names[car] for car in session.departed)
 
-    def getDepartedNumber(self):
+    def getDepartedNumber(self) -> int:
         return len(self.now().follow().departed)
 
-    def getArrivedIDList(self):
+    def getArrivedIDList(self) -> tuple[str, ...]:
         session = self.now().follow()
         return tuple(session.names[car] for car in session.arrived)
 
-    def getArrivedNumber(self):
+    def getArrivedNumber(self) -> int:
         return len(self.now().follow().arrived)
 
-    def getPendingVehicles(self):
+    def getPendingVehicles(self) -> tuple[str, ...]:
         """Vehicles that would have departed and wait for room."""
         session = self.now().follow()
         return tuple(session.names[car] for car in session.waiting_to_depart())
 
-    def getMinExpectedNumber(self):
+    def getMinExpectedNumber(self) -> int:
         """Vehicles that have not ended."""
         session = self.now()
         census = session.ask(b'{"cmd":"count"}\n')
         return len(session.source.enters) - session.entered + census.admitted - census.arrived - census.taken
 
-    def none(self):
+    def none(self) -> int:
         """Under a script nobody teleports; nobody collides, brakes in an emergency, parks or stops, and there are no persons."""
         return 0
 
-    def nobody(self):
+    def nobody(self) -> tuple[str, ...]:
         return ()
 
     getStartingTeleportNumber = getEndingTeleportNumber = getCollidingVehiclesNumber = none
@@ -124,18 +127,18 @@ class Simulation(Domain):
 
     # Places and ways
 
-    def getNetBoundary(self):
+    def getNetBoundary(self) -> tuple[Point, Point]:
         """The lower left and the upper right corner."""
         return self.now().facts.boundary
 
-    def convert2D(self, edgeID, pos, laneIndex=0, toGeo=False):
+    def convert2D(self, edgeID: str, pos: float, laneIndex: int = 0, toGeo: bool = False) -> Point:
         """The point of a place on a lane."""
         if toGeo:
             raise NotHere("simulation.convert2D: degrees are not here; streetsim-export writes them")
         lane = self.lane(edgeID, laneIndex)
         return along(lane.shape, min(1.0, max(0.0, pos / lane.metres)))
 
-    def convertRoad(self, x, y, isGeo=False, vClass="ignoring"):
+    def convertRoad(self, x: float, y: float, isGeo: bool = False, vClass: str = "ignoring") -> tuple[str, float, int]:
         """(edge, metres from its begin, lane) of the lane that is nearest to a point."""
         if isGeo:
             raise NotHere("simulation.convertRoad: degrees are not here")
@@ -145,11 +148,13 @@ class Simulation(Domain):
         edge, _, index = lane.rpartition("_")
         return edge, nearest((x, y), shapes[lane])[1], int(index)
 
-    def lane(self, edge, index):
+    def lane(self, edge: str, index: int) -> LaneFacts:
         self.check(f"{edge}_{index}", self.now().lane_of)
         return self.now().facts.lanes[f"{edge}_{index}"]
 
-    def getDistance2D(self, x1, y1, x2, y2, isGeo=False, isDriving=False):
+    def getDistance2D(
+        self, x1: float, y1: float, x2: float, y2: float, isGeo: bool = False, isDriving: bool = False
+    ) -> float:
         """Metres between two points, as the crow flies or (isDriving) from lane to lane."""
         if isGeo:
             raise NotHere("simulation.getDistance2D: degrees are not here")
@@ -158,7 +163,7 @@ class Simulation(Domain):
         (edge1, pos1, _), (edge2, pos2, _) = self.convertRoad(x1, y1), self.convertRoad(x2, y2)
         return self.getDistanceRoad(edge1, pos1, edge2, pos2, True)
 
-    def getDistanceRoad(self, edgeID1, pos1, edgeID2, pos2, isDriving=False):
+    def getDistanceRoad(self, edgeID1: str, pos1: float, edgeID2: str, pos2: float, isDriving: bool = False) -> float:
         """The same between two places on edges; driving, on the shortest way and through its junctions."""
         if not isDriving:
             return self.getDistance2D(*self.convert2D(edgeID1, pos1), *self.convert2D(edgeID2, pos2))
@@ -166,7 +171,9 @@ class Simulation(Domain):
             return float(pos2 - pos1)
         return self.now().router().metres(edgeID1, edgeID2) - pos1 - (self.lane(edgeID2, 0).metres - pos2)
 
-    def findRoute(self, fromEdge, toEdge, vType="", depart=-1.0, routingMode=0):
+    def findRoute(
+        self, fromEdge: str, toEdge: str, vType: str = "", depart: float = -1.0, routingMode: int = 0
+    ) -> Stage:
         """The way between two edges that is shortest by the travel times of now."""
         ways, session = self.now().router(), self.now()
         links, seconds = ways.way(fromEdge, toEdge)
@@ -175,29 +182,31 @@ class Simulation(Domain):
 
     # States
 
-    def saveState(self, fileName):
+    def saveState(self, fileName: str) -> None:
         """Writes the state to a file of streetsim's own, which loadState reads."""
         save_state(self.now(), fileName)
 
-    def loadState(self, fileName):
+    def loadState(self, fileName: str) -> None:
         """Brings the run to a state that was saved in a run of the same files."""
         load_state(self.now(), fileName)
 
-    def writeMessage(self, msg):
+    def writeMessage(self, msg: str) -> None:
         print(msg, file=sys.stderr)
 
     # Subscriptions
 
-    def subscribe(self, varIDs=None, begin=None, end=None):
+    def subscribe(  # type: ignore[override]  # there is one simulation, which has no name
+        self, varIDs: Sequence[int] | None = None, begin: Any = None, end: Any = None
+    ) -> None:
         self.note("", varIDs)
 
-    def unsubscribe(self):
+    def unsubscribe(self) -> None:  # type: ignore[override]
         self.subscribed.clear()
 
-    def getSubscriptionResults(self):
+    def getSubscriptionResults(self) -> dict[int, Any]:  # type: ignore[override]
         return {variable: getattr(self, self.variables[variable])() for variable in self.subscribed.get("", ())}
 
-    def getAllSubscriptionResults(self):
+    def getAllSubscriptionResults(self) -> dict[str, dict[int, Any]]:
         return {"": self.getSubscriptionResults()} if self.subscribed else {}
 
 
@@ -206,11 +215,11 @@ class Route(Domain):
     variables = {tc.VAR_EDGES: "getEdges"}
     first = (tc.VAR_EDGES,)
 
-    def getIDList(self):
+    def getIDList(self) -> tuple[str, ...]:
         """Routes of the files that have a name, and those of route.add."""
-        return tuple({**self.now().facts.routes, **self.now().routes})
+        return tuple(dict.fromkeys((*self.now().facts.routes, *self.now().routes)))
 
-    def add(self, name, edges):
+    def add(self, name: str, edges: Iterable[str]) -> None:
         session = self.now()
         if name in session.routes or name in session.facts.routes:
             raise TraCIException(f"Route '{name}' exists already.")
@@ -219,7 +228,7 @@ class Route(Domain):
         except ValueError as fault:
             raise TraCIException(f"Route '{name}': {fault}") from None
 
-    def getEdges(self, name):
+    def getEdges(self, name: str) -> tuple[str, ...]:
         self.check(name, self.getIDList())
         session = self.now()
         if name in session.facts.routes:

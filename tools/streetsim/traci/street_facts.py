@@ -4,6 +4,7 @@ from __future__ import annotations
 
 from collections.abc import Sequence
 from dataclasses import dataclass, field
+from xml.etree.ElementTree import Element
 
 from ..files import attribute, elements, number, seconds
 from ..sumo.configuration import NOWHERE
@@ -60,7 +61,7 @@ class Facts:
     edgedata: list[tuple[str, float]] = field(default_factory=list)  # file and period, as additional files ask for them
     unwritten: list[str] = field(default_factory=list)  # files of detectors and of further edgeData, which are not written
 
-    def read_edge(self, path: str, element) -> None:
+    def read_edge(self, path: str, element: Element) -> None:
         edge = attribute(path, element, "id")
         for lane in element.iter("lane"):
             name, metres = attribute(path, lane, "id"), attribute(path, lane, "length", number)
@@ -72,20 +73,21 @@ class Facts:
             self.lanes[name] = LaneFacts(speed, metres, width, allowed, disallowed, points(lane.get("shape")))
             self.streets[edge] = element.get("name") or ""
 
-    def read_connection(self, element) -> None:
+    def read_connection(self, element: Element) -> None:
         source, target = (f"{element.get(edge)}_{element.get(lane)}" for edge, lane in (("from", "fromLane"), ("to", "toLane")))
-        if source in self.inside and element.get("via"):
-            self.onward[source] = element.get("via")
+        via, direction, state, light = (element.get(name) or "" for name in ("via", "dir", "state", "tl"))
+        if source in self.inside and via:
+            self.onward[source] = via
         if source in self.lanes:
-            marks = (element.get(name) or "" for name in ("via", "dir", "state", "tl"))
-            self.lanes[source].links.append(Connection(target, *marks, int(element.get("linkIndex") or -1)))
+            index = int(element.get("linkIndex") or -1)
+            self.lanes[source].links.append(Connection(target, via, direction, state, light, index))
 
     def metres_inside(self, via: str) -> float:
         """Of a way through a junction that begins with a lane inside it."""
         metres = self.inside.get(via, 0.0)
         return metres + self.metres_inside(self.onward[via]) if via in self.onward else metres
 
-    def read_light(self, path: str, element) -> None:
+    def read_light(self, path: str, element: Element) -> None:
         """The last program of a light is the one that runs; the others can be chosen."""
         phases = [(attribute(path, one, "duration", seconds), attribute(path, one, "state")) for one in element.iter("phase")]
         if not phases:
@@ -109,12 +111,13 @@ def read_facts(net: str, additional: Sequence[str], routes: Sequence[str]) -> Fa
             read_element(facts, path, element)
     for path in (*additional, *routes):
         for element in elements(path, None):
-            if element.tag == "route" and element.get("id"):
-                facts.routes[element.get("id")] = tuple((element.get("edges") or "").split())
+            name = element.get("id")
+            if element.tag == "route" and name:
+                facts.routes[name] = tuple((element.get("edges") or "").split())
     return facts
 
 
-def read_element(facts: Facts, path: str, element) -> None:
+def read_element(facts: Facts, path: str, element: Element) -> None:
     if element.tag == "edge":
         facts.read_edge(path, element)
     elif element.tag == "connection":
@@ -126,10 +129,10 @@ def read_element(facts: Facts, path: str, element) -> None:
     elif element.tag == "tlLogic":
         facts.read_light(path, element)
     elif element.tag == "location" and element.get("convBoundary"):
-        left, low, right, high = map(float, element.get("convBoundary").split(","))
+        left, low, right, high = map(float, attribute(path, element, "convBoundary").split(","))
         facts.boundary = (left, low), (right, high)
     elif element.tag in WRITING and element.get("file", NOWHERE[0]) not in NOWHERE:
         if element.tag == "edgeData" and not facts.edgedata:
-            facts.edgedata.append((element.get("file"), seconds(element.get("period") or element.get("freq") or "0")))
+            facts.edgedata.append((attribute(path, element, "file"), seconds(element.get("period") or element.get("freq") or "0")))
         else:
-            facts.unwritten.append(element.get("file"))
+            facts.unwritten.append(attribute(path, element, "file"))

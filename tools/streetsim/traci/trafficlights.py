@@ -1,12 +1,13 @@
 """TraCI's traffic lights."""
 from __future__ import annotations
 
+from collections.abc import Sequence
 from dataclasses import dataclass, field
 
 from . import constants as tc
 from .domain import Domain
 from .errors import TraCIException
-from .lights import CONSTANT
+from .lights import CONSTANT, Light, Phases
 
 
 @dataclass
@@ -15,7 +16,7 @@ class Phase:
     state: str
     minDur: float = -1.0
     maxDur: float = -1.0
-    next: tuple = ()
+    next: tuple[int, ...] = ()
     name: str = ""
 
 
@@ -24,11 +25,14 @@ class Logic:
     programID: str
     type: int
     currentPhaseIndex: int
-    phases: list = field(default_factory=list)
-    subParameter: dict = field(default_factory=dict)
+    phases: Sequence[Phase] = field(default_factory=list)
+    subParameter: dict[str, str] = field(default_factory=dict)
 
-    def getPhases(self):
+    def getPhases(self) -> Sequence[Phase]:
         return self.phases
+
+
+Program = Logic  # which the class below has as an attribute of its own name
 
 
 class TrafficLight(Domain):
@@ -44,41 +48,41 @@ class TrafficLight(Domain):
     }
     first = (tc.TL_CURRENT_PHASE,)
 
-    def getIDList(self):
+    def getIDList(self) -> tuple[str, ...]:
         return tuple(sorted(self.now().lights))
 
-    def at(self, name):
+    def at(self, name: str) -> tuple[Light, int, float]:
         light = self.now().light(name)
         return light, *light.at(self.now().clock)
 
-    def getRedYellowGreenState(self, name):
+    def getRedYellowGreenState(self, name: str) -> str:
         light, index, _ = self.at(name)
         return light.phases[index][1]
 
-    def getPhase(self, name):
+    def getPhase(self, name: str) -> int:
         return self.at(name)[1]
 
-    def getPhaseDuration(self, name):
+    def getPhaseDuration(self, name: str) -> float:
         light, index, _ = self.at(name)
         return float(light.phases[index][0])
 
-    def getNextSwitch(self, name):
+    def getNextSwitch(self, name: str) -> float:
         """The time at which the phase ends."""
         timers = [clock for clock, light, _ in self.now().timers if light == name]
         return float(min(timers)) if timers else float(self.now().clock + self.at(name)[2])
 
-    def getProgram(self, name):
+    def getProgram(self, name: str) -> str:
         return self.now().light(name).program
 
-    def getControlledLanes(self, name):
+    def getControlledLanes(self, name: str) -> tuple[str, ...]:
         """The lane of each signal, by its index."""
         return tuple(link[0] if link else "" for link in self.now().light(name).links)
 
-    def getControlledLinks(self, name):
+    def getControlledLinks(self, name: str) -> tuple[list[tuple[str, str, str]], ...]:
         """For each signal [(lane, next lane, lane inside the junction)]."""
         return tuple([link] if link else [] for link in self.now().light(name).links)
 
-    def getAllProgramLogics(self, name):
+    def getAllProgramLogics(self, name: str) -> tuple[Program, ...]:
         """The program that runs, and those of the files that do not, from their first phase."""
         light, index, _ = self.at(name)
         others = ((program, *told) for program, told in light.programs.items() if program != light.program)
@@ -86,23 +90,23 @@ class TrafficLight(Domain):
 
     getCompleteRedYellowGreenDefinition = getAllProgramLogics
 
-    def getPhaseName(self, name):
+    def getPhaseName(self, name: str) -> str:
         light, index, _ = self.at(name)
         return light.names[index] if index < len(light.names) else ""
 
-    def setPhaseName(self, name, text):
+    def setPhaseName(self, name: str, text: str) -> None:
         light, index, _ = self.at(name)
         light.names = [*light.names, *[""] * (len(light.phases) - len(light.names))]
         light.names[index] = str(text)
 
-    def setPhase(self, name, index):
+    def setPhase(self, name: str, index: int) -> None:
         light, session = self.now().light(name), self.now()
         if not 0 <= index < len(light.phases):
             raise TraCIException(f"Traffic light '{name}' has no phase {index}")
         session.timers = [timer for timer in session.timers if timer[1] != name]
         session.show_phase(name, index)
 
-    def setPhaseDuration(self, name, seconds):
+    def setPhaseDuration(self, name: str, seconds: float) -> None:
         """The phase ends so many seconds from now; the next ones last as in the program."""
         session, (light, index, _) = self.now(), self.at(name)
         if not seconds >= 0:
@@ -112,17 +116,17 @@ class TrafficLight(Domain):
         session.timers.append((ends, name, (index + 1) % len(light.phases)))
         session.set_light(name, [(CONSTANT, light.phases[index][1].replace("g", "G"))], 0)
 
-    def setRedYellowGreenState(self, name, state):
+    def setRedYellowGreenState(self, name: str, state: str) -> None:
         self.now().hold(name, state)
 
-    def setLinkState(self, name, index, state):
+    def setLinkState(self, name: str, index: int, state: str) -> None:
         """One signal of the light as it is now, and so until the next call that sets it."""
         shown = self.getRedYellowGreenState(name)
         if not 0 <= index < len(shown):
             raise TraCIException(f"Traffic light '{name}' has no signal {index}")
         self.now().hold(name, shown[:index] + state + shown[index + 1 :])
 
-    def setProgram(self, name, programID):
+    def setProgram(self, name: str, programID: str) -> None:
         """A program of the files or one that was set before, as far as its cycle is at this clock."""
         light, session = self.now().light(name), self.now()
         if programID not in light.programs:
@@ -132,7 +136,7 @@ class TrafficLight(Domain):
         light.begin = session.facts.offsets.get((name, programID), 0.0)
         session.send_light(name, light)
 
-    def setProgramLogic(self, name, logic):
+    def setProgramLogic(self, name: str, logic: Program) -> None:
         """A whole program, from the begin of its current phase."""
         phases = [(float(phase.duration), phase.state) for phase in logic.phases]
         if not phases:
@@ -144,7 +148,7 @@ class TrafficLight(Domain):
     setCompleteRedYellowGreenDefinition = setProgramLogic
 
 
-def logic(program: str, phases, names, index: int) -> Logic:
+def logic(program: str, phases: Phases, names: Sequence[str], index: int) -> Logic:
     """A program as scripts read it; phases last as long as they are told, so the least and the longest time are that."""
     named = [*names, *[""] * (len(phases) - len(names))]
     told = (Phase(duration, state, duration, duration, (), name) for (duration, state), name in zip(phases, named, strict=True))

@@ -2,8 +2,12 @@
 from __future__ import annotations
 
 from collections.abc import Mapping, Sequence
+from typing import TYPE_CHECKING
 
 from ..outputs.writing import Outputs
+
+if TYPE_CHECKING:
+    from .session import Session
 
 SERVED = {f"{kind}-output": kind for kind in ("tripinfo", "summary", "fcd", "queue")}
 
@@ -11,7 +15,7 @@ SERVED = {f"{kind}-output": kind for kind in ("tripinfo", "summary", "fcd", "que
 class Writer:
     """Output files that are written while a script runs, and take their names when it closes the run."""
 
-    def __init__(self, paths: Mapping[str, str], session, period: int) -> None:
+    def __init__(self, paths: Mapping[str, str], session: Session, period: int) -> None:
         """paths: by kind."""
         dawdle = session.source.load.command.get("dawdle", 0) / 1000
         self.outputs = Outputs(dict(paths), session.map, dawdle, period, session.clock)
