@@ -1,80 +1,139 @@
 """Long work: a line on a terminal that says how far it is, and an end that the user asks for by Ctrl-C."""
+from __future__ import annotations
+
 import signal
 import sys
 import threading
 import time
+from types import FrameType
+from typing import IO, TYPE_CHECKING, Any, Self
+
+if TYPE_CHECKING:
+    from ..client import Census
+
+PAUSE = 0.2  # seconds between two writings of a line
 
 
-class Meanwhile:
-    """A line on a terminal: how much is done of what, what else there is to say, minutes left. Nothing elsewhere."""
+class TerminalLine:
+    """A line that is written over and over on a terminal. Nothing elsewhere."""
 
-    def __init__(self, what, total, stream=None):
-        self.what, self.total, self.stream = what, total, stream or sys.stderr
+    def __init__(self, stream: IO[str] | None = None) -> None:
+        self.stream = stream or sys.stderr
         self.shown, self.begin, self.last, self.width = self.stream.isatty(), time.monotonic(), 0.0, 0
 
-    def show(self, done, more=""):
-        """Shows the line, at most five times a second."""
+    def seconds(self) -> float:
+        """Since the begin."""
+        return time.monotonic() - self.begin
+
+    def is_due(self, ended: bool) -> bool:
+        """Whether to write it now: at most five times a second, and at the end."""
         now = time.monotonic()
-        if not self.shown or (now - self.last < 0.2 and done < self.total):
-            return
+        if not self.shown or (now - self.last < PAUSE and not ended):
+            return False
         self.last = now
-        line = self.line(done, more, now - self.begin)
-        print(f"\r{line:{self.width}}", end="", file=self.stream, flush=True)
-        self.width = len(line)
+        return True
 
-    def line(self, done, more, seconds):
-        left = seconds * (self.total - done) / max(1, done) / 60
-        bar = "#" * (30 * done // max(1, self.total))
-        parts = [f"[{bar:30}] {done:,} of {self.total:,} {self.what}", *([more] if more else []), f"{left:.1f} min left"]
-        return ", ".join(parts)
+    def write(self, text: str, end: str = "") -> None:
+        print(f"\r{text}", end=end, file=self.stream, flush=True)
 
-    def end(self):
+    def write_over(self, text: str) -> None:
+        """Writes it where one was that may be longer."""
+        self.write(f"{text:{self.width}}")
+        self.width = len(text)
+
+    def end(self) -> None:
         """Takes the line away."""
         if self.width:
-            print(f"\r{'':{self.width}}\r", end="", file=self.stream, flush=True)
+            self.write(f"{'':{self.width}}\r")
             self.width = 0
 
 
-class Slow:
-    """A line on a terminal that says what a tool does and since when, once that has taken two seconds. Nothing elsewhere."""
+class Meanwhile(TerminalLine):
+    """How much is done of what, what else there is to say, minutes left."""
 
-    def __init__(self, text, stream=None, wait=2.0):
-        self.text, self.stream, self.wait, self.width = text, stream or sys.stderr, wait, 0
+    def __init__(self, what: str, total: int, stream: IO[str] | None = None) -> None:
+        super().__init__(stream)
+        self.what, self.total = what, total
+
+    def show(self, done: int, more: str = "") -> None:
+        if self.is_due(done >= self.total):
+            self.write_over(self.line(done, more, self.seconds()))
+
+    def line(self, done: int, more: str, seconds: float) -> str:
+        left = seconds * (self.total - done) / max(1, done) / 60
+        parts = [f"[{bar(done, self.total)}] {done:,} of {self.total:,} {self.what}", *([more] if more else []), f"{left:.1f} min left"]
+        return ", ".join(parts)
+
+
+class UnderWay(TerminalLine):
+    """The clock of a run, or how many of several are done; vehicles on their way, arrived, steps a second. It stays there."""
+
+    def __init__(self, until: int, runs: int = 1, stream: IO[str] | None = None) -> None:
+        super().__init__(stream)
+        self.until = until
+        self.clocks, self.ways, self.arrived = [0] * runs, [0] * runs, [0] * runs
+
+    def show(self, clock: int, census: Census | None, run: int = 0) -> None:
+        """Notes how far a run is."""
+        if not self.shown or census is None:
+            return
+        self.clocks[run], self.ways[run], self.arrived[run] = clock, census.cells + census.buffers, census.arrived
+        ended = min(self.clocks) >= self.until
+        if self.is_due(ended):
+            self.write(f"{self.line(self.seconds())} ", "\n" if ended else "")
+
+    def line(self, seconds: float) -> str:
+        done, runs = sum(self.clocks), len(self.clocks)
+        over = sum(clock >= self.until for clock in self.clocks)
+        place = f"{self.clocks[0]:,} s" if runs == 1 else f"{over} of {runs} runs done"
+        return (
+            f"[{bar(done, self.until * runs)}] {place}, {sum(self.ways):,} on their way, {sum(self.arrived):,} arrived, "
+            f"{done / max(0.001, seconds):,.0f} steps/s"
+        )
+
+
+class Slow(TerminalLine):
+    """What a tool does and since when, once that has taken two seconds."""
+
+    def __init__(self, text: str, stream: IO[str] | None = None, wait: float = 2.0) -> None:
+        super().__init__(stream)
+        self.text, self.wait = text, wait
         self.ended = threading.Event()
         self.thread = threading.Thread(target=self.show, daemon=True)
 
-    def __enter__(self):
-        if self.stream.isatty():
+    def __enter__(self) -> Self:
+        if self.shown:
             self.thread.start()
         return self
 
-    def __exit__(self, *_):
+    def __exit__(self, *_: object) -> None:
         self.ended.set()
         if self.thread.ident is not None:
             self.thread.join()
-            print(f"\r{'':{self.width}}\r" if self.width else "", end="", file=self.stream, flush=True)
+            self.end()
 
-    def show(self):
-        begin = time.monotonic()
+    def show(self) -> None:
         while not self.ended.wait(self.wait if not self.width else 0.5):
-            line = f"{self.text}, {time.monotonic() - begin:.0f} s"
-            print(f"\r{line:{self.width}}", end="", file=self.stream, flush=True)
-            self.width = len(line)
+            self.write_over(f"{self.text}, {self.seconds():.0f} s")
+
+
+def bar(done: int, total: int) -> str:
+    return f"{'#' * (30 * done // max(1, total)):30}"
 
 
 class Stopping:
     """Ctrl-C asks for an end, which `asked` then tells; a second one ends the tool as anywhere."""
 
-    def __init__(self):
+    def __init__(self) -> None:
         self.asked = False
 
-    def __enter__(self):
-        self.before = signal.signal(signal.SIGINT, self.note)
+    def __enter__(self) -> Self:
+        self.before: Any = signal.signal(signal.SIGINT, self.note)
         return self
 
-    def __exit__(self, *_):
+    def __exit__(self, *_: object) -> None:
         signal.signal(signal.SIGINT, self.before)
 
-    def note(self, _number, _frame):
+    def note(self, _number: int, _frame: FrameType | None) -> None:
         self.asked = True
         signal.signal(signal.SIGINT, self.before)

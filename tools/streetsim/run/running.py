@@ -4,7 +4,6 @@ from __future__ import annotations
 import argparse
 import os
 import sys
-import time
 from collections.abc import Callable, Iterator, Sequence
 from contextlib import AbstractContextManager
 from dataclasses import replace
@@ -13,8 +12,9 @@ from statistics import fmean
 from typing import Any
 
 from .. import limits, program
+from ..cli.progress import UnderWay
 from ..cli.words import Parser, add_rounds, listed, time_within, within
-from ..client import Census, Client
+from ..client import Client
 from ..files import Fault, whole_file, whole_folder
 from ..junctions.reporting import write_junctions
 from ..outputs.watching import watch
@@ -125,35 +125,6 @@ def parser() -> argparse.ArgumentParser:
     return made
 
 
-class Progress:
-    """A line on a terminal: clock, vehicles on their way, arrived, steps a second. Nothing elsewhere."""
-
-    def __init__(self, until: int, runs: int = 1) -> None:
-        self.until, self.shown, self.begin, self.last = until, sys.stderr.isatty(), time.monotonic(), 0.0
-        self.clocks, self.ways, self.arrived = [0] * runs, [0] * runs, [0] * runs
-
-    def show(self, clock: int, census: Census | None, run: int = 0) -> None:
-        """Notes how far a run is, and shows the line at most five times a second."""
-        if not self.shown or census is None:
-            return
-        self.clocks[run], self.ways[run], self.arrived[run] = clock, census.cells + census.buffers, census.arrived
-        now, ended = time.monotonic(), min(self.clocks) >= self.until
-        if now - self.last < 0.2 and not ended:
-            return
-        self.last = now
-        print(f"\r{self.line(now)} ", end="\n" if ended else "", file=sys.stderr, flush=True)
-
-    def line(self, now: float) -> str:
-        done, runs = sum(self.clocks), len(self.clocks)
-        bar = "#" * (30 * done // (self.until * runs))
-        over = sum(clock >= self.until for clock in self.clocks)
-        place = f"{self.clocks[0]:,} s" if runs == 1 else f"{over} of {runs} runs done"
-        return (
-            f"[{bar:30}] {place}, {sum(self.ways):,} on their way, {sum(self.arrived):,} arrived, "
-            f"{done / max(0.001, now - self.begin):,.0f} steps/s"
-        )
-
-
 def main(arguments: list[str]) -> int:
     words = parser().parse_args(arguments)
     run, mapping = read_run(words.run), read_map(words.map)
@@ -176,7 +147,7 @@ def main(arguments: list[str]) -> int:
     words.program = program.find_program(words.program)
     if words.seeds:
         return run_seeds(words, run, mapping, settings)
-    shown = Progress(words.until)
+    shown = UnderWay(words.until)
     with whole_folder(words.out, NAME) as folder:
         figures = one_run(words, run, mapping, settings, folder, shown.show, words.jobs)
     report(figures, "")
@@ -306,7 +277,7 @@ def seeded(run: Run, seed: int) -> Run:
 def run_seeds(words: argparse.Namespace, run: Run, mapping: Map, settings: Settings) -> int:
     """A run for each seed, side by side; prints and writes each mean trip, their mean and its 95 % interval."""
     seeds = seeds_of(words.seeds, "--seeds")
-    shown = Progress(words.until, len(seeds))
+    shown = UnderWay(words.until, len(seeds))
     with whole_folder(words.out, NAME) as folder:
 
         def run_seed(seed: int, tell: Callable[[Any], object]) -> dict[str, Any]:
