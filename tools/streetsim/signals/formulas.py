@@ -1,9 +1,16 @@
 """Plans by formula, of flows alone: Webster's cycles and splits, and waves along the heaviest flows."""
+from __future__ import annotations
+
 from collections import Counter, defaultdict
+from collections.abc import Collection, Iterable, Iterator, Mapping, Sequence
 from dataclasses import dataclass
 
 from ..run.freeflow import FreeFlow
-from .plans import Timing
+from ..run.mapping import Map
+from ..run.runs import Run
+from .plans import Light, Plan, Timing
+
+Ways = defaultdict[tuple[str, str], Counter[tuple[int, ...]]]  # from light to light: vehicles by the links of their way
 
 SATURATION = 1800  # vehicles an hour and lane that pass in green
 
@@ -22,13 +29,13 @@ class Hop:
 class Streets:
     """What formulas need to know of the vehicles of a run."""
 
-    order: list  # lights, the heaviest flow first
-    behind: dict  # for each light itself and those that hang behind it in the tree of the heaviest flows
-    hops: dict  # for each light that hangs behind another: its Hop
-    loads: dict  # for each light and phase the heaviest flow that is green in it, vehicles an hour and lane
+    order: list[str]  # lights, the heaviest flow first
+    behind: dict[str, list[str]]  # for each light itself and those that hang behind it in the tree of the heaviest flows
+    hops: dict[str, Hop]  # for each light that hangs behind another
+    loads: dict[str, list[float]]  # for each light and phase the heaviest flow that is green in it, vehicles an hour and lane
 
 
-def streets_of(run, mapping, lights):
+def streets_of(run: Run, mapping: Map, lights: Mapping[str, Light]) -> Streets:
     """Flows, their tree, and loads of the vehicles of a run at some lights."""
     plans = [line.command["plan"] for line in run.enters]
     light_at = {node: light for light, node in mapping.signals if light in lights}
@@ -45,23 +52,22 @@ def streets_of(run, mapping, lights):
     return Streets(order, behind, {light: hop for light, hop in hops.items() if hop}, loads)
 
 
-def ways_between(plans, light_of):
+def ways_between(plans: Iterable[Sequence[int]], light_of: Sequence[str | None]) -> Ways:
     """How many vehicles go straight from one light to another, by their way: {(light, other): {links: vehicles}}. A way
     is from the link that ends at the one to that after the other."""
-    ways = defaultdict(Counter)
+    ways: Ways = defaultdict(Counter)
     for plan in plans:
-        met = [at for at in range(len(plan) - 1) if light_of[plan[at]]]
-        for here, there in zip(met, met[1:]):
-            pair = light_of[plan[here]], light_of[plan[there]]
-            if pair[0] != pair[1]:
-                ways[pair][tuple(plan[here : there + 2])] += 1
+        met = [(at, light) for at in range(len(plan) - 1) if (light := light_of[plan[at]])]
+        for (here, light), (there, other) in zip(met, met[1:]):
+            if light != other:
+                ways[light, other][tuple(plan[here : there + 2])] += 1
     return ways
 
 
-def tree(order, ways):
+def tree(order: Sequence[str], ways: Ways) -> tuple[dict[str, str], dict[str, list[str]]]:
     """The tree of the heaviest flows between lights, rooted at the heaviest light of each part: the parent of each other
     light, and for each light itself and all behind it, parents before children."""
-    both = Counter()
+    both: Counter[tuple[str, str]] = Counter()
     for (light, other), found in ways.items():
         both[min(light, other), max(light, other)] += found.total()
     group, joined = {light: {light} for light in order}, defaultdict(set)
@@ -72,7 +78,8 @@ def tree(order, ways):
             group[light] |= group[other]
             for member in group[other]:
                 group[member] = group[light]
-    parents, reached = {}, {}
+    parents: dict[str, str] = {}
+    reached: dict[str, bool] = {}
     for root in order:
         if root not in reached:
             walk(root, joined, parents, reached)
@@ -83,7 +90,7 @@ def tree(order, ways):
     return parents, behind
 
 
-def walk(root, joined, parents, reached):
+def walk(root: str, joined: Mapping[str, set[str]], parents: dict[str, str], reached: dict[str, bool]) -> None:
     """Notes the parents of all that hang together with a root, parents first."""
     waiting = [root]
     while waiting:
@@ -94,7 +101,9 @@ def walk(root, joined, parents, reached):
             waiting.append(other)
 
 
-def hop_of(light, parent, ways, mapping, lights, free_flow):
+def hop_of(
+    light: str, parent: str, ways: Ways, mapping: Map, lights: Mapping[str, Light], free_flow: FreeFlow
+) -> Hop | None:
     """The heaviest way between a light and its parent; none where a phase that lets it pass is not found."""
     found = [
         (count, direction, way)
@@ -105,7 +114,7 @@ def hop_of(light, parent, ways, mapping, lights, free_flow):
         return None
     _, direction, way = max(found)
     turn_of = {(turn.link, turn.next): turn for turn in mapping.turns}
-    first, last = turn_of.get(way[:2]), turn_of.get(way[-2:])
+    first, last = turn_of.get((way[0], way[1])), turn_of.get((way[-2], way[-1]))
     at_parent, here = (first, last) if direction > 0 else (last, first)
     if not at_parent or not here or (at_parent.light, here.light) != (parent, light):
         return None
@@ -114,22 +123,22 @@ def hop_of(light, parent, ways, mapping, lights, free_flow):
     return Hop(parent, direction * seconds, leave[0], come[0]) if leave and come else None
 
 
-def green_phases(light, index):
+def green_phases(light: Light, index: int) -> list[int]:
     return [at for at, state in enumerate(light.states) if state[index] in "GgsOo"]
 
 
-def loads_of(run, mapping, lights):
+def loads_of(run: Run, mapping: Map, lights: Mapping[str, Light]) -> dict[str, list[float]]:
     """For each light and phase the heaviest flow, vehicles an hour and lane, of a link that is green in it."""
     departs = [line.command["depart"] for line in run.enters]
     hours = max(900, max(departs) - min(departs)) / 3600 if departs else 1.0
     flow = Counter(pair for line in run.enters for pair in zip(line.command["plan"], line.command["plan"][1:]))
     turns = {(turn.link, turn.next): turn for turn in mapping.turns if turn.light in lights and not turn.added}
-    loads = {}
+    loads: dict[str, list[float]] = {}
     for name, light in lights.items():
         own = [turn for turn in turns.values() if turn.light == name]
         loads[name] = []
         for state in light.states:
-            links = Counter()
+            links: defaultdict[int, float] = defaultdict(float)
             for turn in own:
                 if state[turn.index] in "GgsOo":
                     links[turn.link] += flow[turn.link, turn.next] / hours / len(mapping.links[turn.link].lanes)
@@ -137,23 +146,26 @@ def loads_of(run, mapping, lights):
     return loads
 
 
-def webster_cycle(lost, flow_ratio):
+def webster_cycle(lost: float, flow_ratio: float) -> float | None:
     """Webster's cycle of the least delay, for the lost seconds of a cycle and the sum over its phases of the flow by the
     saturation flow; none at capacity."""
     return (1.5 * lost + 5) / (1 - flow_ratio) if flow_ratio < 1 else None
 
 
-def critical_cycle(lights, plan, streets):
+def critical_cycle(lights: Mapping[str, Light], plan: Plan, streets: Streets) -> int | None:
     """The longest of the lights' cycles after Webster; none where one is at capacity."""
     cycles = [
         webster_cycle(light.lost(plan[name]), sum(streets.loads[name][at] for at in light.free) / SATURATION)
         for name, light in lights.items()
         if light.free
     ]
-    return round(max(cycles)) if cycles and None not in cycles else None
+    known = [cycle for cycle in cycles if cycle is not None]
+    return round(max(known)) if known and len(known) == len(cycles) else None
 
 
-def at_cycle(lights, plan, cycle, loads=None):
+def at_cycle(
+    lights: Mapping[str, Light], plan: Plan, cycle: int | None, loads: Mapping[str, Sequence[float]] | None = None
+) -> Plan:
     """The plan at a cycle, as far as the lights can keep it: greens in proportion to the given ones, or to loads."""
     made = {}
     for name, timing in plan.items():
@@ -163,7 +175,7 @@ def at_cycle(lights, plan, cycle, loads=None):
     return made
 
 
-def waved(plan, streets):
+def waved(plan: Plan, streets: Streets) -> Plan:
     """The plan with offsets along the tree: green comes when the platoon does."""
     made = dict(plan)
     for root in streets.order:
@@ -179,7 +191,9 @@ def waved(plan, streets):
     return made
 
 
-def proposals(plan, lights, streets, changed, cycles):
+def proposals(
+    plan: Plan, lights: Mapping[str, Light], streets: Streets, changed: Collection[str], cycles: Iterable[int]
+) -> Iterator[tuple[str, Plan]]:
     """Plans by formula, (name, plan): each cycle with the given splits and with Webster's, with the given offsets and
     with a wave; of what may be changed."""
     for cycle in (None, *cycles):

@@ -1,18 +1,26 @@
 """Plans of streetsim-signals in SUMO: the same files, demand and seeds, and trips reckoned as they are here."""
+from __future__ import annotations
+
+import argparse
 import os
 import shutil
 import subprocess
 import tempfile
+from collections.abc import Callable, Sequence
 from dataclasses import dataclass
 from statistics import fmean
+from typing import Any
 
 from ..cli.progress import Meanwhile
 from ..files import Fault, attribute, elements
 from ..run.compare import read_tripinfo
+from ..run.mapping import Map
+from ..run.runs import Run
 from ..study.jobs import side_by_side
 from ..study.seeds import paired
 from ..sumo.sources import Sources, sources_of
-from .plans import write_additional
+from .plans import Plan, write_additional
+from .town import Town
 
 PROGRAM_ID = "streetsim-verified"  # of the lights: no program of the files given may have the same
 
@@ -26,7 +34,9 @@ class Verified:
     teleports: tuple[int, int]
 
     def difference(self) -> tuple[float, float]:
-        return paired(self.before, self.after)
+        mean, half = paired(self.before, self.after)
+        assert half is not None
+        return mean, half
 
     def told(self) -> str:
         difference, half = self.difference()
@@ -77,7 +87,7 @@ def teleports_of(path: str) -> int:
     return sum(attribute(path, one, "total", int) for one in elements(path, ["statistics"]) if one.tag == "teleports")
 
 
-def sumo_for(words, mapping, run) -> InSumo:
+def sumo_for(words: argparse.Namespace, mapping: Map, run: Run) -> InSumo:
     """SUMO with the files of the import; refused where it is not installed, or where these are not what they were."""
     program = shutil.which("sumo")
     if program is None:
@@ -91,12 +101,12 @@ def sumo_for(words, mapping, run) -> InSumo:
     return InSumo(program, Sources(os.path.abspath(sources.net), additional, routes), run.start(), words.until)
 
 
-def verified(in_sumo: InSumo, town, plan, seeds, jobs: int) -> Verified:
+def verified(in_sumo: InSumo, town: Town, plan: Plan, seeds: Sequence[int], jobs: int) -> Verified:
     """What SUMO says of the plan given and of a plan found, for each seed."""
     enters = zip(town.mapping.cars, (line.command["depart"] for line in town.run.enters), strict=True)
     departs = {name: depart for name, depart in enters if depart < in_sumo.until}
 
-    def run(task, told):
+    def run(task: Any, told: Callable[[Any], object]) -> Any:
         trips, teleports = in_sumo.trips(*task)
         told(1)
         return mean_trip(trips, departs, in_sumo.until), teleports
@@ -106,7 +116,8 @@ def verified(in_sumo: InSumo, town, plan, seeds, jobs: int) -> Verified:
         for path, lights in zip(paths, (town.plan, plan), strict=True):
             write_additional(path, town.lights, lights, PROGRAM_ID)
         tasks = [(path, seed) for path in paths for seed in seeds]
-        meanwhile, done = Meanwhile("runs of SUMO", len(tasks)), set()
+        meanwhile = Meanwhile("runs of SUMO", len(tasks))
+        done: set[int] = set()
         means, teleports = zip(*side_by_side(run, tasks, jobs, lambda place, _: meanwhile.show(add(done, place))), strict=True)
         meanwhile.end()
     half = len(seeds)

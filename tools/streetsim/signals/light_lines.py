@@ -1,23 +1,30 @@
 """Signal lines of a plan, as streetsim-import makes them of SUMO's programs, made anew only where greens change."""
+from __future__ import annotations
+
 import json
 from collections import defaultdict
+from collections.abc import Mapping, Sequence
 from dataclasses import replace
+from typing import Any
 
-from ..sumo.net import Program, read_additional, read_net
+from ..run.mapping import Map, MapLink, MapTurn
+from ..run.runs import Run
+from ..sumo.net import Program, SumoNet, read_additional, read_net
 from ..sumo.report import Report
 from ..sumo.signals import connections_of, movements_of_junction, signal
 from ..sumo.types import Types
 from ..sumo.yielding import hourly_flows
+from .plans import Light, Timing
 
 
 class Driven:
     """A vehicle of a run, as the import counts flows."""
 
-    def __init__(self, command, links):
+    def __init__(self, command: dict[str, Any], links: Sequence[MapLink]) -> None:
         self.edges, self.depart = [links[link].edge for link in command["plan"]], command["depart"]
 
 
-def read_plans(paths, mapping):
+def read_plans(paths: Sequence[str], mapping: Map) -> SumoNet:
     """The network of the first file, with the signal programs of it and of the others, of which the last counts."""
     report = Report()
     net = read_net(paths[0], tuple(mapping.options["classes"]), report)
@@ -30,22 +37,22 @@ def read_plans(paths, mapping):
 class LightLines:
     """The signal lines of plans in a network, for the vehicles of a run."""
 
-    def __init__(self, net, run, mapping):
+    def __init__(self, net: SumoNet, run: Run, mapping: Map) -> None:
         self.net, self.mapping = replace(net, programs=dict(net.programs)), mapping
         self.flows = hourly_flows([Driven(line.command, mapping.links) for line in run.enters])
         self.limits_of = {link.edge: link.limit for link in mapping.links}
         self.connections = connections_of(net)
-        self.nodes = defaultdict(list)
+        self.nodes: defaultdict[str, list[int]] = defaultdict(list)
         for light, node in mapping.signals:
             self.nodes[light].append(node)
-        self.turns = defaultdict(list)
+        self.turns: defaultdict[int, list[tuple[int, int, int, MapTurn]]] = defaultdict(list)
         for turn in mapping.turns:
             self.turns[mapping.links[turn.link].end].append((turn.link, turn.lane, turn.next, turn))
-        self.made = {}  # (light, durations): for each node the phases as bytes
-        self.permissive = set()  # lights at which some who drive must find gaps in a green
+        self.made: dict[tuple[str, tuple[int, ...]], list[bytes]] = {}  # (light, durations): for each node the phases as bytes
+        self.permissive: set[str] = set()  # lights at which some who drive must find gaps in a green
         self.report = Report()  # of what was made, where a light needs more phases than there may be
 
-    def of(self, plan, lights):
+    def of(self, plan: Mapping[str, Timing], lights: Mapping[str, Light]) -> bytes:
         """The lines of a plan."""
         lines = []
         for name, timing in plan.items():
@@ -57,7 +64,7 @@ class LightLines:
                 lines.append(b'{"cmd":"signal","node":%d,"offset":%d,"phases":%s}\n' % values)
         return b"".join(lines)
 
-    def phases(self, name, node, timing, light):
+    def phases(self, name: str, node: int, timing: Timing, light: Light) -> bytes:
         """The phases at a node of a light."""
         program = Program(0.0, list(zip(timing.durations, light.states, strict=True)), "static")
         self.net.programs[name] = program

@@ -1,6 +1,10 @@
 """streetsim-signals: finds signal plans by simulation."""
+from __future__ import annotations
+
+import argparse
 import os
 import sys
+from collections.abc import Generator, Sequence
 from statistics import fmean, stdev
 
 from .. import limits, program
@@ -12,12 +16,12 @@ from ..run.folder import Folder
 from ..study.jobs import CORES
 from ..study.machines import machines
 from ..study.seeds import seeds_for, seeds_of
-from .formulas import critical_cycle, streets_of
+from .formulas import Streets, critical_cycle, streets_of
 from .found import compared, doubts_of, tell, write_found
 from .in_sumo import sumo_for, verified
-from .plans import LEAST
+from .plans import LEAST, Plan
 from .search import Search, search_plan
-from .town import Reading, Runner, read_town, sessions_of
+from .town import Reading, Runner, Town, read_town, sessions_of
 
 CHANGES = ("offsets", "splits", "cycle")
 STEP = 10  # seconds from one cycle that is proposed to the next
@@ -25,7 +29,7 @@ TRIED = 10  # runs of the given plan tell how many seeds a search needs
 DRAWN = 500  # seconds of the pictures
 
 
-def parser():
+def parser() -> Parser:
     made = Parser(
         prog="streetsim-signals",
         description="Finds signal plans by simulation: cycles, splits and offsets under which trips are shorter. The order "
@@ -57,7 +61,7 @@ def parser():
     return made
 
 
-def add_search(made):
+def add_search(made: argparse.ArgumentParser) -> None:
     """The words that say what is searched, how long and with which seeds."""
     made.add_argument(
         "--change", default=",".join(CHANGES), help="what may be changed, with commas between (default %(default)s)"
@@ -86,7 +90,7 @@ def add_search(made):
     )
 
 
-def add_machines(made):
+def add_machines(made: argparse.ArgumentParser) -> None:
     """The words that say where runs are done."""
     made.add_argument(
         "--jobs", type=within(1, 1024), default=CORES, help="runs side by side (default: one for each core, %(default)s)"
@@ -97,7 +101,7 @@ def add_machines(made):
     made.add_argument("--program", help=program.HELP)
 
 
-def main(arguments):
+def main(arguments: list[str]) -> int:
     words = parser().parse_args(arguments)
     words.plans = files_of(words.plans)
     changed, cycles = changes_of(words)
@@ -129,7 +133,7 @@ def main(arguments):
     return tell(town, search, rows, stopped, doubts, sumo)
 
 
-def changes_of(words):
+def changes_of(words: argparse.Namespace) -> tuple[list[str], range]:
     """What may be changed, and the cycles of the range."""
     changed = listed(words.change)
     if unknown := [name for name in changed if name not in CHANGES]:
@@ -141,7 +145,7 @@ def changes_of(words):
     return changed, range(int(first), int(last) + 1) if "cycle" in changed else range(0)
 
 
-def check_seeds(words):
+def check_seeds(words: argparse.Namespace) -> range:
     """The seeds of the report; refuses a budget of no plan, and seeds by which a plan would be found and judged."""
     seeds, check = seeds_of(words.seeds, "--seeds") if words.seeds else range(1), seeds_of(words.check, "--check")
     if len(check) < 2:
@@ -153,7 +157,7 @@ def check_seeds(words):
     return check
 
 
-def check_outputs(words):
+def check_outputs(words: argparse.Namespace) -> None:
     refuse_equal({"-o": words.output}, [words.run, words.map, *words.plans])
     folder = os.path.dirname(place_of(words.output))
     if not os.path.isdir(folder):
@@ -162,14 +166,14 @@ def check_outputs(words):
         raise Fault(f"{words.out}: exists and is no folder")
 
 
-def check_cycles(words, town, cycles):
+def check_cycles(words: argparse.Namespace, town: Town, cycles: range) -> None:
     """Refuses cycles of which no light can keep one."""
     able = (town.lights[name].scaled(timing, cycle) for name, timing in town.plan.items() for cycle in cycles)
     if cycles and not any(able):
         raise Fault(f"--cycle {words.cycle}: no light can keep such a cycle (--least {words.least}, and the bounds of its phases)")
 
 
-def check_pictures(words, town):
+def check_pictures(words: argparse.Namespace, town: Town) -> None:
     """Fills in the seconds of the pictures; refuses what could not be drawn at the end."""
     if not words.edges:
         return
@@ -181,12 +185,12 @@ def check_pictures(words, town):
         raise Fault(f"--first {words.first}, --last {words.last}: must rise, and end with the run at {words.until} s")
 
 
-def tried_seeds(check):
+def tried_seeds(check: range) -> list[int]:
     """The seeds with which the given plan is run to tell how many a search needs: none of the report's."""
     return [seed for seed in range(1, TRIED + len(check) + 1) if seed not in check][:TRIED]
 
 
-def search_seeds(words, runner, tried):
+def search_seeds(words: argparse.Namespace, runner: Runner, tried: Sequence[int]) -> Sequence[int]:
     """The seeds of the search: those given, else as many as runs of the given plan say; these are told."""
     means = list(runner.means([runner.town.plan], tried))
     needed = seeds_for(means)
@@ -199,18 +203,20 @@ def search_seeds(words, runner, tried):
     return seeds
 
 
-def searched(words, runner, changed, cycles, seeds):
+def searched(
+    words: argparse.Namespace, runner: Runner, changed: Sequence[str], cycles: range, seeds: Sequence[int]
+) -> tuple[Search, bool]:
     """The search when it has ended, and whether the user ended it."""
     town, meanwhile = runner.town, Meanwhile("simulations", words.budget)
     streets = streets_of(town.run, town.mapping, town.lights)
     with Stopping() as stopping:
 
-        def values(plans):
+        def values(plans: Sequence[Plan]) -> Generator[float, None, None]:
             means = runner.means(plans, seeds)
             for _ in plans:
                 yield fmean(next(means) for _ in seeds)
 
-        def told(search):
+        def told(search: Search) -> bool:
             meanwhile.show(search.simulations, best_line(search))
             return stopping.asked
 
@@ -220,12 +226,12 @@ def searched(words, runner, changed, cycles, seeds):
         return search, stopping.asked
 
 
-def lengths(cycles, town, streets):
+def lengths(cycles: range, town: Town, streets: Streets) -> list[int]:
     """The cycles that are proposed: each ten seconds of the range and its end, and Webster's where it lies within."""
-    made = {*cycles[::STEP], *cycles[-1:]}
-    return sorted(made | ({critical_cycle(town.lights, town.plan, streets)} & set(cycles)))
+    made, critical = {*cycles[::STEP], *cycles[-1:]}, critical_cycle(town.lights, town.plan, streets)
+    return sorted(made | ({critical} if critical is not None and critical in cycles else set()))
 
 
-def best_line(search):
+def best_line(search: Search) -> str:
     best, given = search.best[0], search.trials[0].value
     return f"best {best:.1f} s ({100 * (best / given - 1):+.1f} %)" if given else ""

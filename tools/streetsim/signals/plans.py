@@ -2,13 +2,18 @@
 
 A plan is a Timing for each light, {light: Timing}; order of phases, yellow and all-red are the light's and never change.
 """
+from __future__ import annotations
+
+from collections.abc import Collection, Iterable, Mapping, Sequence
 from dataclasses import dataclass
+from typing import TypeVar
 from xml.sax.saxutils import quoteattr
 
 from .. import limits
 from ..files import whole_file
-from ..sumo.net import STATIC
+from ..sumo.net import STATIC, Program
 
+Seconds = TypeVar("Seconds", int, float)
 LEAST = 5  # seconds of a green that may be stretched
 
 
@@ -17,13 +22,13 @@ class Timing:
     """When a light's phases are shown, in whole seconds; the offset is SUMO's."""
 
     offset: int
-    durations: tuple
+    durations: tuple[int, ...]
 
     @property
-    def cycle(self):
+    def cycle(self) -> int:
         return sum(self.durations)
 
-    def shifted(self, seconds):
+    def shifted(self, seconds: int) -> Timing:
         return Timing((self.offset + seconds) % self.cycle, self.durations)
 
 
@@ -32,19 +37,19 @@ class Light:
     """What no search changes: the states in their order, and for each phase its (least, most) seconds."""
 
     name: str
-    states: tuple
-    bounds: tuple
+    states: tuple[str, ...]
+    bounds: tuple[tuple[int, int], ...]
 
     @property
-    def free(self):
+    def free(self) -> list[int]:
         """The phases that may be stretched."""
         return [at for at, (least, most) in enumerate(self.bounds) if least < most]
 
-    def lost(self, timing):
+    def lost(self, timing: Timing) -> int:
         """The seconds of a cycle that no phase shows that may be stretched."""
         return timing.cycle - sum(timing.durations[at] for at in self.free)
 
-    def scaled(self, timing, cycle, shares=None):
+    def scaled(self, timing: Timing, cycle: int, shares: Sequence[float] | None = None) -> Timing | None:
         """The timing at another cycle; its greens share what is left in proportion to some shares (without: to
         themselves), and its offset keeps its part of the cycle. None where that does not fit."""
         free = self.free
@@ -57,7 +62,7 @@ class Light:
             durations[at] = green
         return Timing(round(timing.offset * cycle / timing.cycle) % cycle, tuple(durations))
 
-    def moved(self, timing, source, target, seconds):
+    def moved(self, timing: Timing, source: int, target: int, seconds: int) -> Timing | None:
         """The timing with seconds of green moved from one phase to another; none where a bound forbids that."""
         durations = list(timing.durations)
         durations[source] -= seconds
@@ -66,7 +71,10 @@ class Light:
         return Timing(timing.offset, tuple(durations)) if fits else None
 
 
-def whole(durations):
+Plan = dict[str, Timing]  # by light
+
+
+def whole(durations: Iterable[float]) -> tuple[int, ...]:
     """Durations rounded by running sum, so that the cycle stays."""
     made, exact, before = [], 0.0, 0
     for duration in durations:
@@ -76,7 +84,7 @@ def whole(durations):
     return tuple(made)
 
 
-def spread(shares, total, bounds):
+def spread(shares: Sequence[float], total: int, bounds: Sequence[tuple[int, int]]) -> list[int] | None:
     """Whole seconds in proportion to shares and within bounds whose sum is the total; none where there are none such."""
     if not shares or not sum(least for least, _ in bounds) <= total <= sum(most for _, most in bounds):
         return None
@@ -93,21 +101,21 @@ def spread(shares, total, bounds):
     return made if sum(made) == total else None
 
 
-def bounded(value, bound):
+def bounded(value: Seconds, bound: tuple[int, int]) -> Seconds | int:
     return min(bound[1], max(bound[0], value))
 
 
-def light_of(name, program, least=LEAST):
+def light_of(name: str, program: Program, least: int = LEAST) -> tuple[Light, Timing]:
     """The light of a SUMO program, and its timing."""
     durations = whole(duration for duration, _ in program.phases)
-    bounds = program.bounds or [(None, None)] * len(durations)
-    phases = zip(program.phases, durations, bounds, strict=True)
-    bounds = tuple(bounds_of(state, given, bound, least) for (_, state), given, bound in phases)
+    given = program.bounds or [(None, None)] * len(durations)
+    phases = zip(program.phases, durations, given, strict=True)
+    bounds = tuple(bounds_of(state, length, bound, least) for (_, state), length, bound in phases)
     light = Light(name, tuple(state for _, state in program.phases), bounds)
     return light, Timing(round(program.offset) % max(1, sum(durations)), durations)
 
 
-def bounds_of(state, given, bound, least):
+def bounds_of(state: str, given: int, bound: tuple[float | None, float | None], least: int) -> tuple[int, int]:
     """The (least, most) seconds of a phase: one with green and no yellow may be stretched, as far as its minDur and
     maxDur allow where they are written; each other keeps its length."""
     low = least if bound[0] is None else round(bound[0])
@@ -117,12 +125,12 @@ def bounds_of(state, given, bound, least):
     return min(given, max(least, low)), max(given, min(high, limits.PHASE_STEPS))
 
 
-def is_green(state):
+def is_green(state: str) -> bool:
     """Whether somebody has green in a phase and nobody yellow."""
     return bool(set(state) & set("GgsOo")) and not set(state) & set("yYu")
 
 
-def why_kept(name, program, asked, timed):
+def why_kept(name: str, program: Program, asked: Collection[str], timed: Collection[str]) -> str | None:
     """Why a light's plan is left as it is, or none."""
     if name in asked:
         return "as --keep says"
@@ -135,7 +143,9 @@ def why_kept(name, program, asked, timed):
     return None
 
 
-def write_additional(path, lights, plan, program="streetsim"):
+def write_additional(
+    path: str, lights: Mapping[str, Light], plan: Mapping[str, Timing], program: str = "streetsim"
+) -> None:
     """Writes a plan as SUMO and streetsim-import take it: a whole program for each light."""
     with whole_file(path) as file:
         file.write("<additional>\n")

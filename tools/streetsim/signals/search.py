@@ -2,10 +2,18 @@
 
 Only strict gains are taken and no plan is run twice, so a search repeats exactly.
 """
-import contextlib
-from dataclasses import dataclass, field
+from __future__ import annotations
 
-from .formulas import proposals
+import contextlib
+from collections.abc import Callable, Collection, Generator, Iterable, Mapping, Sequence
+from dataclasses import dataclass, field
+from typing import Any
+
+from .formulas import Streets, proposals
+from .plans import Light, Plan
+
+Key = tuple[tuple[str, int, tuple[int, ...]], ...]  # of a plan: lights, offsets, durations
+Change = Callable[[Plan, int], Plan | None]  # of a plan, with a sign
 
 SHARES = (0.25, 0.12, 0.06, 0.03)  # of the cycle, by which offsets are moved
 SECONDS = (8, 4, 2, 1)  # of green that are moved between phases
@@ -27,22 +35,22 @@ class Trial:
 class Search:
     """Plans by their values, each asked for once; the best of them, and what was tried."""
 
-    value: object  # of plans: gives their values in order
+    value: Callable[[Sequence[Plan]], Generator[float, None, None]]  # of plans: gives their values in order
     budget: int  # simulations
     seeds: int  # simulations that one plan takes
-    told: object = lambda search: False  # hears of each trial; gives whether the user has asked for an end
-    seen: dict = field(default_factory=dict)
-    trials: list = field(default_factory=list)
-    best: tuple = (float("inf"), None)  # value and plan
+    told: Callable[[Search], bool] = lambda search: False  # hears of each trial; gives whether the user has asked for an end
+    seen: dict[Key, float] = field(default_factory=dict)
+    trials: list[Trial] = field(default_factory=list)
+    best: tuple[float, Any] = (float("inf"), None)  # value and plan, none before the first trial
     spent: bool = False  # the budget ended it
 
     @property
-    def simulations(self):
+    def simulations(self) -> int:
         return self.trials[-1].simulations if self.trials else 0
 
-    def values(self, steps):
+    def values(self, steps: Sequence[tuple[str, Plan]]) -> list[float]:
         """The values of plans, (what was tried, plan), as far as the budget goes; Ended where it goes no further."""
-        new = {}
+        new: dict[Key, tuple[str, Plan]] = {}
         for step, plan in steps:
             if key_of(plan) not in self.seen:
                 new.setdefault(key_of(plan), (step, plan))
@@ -60,21 +68,28 @@ class Search:
             raise Ended
         return [self.seen[key_of(plan)] for _, plan in steps]
 
-    def note(self, key, step, plan, value):
+    def note(self, key: Key, step: str, plan: Plan, value: float) -> None:
         self.seen[key] = value
         if value < self.best[0]:
             self.best = value, plan
         self.trials.append(Trial(self.simulations + self.seeds, step, value, self.best[0]))
 
-    def cost(self, step, plan):
+    def cost(self, step: str, plan: Plan) -> float:
         return self.values([(step, plan)])[0]
 
 
-def key_of(plan):
+def key_of(plan: Plan) -> Key:
     return tuple(sorted((name, timing.offset, timing.durations) for name, timing in plan.items()))
 
 
-def search_plan(search, plan, lights, streets, changed, cycles):
+def search_plan(
+    search: Search,
+    plan: Plan,
+    lights: Mapping[str, Light],
+    streets: Streets,
+    changed: Collection[str],
+    cycles: Iterable[int],
+) -> None:
     """Searches from a given plan; the search then has the best."""
     try:
         search.cost("given", plan)
@@ -86,7 +101,9 @@ def search_plan(search, plan, lights, streets, changed, cycles):
         pass
 
 
-def climb_all(search, plan, lights, streets, changed):
+def climb_all(
+    search: Search, plan: Plan, lights: Mapping[str, Light], streets: Streets, changed: Collection[str]
+) -> None:
     """Climbs from a plan: each light alone by four steps, then again with what hangs behind it, without the first."""
     passes = [(share, seconds, False) for share, seconds in zip(SHARES, SECONDS, strict=True)]
     passes += [(share, seconds, True) for share, seconds in zip(SHARES[1:], SECONDS[1:], strict=True)]
@@ -97,7 +114,7 @@ def climb_all(search, plan, lights, streets, changed):
             plan = climb_splits(search, plan, lights, streets.order, seconds)
 
 
-def climb_offsets(search, plan, streets, share, with_groups):
+def climb_offsets(search: Search, plan: Plan, streets: Streets, share: float, with_groups: bool) -> Plan:
     """Moves the offset of each light, the heaviest first: with all that hang behind it, and alone."""
     for light in streets.order:
         seconds = max(1, round(share * plan[light].cycle))
@@ -107,7 +124,7 @@ def climb_offsets(search, plan, streets, share, with_groups):
     return plan
 
 
-def climb_splits(search, plan, lights, order, seconds):
+def climb_splits(search: Search, plan: Plan, lights: Mapping[str, Light], order: Iterable[str], seconds: int) -> Plan:
     """Moves green between any two phases of each light; the cycle stays."""
     for name in order:
         free = lights[name].free
@@ -118,7 +135,7 @@ def climb_splits(search, plan, lights, order, seconds):
     return plan
 
 
-def climb(search, plan, step, change):
+def climb(search: Search, plan: Plan, step: str, change: Change) -> Plan:
     """Repeats a change as long as it helps, and where the first does not help its contrary; gives the plan."""
     best = search.cost(step, plan)
     for sign in (1, -1):
@@ -130,15 +147,15 @@ def climb(search, plan, step, change):
     return plan
 
 
-def shift_of(names, seconds):
+def shift_of(names: Sequence[str], seconds: int) -> Change:
     """A change: the offsets of some lights by some seconds."""
     return lambda plan, sign: {**plan, **{name: plan[name].shifted(sign * seconds) for name in names}}
 
 
-def move_of(light, source, target, seconds):
+def move_of(light: Light, source: int, target: int, seconds: int) -> Change:
     """A change: some seconds of green from one phase of a light to another."""
 
-    def change(plan, sign):
+    def change(plan: Plan, sign: int) -> Plan | None:
         first, second = (source, target) if sign > 0 else (target, source)
         made = light.moved(plan[light.name], first, second, seconds)
         return None if made is None else {**plan, light.name: made}

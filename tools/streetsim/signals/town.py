@@ -1,49 +1,65 @@
 """A run as a search or a study sees it: its lights and their plans, and all as bytes that workers run."""
+from __future__ import annotations
+
 import json
 import sys
-from collections import namedtuple
+from collections.abc import Callable, Iterable, Iterator, Mapping, Sequence
 from dataclasses import dataclass, field
+from typing import Any, NamedTuple
 
 from ..files import Fault
 from ..run.mapping import Map, read_map
 from ..run.running import fits
 from ..run.runs import Line, Run, read_run
 from ..study.giving import gaps, giving_session, outcome_giving_way, with_gaps
-from ..study.sessions import Session, vehicle_seconds
+from ..study.machines import Machines
+from ..study.sessions import Outcome, Session, vehicle_seconds
+from ..sumo.net import SumoNet
 from ..sumo.report import some
 from .light_lines import LightLines, read_plans
-from .plans import light_of, why_kept
+from .plans import Light, Plan, light_of, why_kept
 
-Reading = namedtuple("Reading", "run map plans until program least keep rounds", defaults=(0,))  # what the user says of it
+
+class Reading(NamedTuple):
+    """What the user says of a town."""
+
+    run: str
+    map: str
+    plans: Sequence[str]
+    until: int
+    program: str
+    least: int
+    keep: Sequence[str]
+    rounds: int = 0
 
 
 @dataclass(slots=True)
 class Town:
     run: Run
     mapping: Map
-    lights: dict  # that are searched, by name
-    plan: dict  # the one given, of these
+    lights: dict[str, Light]  # that are searched, by name
+    plan: Plan  # the one given, of these
     lines: LightLines
     session: Session
-    giving: dict = field(default_factory=dict)  # seed: the place of a session with its gaps, where vehicles give way
+    giving: dict[int, int] = field(default_factory=dict)  # seed: the place of a session with its gaps, where vehicles give way
 
-    def signals(self, plan):
+    def signals(self, plan: Plan) -> bytes:
         """The signal lines of a plan."""
         return self.lines.of(plan, self.lights)
 
-    def first_lines(self, plan):
+    def first_lines(self, plan: Plan) -> list[Line]:
         """The first lines of the run with the signals of a plan."""
         made = [Line(0, text, json.loads(text)) for text in self.signals(plan).decode().splitlines()]
         nodes = {line.command["node"] for line in made}
         return [line for line in self.run.first if signal_node(line) not in nodes] + made
 
 
-def signal_node(line):
+def signal_node(line: Line) -> int | None:
     """The node of a signal line, or none."""
     return line.command["node"] if line.command["cmd"] == "signal" else None
 
 
-def read_pair(run_path, map_path, until=None):
+def read_pair(run_path: str, map_path: str, until: int | None = None) -> tuple[Run, Map]:
     """A run and its map, with something to run until a clock, or without one."""
     run, mapping = read_run(run_path), read_map(map_path)
     if not fits(run, mapping):
@@ -59,7 +75,7 @@ def read_pair(run_path, map_path, until=None):
     return run, mapping
 
 
-def read_town(reading):
+def read_town(reading: Reading) -> Town:
     """The town of a search."""
     run, mapping = read_pair(reading.run, reading.map, reading.until)
     net = read_plans(reading.plans, mapping)
@@ -71,14 +87,15 @@ def read_town(reading):
     return town
 
 
-def searched_lights(reading, run, mapping, net):
+def searched_lights(reading: Reading, run: Run, mapping: Map, net: SumoNet) -> tuple[dict[str, Light], Plan]:
     """The lights that are searched, and the plan given; what is left as it is, is told."""
     names, asked = lights_of(reading, mapping, net), set(reading.keep)
     if unknown := sorted(asked - set(names)):
         raise Fault(f"--keep: the map has no light {unknown[0]!r}")
     timed_nodes = {signal_node(line) for _, line in run.timed}
     timed = {light for light, node in mapping.signals if node in timed_nodes}
-    lights, plan, reasons = {}, {}, {}
+    lights, plan = {}, {}
+    reasons: dict[str, list[str]] = {}
     for name in names:
         if why := why_kept(name, net.programs[name], asked, timed):
             reasons.setdefault(why, []).append(name)
@@ -91,7 +108,7 @@ def searched_lights(reading, run, mapping, net):
     return lights, plan
 
 
-def lights_of(reading, mapping, net):
+def lights_of(reading: Reading, mapping: Map, net: SumoNet) -> list[str]:
     """The names of the map's lights, each of which must have a program in the plans."""
     names = sorted({light for light, _ in mapping.signals})
     lacking = [name for name in names if name not in net.programs or not net.programs[name].phases]
@@ -100,7 +117,7 @@ def lights_of(reading, mapping, net):
     return names
 
 
-def warn_of_others(reading, town):
+def warn_of_others(reading: Reading, town: Town) -> None:
     """Says where the run's own signals are others than those of the plans given."""
     ours = [line.command for line in town.run.first if signal_node(line) is not None]
     given = [json.loads(text) for text in town.signals(town.plan).splitlines()]
@@ -113,23 +130,29 @@ def warn_of_others(reading, town):
 class Runner:
     """Runs plans of a town on some workers."""
 
-    def __init__(self, workers, town):
+    def __init__(self, workers: Machines, town: Town) -> None:
         self.workers, self.town, self.cars = workers, town, len(town.session.departs)
 
-    def means(self, plans, seeds):
+    def means(self, plans: Iterable[Plan], seeds: Sequence[int]) -> Iterator[float]:
         """For each plan and seed, in order, the mean trip; minor streets have the gaps that were found for the given plan."""
         for seconds in self.ordered(vehicle_seconds, plans, seeds):
             yield seconds / self.cars
 
-    def outcomes(self, plan, seeds):
+    def outcomes(self, plan: Plan, seeds: Sequence[int]) -> list[Outcome]:
         """For each seed, what the plan gives exactly, with gaps of its own."""
         return list(self.ordered(outcome_giving_way, [plan], seeds, {}))
 
-    def gaps(self, seeds):
+    def gaps(self, seeds: Sequence[int]) -> list[Any]:
         """For each seed, the signal lines of minor streets under the given plan, and what they are."""
         return list(self.ordered(gaps, [self.town.plan], seeds, {}))
 
-    def ordered(self, function, plans, seeds, places=None):
+    def ordered(
+        self,
+        function: Callable[..., Any],
+        plans: Iterable[Plan],
+        seeds: Sequence[int],
+        places: Mapping[int, int] | None = None,
+    ) -> Iterator[Any]:
         """What a function gives for each plan and seed; each seed's session stands at a place of its own, or at the first."""
         places = self.town.giving if places is None else places
         made = ((self.town.signals(plan), seed) for plan in plans for seed in seeds)
@@ -137,7 +160,7 @@ class Runner:
         return self.workers.ordered(tasks)
 
 
-def sessions_of(town, seeds, runner):
+def sessions_of(town: Town, seeds: Sequence[int], runner: Runner) -> list[Session]:
     """The sessions of a search, of which the first makes its own gaps; the others have those of some seeds."""
     sessions = [town.session]
     if town.session.giving is None:
