@@ -74,7 +74,7 @@ def together(parts) -> Totals:
 
 def stop_loss(approach, target: str) -> float:
     """What a vehicle that stops loses beyond what is seen. Of those that turn at a light the import has put it into the
-    green: it leaves out the begin."""
+    green, of which it leaves out seconds."""
     return STOP_LOSS if approach.control != SIGNALS or approach.movements[target] == "T" else 0.0
 
 
