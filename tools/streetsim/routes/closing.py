@@ -15,6 +15,9 @@ from .router import FAR, Path, Router, Shut
 from .trips import Trip
 
 
+Times = tuple[float, float]  # first and last second
+
+
 @dataclass(frozen=True, slots=True)
 class Closing:
     """signs: edges on which those who do not know of the works are told of them; free: seconds of movements without traffic."""
@@ -30,7 +33,7 @@ def shut_edges(works: Iterable[Works], graph: Graph, mapping: Map, dawdle: float
     driving, links = FreeFlow(mapping, dawdle).driving, shut_links(sites_of(works, mapping), mapping)
     found = {}
     for edge in dict.fromkeys(mapping.links[link].edge for link in links):
-        times = [(0, float("inf"))]
+        times: list[Times] = [(0, float("inf"))]
         for link in mapping.links_of[edge]:
             times = common(times, links.get(link, []))
         before = max(driving[link] for link in mapping.links_of[edge])
@@ -39,7 +42,7 @@ def shut_edges(works: Iterable[Works], graph: Graph, mapping: Map, dawdle: float
     return found
 
 
-def common(one: Iterable[tuple], other: Collection[tuple]) -> list[tuple]:
+def common(one: Iterable[Times], other: Collection[Times]) -> list[Times]:
     """The times that are in both."""
     both = [(max(first, begin), min(last, end)) for first, last in one for begin, end in other]
     return [(first, last) for first, last in both if first < last]

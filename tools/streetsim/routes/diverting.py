@@ -6,6 +6,7 @@ import dataclasses
 import os
 from collections.abc import Callable, Iterator, Sequence
 from dataclasses import dataclass
+from functools import partial
 from itertools import pairwise
 from statistics import fmean
 
@@ -114,7 +115,7 @@ def diverted(
     for share in shares:
         trips = [dataclasses.replace(trip, changes=trip.changes and knows(trip.name, share, asked.seeds[0])) for trip in before.trips]
         label = f"knowing {share:g}, "
-        search = Search(town, before.ground, trips, before.team, lambda one, label=label: told(label, one), closing)
+        search = Search(town, before.ground, trips, before.team, partial(told, label), closing)
         search.turn_off(judged.observed, strict=True)
         search.improve(asked)
         yield Diverted(share, trips, search, search.judged(check))

@@ -23,16 +23,16 @@ def named(found: Mapping[tuple[int, int], Sequence[tuple[float, int]]], mapping:
 def waiting_lines(passed: Passed, mapping: Map, start: int) -> list[tuple[int, Line]]:
     """The signal lines by which vehicles wait for those who passed first, (clock, line)."""
     places = {(mapping.links[link].edge, mapping.links[link].lanes[lane]): (link, lane) for link, lane in mapping.lanes()}
-    turns = defaultdict(list)
+    turns: defaultdict[tuple[str, str], list[tuple[int, int, int]]] = defaultdict(list)
     for turn in mapping.turns:
         turns[mapping.links[turn.link].edge, mapping.links[turn.next].edge].append((turn.link, turn.lane, turn.next))
-    found = defaultdict(list)
+    found: defaultdict[tuple[int, int], list[tuple[float, int]]] = defaultdict(list)
     for (edge, lane), each in passed.items():
         chosen = {}
         for following in dict.fromkeys(following for _, following in each):
             of_way, place = turns.get((edge, following), ()), places.get((edge, lane))
-            chosen[following] = next((turn for turn in of_way if turn[:2] == place), of_way[0] if of_way else None)
+            chosen[following] = next((way for way in of_way if way[:2] == place), of_way[0] if of_way else None)
         for second, following in each:
-            if turn := chosen[following]:
-                found[turn[:2]].append((second, turn[2]))
+            if way := chosen[following]:
+                found[way[:2]].append((second, way[2]))
     return gap_lines(mapping, found, start)

@@ -31,7 +31,7 @@ def draw(folder: str, before: Diverted, one: Diverted) -> None:
         plots.save(flows(pyplot, before, one), f"{folder}/flows.png")
 
 
-def gaps(pyplot, searches: Sequence[Diverted]):
+def gaps(pyplot: Any, searches: Sequence[Diverted]) -> Any:
     figure, axes = pyplot.subplots(figsize=(6.5, 3.5))
     for style, one in zip(STYLES, searches):
         numbers = [iteration.number for iteration in one.search.iterations]
@@ -44,7 +44,7 @@ def gaps(pyplot, searches: Sequence[Diverted]):
     return figure
 
 
-def flows(pyplot, before: Diverted, one: Diverted):
+def flows(pyplot: Any, before: Diverted, one: Diverted) -> Any:
     """Three maps of trips on edges: before, with the works, and the difference, as near as it reaches."""
     links, graph = before.judged.loaded.mapping.links, before.search.town.graph
     there, here = (Counter(edge for trip in case.trips for edge in set(trip.path)) for case in (before, one))
@@ -58,7 +58,7 @@ def flows(pyplot, before: Diverted, one: Diverted):
         lines = draw_flows(place, links, counts, scale, title)
     figure.colorbar(lines, ax=axes[:2], label="trips", location="bottom", shrink=0.6)
     apart = [after - first for first, after in zip(*values, strict=True)]
-    lines = draw_flows(axes[2], links, apart, differences(max(1, *map(abs, apart))), "difference")
+    lines = draw_flows(axes[2], links, apart, differences(max(1, *(abs(value) for value in apart))), "difference")
     figure.colorbar(lines, ax=axes[2], label="trips fewer (broken lines) or more than before", location="bottom", shrink=0.9)
     zoom(axes[2], links, apart)
     if works:
@@ -91,12 +91,12 @@ def differences(most: int) -> Scale:
     """Orange for more and blue for fewer, grey for what is about equal."""
     from matplotlib.colors import BoundaryNorm, ListedColormap
 
-    steps = [round(most * share) for share in (-1.0, -0.6, -0.3, -0.1, 0.1, 0.3, 0.6, 1.0)]
+    steps: list[float] = [round(most * share) for share in (-1.0, -0.6, -0.3, -0.1, 0.1, 0.3, 0.6, 1.0)]
     steps = [step + at * 1e-6 for at, step in enumerate(steps)]  # so that they rise where there are few trips
     return Scale(ListedColormap(APART), BoundaryNorm(steps, len(APART)), most)
 
 
-def draw_flows(axes, links: Sequence[MapLink], values: Sequence[int], scale: Scale, title: str):
+def draw_flows(axes: Any, links: Sequence[MapLink], values: Sequence[int], scale: Scale, title: str) -> Any:
     """A map of links: wider and of another colour by their values; those below 0 are broken lines."""
     from matplotlib.collections import LineCollection
 
@@ -116,9 +116,9 @@ def draw_flows(axes, links: Sequence[MapLink], values: Sequence[int], scale: Sca
     return lines
 
 
-def zoom(axes, links: Sequence[MapLink], values: Sequence[int]) -> None:
+def zoom(axes: Any, links: Sequence[MapLink], values: Sequence[int]) -> None:
     """Shows the part of a map where values are not about 0, with some of the streets around."""
-    least = SMALL * max(map(abs, values))
+    least = SMALL * max(abs(value) for value in values)
     points = [point for link, value in zip(links, values, strict=True) if abs(value) > least for point in link.shape]
     if not points:
         return
@@ -128,7 +128,7 @@ def zoom(axes, links: Sequence[MapLink], values: Sequence[int]) -> None:
         set_limits((first + last) / 2 - half, (first + last) / 2 + half)
 
 
-def middle(shape: Sequence[tuple[float, float]]) -> tuple[float, float]:
+def middle(shape: Sequence[Sequence[float]]) -> tuple[float, float]:
     """The place halfway along a street, by its corners."""
     (x, y), (next_x, next_y) = shape[(len(shape) - 1) // 2], shape[len(shape) // 2]
     return (x + next_x) / 2, (y + next_y) / 2

@@ -67,8 +67,8 @@ def trip_rows(trips: Sequence[Trip], judged: Judged) -> Iterator[tuple]:
     """For each trip its mean seconds of the check runs where it arrived in all, and of its way and the shortest by their costs."""
     searched = {one.trip: one for one in judged.found}
     for at, trip in enumerate(trips):
-        ends = [one.ends[at] for one in judged.outcomes]
-        mean = "" if None in ends else f"{fmean(ends) - trip.depart:.1f}"
+        ends = [end for one in judged.outcomes if (end := one.ends[at]) is not None]
+        mean = "" if len(ends) < len(judged.outcomes) else f"{fmean(ends) - trip.depart:.1f}"
         found = searched.get(at)
         ways = (f"{found.own:.1f}", f"{found.least:.1f}") if found and found.path else ("", "")
         yield trip.name, f"{trip.depart:.2f}", len(trip.path), int(trip.changes), mean, *ways

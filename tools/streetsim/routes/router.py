@@ -73,7 +73,7 @@ class Router:
     def search(self, origin: int, target: int, clock: float) -> tuple[Path, float]:
         """The path that is shortest from a clock on, and its seconds to the end of the target; no path where there is none."""
         bounds, inverse, last, shut = self.bounds_to(target), self.table.inverse, self.table.last, self.shut
-        best, before = {origin: clock}, {}
+        best, before = {origin: clock}, dict[int, int]()
         heap = [(clock + bounds[origin], -clock, origin)] if bounds[origin] < FAR else []  # of equal ones the farthest first
         while heap:
             _, now, edge = heappop(heap)

@@ -128,7 +128,8 @@ class Search:
 
     def improve(self, asked: Asked) -> None:
         """Searches; the trips then have the ways of the iteration with the least gap."""
-        share, steps = asked.share, [[]]
+        share = asked.share
+        steps: list[list[Found]] = [[]]
         for number in range(asked.iterations + 1):
             seen, place = self.best_of(asked.seeds, steps)
             found, share = seen.found, share / 2**place
@@ -160,7 +161,8 @@ class Search:
         expected = self.expected or flat_costs(self.town.graph, loads[0].free)
         if self.ground.rounds and loads[0].mapping.yields and not self.passed:
             self.passed = [one.passed for one in self.team.runs(loads[:1], expected, seeds, [None] * len(seeds))[0]]
-        runs = self.team.runs(loads, expected, seeds, self.passed or [None] * len(seeds))
+        passed: list[Passed | None] = [*self.passed] or [None] * len(seeds)
+        runs = self.team.runs(loads, expected, seeds, passed)
         all_ = [self.seen(*case) for case in zip(ways, loads, runs, strict=True)]
         place = min(range(len(all_)), key=lambda at: (all_[at].lacking, all_[at].gap))
         seen = all_[place]

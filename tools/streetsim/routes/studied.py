@@ -4,6 +4,7 @@ from __future__ import annotations
 import sys
 from collections.abc import Iterator, Sequence
 from dataclasses import replace
+from typing import Any
 
 from ..run.mapping import Map
 from ..run.runs import Run
@@ -32,8 +33,9 @@ def routed(
     for a share of drivers who know of them. joint: further lanes that are joint, as in the variants to compare with; rounds: by which
     vehicles give way; seeds: of the study."""
     sources = sources_of(mapping.sources, map_path, run.path)
-    known = {name: tuple(value) if isinstance(value, list) else value for name, value in mapping.options.items()}
-    options = Options(**{**known, "joint": (*known.get("joint", ()), *joint)})
+    known: dict[str, Any] = {name: tuple(value) if isinstance(value, list) else value for name, value in mapping.options.items()}
+    known["joint"] = (*known.get("joint", ()), *joint)
+    options = Options(**known)
     town = read_town(sources.net, sources.additional, options, Report())
     trips = read_trips([*sources.routes, *sources.trips], town.net, town.graph, town.types, options, Report())
     trips.all = connected(trips.all, town.net, town.graph, options.ignore_route_errors, Report())

@@ -4,13 +4,15 @@ from __future__ import annotations
 from collections.abc import Iterable, Sequence
 from dataclasses import dataclass
 from itertools import pairwise
+from typing import Any
 from xml.etree import ElementTree
 from xml.sax.saxutils import quoteattr
 
 from .. import limits
-from ..files import Fault, elements, told, whole_file
+from ..files import Fault, FilePath, elements, told, whole_file
 from ..sumo.demand import NOT_DRIVEN, READ, Demand, Vehicle
 from ..sumo.net import SumoNet
+from ..sumo.network import Options
 from ..sumo.report import Report
 from ..sumo.types import DEFAULT, TAGS, Types
 from .graph import Graph
@@ -48,7 +50,7 @@ class TripDemand(Demand):
         self.without: set[str] = set()  # vehicles without a route
         self.told_types: list[str] = []  # vehicle types as they stand in the files
 
-    def read(self, path: str) -> None:
+    def read(self, path: FilePath) -> None:
         readers = {"route": self.read_route, "vehicle": self.read_vehicle, "flow": self.read_flow, "trip": self.read_vehicle}
         readers["routeDistribution"] = self.read_mix
         for element in elements(path, ["routes", "trips", "additional", "add"]):
@@ -64,7 +66,7 @@ class TripDemand(Demand):
             else:
                 self.report.ignored[f"<{element.tag}> of route files"] += 1
 
-    def add(self, path: str, element: ElementTree.Element, departures: Sequence[tuple[str, float]]) -> None:
+    def add(self, path: FilePath, element: ElementTree.Element, departures: Sequence[tuple[str, float]]) -> None:
         count = len(self.vehicles) + len(departures)
         if 2 * count >= limits.CALLS:
             most = limits.CALLS // 2
@@ -76,11 +78,12 @@ class TripDemand(Demand):
         self.report.ignored["stops"] += sum(1 for _ in element.iter("stop"))
         for name in set(element.keys()) - READ - ENDS:
             self.report.ignored[f"{name} of {element.tag}s"] += 1
+        kind: Any = element.get("type")  # none until `finish` where the file has none
         for name, depart in departures:
-            self.vehicles.append(Vehicle(name, depart, ends, element.get("type")))
+            self.vehicles.append(Vehicle(name, depart, ends, kind))
             self.without.add(name)
 
-    def ends(self, path: str, element: ElementTree.Element) -> tuple[str, str]:
+    def ends(self, path: FilePath, element: ElementTree.Element) -> tuple[str, str]:
         """The edges where a trip begins and ends."""
         if element.get("via"):
             raise Fault(f"{told(path, element)}: via is not routed here; compute this route with duarouter")
@@ -103,7 +106,9 @@ class Trips:
     types: list[str]
 
 
-def read_trips(paths: Iterable[str], net: SumoNet, graph: Graph, types: Types, options, report: Report) -> Trips:
+def read_trips(
+    paths: Iterable[str], net: SumoNet, graph: Graph, types: Types, options: Options, report: Report
+) -> Trips:
     """The trips of files. Those that can not drive are counted in the report, by reason."""
     demand = TripDemand(net, types, options.seed, report)
     for path in paths:
@@ -113,10 +118,10 @@ def read_trips(paths: Iterable[str], net: SumoNet, graph: Graph, types: Types, o
         if why := reason_against(one, net, options.begin):
             report.skipped[why] += 1
             continue
-        path = () if one.name in demand.without else tuple(graph.number[name] for name in one.edges)
+        way = () if one.name in demand.without else tuple(graph.number[name] for name in one.edges)
         ends = graph.number[one.edges[0]], graph.number[one.edges[-1]]
-        back = ends[0] == ends[1] and len(path) > 1
-        found.append(Trip(one.name, one.depart, *ends, one.type, path, one.depart, not back, one.route))
+        back = ends[0] == ends[1] and len(way) > 1
+        found.append(Trip(one.name, one.depart, *ends, one.type, way, one.depart, not back, one.route))
     if not found:
         why = "".join(f"; {count:,} left out: {reason}" for reason, count in sorted(report.skipped.items()))
         raise Fault(f"{', '.join(paths)}: no trip that can drive{why}")

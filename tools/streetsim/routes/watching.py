@@ -2,18 +2,18 @@
 from __future__ import annotations
 
 import resource
-from collections.abc import Sequence
+from collections.abc import Mapping, Sequence
 from dataclasses import dataclass
 from functools import partial
 from itertools import pairwise
 
 from .. import limits
-from ..client import Client, NoReply, ProgramEnded, Refused, Starved, Vehicle
+from ..client import Client, Lane, NoReply, ProgramEnded, Refused, Starved, Vehicle
 from ..cli.words import ROUNDS
 from ..files import Fault
 from ..run.budget import INTERVALS, MINUTE, SLACK, Asking
 from ..run.freeflow import FreeFlow
-from ..run.mapping import Map
+from ..run.mapping import Map, Place
 from ..run.passings import Passings
 from ..run.record import Recorder, Records, Settings
 from ..run.rounds import COARSEST, gaps_of, places_of, with_lines
@@ -36,7 +36,7 @@ class Ground:
     by which vehicles give way without a light in a run that counts, 0 where nobody does."""
 
     program: str
-    digest: str
+    digest: str | None
     graph: Graph
     width: int
     until: int
@@ -118,11 +118,11 @@ class Watcher(Recorder):
 
     def record(self) -> Records:
         asking = Asking(self.often or self.every * self.by_lane, self.by_lane, [], 0)
-        self.budget.asking = lambda most: asking
+        self.budget.asking = lambda most: asking  # type: ignore[assignment]  # what this run asks is known
         records = super().record()
         if self.often:
             for owner, end in self.ended.items():
-                if end.state == "arrived":
+                if end.state == "arrived" and end.step is not None:
                     self.passings.arrived(owner, end.step)
         return records
 
@@ -146,21 +146,21 @@ class Watcher(Recorder):
                 self.ended[owner] = reply
             elif reply.state in ("cell", "buffer"):
                 self.note_vehicle(clock, owner, reply)
-                if reply.state == "buffer" or not reply.speed and reply.cell == self.mapping.links[reply.link].cells - 1:
+                if reply.state == "buffer" or not reply.speed and reply.cell == self.mapping.links[reply.place[0]].cells - 1:
                     self.note_standing(clock, owner, reply, stood)
 
     def note_vehicle(self, clock: int, owner: int, reply: Vehicle) -> None:
-        if reply.state == "cell":
-            self.note(owner, clock, reply.link, reply.cell, reply.speed)
+        if reply.cell is not None and reply.speed is not None:
+            self.note(owner, clock, reply.place[0], reply.cell, reply.speed)
         else:
-            self.note_at_end(owner, clock, reply.link)
+            self.note_at_end(owner, clock, reply.place[0])
 
     def note_standing(self, clock: int, owner: int, reply: Vehicle, stood: dict) -> None:
-        key = owner, reply.link
+        key = owner, reply.place[0]
         self.stood[key] = stood.get(key, (reply.car, clock))
         if key in stood:
-            self.watched.add((reply.link, reply.lane))
-            self.standing.setdefault((reply.car, reply.link), self.stood[key][1])
+            self.watched.add(reply.place)
+            self.standing.setdefault((reply.car, reply.place[0]), self.stood[key][1])
 
     def ask_late(self, clock: int) -> None:
         """Nothing: whoever stands is seen when all are looked for."""
@@ -168,20 +168,20 @@ class Watcher(Recorder):
     def allowance(self, clock: int) -> int:
         return limits.CALLS if self.by_lane else self.watches
 
-    def note_lanes(self, clock: int, lanes: dict) -> None:
+    def note_lanes(self, clock: int, lanes: Mapping[Place, Lane]) -> None:
         if self.by_lane and clock % MINUTE == 0:
             self.note_all(clock, lanes)
         if self.often:
             self.note_passings(clock, lanes)
 
-    def note_all(self, clock: int, lanes: dict) -> None:
+    def note_all(self, clock: int, lanes: Mapping[Place, Lane]) -> None:
         for (link, _), reply in lanes.items():
             for car, cell, speed, *_ in reply.cells:
                 self.note(self.owners[car], clock, link, cell, speed)
             for car, *_ in reply.buffer:
                 self.note_at_end(self.owners[car], clock, link)
 
-    def note_passings(self, clock: int, lanes: dict) -> None:
+    def note_passings(self, clock: int, lanes: Mapping[Place, Lane]) -> None:
         for (link, lane), reply in lanes.items():
             for car, cell, *_ in reply.cells:
                 self.passings.note(self.owners[car], clock, link, lane, cell)
@@ -246,4 +246,4 @@ def outcome_of(
 
 
 def arrival_of(last: Vehicle | None) -> int | None:
-    return last.step + 1 if last is not None and last.state == "arrived" else None
+    return last.step + 1 if last is not None and last.state == "arrived" and last.step is not None else None

@@ -17,16 +17,28 @@ import zipfile
 from collections.abc import Callable, Iterable, Iterator, Sequence
 from concurrent.futures import BrokenExecutor, CancelledError, ProcessPoolExecutor
 from pathlib import Path
-from typing import Any
+from typing import Any, Protocol
 
 from ..files import Fault
-from .sessions import Session, digest_of
+from .sessions import digest_of
 
 PATIENCE = 10  # seconds for a cluster to answer
 TRIES = 3  # to make its workers ready
 HOST = re.compile(r"(\w+://)?.+:\d+")
 LOST = (BrokenExecutor, CancelledError)
 HELD: list[Any] = []  # in a process of the pool: the sessions
+
+
+class Held(Protocol):
+    """What runs stand on: a session, or anything else with a program."""
+
+    @property
+    def program(self) -> str:
+        ...
+
+    @property
+    def digest(self) -> str | None:
+        """Of the program's file."""
 
 
 class Machines:
@@ -72,7 +84,7 @@ def told_of(fault: BaseException) -> str:
 
 
 @contextlib.contextmanager
-def machines(jobs: int, cluster: str | None, sessions: Sequence[Session]) -> Iterator[Machines]:
+def machines(jobs: int, cluster: str | None, sessions: Sequence[Held]) -> Iterator[Machines]:
     """The workers of a cluster, or of this machine, which know some sessions."""
     if cluster:
         with cluster_of(cluster, sessions) as made:
@@ -85,7 +97,7 @@ def machines(jobs: int, cluster: str | None, sessions: Sequence[Session]) -> Ite
         executor.shutdown(cancel_futures=True)
 
 
-def hold(sessions: Sequence[Session]) -> None:
+def hold(sessions: Sequence[Held]) -> None:
     """Begins a process of the pool. Ctrl-C is the main process's: neither this one nor its programs see it."""
     HELD[:] = sessions
     signal.signal(signal.SIGINT, signal.SIG_IGN)
@@ -94,7 +106,7 @@ def hold(sessions: Sequence[Session]) -> None:
 
 
 @contextlib.contextmanager
-def cluster_of(address: str, sessions: Sequence[Session]) -> Iterator[Machines]:
+def cluster_of(address: str, sessions: Sequence[Held]) -> Iterator[Machines]:
     """The workers of a scheduler that runs; all must have the program that is here."""
     try:
         from distributed import Client
@@ -118,7 +130,7 @@ def cluster_of(address: str, sessions: Sequence[Session]) -> Iterator[Machines]:
         yield Machines(client.get_executor(pure=False), sessions)
 
 
-def prepare(client: Any, address: str, sessions: Sequence[Session]) -> None:
+def prepare(client: Any, address: str, sessions: Sequence[Held]) -> None:
     """Makes the workers ready; once more where one of them is lost meanwhile."""
     for left in reversed(range(TRIES)):
         try:
@@ -141,7 +153,7 @@ def send_package(client: Any) -> None:
         client.upload_file(path)
 
 
-def check_programs(client: Any, sessions: Sequence[Session]) -> None:
+def check_programs(client: Any, sessions: Sequence[Held]) -> None:
     """Refuses a cluster with a worker whose program is another one."""
     for program, digest in sorted({(session.program, session.digest) for session in sessions}):
         for worker, found in sorted(client.run(digest_of, program).items()):

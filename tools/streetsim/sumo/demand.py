@@ -128,7 +128,7 @@ class Demand:
             )
         return names * (1 + attribute(path, route, "repeat", at_least_zero(int))) if route.get("repeat") else names
 
-    def add(self, path: FilePath, element: Element, departs: Iterable[tuple[str, float]]) -> None:
+    def add(self, path: FilePath, element: Element, departs: Sequence[tuple[str, float]]) -> None:
         """Vehicles of an element, one for each (name, depart)."""
         inner, mix = element.find("route"), element.find("routeDistribution")
         if inner is None and mix is None and element.get("route") is None:
