@@ -1,7 +1,7 @@
 #!/usr/bin/python3
 """Runs the walks of the pages of tools/ and says where a command prints other lines than the page shows.
 
-Usage: bench/walks.py PROGRAM --work FOLDER [--only README,SIGNALS]
+Usage: bench/walks.py PROGRAM --work FOLDER [--only README,SIGNALS,ROUTES]
 
 The commands of a page's sections are run in one folder, in the page's order and with the tools as they are here; of the text that
 a page shows right after a command each line must be printed, in that order ('..' stands for any). It needs Debian's sumo. The
@@ -19,8 +19,9 @@ TOP = Path(__file__).resolve().parents[1]
 SECTIONS = {  # of pages: the headings of their walks
     "README": ("A walk of ten minutes",),
     "SIGNALS": ("A walk of two minutes", "A study"),
+    "ROUTES": ("A walk of two minutes",),
 }
-INSTALLING = "pip install"  # a block with it is left out: the tools are run as they are here
+INSTALLING = "mkdir "  # a block with it is left out: the tools are run as they are here, in the folder of this call
 
 
 def blocks(page, heading):
@@ -76,6 +77,7 @@ def main():
         "PATH": f"{TOP / 'tools'}:{os.environ['PATH']}",
         "STREETSIM_PROGRAM": str(Path(args.program).resolve()),
         "example": str(TOP / "tools/examples/corridor"),
+        "data": str(TOP / "tools/tests/data"),
     }
     wrong = sum(walk(page, heading, folder, surroundings) for page in args.only.split(",") for heading in SECTIONS[page])
     print("each walk prints what its page says" if not wrong else f"{wrong} commands print other lines, or fail")
