@@ -4,8 +4,10 @@ import os
 import shutil
 import subprocess
 import sys
+import tempfile
 import unittest
 from importlib.util import find_spec
+from pathlib import Path
 
 from support import MAP, NUMBERED, PROGRAM, TOOLS, Case, lane, needs_package, needs_simulator, net
 from streetsim.files import Fault
@@ -38,6 +40,64 @@ class Install(Case):
         words = [place / "bin/streetsim-import", given, "-o", self.folder / "run.jsonl", "--map", self.folder / "map.json"]
         told = subprocess.run(words, env=variables, capture_output=True, text=True, check=True).stderr
         self.assertIn("2 nodes, 1 links, 0 turns, 0 signals, 0 vehicles", told)
+
+
+@needs_package("python3-pip", PIP)
+@needs_simulator
+class Installed(Case):
+    """In an environment of its own, as tools/README.md makes it, far from the sources."""
+
+    @classmethod
+    def setUpClass(cls):
+        made = tempfile.TemporaryDirectory()
+        cls.addClassCleanup(made.cleanup)
+        cls.place = Path(made.name).resolve() / "installed"
+        cls.do([sys.executable, "-m", "venv", "--system-site-packages", "--without-pip", cls.place])
+        cls.do([*PIP, "--python", cls.place / "bin/python", "install", "--quiet", "--no-index", "--no-deps", "--no-build-isolation", TOOLS])
+
+    @staticmethod
+    def do(words, folder="/"):
+        """Runs a command where no path leads to the sources; gives what it prints."""
+        variables = environment(STREETSIM_PROGRAM=PROGRAM)
+        variables.pop("PYTHONPATH", None)
+        done = subprocess.run([*map(str, words)], cwd=folder, env=variables, capture_output=True, text=True, check=False)
+        if done.returncode:
+            raise AssertionError(f"{words[0]}: status {done.returncode}: {done.stderr}")
+        return done.stdout
+
+    def installed(self, name, *words):
+        return self.do([self.place / f"bin/streetsim-{name}", *words], self.folder)
+
+    def imported(self):
+        corridor = TOOLS / "examples/corridor"
+        words = [corridor / "corridor.net.xml.gz", "--routes", corridor / "corridor.rou.xml", "-o", "zero.jsonl", "--map", "zero.map.json"]
+        self.installed("import", *words)
+        return words
+
+    def test_what_is_imported_lies_in_the_environment(self):
+        told = self.do([self.place / "bin/python", "-c", "import streetsim.client, streetsim.traci; print(streetsim.client.__file__)"])
+        self.assertTrue(Path(told.strip()).resolve().is_relative_to(self.place), told)
+
+    def test_walk(self):
+        """The figures are those of the walk in tools/README.md."""
+        words = self.imported()
+        told = self.installed("run", "zero.jsonl", "--map", "zero.map.json", "--until", 4500, "--sumo-output", "tripinfo", "--out", "zero")
+        self.assertEqual(told, "2,400 vehicles, 2,400 arrived, mean trip 134.3 s, 0 rescues\n")
+        told = self.installed("compare", "zero", "--sumo", "zero/sumo/tripinfo.xml")
+        self.assertIn("mean trip of these: 134.3 s here, 134.3 s in SUMO (+0.0 %)\ntrip by trip: r = 1.00\n", told)
+        self.assertIn(" steps, ", self.installed("play", "zero", "--first", 1800, "--last", 1810, "-o", "zero.html"))
+        page = (self.folder / "zero.html").read_text()
+        self.assertIn((TOOLS / "streetsim/pictures/player.js").read_text(), page)
+        made = (self.folder / "zero.jsonl").read_bytes()
+        self.tool("import", *words[:3], "-o", self.folder / "own.jsonl", "--map", self.folder / "own.map.json")
+        self.assertEqual((self.folder / "own.jsonl").read_bytes(), made)
+
+    @needs_package("python3-matplotlib", find_spec("matplotlib"))
+    def test_a_picture(self):
+        self.imported()
+        self.installed("run", "zero.jsonl", "--map", "zero.map.json", "--until", 300, "--out", "zero")
+        self.installed("plot", "map", "zero", "-o", "map.svg")
+        self.assertIn("Mean density", (self.folder / "map.svg").read_text())
 
 
 class WhichProgram(Case):
