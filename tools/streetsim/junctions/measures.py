@@ -9,7 +9,7 @@ from .passages import by_place
 
 # Seconds that a vehicle which stops loses beyond what is seen here, where vehicles brake and start at once: measured on a
 # lone cross at four flows against SUMO's e3 (bench/delays --calibrate).
-STOP_LOSS = 2.1
+STOP_LOSS = 1.9
 
 
 @dataclass(slots=True)
