@@ -1,7 +1,7 @@
 #!/usr/bin/python3
 """Road works on edges of the sample grid, town and Acosta, in SUMO and in streetsim: what they add to the mean trip.
 
-Usage: bench/works.py PROGRAM --work FOLDER [--seeds 1-2] [--only NAME,..] [--sumo-only]
+Usage: bench/works.py PROGRAM --work FOLDER [--seeds 1-2] [--only NAME,..] [--sides sumo,here]
 
 Of each network and number of lanes the edges of 120 m and more are put in order by the vehicles that pass them, and of
 so many equal parts of these (of the busier half, where there are several lanes) the middle one is taken; lane, length
@@ -158,7 +158,7 @@ def main():
     words.add_argument("--work", required=True, type=Path)
     words.add_argument("--seeds", default="1-2")
     words.add_argument("--only", default=",".join(NETWORKS))
-    words.add_argument("--sumo-only", action="store_true", help="only SUMO: the rows without streetsim's cells")
+    words.add_argument("--sides", default="sumo,here", help="whose cells the rows have")
     args = words.parse_args()
     args.work.mkdir(parents=True, exist_ok=True)
     folder, program = args.work.resolve(), Path(args.program).resolve()
@@ -171,9 +171,10 @@ def main():
         mapping = json.loads((folder / f"{name}.map.json").read_text(encoding="utf-8"))
         lines = map(json.loads, (folder / f"{name}.jsonl").read_text(encoding="utf-8").splitlines())
         for works in chosen(mapping, lines, counts):
-            there = [[sumo_trip(name, one, seed, folder) for seed in numbers(args.seeds)] for one in (None, works)]
-            cells = [told(*there)]
-            if not args.sumo_only:
+            cells = []
+            if "sumo" in args.sides:
+                cells.append(told(*([sumo_trip(name, one, seed, folder) for seed in numbers(args.seeds)] for one in (None, works))))
+            if "here" in args.sides:
                 cells.append(told(*(here_trip(name, works, closing, args.seeds, folder, program) for closing in (False, True))))
             stretch = f"lane {works.lane}, {works.end - works.begin} m, {works.seconds // 60} min"
             print(f"| {name} {works.edge} ({works.lanes}) | {stretch} | {' | '.join(cells)} |", flush=True)
