@@ -112,6 +112,13 @@ class Signals(Case):
             usual, long = (shown_green("G" * length + "r", {}, turn, 1, middle) for length in (90, 10_000))
             self.assertEqual((usual.index(False), usual.count(False)), (long.index(False), long.count(False)))
 
+    def test_a_short_green_is_rounded_to_the_nearest(self):
+        """Of 7 s 3.2 vehicles leave in SUMO, as (7 - 13.9 / 5.2 + 1.87) / (1.42 + 7.5 / 13.9); here 2.8 in 5 s, 3.4 in 6, 4.0 in 7."""
+        turn = Turn(0, "L", 0, False, 13.9, 2)
+        for grain, shown in ((1, 6), (2, 5)):
+            for middle in (True, False):
+                self.assertEqual(shown_green("G" * 7 + "r", {}, turn, grain, middle).count(True), shown)
+
     def test_seconds_are_left_out_in_the_middle(self):
         # A vehicle alone, or few, need not wait when the green begins: 4 s and more are green first, and 2 s at last.
         for length in range(9, 91):

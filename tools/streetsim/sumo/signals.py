@@ -6,7 +6,7 @@ from itertools import chain, groupby, product, takewhile
 from .. import limits
 from ..files import Fault
 from .report import some
-from .yielding import GREEN, PERMISSIVE, hidden_middle, hidden_start, movements_of, places, runs_of, settle
+from .yielding import GREEN, PERMISSIVE, TWO_PARTS, hidden_middle, hidden_start, movements_of, places, runs_of, settle
 
 DEFAULT_SHARE = 0.7  # of a permissive green that is shown, where nothing is known of who gives way
 LONGEST = 200_000  # seconds of a cycle that are read
@@ -232,10 +232,12 @@ def shown_green(states, told, turn, grain, middle):
 
 
 def hidden(length, turn, grain, middle):
-    """The seconds of a green that are not shown, in its middle or at its begin."""
+    """The seconds of a green that are not shown, in its middle or at its begin. Of a short one they are rounded to the nearest: a
+    second of seven lets a quarter more pass, which a search for plans would find."""
     own = length, turn.speed, turn.limit
     begin, end = hidden_middle(*own) if middle else (0, hidden_start(*own))
-    begin, seconds = begin // grain * grain, (end - begin) // grain * grain
+    nearest = grain // 2 if length < TWO_PARTS else 0
+    begin, seconds = begin // grain * grain, (end - begin + nearest) // grain * grain
     return range(begin, begin + seconds)
 
 
