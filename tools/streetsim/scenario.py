@@ -23,6 +23,7 @@ from .sumo.report import Report
 from .sumo.signals import TooLong, cycle_told, phase_lines, signal
 
 Command = dict[str, Any]
+NOTHING: Command = {}
 Own = tuple[Any, ...]  # the words of sumo.signals.signal for a program at one node
 NOWHERE = -1073741824.0  # TraCI's value for a place that is not known
 ADVICE = {
@@ -67,7 +68,7 @@ class Phases:
         """The commands of the phases that have begun at a clock and were not told before."""
         while self.clock <= clock:
             yield self.command
-            self.clock, self.command = next(self.lines, (limits.CLOCK + 1, None))
+            self.clock, self.command = next(self.lines, (limits.CLOCK + 1, NOTHING))
 
 
 class Scenario:

@@ -5,6 +5,7 @@ import shutil
 import subprocess
 import tempfile
 from collections.abc import Iterator
+from typing import Any
 
 from ..cli.words import Parser
 from ..files import Fault, place_of, whole_file, whole_path
@@ -63,6 +64,7 @@ def features(runs: Runs, places: Places) -> Iterator[dict]:
     mapping = runs.first.mapping
     lines = {edge: places(mapping.links[links[len(links) // 2]].shape) for edge, links in mapping.links_of.items()}
     points = {name: places([(x, y)])[0] for name, x, y, _ in mapping.nodes}
+    content: dict[str, Any]
     for begin, end in intervals_of(runs):
         for edge, values in values_of(runs, begin, end).items():
             content = {"begin": begin, "end": end, **of_edge(mapping, edge), **of_values(values)}

@@ -1,8 +1,17 @@
 """How much of what a lane can pass is used: v/c."""
-from dataclasses import dataclass
-from statistics import fmean
+from __future__ import annotations
 
-from .passages import discharges
+from collections.abc import Iterable, Mapping, Sequence
+from dataclasses import dataclass
+from functools import partial
+from statistics import fmean
+from typing import TYPE_CHECKING
+
+from ..run.mapping import Place
+from .passages import Discharge, LaneLog, Passage, discharges
+
+if TYPE_CHECKING:
+    from .layout import Greens
 
 QUEUES = 5  # of a lane, from which on its own saturation flow is taken
 # Vehicles an hour that leave a queue of a lane at 50 km/h, by the chance of slowing down (of 1,000), and seconds of green
@@ -34,7 +43,7 @@ class Saturation:
     flow: float  # vehicles an hour of green
     lost: float  # seconds of each green that are lost at its begin; less than 0: won
 
-    def effective(self, open_) -> float:
+    def effective(self, open_: Sequence[bool]) -> float:
         """Effective green, of what each second shows."""
         greens = sum(here and not before for before, here in zip([False, *open_], open_))
         return max(1.0, sum(open_) - self.lost * greens)
@@ -44,24 +53,31 @@ class SaturationFlows:
     """How lanes pass queues: measured on the lane where there were queues enough, else over all lanes of the run, else as
     usual."""
 
-    def __init__(self, passed, logs, greens, start, dawdle):
+    def __init__(
+        self,
+        passed: Mapping[Place, Sequence[Passage]],
+        logs: Mapping[Place, LaneLog],
+        greens: Greens,
+        start: int,
+        dawdle: float,
+    ) -> None:
         found = {
-            place: discharges(those, logs[place], start, lambda step, place=place: greens.begin_of(*place, step))
+            place: discharges(those, logs[place], start, partial(greens.begin_of, *place))
             for place, those in passed.items()
         }
         everywhere = [one for those in found.values() for one in those]
         self.usual = saturation(everywhere) if len(everywhere) >= QUEUES else Saturation(usual_flow(dawdle), USUAL_LOST)
         self.own = {place: saturation(those) for place, those in found.items() if len(those) >= QUEUES}
 
-    def of(self, place) -> Saturation:
+    def of(self, place: Place) -> Saturation:
         return self.own.get(place, self.usual)
 
 
-def saturation(those) -> Saturation:
+def saturation(those: Sequence[Discharge]) -> Saturation:
     return Saturation(3600 / fmean(one.headway for one in those), fmean(one.lost for one in those))
 
 
-def is_alike(shown, taken) -> bool:
+def is_alike(shown: Iterable[frozenset[int] | None], taken: set[int]) -> bool:
     """Whether all vehicles of a lane have the same green: no second shows it to some of the links taken alone. shown: for
     each second the links that have green, none for all."""
     return all(green is not None and (not green & taken or green >= taken) for green in shown)
@@ -70,10 +86,17 @@ def is_alike(shown, taken) -> bool:
 class Capacity:
     """The use of lanes over intervals, of which every second is known."""
 
-    def __init__(self, greens, logs, passed, flows, start):
+    def __init__(
+        self,
+        greens: Greens,
+        logs: Mapping[Place, LaneLog],
+        passed: Mapping[Place, Sequence[Passage]],
+        flows: SaturationFlows,
+        start: int,
+    ) -> None:
         self.greens, self.logs, self.passed, self.flows, self.start = greens, logs, passed, flows, start
 
-    def use(self, place, begin: int, end: int, taken) -> Use:
+    def use(self, place: Place, begin: int, end: int, taken: set[int]) -> Use:
         """That of a lane from one clock to another; taken: the links to which vehicles go from it."""
         passages = [one for one in self.passed.get(place, ()) if begin < one.line <= end]
         shown = [self.greens.at(*place, step)[0] for step in range(begin, end)]
@@ -87,7 +110,7 @@ class Capacity:
             ratio = self.used(place, begin, passages, open_, saturation.flow)
         return Use(len(passages), ratio * (1 + self.growth(place, begin, open_) / len(passages)))
 
-    def used(self, place, begin, passages, open_, flow):
+    def used(self, place: Place, begin: int, passages: Iterable[Passage], open_: Sequence[bool], flow: float) -> float:
         """The share of green seconds in which a vehicle that has stood is on the lane, and a headway for each other one
         that passes."""
         stood, offset = self.logs[place].stood, begin - self.start
@@ -95,7 +118,7 @@ class Capacity:
         alone = sum(not one.stood and one.alone for one in passages)
         return min(1.0, (waiting + alone * 3600 / flow) / sum(open_))
 
-    def growth(self, place, begin, open_):
+    def growth(self, place: Place, begin: int, open_: Sequence[bool]) -> int:
         """How many more want to pass than do: the queue that the last green leaves, less that which the first one left."""
         stood, offset = self.logs[place].stood, begin - self.start
         ends = [second for second in range(len(open_) - 1) if open_[second] and not open_[second + 1]]

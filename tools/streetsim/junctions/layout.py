@@ -1,7 +1,14 @@
 """Which junctions, approaches and movements a map has, and what their signals show."""
+from __future__ import annotations
+
 from collections import defaultdict
+from collections.abc import Iterable, Sequence
 from dataclasses import dataclass, field
 from math import atan2, degrees
+from typing import TYPE_CHECKING, Any
+
+if TYPE_CHECKING:
+    from ..run.mapping import Map, Place, Shape
 
 SIGNALS, PRIORITY = "signals", "priority"  # how a junction is controlled
 STRAIGHT, BACK = 45, 150  # degrees: less is straight on, more is a turn back
@@ -14,13 +21,13 @@ class Approach:
     edge: str
     junction: str
     control: str
-    links: list  # that the edge became
+    links: list[int]  # that the edge became
     metres: float
-    lanes: list = field(default_factory=list)  # (link, lane)
-    movements: dict = field(default_factory=dict)  # next edge: L, T, R or U
+    lanes: list[Place] = field(default_factory=list)
+    movements: dict[str, str] = field(default_factory=dict)  # next edge: L, T, R or U
 
 
-def approaches_of(mapping) -> dict[str, Approach]:
+def approaches_of(mapping: Map) -> dict[str, Approach]:
     """The approaches by edge: of junctions with signals, and of others with two edges in, two out and five in all."""
     ends, begins = defaultdict(set), defaultdict(set)
     for link in mapping.links:
@@ -43,7 +50,7 @@ def approaches_of(mapping) -> dict[str, Approach]:
     return {edge: approach for edge, approach in found.items() if approach.movements}
 
 
-def turn_name(source, target) -> str:
+def turn_name(source: Shape, target: Shape) -> str:
     """L, T (through), R or U (back), by the directions of the lines before and after the junction."""
     turned = (heading(*target[:2]) - heading(*source[-2:]) + 180) % 360 - 180
     if abs(turned) < STRAIGHT:
@@ -51,7 +58,7 @@ def turn_name(source, target) -> str:
     return "U" if abs(turned) > BACK else "R" if turned > 0 else "L"
 
 
-def heading(begin, end) -> float:
+def heading(begin: Sequence[float], end: Sequence[float]) -> float:
     """Degrees clockwise from north."""
     return degrees(atan2(end[0] - begin[0], end[1] - begin[1]))
 
@@ -59,20 +66,22 @@ def heading(begin, end) -> float:
 class Greens:
     """What the signals of a run show to each lane; always green where there are none."""
 
-    def __init__(self, mapping, signals):
-        self.mapping, self.plans = mapping, defaultdict(list)  # node: (clock from which it holds, command)
+    def __init__(self, mapping: Map, signals: Iterable[Sequence[Any]]) -> None:
+        self.mapping = mapping
+        self.plans: defaultdict[int, list[tuple[int, dict[str, Any]]]] = defaultdict(list)  # (clock from which it holds, command)
         lit = {node for _, node in mapping.signals}
         for clock, command in sorted(signals, key=lambda pair: pair[0]):
             if command["node"] in lit:
                 self.plans[command["node"]].append((clock, command))
-        self.shown = {}  # (node, place of the plan, link, lane): for each second of the cycle the links that have green
+        # (node, place of the plan, link, lane): for each second of the cycle the links that have green.
+        self.shown: dict[tuple[int, int | None, int, int], list[frozenset[int]]] = {}
 
-    def plan_at(self, node: int, step: int):
+    def plan_at(self, node: int, step: int) -> tuple[int | None, dict[str, Any] | None]:
         """The place of the plan that holds in a step, and its command; none before the first."""
         held = [(place, command) for place, (clock, command) in enumerate(self.plans[node]) if clock <= step]
         return held[-1] if held else (None, None)
 
-    def at(self, link: int, lane: int, step: int):
+    def at(self, link: int, lane: int, step: int) -> tuple[frozenset[int] | None, Any]:
         """The links to which a lane has green in a step, and the cycle: (links or none for all, cycle)."""
         node = self.mapping.links[link].end
         place, command = self.plan_at(node, step) if node in self.plans else (None, None)
@@ -82,7 +91,7 @@ class Greens:
         cycle, second = divmod(step + command["offset"], len(seconds))
         return seconds[second], (place, cycle)
 
-    def begin_of(self, link: int, lane: int, step: int):
+    def begin_of(self, link: int, lane: int, step: int) -> int | None:
         """The step in which the green of a lane began that it has in a step; none where it has none, or all the time."""
         for back in range(step, step - CYCLE_MOST, -1):
             shown = self.at(link, lane, back)[0] if back >= 0 else frozenset()
@@ -92,7 +101,9 @@ class Greens:
                 return back + 1 if back < step else None
         return None
 
-    def seconds(self, node, place, command, link, lane):
+    def seconds(
+        self, node: int, place: int | None, command: dict[str, Any], link: int, lane: int
+    ) -> list[frozenset[int]]:
         """For each second of a plan's cycle the links to which a lane has green."""
         key = node, place, link, lane
         if key not in self.shown:

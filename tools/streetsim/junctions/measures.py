@@ -1,11 +1,21 @@
 """What vehicles lost on approaches and how far lanes were used, from looks at every second."""
+from __future__ import annotations
+
 from collections import Counter, defaultdict
+from collections.abc import Collection, Iterable, Mapping, Sequence
 from dataclasses import dataclass, field
 from statistics import fmean
+from typing import TYPE_CHECKING, Any
 
-from .capacity import Capacity, SaturationFlows
-from .layout import SIGNALS, Greens
-from .passages import by_place
+from ..run.mapping import Place
+from .capacity import Capacity, SaturationFlows, Use
+from .layout import SIGNALS, Approach, Greens
+from .passages import Passage, Passages, by_place
+
+if TYPE_CHECKING:
+    from ..run.mapping import Map
+
+Way = tuple[str, str]  # an edge and the next one
 
 # Seconds that a vehicle which stops loses beyond what is seen here, where vehicles brake and start at once: measured on a
 # lone cross at four flows against SUMO's e3 (bench/delays --calibrate).
@@ -16,9 +26,9 @@ STOP_LOSS = 1.9
 class Crossing:
     """A passage that goes on to another edge."""
 
-    movement: tuple  # (edge, next edge)
+    movement: Way
     clock: int  # at which it ended
-    place: tuple  # (link, lane)
+    place: Place
     delay: float  # control delay, seconds; less than 0 where it was lucky
     stops: int
     stood: int
@@ -42,14 +52,14 @@ class Interval:
 
     begin: int
     end: int
-    lost: dict = field(default_factory=dict)  # (edge, next edge): Totals
-    lanes: dict = field(default_factory=dict)  # (edge, next edge): vehicles by (link, lane)
-    queues: dict = field(default_factory=dict)  # (link, lane): metres of the queue in each cycle, or at each look
-    uses: dict = field(default_factory=dict)  # (link, lane): Use
-    flows: dict = field(default_factory=dict)  # (link, lane): saturation flow, vehicles an hour
+    lost: dict[Way, Totals] = field(default_factory=dict)
+    lanes: dict[Way, Mapping[Place, float]] = field(default_factory=dict)  # vehicles by lane
+    queues: dict[Place, list[float]] = field(default_factory=dict)  # metres of the queue in each cycle, or at each look
+    uses: dict[Place, Use] = field(default_factory=dict)
+    flows: dict[Place, float] = field(default_factory=dict)  # saturation flow, vehicles an hour
 
 
-def totals(crossings) -> Totals:
+def totals(crossings: Collection[Crossing]) -> Totals:
     return Totals(
         len(crossings),
         max(0.0, fmean(one.delay for one in crossings)),
@@ -58,12 +68,12 @@ def totals(crossings) -> Totals:
     )
 
 
-def together(parts) -> Totals:
+def together(parts: Iterable[Totals]) -> Totals:
     """What the vehicles of several movements lost."""
     parts = [part for part in parts if part.vehicles]
     count = sum(part.vehicles for part in parts)
 
-    def mean(name):
+    def mean(name: str) -> Any:
         values = [getattr(part, name) for part in parts]
         return None if None in values else sum(part.vehicles * value for part, value in zip(parts, values)) / count
 
@@ -72,13 +82,13 @@ def together(parts) -> Totals:
     return Totals(count, mean("delay"), mean("stood"), mean("stops"), error)
 
 
-def stop_loss(approach, target: str) -> float:
+def stop_loss(approach: Approach, target: str) -> float:
     """What a vehicle that stops loses beyond what is seen. Of those that turn at a light the import has put it into the
     green, of which it leaves out seconds."""
     return STOP_LOSS if approach.control != SIGNALS or approach.movements[target] == "T" else 0.0
 
 
-def free_seconds(mapping, dawdle: int, plan, at: int) -> float:
+def free_seconds(mapping: Map, dawdle: int, plan: Sequence[int], at: int) -> float:
     """What a vehicle takes for a link of its plan and the junction behind it where nobody is in its way; who departs there
     gains speed from 0, a cell a second in each second."""
     link = mapping.links[plan[at]]
@@ -89,19 +99,27 @@ def free_seconds(mapping, dawdle: int, plan, at: int) -> float:
 class Measures:
     """The measures of a run that was looked at in every second; plans: the links of each vehicle of the file, by number."""
 
-    def __init__(self, mapping, approaches, signals, dawdle: int, plans, passages):
+    def __init__(
+        self,
+        mapping: Map,
+        approaches: Mapping[str, Approach],
+        signals: Iterable[Sequence[Any]],
+        dawdle: int,
+        plans: Sequence[Sequence[int]],
+        passages: Passages,
+    ) -> None:
         self.mapping, self.approaches, self.plans, self.passages = mapping, approaches, plans, passages
         self.dawdle, self.greens = dawdle, Greens(mapping, signals)
         found = [(passage, self.crossing(passage)) for passage in passages.done]
         self.crossings = [crossing for _, crossing in found if crossing]
-        self.taken = defaultdict(set)  # (link, lane): links to which vehicles go
+        self.taken: defaultdict[Place, set[int]] = defaultdict(set)  # (link, lane): links to which vehicles go
         for one in self.crossings:
             self.taken[one.place].add(one.following)
         passed = by_place(passage for passage, crossing in found if crossing)
         self.flows = SaturationFlows(passed, passages.logs, self.greens, passages.start, dawdle)
         self.capacity = Capacity(self.greens, passages.logs, passed, self.flows, passages.start)
 
-    def crossing(self, passage) -> Crossing | None:
+    def crossing(self, passage: Passage) -> Crossing | None:
         """None where the vehicle's plan ends on the edge."""
         plan = self.plans[passage.car]
         at = next((at for at, link in enumerate(plan) if self.mapping.links[link].edge == passage.edge), None)
@@ -128,9 +146,10 @@ class Measures:
             found.flows[place] = self.flows.of(place).flow
         return found
 
-    def queues(self, place, begin: int, end: int) -> list:
+    def queues(self, place: Place, begin: int, end: int) -> list[float]:
         """The longest queue of a lane in each cycle of its signal, metres."""
-        longest, back = defaultdict(float), self.passages.logs[place].back
+        longest: defaultdict[Any, float] = defaultdict(float)
+        back = self.passages.logs[place].back
         for step in range(begin, end):
             _, cycle = self.greens.at(*place, step)
             longest[cycle] = max(longest[cycle], back[step - self.passages.start])

@@ -1,9 +1,18 @@
 """Follows vehicles over the approaches of junctions, from looks at their lanes in every second."""
+from __future__ import annotations
+
 from array import array
 from collections import defaultdict
+from collections.abc import Callable, Iterable, Mapping, Sequence
 from dataclasses import dataclass, field
+from typing import TYPE_CHECKING, Any
 
-from ..run.detectors import size_of
+from ..run.detectors import Cells, size_of
+from ..run.mapping import MapLink, Place
+
+if TYPE_CHECKING:
+    from ..run.mapping import Map
+    from .layout import Approach
 
 REACH = 20.0  # metres: who stands within these of the stop line, or of the queue's rear, is of the queue
 GROUP_GAP = 8  # seconds without a vehicle end a group that leaves a queue
@@ -33,21 +42,22 @@ class Passage:
 class LaneLog:
     """What a lane of an approach showed at each clock."""
 
-    back: array = field(default_factory=lambda: array("f"))  # metres from the stop line to the rear of the queue
-    stood: array = field(default_factory=lambda: array("H"))  # vehicles on it that have stood there
+    back: array[float] = field(default_factory=lambda: array("f"))  # metres from the stop line to the rear of the queue
+    stood: array[int] = field(default_factory=lambda: array("H"))  # vehicles on it that have stood there
 
 
 class Passages:
     """The passages of a run over some approaches."""
 
-    def __init__(self, mapping, approaches, start: int):
+    def __init__(self, mapping: Map, approaches: Mapping[str, Approach], start: int) -> None:
         self.mapping, self.start = mapping, start
         self.lanes = [place for approach in approaches.values() for place in approach.lanes]
         self.edges = {link: edge for edge, approach in approaches.items() for link in approach.links}
-        self.here, self.done = {}, []
+        self.here: dict[int, Passage] = {}
+        self.done: list[Passage] = []
         self.logs = {place: LaneLog() for place in self.lanes}
 
-    def see(self, frame) -> None:
+    def see(self, frame: dict[str, Any]) -> None:
         """Takes the look at a clock; the clocks of a run are given one after another."""
         clock, seen, shown = frame["clock"], set(), {}
         for link, lane, cells, buffer, *_ in frame["lanes"]:
@@ -64,7 +74,7 @@ class Passages:
             self.finish(car, clock)
         self.note_lanes(shown)
 
-    def note(self, clock, car, link, lane, standing):
+    def note(self, clock: int, car: int, link: int, lane: int, standing: bool) -> None:
         passage = self.passage(clock, car, link)
         passage.link, passage.lane = link, lane
         if clock == passage.begin:  # who departs stands then, which is no stop
@@ -73,7 +83,7 @@ class Passages:
         passage.stops += passage.still == STILL
         passage.stood += standing
 
-    def passage(self, clock, car, link):
+    def passage(self, clock: int, car: int, link: int) -> Passage:
         """That of a vehicle on an edge; a new one where it comes from another."""
         passage, edge = self.here.get(car), self.edges[link]
         if passage is not None and passage.edge == edge:
@@ -83,7 +93,7 @@ class Passages:
         made = self.here[car] = Passage(car, edge, clock, link=link)
         return made
 
-    def note_crossing(self, clock, car, link, lane):
+    def note_crossing(self, clock: int, car: int, link: int, lane: int) -> None:
         """A vehicle in the junction behind a lane."""
         passage = self.passage(clock, car, link)
         if not passage.line:
@@ -94,13 +104,13 @@ class Passages:
         elif clock - passage.line > self.mapping.nodes[self.mapping.links[link].end][3]:
             passage.stood += 1  # waits before the next edge
 
-    def finish(self, car, clock):
+    def finish(self, car: int, clock: int) -> None:
         passage = self.here.pop(car)
         passage.end = clock
         passage.line = passage.line or clock
         self.done.append(passage)
 
-    def note_lanes(self, shown):
+    def note_lanes(self, shown: Mapping[Place, Cells]) -> None:
         for place, log in self.logs.items():
             cells = shown.get(place, ())
             still = [entry for entry in cells if self.here[entry[0]].still >= STILL]
@@ -108,7 +118,7 @@ class Passages:
             log.stood.append(sum(self.here[entry[0]].stood > 0 for entry in cells))
 
 
-def queue_metres(still, link) -> float:
+def queue_metres(still: Cells, link: MapLink) -> float:
     """Metres from the stop line to the rear of the last vehicle of the queue; the cells of those who stand, from the
     greatest."""
     size, back, reach = link.metres / link.cells, 0.0, REACH
@@ -121,7 +131,7 @@ def queue_metres(still, link) -> float:
     return max(0.0, min(back, link.metres) - GAP)
 
 
-def by_place(passages):
+def by_place(passages: Iterable[Passage]) -> dict[Place, list[Passage]]:
     """Passages by the (link, lane) on which they passed the stop line, in the order in which they did."""
     found = defaultdict(list)
     for passage in passages:
@@ -140,10 +150,13 @@ class Discharge:
     lost: float
 
 
-def discharges(passages, log, start: int, green_begin) -> list[Discharge]:
+def discharges(
+    passages: Iterable[Passage], log: LaneLog, start: int, green_begin: Callable[[int], int | None]
+) -> list[Discharge]:
     """Those of a lane's queues of eight vehicles and more; passages: of the lane. green_begin gives the step in which the
     green of a step began, or none."""
-    found, group = [], []
+    found: list[Discharge] = []
+    group: list[Passage] = []
     for passage in [*passages, None]:
         if passage is not None and (not group or passage.line - group[-1].line <= GROUP_GAP):
             group.append(passage)

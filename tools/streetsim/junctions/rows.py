@@ -1,8 +1,13 @@
 """The tables movements.csv, approaches.csv and junctions.csv."""
+from __future__ import annotations
+
 from collections import defaultdict
+from collections.abc import Collection, Mapping, Sequence
+from typing import Any
 
 from ..run import tables
-from .measures import Interval, together
+from .layout import Approach
+from .measures import Interval, Totals, together
 from .service import level, percentile
 
 LOST = ("vehicles", "vehicles_per_hour", "control_delay_s", "error_s", "stopped_delay_s", "stops_per_vehicle")
@@ -19,23 +24,24 @@ MOVEMENT_SHARE = 0.05  # of a movement's vehicles, from which on a lane counts f
 class Tables:
     """Rows of one interval after the other, by junction, approach and movement; those of nobody are left out."""
 
-    def __init__(self, approaches):
-        self.by_junction = defaultdict(list)
+    def __init__(self, approaches: Mapping[str, Approach]) -> None:
+        self.by_junction: defaultdict[str, list[Approach]] = defaultdict(list)
         for approach in approaches.values():
             self.by_junction[approach.junction].append(approach)
-        self.movements, self.approaches, self.junctions = [], [], []
+        self.movements: list[tuple[Any, ...]] = []
+        self.approaches: list[tuple[Any, ...]] = []
+        self.junctions: list[tuple[Any, ...]] = []
 
     def add(self, interval: Interval) -> None:
         for junction, approaches in sorted(self.by_junction.items()):
-            found = [self.add_approach(interval, approach) for approach in approaches]
-            found = [one for one in found if one]
+            found = [one for approach in approaches if (one := self.add_approach(interval, approach))]
             if found:
                 parts, queues, ratios = zip(*found, strict=True)
                 lost, control = together(parts), approaches[0].control
                 last = f"{max(queues):.1f}", f"{max(ratios):.2f}", level(lost.delay, control)
                 self.junctions.append((interval.begin, interval.end, junction, control, *told(lost, interval), *last))
 
-    def add_approach(self, interval, approach):
+    def add_approach(self, interval: Interval, approach: Approach) -> tuple[Totals, float, float] | None:
         """Gives what its vehicles lost, its longest queue and the greatest v/c of its movements; none where nobody is."""
         parts, ratios = [], []
         for target, name in sorted(approach.movements.items()):
@@ -50,9 +56,9 @@ class Tables:
         self.approaches.append((*head, *told(lost, interval), *worst(queues, approach.metres), *last))
         return lost, max((queue for lane in queues for queue in lane), default=0.0), max(ratios)
 
-    def add_movement(self, interval, approach, target, name):
+    def add_movement(self, interval: Interval, approach: Approach, target: str, name: str) -> float:
         """Gives its v/c."""
-        lost, lanes = (those[approach.edge, target] for those in (interval.lost, interval.lanes))
+        lost, lanes = interval.lost[approach.edge, target], interval.lanes[approach.edge, target]
         count = max(1, sum(lanes.values()))
         hours = (interval.end - interval.begin) / 3600
         # A lane passes as many of the movement as it does, over how far it is used.
@@ -72,7 +78,7 @@ class Tables:
         tables.write_table(f"{folder}/junctions.csv", JUNCTIONS, self.junctions)
 
 
-def told(lost, interval) -> tuple:
+def told(lost: Totals, interval: Interval) -> tuple:
     """The columns LOST."""
     hourly = lost.vehicles * 3600 / (interval.end - interval.begin)
     error = "" if lost.error is None else f"{lost.error:.1f}"
@@ -80,7 +86,7 @@ def told(lost, interval) -> tuple:
     return lost.vehicles, f"{hourly:.0f}", f"{lost.delay:.1f}", error, f"{lost.stood:.1f}", stops
 
 
-def worst(lanes, metres) -> tuple:
+def worst(lanes: Collection[Sequence[float]], metres: float) -> tuple:
     """The columns QUEUED, of the lane with the longest queue by its 95 %."""
     queues = max(lanes, key=lambda lane: percentile(lane, 0.95), default=[])
     values = percentile(queues, 0.5), percentile(queues, 0.95), max(queues, default=0.0), metres

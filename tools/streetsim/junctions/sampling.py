@@ -1,11 +1,17 @@
 """Delays by Little's law, from looks at random moments: vehicles on an approach are their flow times their time on it."""
+from __future__ import annotations
+
 from collections import Counter, defaultdict
+from collections.abc import Iterable, Mapping, Sequence
 from random import Random
 from statistics import fmean, stdev
+from typing import Any, Self
 
 from .capacity import Use, is_alike, usual_flow
-from .layout import Greens
-from .measures import Interval, Totals, free_seconds, stop_loss
+from ..run.detectors import Cells
+from ..run.mapping import Map, Place
+from .layout import Approach, Greens
+from .measures import Interval, Totals, Way, free_seconds, stop_loss
 from .passages import queue_metres
 
 LOOKS = 30  # a quarter hour
@@ -24,24 +30,40 @@ def moments(start: int, until: int) -> list[int]:
 class Sampled:
     """The measures of a run that was looked at now and then."""
 
-    def __init__(self, mapping, approaches, signals, dawdle: int, plans, departs, arrivals, interval: int, start: int):
+    def __init__(
+        self,
+        mapping: Map,
+        approaches: Mapping[str, Approach],
+        signals: Iterable[Sequence[Any]],
+        dawdle: int,
+        plans: Sequence[Sequence[int]],
+        departs: Sequence[int],
+        arrivals: Sequence[int | None],
+        interval: int,
+        start: int,
+    ) -> None:
         self.mapping, self.approaches, self.plans, self.departs, self.arrivals = mapping, approaches, plans, departs, arrivals
         self.dawdle, self.greens, self.width, self.start = dawdle, Greens(mapping, signals), interval, start
         self.edges = {link: edge for edge, approach in approaches.items() for link in approach.links}
         self.lanes = [place for approach in approaches.values() for place in approach.lanes]
-        self.last = {}  # vehicle: (place in its plan, clock) where it was seen last
-        self.passed = defaultdict(Counter)  # interval: vehicles by movement
-        self.free = defaultdict(float)  # (interval, movement): their free seconds, added up
-        self.present = defaultdict(list)  # (interval, movement): (vehicles, standing ones) at each look at which there were
-        self.on_lanes = defaultdict(Counter)  # (interval, movement): vehicles seen by (link, lane)
-        self.queues = defaultdict(list)  # (interval, link, lane): metres at each look at which there was one
-        self.looks, self.greens_seen, self.greens_used = Counter(), Counter(), Counter()
-        self.taken = defaultdict(set)  # (link, lane): links to which vehicles go
-        self.unlike = set()  # (link, lane) of which not all vehicles have the same green
+        self.last: dict[int, tuple[int, int]] = {}  # vehicle: (place in its plan, clock) where it was seen last
+        self.passed: defaultdict[int, Counter[Way]] = defaultdict(Counter)  # by interval, vehicles
+        self.free: defaultdict[tuple[int, Way], float] = defaultdict(float)  # by interval: their free seconds, added up
+        # By interval: (vehicles, standing ones) at each look at which there were; vehicles seen by lane.
+        self.present: defaultdict[tuple[int, Way], list[tuple[int, int]]] = defaultdict(list)
+        self.on_lanes: defaultdict[tuple[int, Way], Counter[Place]] = defaultdict(Counter)
+        # (interval, link, lane): metres at each look at which there was a queue.
+        self.queues: defaultdict[tuple[int, int, int], list[float]] = defaultdict(list)
+        self.looks: Counter[int] = Counter()
+        self.greens_seen: Counter[tuple[int, int, int]] = Counter()
+        self.greens_used: Counter[tuple[int, int, int]] = Counter()
+        self.taken: defaultdict[Place, set[int]] = defaultdict(set)  # (link, lane): links to which vehicles go
+        self.unlike: set[Place] = set()  # (link, lane) of which not all vehicles have the same green
 
-    def see(self, frame) -> None:
+    def see(self, frame: dict[str, Any]) -> None:
         clock = frame["clock"]
-        at, seen = (clock - 1 - self.start) // self.width, defaultdict(lambda: [0, 0])
+        at = (clock - 1 - self.start) // self.width
+        seen: defaultdict[Way, list[int]] = defaultdict(lambda: [0, 0])
         self.looks[at] += 1
         shown = {}
         for link, lane, cells, buffer, *_ in frame["lanes"]:
@@ -52,11 +74,13 @@ class Sampled:
                 for car in buffer:
                     self.note(at, clock, car, link, lane, False, seen)
         for movement, counts in seen.items():
-            self.present[at, movement].append(tuple(counts))
+            self.present[at, movement].append((counts[0], counts[1]))
         for place in self.lanes:
             self.note_lane(at, clock, place, shown.get(place, ()))
 
-    def note(self, at, clock, car, link, lane, standing, seen):
+    def note(
+        self, at: int, clock: int, car: int, link: int, lane: int, standing: bool, seen: defaultdict[Way, list[int]]
+    ) -> None:
         """A vehicle on an approach: it has passed all before it since it was seen last."""
         plan = self.plans[car]
         before, since = self.last.get(car, (0, self.departs[car]))
@@ -72,7 +96,7 @@ class Sampled:
             self.on_lanes[at, movement][link, lane] += 1
             self.taken[link, lane].add(plan[here + 1])
 
-    def pass_by(self, plan, before, since, here, clock):
+    def pass_by(self, plan: Sequence[int], before: int, since: float, here: int, clock: float) -> None:
         """The approaches that a vehicle left on its way from one place of its plan to another, evenly between two clocks."""
         for step, place in enumerate(range(before, here)):
             moment = since + (step + 0.5) * (clock - since) / (here - before)
@@ -83,7 +107,7 @@ class Sampled:
                 self.passed[at][movement] += 1
                 self.free[at, movement] += free_seconds(self.mapping, self.dawdle, plan, place)
 
-    def note_lane(self, at, clock, place, cells):
+    def note_lane(self, at: int, clock: int, place: Place, cells: Cells) -> None:
         link = self.mapping.links[place[0]]
         queue = queue_metres([entry for entry in cells if not entry[2]], link)
         if queue:
@@ -95,7 +119,7 @@ class Sampled:
             self.greens_seen[at, *place] += 1
             self.greens_used[at, *place] += bool(cells) and link.cells - 1 - cells[0][1] < NEAR * link.limit
 
-    def finish(self):
+    def finish(self) -> Self:
         """Takes the way of those who have arrived since they were seen last."""
         for car, arrival in enumerate(self.arrivals):
             if arrival is not None:
@@ -110,9 +134,9 @@ class Sampled:
             seen = self.on_lanes[at, movement]
             found.lanes[movement] = {place: count * number / seen.total() for place, number in seen.items()}
             found.lost[movement] = self.lost(at, movement, count, looks, end - begin)
-        volumes = Counter()
-        for lanes in found.lanes.values():
-            volumes.update(lanes)
+        volumes: defaultdict[Place, float] = defaultdict(float)
+        for place, number in (pair for lanes in found.lanes.values() for pair in lanes.items()):
+            volumes[place] += number
         for place in self.lanes:
             queues = self.queues[at, *place]
             found.queues[place] = [0.0] * (looks - len(queues)) + queues
@@ -120,7 +144,7 @@ class Sampled:
             found.flows[place] = usual_flow(self.dawdle)
         return found
 
-    def ratio(self, at, place, hourly):
+    def ratio(self, at: int, place: Place, hourly: float) -> float:
         """v/c of a lane: by its saturation flow, or by how often a vehicle was near the stop line at green."""
         seen = self.greens_seen[at, *place]
         if not seen:
@@ -129,7 +153,7 @@ class Sampled:
             return self.greens_used[at, *place] / seen
         return hourly / (usual_flow(self.dawdle) * seen / self.looks[at])
 
-    def lost(self, at, movement, count, looks, seconds):
+    def lost(self, at: int, movement: Way, count: int, looks: int, seconds: int) -> Totals:
         """By Little's law; the share that stops is that of even arrivals."""
         seen = self.present[at, movement]
         vehicles = [number for number, _ in seen] + [0] * (looks - len(seen))
@@ -142,10 +166,10 @@ class Sampled:
         loss = stop_loss(self.approaches[movement[0]], movement[1])
         return Totals(count, delay + loss * self.share_stopping(at, movement, rate), stood, None, error)
 
-    def share_stopping(self, at, movement, rate):
+    def share_stopping(self, at: int, movement: Way, rate: float) -> float:
         """Of even arrivals those stop that come at red, or while its queue leaves: red over 1 less flow over saturation
         flow, both as shares of the cycle."""
-        lanes = self.on_lanes[at, movement] or {}
+        lanes = self.on_lanes[at, movement]
         looks = sum(self.looks[at] for _ in lanes)
         green = sum(self.greens_seen[at, *place] for place in lanes) / looks if looks else 1.0
         flow = rate / max(1, len(lanes)) * 3600 / usual_flow(self.dawdle)

@@ -1,5 +1,6 @@
 """Level of service by the Highway Capacity Manual: letters by mean control delay."""
 from bisect import bisect_left
+from collections.abc import Iterable
 
 from .layout import SIGNALS
 
@@ -15,7 +16,7 @@ def level(delay: float, control: str, ratio: float | None = None) -> str:
     return LETTERS[bisect_left(AT_SIGNALS if control == SIGNALS else AT_PRIORITY, delay)]
 
 
-def percentile(values, share: float) -> float:
+def percentile(values: Iterable[float], share: float) -> float:
     """The value below which a share (0 to 1) of some values lies, with straight lines between them; 0 of none."""
     ranked = sorted(values)
     if not ranked:

@@ -1,7 +1,11 @@
 """Before and after: differences of two plans, paired by seed."""
+from __future__ import annotations
+
+from collections.abc import Iterable, Mapping
 from dataclasses import dataclass
 
 from ..run.tables import interval
+from .reading import Row
 
 
 @dataclass(slots=True)
@@ -35,14 +39,14 @@ def paired(before: dict, after: dict) -> Difference | None:
     return Difference(firsts, seconds, change, half, len(seeds))
 
 
-def by_seed(row, name: str) -> dict:
+def by_seed(row: Row, name: str) -> dict:
     """The values of a measure."""
     return {seed: values[name] for seed, values in row.by_seed.items() if name in values}
 
 
-def total_delay(rows) -> dict:
+def total_delay(rows: Iterable[Row]) -> dict:
     """By seed the mean control delay over all of some rows, by vehicles."""
-    sums = {}
+    sums: dict[int, tuple[float, float]] = {}
     for row in rows:
         for seed, values in row.by_seed.items():
             lost, count = sums.get(seed, (0.0, 0.0))

@@ -1,6 +1,11 @@
 """Pictures of a report, as SVG: the map by delay, and queues beside the room that they have."""
+from __future__ import annotations
+
+from collections.abc import Mapping, Sequence
 from html import escape
 from math import hypot
+
+from ..run.mapping import Map, Shape
 
 # Darker is worse, so that the letters differ in grey too.
 COLOURS = {"A": "#ffffcc", "B": "#fed976", "C": "#feb24c", "D": "#fd8d3c", "E": "#e31a1c", "F": "#800026"}
@@ -13,7 +18,9 @@ def letter_mark(letter: str) -> str:
     return f'<span class="los los-{letter}">{letter}</span>'
 
 
-def map_picture(mapping, approaches, junctions) -> str:
+def map_picture(
+    mapping: Map, approaches: Mapping[str, tuple[str, str]], junctions: Mapping[str, tuple[str, str]]
+) -> str:
     """The streets; approaches by the colour of their letter, junctions as marks with theirs. approaches: {edge: (letter,
     text)}, junctions: {name: (letter, text)}."""
     points = [point for link in mapping.links for point in link.shape]
@@ -21,7 +28,7 @@ def map_picture(mapping, approaches, junctions) -> str:
     scale = min((WIDE - 60) / max(1.0, right - left), (MOST_HIGH - 60) / max(1.0, high - low))
     tall = (high - low) * scale + 60
 
-    def at(point, shift=(0.0, 0.0)):
+    def at(point: Sequence[float], shift: tuple[float, float] = (0.0, 0.0)) -> str:
         return f"{(point[0] - left) * scale + 30 + shift[0]:.1f},{(high - point[1]) * scale + 30 + shift[1]:.1f}"
 
     parts = [f'<svg class="map" viewBox="0 0 {WIDE} {tall:.0f}" role="img" aria-label="Map by delay">']
@@ -41,14 +48,14 @@ def map_picture(mapping, approaches, junctions) -> str:
     return "".join([*parts, "</svg>"])
 
 
-def aside(shape) -> tuple[float, float]:
+def aside(shape: Shape) -> tuple[float, float]:
     """Pixels to the right of a line, so that the directions of a street lie side by side."""
     (x, y), (end_x, end_y) = shape[0], shape[-1]
     size = hypot(end_x - x, end_y - y) or 1.0
     return SIDE * (end_y - y) / size, SIDE * (end_x - x) / size
 
 
-def junction_mark(name, letter, text, across, down):
+def junction_mark(name: str, letter: str, text: str, across: str, down: str) -> str:
     """A circle with the letter, which leads to the junction's table."""
     colour = "#fff" if letter in LIGHT else "#000"
     circle = f'<circle cx="{across}" cy="{down}" r="11" fill="{COLOURS[letter]}" stroke="#000"/>'
@@ -61,7 +68,7 @@ def anchor(name: str) -> str:
     return "junction-" + "".join(sign if sign.isalnum() else f"-{ord(sign):x}-" for sign in name)
 
 
-def queue_picture(rows) -> str:
+def queue_picture(rows: Sequence[tuple[str, float, float, float, float]]) -> str:
     """A bar for each approach: the room of the edge, the 95 % queue in it, its 50 %, and a line at the greatest. rows: (name,
     50 %, 95 %, greatest, room), metres."""
     most = max(max(greatest, room) for _, _, _, greatest, room in rows) or 1.0

@@ -1,9 +1,13 @@
 """What a report reads: the folders of a run, one for each seed, and their junction tables."""
+from __future__ import annotations
+
 import os
 import re
-from collections import Counter, defaultdict
+from collections import defaultdict
+from collections.abc import Mapping
 from dataclasses import dataclass, field
 from statistics import fmean
+from typing import Any
 
 from ..files import Fault
 from ..junctions.rows import APPROACHES, JUNCTIONS, MOVEMENTS
@@ -23,11 +27,11 @@ MEASURES = (
 class Row:
     """A movement, approach or junction in an interval: means over seeds, and each seed's values."""
 
-    key: tuple
+    key: tuple[str, ...]
     control: str
     movement: str  # L, T, R, U of a movement
-    values: dict  # measure: mean over the seeds that have it
-    by_seed: dict  # seed: {measure: value}
+    values: dict[str, float]  # measure: mean over the seeds that have it
+    by_seed: dict[int, dict[str, float]]  # seed: {measure: value}
 
     @property
     def delay(self) -> float:
@@ -37,13 +41,16 @@ class Row:
         return level(self.delay, self.control, self.values["v_c"] if self.movement else None)
 
 
+Rows = dict[tuple[str, ...], Row]  # by their key
+
+
 @dataclass(slots=True)
 class Runs:
     """The runs of one plan, one for each seed."""
 
     name: str
     folders: dict[int, Folder]
-    rows: dict = field(default_factory=dict)  # (table, begin, end): {key: Row}
+    rows: dict[tuple[str, int, int], Rows] = field(default_factory=dict)  # by table, begin and end
 
     @property
     def first(self) -> Folder:
@@ -63,7 +70,7 @@ class Runs:
 
     def busiest(self) -> tuple[int, int]:
         """The interval in which most vehicles an hour crossed junctions."""
-        volumes = Counter()
+        volumes: dict[tuple[int, int], float] = {}
         for (table, begin, end), rows in self.rows.items():
             if table == "junctions":
                 volumes[begin, end] = sum(row.values["vehicles_per_hour"] for row in rows.values())
@@ -99,13 +106,13 @@ def read_any(path: str) -> Runs:
     return read_runs(path) if os.path.exists(f"{runs.first.path}/junctions.csv") else runs
 
 
-def is_seed(path, name):
+def is_seed(path: str, name: str) -> bool:
     return re.fullmatch(r"seed-\d+", name) is not None and os.path.exists(f"{path}/{name}/{NAME}")
 
 
-def read_rows(runs, table):
+def read_rows(runs: Runs, table: str) -> None:
     """Adds the rows of a table of all seeds."""
-    found = defaultdict(dict)  # (begin, end): {(key, control, movement): {seed: measures}}
+    found: defaultdict[tuple[int, int], dict[Any, Any]] = defaultdict(dict)  # (begin, end): {(key, control, movement): {seed: measures}}
     for seed, folder in runs.folders.items():
         place = f"{folder.path}/{table}.csv"
         if not os.path.exists(place):
@@ -119,7 +126,7 @@ def read_rows(runs, table):
         runs.rows[table, begin, end] = made
 
 
-def means(seeds):
+def means(seeds: Mapping[int, Mapping[str, float]]) -> dict[str, float]:
     """Of each measure over the seeds that have it; of the greatest queue the greatest."""
     names = {name for values in seeds.values() for name in values}
     found = {name: fmean(values[name] for values in seeds.values() if name in values) for name in names}

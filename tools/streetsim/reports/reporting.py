@@ -1,5 +1,9 @@
 """streetsim-report: one page of a run's junctions, and of what another plan changes."""
+from __future__ import annotations
+
+import argparse
 import tempfile
+from collections.abc import Sequence
 from html import escape
 
 from ..cli.words import Parser, listed, time_within
@@ -7,10 +11,11 @@ from ..files import Fault, place_of, whole_file
 from .. import limits
 from ..pictures.series import way_back
 from . import writing
-from .reading import read_runs
+from ..run.folder import Folder
+from .reading import Runs, read_runs
 
 
-def parser():
+def parser() -> Parser:
     made = Parser(
         prog="streetsim-report",
         description="Makes one HTML page, without anything from outside, of folders that streetsim-run wrote with --junctions: "
@@ -26,7 +31,7 @@ def parser():
     return made
 
 
-def main(arguments):
+def main(arguments: list[str]) -> int:
     words = parser().parse_args(arguments)
     if len(words.runs) > 2:
         raise Fault("a report is of one run, or of two: before and after")
@@ -42,7 +47,7 @@ def main(arguments):
     return 0
 
 
-def interval_of(all_runs, words):
+def interval_of(all_runs: Sequence[Runs], words: argparse.Namespace) -> tuple[int, int]:
     """The interval that is shown, which all plans have."""
     common = set(all_runs[0].intervals()).intersection(*(runs.intervals() for runs in all_runs))
     if not common:
@@ -56,12 +61,12 @@ def interval_of(all_runs, words):
     return found[0]
 
 
-def lead(all_runs):
+def lead(all_runs: Sequence[Runs]) -> str:
     names = " and ".join(escape(runs.name) for runs in all_runs)
     return f"{names}: control delay, level of service, queues and v/c, simulated by streetsim."
 
 
-def sections(all_runs, shown, words):
+def sections(all_runs: Sequence[Runs], shown: tuple[int, int], words: argparse.Namespace) -> list[tuple[str, str, str]]:
     """(name, title, HTML) of each."""
     last = all_runs[-1]
     told = f"{writing.clock(shown[0])} to {writing.clock(shown[1])}"
@@ -70,7 +75,7 @@ def sections(all_runs, shown, words):
         ("figures", f"In short, {told}", writing.figures(all_runs, shown)),
     ]
     if len(all_runs) == 2:
-        found.append(("change", f"Before and after, {told}", writing.before_and_after(*all_runs, shown)))
+        found.append(("change", f"Before and after, {told}", writing.before_and_after(all_runs[0], all_runs[1], shown)))
     for runs in all_runs:
         name = f"map-{all_runs.index(runs)}"
         found.append((name, f"Map by delay: {runs.name}", writing.map_section(runs, shown)))
@@ -89,7 +94,7 @@ def sections(all_runs, shown, words):
     return found
 
 
-def corridor(runs, words):
+def corridor(runs: Runs, words: argparse.Namespace) -> str:
     """The corridor's picture of the first seed, in both directions where edges lead back."""
     from ..pictures.plots import main as plot
 
@@ -105,7 +110,7 @@ def corridor(runs, words):
     return f"<figure>{writing.image(content, text)}<figcaption>{escape(text)}</figcaption></figure>"
 
 
-def leads_back(folder, edges) -> bool:
+def leads_back(folder: Folder, edges: str) -> bool:
     """Whether each edge of a path has one of the other direction."""
     try:
         return bool(way_back(folder, listed(edges)))

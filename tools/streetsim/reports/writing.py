@@ -1,12 +1,16 @@
 """The sections of a report, as HTML."""
+from __future__ import annotations
+
 import base64
+from collections.abc import Callable, Iterable, Mapping, Sequence
 from html import escape
 from pathlib import Path
 
 from ..junctions.measures import STOP_LOSS
 from ..run.tables import interval
-from .comparing import by_seed, paired, total_delay
+from .comparing import Difference, by_seed, paired, total_delay
 from .drawing import COLOURS, LIGHT, anchor, letter_mark, map_picture, queue_picture
+from .reading import Row, Rows, Runs
 
 WEIGHTS = (
     ("skipped:", "Left out: vehicles that do not drive"),
@@ -24,10 +28,10 @@ ASSUMPTIONS = (
 )
 
 
-def table(head, rows, names=1) -> str:
+def table(head: Sequence[str], rows: Iterable[Sequence[str]], names: int = 1) -> str:
     """A table; the first columns are names, the others numbers. Cells are HTML."""
 
-    def line(tag, cells):
+    def line(tag: str, cells: Sequence[str]) -> str:
         kinds = ['class="name"' if place < names else "" for place in range(len(cells))]
         return "<tr>" + "".join(f"<{tag} {kind}>{cell}</{tag}>" for kind, cell in zip(kinds, cells, strict=True)) + "</tr>"
 
@@ -39,7 +43,7 @@ def clock(second: int) -> str:
     return f"{second // 3600:d}:{second // 60 % 60:02d}:{second % 60:02d}"
 
 
-def what_was_run(all_runs) -> str:
+def what_was_run(all_runs: Sequence[Runs]) -> str:
     """Network, demand, seeds, the program's sum."""
     rows = []
     for runs in all_runs:
@@ -60,7 +64,7 @@ def what_was_run(all_runs) -> str:
     return f"<table>{lines}</table>"
 
 
-def verdict(all_runs) -> str:
+def verdict(all_runs: Sequence[Runs]) -> str:
     """Whether the runs are to be trusted."""
     parts = []
     for runs in all_runs:
@@ -74,7 +78,7 @@ def verdict(all_runs) -> str:
     return "".join(parts)
 
 
-def warnings(all_runs) -> str:
+def warnings(all_runs: Sequence[Runs]) -> str:
     """What the import had to say, what changes results most first."""
     lines = list(dict.fromkeys(line for runs in all_runs for line in runs.first.mapping.warnings))
     parts = []
@@ -87,7 +91,7 @@ def warnings(all_runs) -> str:
     return "".join(parts) or "<p>The import had nothing to warn of.</p>"
 
 
-def figures(all_runs, interval_of) -> str:
+def figures(all_runs: Sequence[Runs], interval_of: tuple[int, int]) -> str:
     """Mean trip and mean control delay of each plan."""
     rows = []
     for runs in all_runs:
@@ -96,7 +100,7 @@ def figures(all_runs, interval_of) -> str:
     return table(["", "mean trip, s", "mean control delay of a junction, s"], rows)
 
 
-def mean_told(values) -> str:
+def mean_told(values: Iterable[float]) -> str:
     values = list(values)
     if not values:
         return "none"
@@ -104,7 +108,7 @@ def mean_told(values) -> str:
     return f"{mean:.1f}" + (f" ± {half:.1f}" if half is not None else "")
 
 
-def map_section(runs, interval_of) -> str:
+def map_section(runs: Runs, interval_of: tuple[int, int]) -> str:
     approaches = {
         row.key[1]: (row.letter(), f"{row.key[1]}: {row.delay:.1f} s, {row.letter()}")
         for row in runs.rows["approaches", *interval_of].values()
@@ -118,7 +122,7 @@ def map_section(runs, interval_of) -> str:
     return f"<figure>{picture}<figcaption>Approaches and junctions by level of service {legend}</figcaption></figure>"
 
 
-def junction_letters(runs) -> str:
+def junction_letters(runs: Runs) -> str:
     """The letter of each junction in each interval."""
     intervals = runs.intervals()
     names = sorted({key[0] for (table_, *_), rows in runs.rows.items() if table_ == "junctions" for key in rows})
@@ -130,7 +134,7 @@ def junction_letters(runs) -> str:
     return table(["junction", *(f"{clock(begin)} to {clock(end)}" for begin, end in intervals)], rows)
 
 
-def junction_section(runs, name, interval_of) -> str:
+def junction_section(runs: Runs, name: str, interval_of: tuple[int, int]) -> str:
     """A junction's movements and queues."""
     junction = runs.rows["junctions", *interval_of][name,]
     movements = [row for row in runs.rows["movements", *interval_of].values() if row.key[0] == name]
@@ -140,7 +144,7 @@ def junction_section(runs, name, interval_of) -> str:
     rows = [movement_row(row) for row in sorted(movements, key=lambda row: row.key)]
     values = junction.values
     queues = [
-        (row.key[1], *(row.values[name_] for name_ in ("queue_50_m", "queue_95_m", "queue_max_m", "storage_m")))
+        (row.key[1], row.values["queue_50_m"], row.values["queue_95_m"], row.values["queue_max_m"], row.values["storage_m"])
         for row in sorted(approaches, key=lambda row: row.key)
     ]
     return (
@@ -150,7 +154,7 @@ def junction_section(runs, name, interval_of) -> str:
     )
 
 
-def movement_row(row):
+def movement_row(row: Row) -> list[str]:
     values = row.values
     stops = f"{values['stops_per_vehicle']:.2f}" if "stops_per_vehicle" in values else ""
     queues = [f"{values['queue_50_m']:.0f}", f"{values['queue_95_m']:.0f}", f"{values['queue_max_m']:.0f} of {values['storage_m']:.0f}"]
@@ -161,7 +165,7 @@ def movement_row(row):
     ]
 
 
-def before_and_after(before, after, interval_of) -> str:
+def before_and_after(before: Runs, after: Runs, interval_of: tuple[int, int]) -> str:
     """Mean trip, junctions and movements of two plans, with paired 95 % intervals over seeds."""
     lines = [("mean trip, s", paired(before.trips(), after.trips()))]
     rows = [side.rows["junctions", *interval_of] for side in (before, after)]
@@ -175,12 +179,12 @@ def before_and_after(before, after, interval_of) -> str:
     return f'<p class="small">{said}; those whose sign is sure at 95 % are bold.</p>' + "".join(parts)
 
 
-def difference_table(lines) -> str:
+def difference_table(lines: Iterable[tuple[str, Difference | None]]) -> str:
     rows = [[escape(name), f"{one.before:.1f}", f"{one.after:.1f}", change_told(one)] for name, one in lines if one]
     return table(["", "before", "after", "change, 95 % interval"], rows)
 
 
-def difference_rows(before, after) -> str:
+def difference_rows(before: Rows, after: Rows) -> str:
     rows = []
     for key in sorted(before.keys() & after.keys()):
         first, second = before[key], after[key]
@@ -192,7 +196,7 @@ def difference_rows(before, after) -> str:
     return table(["", "before", "after", "change", "LOS"], rows)
 
 
-def change_told(one) -> str:
+def change_told(one: Difference) -> str:
     return f'<span class="sure">{one.told()}</span>' if one.is_sure() else one.told()
 
 
@@ -207,7 +211,7 @@ def letter_styles() -> str:
     )
 
 
-def page(title: str, lead: str, sections) -> str:
+def page(title: str, lead: str, sections: Sequence[tuple[str, str, str]]) -> str:
     """The whole page; sections: (name, title, HTML)."""
     text = (Path(__file__).parent / "page.html").read_text(encoding="utf-8")
     links = "".join(f'<a href="#{name}">{escape(head)}</a>' for name, head, _ in sections)

@@ -1,11 +1,21 @@
 """Signals that are green in the gaps between vehicles that go first, where there is no light."""
+from __future__ import annotations
+
 from bisect import bisect_left, bisect_right
 from collections import defaultdict
+from collections.abc import Iterable, Iterator, Mapping, Sequence
 from itertools import accumulate, groupby
+from typing import TYPE_CHECKING
 
 from .. import limits
 from .runs import Line
 
+if TYPE_CHECKING:
+    from ..sumo.conflicts import TurnKey, Waiting
+    from .mapping import Map, Place
+
+State = tuple[int, ...]  # for each group whether it is red
+Group = tuple[Sequence["TurnKey"], Sequence[int]]  # turns that give way, and for each second whether they are red
 AFTER = 1  # seconds after one that goes first until the next may go
 AROUND = 300  # seconds before and after, in which those that go first are counted
 SHOWN, HIDDEN = 3, 2  # seconds in turn, where those that use a gap follow each other slowly
@@ -14,15 +24,16 @@ PATIENCE = 150  # seconds without a gap; then one goes
 TAIL = 30  # seconds after the last vehicle
 
 
-def gap_lines(mapping, passed, start):
+def gap_lines(mapping: Map, passed: Mapping[Place, Sequence[tuple[float, int]]], start: int) -> list[tuple[int, Line]]:
     """Signal lines for the nodes where vehicles give way, (clock, line), by when others pass, {(link, lane): [(second, next
     link)]}."""
     end = int(max((second for each in passed.values() for second, _ in each), default=start)) + TAIL
-    times = defaultdict(list)
+    times: defaultdict[TurnKey, list[float]] = defaultdict(list)
     for (link, lane), each in passed.items():
         for second, following in each:
             times[link, lane, following].append(second)
-    turns_at, groups_at = defaultdict(list), defaultdict(list)
+    turns_at: defaultdict[int, list[TurnKey]] = defaultdict(list)
+    groups_at: defaultdict[int, list[Group]] = defaultdict(list)
     for turn in mapping.turns:
         turns_at[mapping.links[turn.link].end].append((turn.link, turn.lane, turn.next))
     for one in mapping.yields:
@@ -33,13 +44,13 @@ def gap_lines(mapping, passed, start):
     return sorted(found, key=lambda pair: (pair[0], pair[1].command["node"]))
 
 
-def node_lines(node, turns, groups, start):
+def node_lines(node: int, turns: Sequence[TurnKey], groups: Sequence[Group], start: int) -> Iterator[tuple[int, Line]]:
     """The signal lines of a node, (clock, line); groups: of turns that give way, and for each second whether they are red.
     Others are always green, and all are in the end."""
     waits = {turn for each, _ in groups for turn in each}
     always = [turn for turn in turns if turn not in waits]
 
-    def green(state):
+    def green(state: State) -> tuple[list[TurnKey], str]:
         """The turns that are green, and as they stand in a line."""
         shown = [turn for (each, _), hidden in zip(groups, state, strict=True) if not hidden for turn in each]
         turns = sorted([*always, *shown])
@@ -57,7 +68,7 @@ def node_lines(node, turns, groups, start):
         yield clock, Line(0, text, {"cmd": "signal", "node": node, "offset": offset, "phases": told})
 
 
-def phases_of(reds):
+def phases_of(reds: Sequence[Sequence[int]]) -> list[tuple[int, State]]:
     """The runs of seconds in which the same groups are red, (seconds, red or not by group)."""
     made = []
     for state, run in groupby(zip(*reds, strict=True)):
@@ -68,7 +79,7 @@ def phases_of(reds):
     return made
 
 
-def red_seconds(waiting, times, start, end):
+def red_seconds(waiting: Waiting, times: Mapping[TurnKey, Sequence[float]], start: int, end: int) -> bytearray | None:
     """For each second from the start whether turns are red, as somebody comes who goes first; none where nobody does."""
     comes = [(second, foe) for foe in waiting.foes for second in times.get((foe.link, foe.lane, foe.next), ())]
     comes.sort(key=lambda one: one[0])
@@ -83,19 +94,19 @@ def red_seconds(waiting, times, start, end):
         last = round(second) + AFTER - start
         close(red, last - int(length), last)
     if any(foe.slow for _, foe in comes):
-        for first, last in followings(sorted(second for turn in waiting.turns for second in times.get(turn, ()))):
-            slow_down(red, int(first) - start, int(last) - start)
+        for sooner, later in followings(sorted(second for turn in waiting.turns for second in times.get(turn, ()))):
+            slow_down(red, int(sooner) - start, int(later) - start)
     be_patient(red)
     return red
 
 
-def close(red, first, last):
+def close(red: bytearray, first: int, last: int) -> None:
     """Makes seconds red, as far as there are such."""
     first, last = max(0, first), min(len(red), last)
     red[first:last] = b"\1" * (last - first)
 
 
-def followings(seconds):
+def followings(seconds: Sequence[float]) -> Iterator[tuple[float, float]]:
     """When vehicles follow each other closely, of when they pass, which rises: (first second, last second), some more
     before and after."""
     first = 0
@@ -106,7 +117,7 @@ def followings(seconds):
             first = at
 
 
-def slow_down(red, first, last):
+def slow_down(red: bytearray, first: int, last: int) -> None:
     """Hides some of each gap between two seconds, so that not more use it than can."""
     at = red.find(0, max(0, first), max(0, last))
     while at >= 0:
@@ -114,7 +125,7 @@ def slow_down(red, first, last):
         at = red.find(0, at + SHOWN + HIDDEN, last)
 
 
-def be_patient(red):
+def be_patient(red: bytearray) -> None:
     """Lets one go after a long time without a gap."""
     at = red.find(1)
     while at >= 0:

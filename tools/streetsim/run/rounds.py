@@ -1,19 +1,28 @@
 """Giving way without a light, by rounds: a run is made, it is read from it when vehicles pass their stop lines, and the next run
 has signals that are green in the gaps between those who go first. As who waits changes who comes when, this is repeated."""
+from __future__ import annotations
+
 from collections import Counter
+from collections.abc import Callable, Iterable, Mapping, Sequence
+from contextlib import AbstractContextManager
 from dataclasses import dataclass, replace
 from functools import partial
 from itertools import pairwise
 from operator import itemgetter
 
 from .. import limits
+from ..client import Client, Lane
 from ..files import Fault
 from .budget import INTERVALS, MINUTE, Asking, Budget
 from .gaps import gap_lines
+from .mapping import Map, Place
 from .passings import Passings
-from .record import Recorder, Settings
+from .record import Recorder, Settings, Tell
+from .runs import Line, Run
 from .serving import serving
 
+Start = Callable[[], AbstractContextManager[Client]]  # starts the program
+Passed = Mapping[Place, Sequence[tuple[float, int]]]  # by lane: second and next link
 HOUR = 3600  # seconds
 COARSEST = 120  # seconds between polls: with longer ones passings are not known well enough
 
@@ -28,7 +37,7 @@ class Yielding:
     every: int = 0  # seconds between the polls of the rounds
     why_not: str = ""  # nobody gives way
 
-    def told(self):
+    def told(self) -> str:
         """What there is to say, or nothing."""
         if self.why_not:
             return f"nobody gives way without a light: {self.why_not}"
@@ -40,12 +49,14 @@ class Yielding:
 class Round(Recorder):
     """A run that is watched for who passes which stop line when; it ends when all have arrived."""
 
-    def __init__(self, sim, run, mapping, settings, places, tell):
+    def __init__(
+        self, sim: Client, run: Run, mapping: Map, settings: Settings, places: Sequence[Place], tell: Tell
+    ) -> None:
         super().__init__(sim, run, mapping, settings, None, tell)
-        self.polled, self.most = places, sim.calls if settings.calls is None else settings.calls
+        self.polled, self.most = list(places), sim.calls if settings.calls is None else settings.calls
         self.passings = Passings(mapping, run.enters, run.load.command.get("dawdle", 0))
 
-    def record(self):
+    def record(self) -> Passed:  # type: ignore[override]  # in place of tables
         """Makes the round; gives when vehicles passed."""
         self.begin(self.asking())
         self.watched = set(self.places) if self.settings.rescue and self.records.asking.all_watched else set()
@@ -57,24 +68,24 @@ class Round(Recorder):
             self.tell(clock, self.records.censuses[-1] if self.records.censuses else None)
         self.find_ends()
         for owner, end in self.ended.items():
-            if end.state == "arrived":
+            if end.state == "arrived" and end.step is not None:
                 self.passings.arrived(owner, end.step)
         return self.passings.found
 
-    def asking(self):
+    def asking(self) -> Asking:
         """The most frequent polls for which there are calls."""
         self.budget = Budget(self.run, self.settings, self.places, self.polled, ())
         return asking_of(self.budget, self.most)
 
-    def is_over(self):
+    def is_over(self) -> bool:
         """Whether all have entered and ended."""
         last = self.records.censuses[-1] if self.records.censuses else None
         return self.entered == len(self.run.enters) and last is not None and last.admitted == last.arrived + last.taken
 
-    def measure(self, clock, lanes, sampled, ended):
+    def measure(self, clock: int, lanes: Mapping[Place, Lane], sampled: bool, ended: bool) -> None:
         """Nothing is measured."""
 
-    def note_lanes(self, clock, lanes):
+    def note_lanes(self, clock: int, lanes: Mapping[Place, Lane]) -> None:
         owners, note = self.owners, self.passings.note
         for (link, lane), reply in lanes.items():
             for car, cell, *_ in reply.cells:
@@ -83,7 +94,7 @@ class Round(Recorder):
                 note(owners[car], clock, link, lane, self.mapping.links[link].cells, True)
 
 
-def asking_of(budget, most):
+def asking_of(budget: Budget, most: int) -> Asking:
     """The most frequent polls of a round that fit in so many calls (0: any number)."""
     for every in INTERVALS:
         for watched in (True, False):
@@ -93,7 +104,9 @@ def asking_of(budget, most):
     raise Fault(f"its rounds need more than the {most:,} calls that the program takes")
 
 
-def giving_way(run, mapping, settings, rounds, start, tell):
+def giving_way(
+    run: Run, mapping: Map, settings: Settings, rounds: int, start: Start, tell: Tell
+) -> tuple[Run, Yielding]:
     """The run with signals by which its vehicles give way without a light, and what they are. `start` starts the program,
     `tell` gets the clock and the last census."""
     try:
@@ -103,7 +116,9 @@ def giving_way(run, mapping, settings, rounds, start, tell):
     return with_lines(run, lines), yielding
 
 
-def gaps_of(run, mapping, settings, rounds, start, tell):
+def gaps_of(
+    run: Run, mapping: Map, settings: Settings, rounds: int, start: Start, tell: Tell
+) -> tuple[list[tuple[int, Line]], Yielding]:
     """The signal lines by which the vehicles of a run give way without a light, (clock, line), and what they are; a Fault
     where the calls do not suffice. `start` and `tell` are as those of giving_way."""
     if not rounds or not mapping.yields:
@@ -123,14 +138,16 @@ def gaps_of(run, mapping, settings, rounds, start, tell):
     return lines, yielding
 
 
-def refuse_too_few_calls(run, mapping, settings, most):
+def refuse_too_few_calls(run: Run, mapping: Map, settings: Settings, most: int) -> None:
     """Refuses rounds for which so many calls (0: any number) do not suffice, of the plans alone: before any run."""
     places = places_of(mapping)
     asking_of(Budget(run, settings, places, places, ()), most)
     refuse_too_many(run, expected_lines(run, mapping), settings, mapping, most)
 
 
-def giving_way_to_scripts(run, mapping, rounds, program=None, workers=1):
+def giving_way_to_scripts(
+    run: Run, mapping: Map, rounds: int, program: str | None = None, workers: int = 1
+) -> tuple[Run, Yielding]:
     """The run of a script with signals by which the vehicles of its file give way without a light, and what they are. As its
     end is not known, rounds end when all have arrived, or an hour after the last departure; nobody is rescued."""
     last = max((line.command["depart"] for line in run.enters), default=run.start())
@@ -138,7 +155,7 @@ def giving_way_to_scripts(run, mapping, rounds, program=None, workers=1):
     return giving_way(run, mapping, settings, rounds, partial(serving, program, run.path, workers), lambda *_: None)
 
 
-def places_of(mapping):
+def places_of(mapping: Map) -> list[Place]:
     """The lanes on which those are seen who go first, and those who give way to them slowly, before and after the stop line."""
     links = {link for one in mapping.yields for foe in one.foes for link in (foe.link, foe.next)}
     slow = (turn for one in mapping.yields for turn in one.turns if any(foe.slow for foe in one.foes))
@@ -146,7 +163,7 @@ def places_of(mapping):
     return [place for place in mapping.lanes() if place[0] in links]
 
 
-def with_lines(run, lines):
+def with_lines(run: Run, lines: Iterable[tuple[int, Line]]) -> Run:
     """The run with more timed lines."""
     start = run.start()
     first = [*run.first, *(line for clock, line in lines if clock == start)]
@@ -154,17 +171,17 @@ def with_lines(run, lines):
     return replace(run, first=first, timed=timed)
 
 
-def expected_lines(run, mapping):
+def expected_lines(run: Run, mapping: Map) -> int:
     """About as many lines as there will be, of the plans alone: a phase begins and one ends for each vehicle that goes first,
     of which half are seen together with another one."""
     passing = Counter(pair for line in run.enters for pair in pairwise(line.command["plan"]))
-    phases = Counter()
+    phases: Counter[int] = Counter()
     for one in mapping.yields:
         phases[one.node] += sum(passing[pair] for pair in {(foe.link, foe.next) for foe in one.foes})
     return sum(1 + count // limits.PHASES for count in phases.values())
 
 
-def refuse_too_many(run, lines, settings, mapping, most):
+def refuse_too_many(run: Run, lines: int, settings: Settings, mapping: Map, most: int) -> None:
     """Refuses signal lines that leave a run too few calls: each takes two."""
     budget = Budget(run, settings, mapping.lanes(), (), mapping.detectors)
     needed = budget.base(min(limits.METERS, len(mapping.lanes()))) + 2 * lines

@@ -1,13 +1,30 @@
 """Signal commands, made of SUMO's signal programs."""
+from __future__ import annotations
+
 from collections import defaultdict
+from collections.abc import Iterable, Iterator, Mapping, Sequence
 from itertools import cycle as cycle_of
 from itertools import chain, groupby, product, takewhile
+from typing import TYPE_CHECKING, Any
 
 from .. import limits
 from ..files import Fault
-from .report import some
+from .report import Report, some
 from .yielding import GREEN, PERMISSIVE, TWO_PARTS, hidden_middle, hidden_start, movements_of, places, runs_of, settle
 
+if TYPE_CHECKING:
+    from .conflicts import Flows, TurnKey
+    from ..run.mapping import MapTurn
+    from .net import Connection, Program, SumoNet
+    from .network import Network, Turn
+    from .yielding import Movement
+
+    Green = frozenset[TurnKey]
+    AtLight = tuple[int, int, int, Turn | MapTurn]  # link, lane, next link
+
+Command = dict[str, Any]
+Own = tuple[Any, ...]  # the words of `signal`
+Told = Mapping[Any, Mapping[int, tuple[int, int]]]  # by index: of each permissive green its seconds and parts
 DEFAULT_SHARE = 0.7  # of a permissive green that is shown, where nothing is known of who gives way
 LONGEST = 200_000  # seconds of a cycle that are read
 AFTER = 86_400  # seconds after the last departure for which a program is told that does not fit in one plan
@@ -16,7 +33,7 @@ GRAINS = (1, 2, 3, 5, 8, 12, 20)  # seconds to which greens are rounded: the fir
 FINE = GRAINS[:2]  # of these, to which the seconds left out in the middle of greens are rounded, as they are two at least
 
 
-def movements(net, network, flows, report):
+def movements(net: SumoNet, network: Network, flows: Flows, report: Report) -> dict[str, dict[int, Movement]]:
     """The connections of each junction with a light over its cycle, {junction: {request: movement}}; none where nothing
     is known of who gives way to whom, or of flows, which are the routes' vehicles an hour from edge to edge."""
     limits_of = {link.edge: link.limit for link in network.links}
@@ -27,7 +44,7 @@ def movements(net, network, flows, report):
     return found
 
 
-def connections_of(net):
+def connections_of(net: SumoNet) -> dict[str, list[Connection]]:
     """The connections of each junction."""
     found = defaultdict(list)
     for connection in net.connections:
@@ -35,7 +52,14 @@ def connections_of(net):
     return found
 
 
-def movements_of_junction(junction, connections, net, flows, limits_of, report):
+def movements_of_junction(
+    junction: str,
+    connections: Sequence[Connection],
+    net: SumoNet,
+    flows: Flows,
+    limits_of: Mapping[str, int],
+    report: Report,
+) -> dict[int, Movement]:
     """The movements of one junction, {request: movement}; none where nothing is known of who gives way to whom."""
     light = light_of(connections, net)
     ours = [connection for connection in connections if connection.light in (light, None)]
@@ -48,13 +72,15 @@ def movements_of_junction(junction, connections, net, flows, limits_of, report):
     return found
 
 
-def light_of(turns, net):
+def light_of(turns: Iterable[Connection], net: SumoNet) -> str | None:
     """The light that is used at a node, of those of its turns or connections: the first that has a program."""
     lights = {turn.light for turn in turns if turn.light}
     return min((light for light in lights if light in net.programs and net.programs[light].phases), default=None)
 
 
-def signals(net, network, movements_at, report):
+def signals(
+    net: SumoNet, network: Network, movements_at: Mapping[str, Mapping[int, Movement]], report: Report
+) -> list[tuple[str, Command]]:
     """A signal command for each node with a light, and for each the light's name."""
     turns_at = defaultdict(list)
     for (link, lane, following), turn in network.turns.items():
@@ -84,7 +110,7 @@ class TooLong(Fault):
     """A program that does not fit in the phases of one plan."""
 
 
-def signal_lines(own, begin, last):
+def signal_lines(own: Own, begin: int, last: int) -> list[Command]:
     """The signal command of a light, of the words of `signal`; of a program that does not fit in one plan a line for each
     phase from a begin to a last second, as a plan of one phase stays until the next."""
     try:
@@ -96,11 +122,11 @@ def signal_lines(own, begin, last):
     return [{**command, "at": clock} if clock > begin else command for clock, command in lines]
 
 
-def cycle_told(own):
+def cycle_told(own: Own) -> str:
     return f"a cycle of {len(each_second(own[3], own[4], own[6])):,} s does not fit in one plan"
 
 
-def phase_lines(own, begin):
+def phase_lines(own: Own, begin: int) -> Iterator[tuple[int, Command]]:
     """The signal commands of a light's phases from a begin on, (clock, command), without end: a plan of one phase stays until
     the next is sent. `own`: the words of `signal`."""
     node, turns, _, light, program, permissive, report, found = own
@@ -112,11 +138,21 @@ def phase_lines(own, begin):
     clock, shown = begin, None
     for green, length in cycle_of(runs) if len(runs) > 1 else runs:
         if green != shown:
-            yield clock, {"cmd": "signal", "node": node, "offset": 0, "phases": [[limits.PHASE_STEPS, sorted(map(list, green))]]}
+            phases = [[limits.PHASE_STEPS, sorted([*turn] for turn in green)]]
+            yield clock, {"cmd": "signal", "node": node, "offset": 0, "phases": phases}
         clock, shown = clock + length, green
 
 
-def signal(node, turns, edges, light, program, permissive, report, found=None):
+def signal(
+    node: int,
+    turns: Sequence[AtLight],
+    edges: Mapping[int, str],
+    light: str,
+    program: Program,
+    permissive: float | None,
+    report: Report,
+    found: Mapping[int, Movement] | None = None,
+) -> Command:
     """The signal command of one node, of its turns (link, lane, next link, with light and index), the edges of their
     links, and what was found of who gives way there; else the last share of each permissive green is shown."""
     states = each_second(light, program, report)
@@ -153,13 +189,14 @@ def signal(node, turns, edges, light, program, permissive, report, found=None):
         "cmd": "signal",
         "node": node,
         "offset": round(-program.offset) % cycle,
-        "phases": [[duration, sorted(map(list, green))] for duration, green in phases],
+        "phases": [[duration, sorted([*turn] for turn in green)] for duration, green in phases],
     }
 
 
-def each_second(light, program, report):
+def each_second(light: str, program: Program, report: Report) -> list[str]:
     """The program's state in each second of its cycle; durations are rounded by running sum, so that the cycle stays."""
-    states, clock = [], 0.0
+    states: list[str] = []
+    clock = 0.0
     if (cycle := sum(duration for duration, _ in program.phases)) > LONGEST:
         raise Fault(f"light {light!r}: a cycle of {cycle:,.0f} s; at most {LONGEST:,} s are read: give it shorter phases")
     for duration, state in program.phases:
@@ -170,17 +207,17 @@ def each_second(light, program, report):
     return states
 
 
-def check_states(light, states, turns):
+def check_states(light: str, states: Sequence[str], turns: Iterable[Any]) -> None:
     """Refuses a program whose states do not have a place for each of some turns."""
     for turn in turns:
         if turn.light == light and any(turn.index >= len(state) for state in states):
             raise Fault(f"light {light!r}: a state is shorter than link index {turn.index}")
 
 
-def by_gaps(found):
+def by_gaps(found: Mapping[int, Movement]) -> Told:
     """For each index of a light's state the seconds of each permissive green that are shown and their parts, {index:
     {first second: (seconds, parts)}}, by what was found of who gives way; of those that share an index the most."""
-    told = defaultdict(dict)
+    told: defaultdict[int | None, dict[int, tuple[int, int]]] = defaultdict(dict)
     for movement in found.values():
         own = told[movement.index]
         for start, seconds in movement.shown.items():
@@ -188,7 +225,7 @@ def by_gaps(found):
     return told
 
 
-def by_share(light, turns, states, permissive):
+def by_share(light: str, turns: Sequence[AtLight], states: Sequence[str], permissive: float | None) -> Told:
     """The same by the last share of each permissive green, the usual one where none is given."""
     share, told = DEFAULT_SHARE if permissive is None else permissive, {}
     for index in {turn.index for *_, turn in turns if turn.light == light}:
@@ -197,9 +234,11 @@ def by_share(light, turns, states, permissive):
     return told
 
 
-def green_seconds(light, turns, states, told, grain, middle):
+def green_seconds(
+    light: str, turns: Sequence[AtLight], states: Sequence[str], told: Told, grain: int, middle: bool
+) -> list[Green]:
     """The green turns of each second. Turns that the light does not control are always green."""
-    greens = [set() for _ in states]
+    greens: list[set[TurnKey]] = [set() for _ in states]
     for link, lane, following, turn in turns:
         shown = (
             shown_green("".join(state[turn.index] for state in states), told.get(turn.index, {}), turn, grain, middle)
@@ -212,7 +251,7 @@ def green_seconds(light, turns, states, told, grain, middle):
     return [frozenset(green) for green in greens]
 
 
-def shown_green(states, told, turn, grain, middle):
+def shown_green(states: str, told: Mapping[int, tuple[int, int]], turn: Turn | MapTurn, grain: int, middle: bool) -> list[bool]:
     """For each second whether a turn shows green. Of each permissive green only so many seconds as are told, in so many
     parts. Of each other green that no permissive one goes before seconds are left out, as SUMO's queues start later and
     turn slower: in its middle, or else at its begin. All is rounded down to a grain of seconds."""
@@ -231,7 +270,7 @@ def shown_green(states, told, turn, grain, middle):
     return shown
 
 
-def hidden(length, turn, grain, middle):
+def hidden(length: int, turn: Turn | MapTurn, grain: int, middle: bool) -> range:
     """The seconds of a green that are not shown, in its middle or at its begin. Of a short one they are rounded to the nearest: a
     second of seven lets a quarter more pass, which a search for plans would find."""
     own = length, turn.speed, turn.limit
@@ -241,7 +280,7 @@ def hidden(length, turn, grain, middle):
     return range(begin, begin + seconds)
 
 
-def run_lengths(greens):
+def run_lengths(greens: Iterable[Green]) -> list[tuple[int, Green]]:
     """Phases of at most the longest duration."""
     phases = []
     for green, run in groupby(greens):
@@ -252,13 +291,13 @@ def run_lengths(greens):
     return phases
 
 
-def joined(phases):
+def joined(phases: Iterable[tuple[int, Green]]) -> list[tuple[int, Green]]:
     """As many phases as there may be: the shortest goes to the one before it, as long as that is not too long."""
-    phases = list(phases)
-    while len(phases) > limits.PHASES:
-        fitting = [at for at in range(1, len(phases)) if phases[at - 1][0] + phases[at][0] <= limits.PHASE_STEPS]
+    made = list(phases)
+    while len(made) > limits.PHASES:
+        fitting = [at for at in range(1, len(made)) if made[at - 1][0] + made[at][0] <= limits.PHASE_STEPS]
         if not fitting:
-            raise TooLong(f"a cycle of {sum(seconds for seconds, _ in phases):,} s does not fit in {limits.PHASES} phases of {limits.PHASE_STEPS} s")
-        at = min(fitting, key=lambda place: phases[place][0])
-        phases[at - 1 : at + 1] = [(phases[at - 1][0] + phases[at][0], phases[at - 1][1])]
-    return phases
+            raise TooLong(f"a cycle of {sum(seconds for seconds, _ in made):,} s does not fit in {limits.PHASES} phases of {limits.PHASE_STEPS} s")
+        at = min(fitting, key=lambda place: made[place][0])
+        made[at - 1 : at + 1] = [(made[at - 1][0] + made[at][0], made[at - 1][1])]
+    return made

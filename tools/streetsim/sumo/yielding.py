@@ -5,12 +5,21 @@ Gaps are found as in the Highway Capacity Manual (2010, signalized intersections
 critical headway of 4.5 s and its follow-up headway of 2.5 s, which are cited from memory; the other values were measured in
 SUMO and here at a lone cross, under a queue that does not end. The seconds of a cycle are bits of a number, second 0 the lowest.
 """
+from __future__ import annotations
+
 import math
 from collections import Counter, defaultdict
+from collections.abc import Collection, Iterable, Mapping, Sequence
 from dataclasses import dataclass, field
 from functools import cache
 from itertools import pairwise
+from typing import TYPE_CHECKING, Any
 
+if TYPE_CHECKING:
+    from .net import Connection
+
+Way = tuple[str, str]  # an edge and the next one
+Meeting = tuple[int, tuple["Movement", ...]]  # seconds, and the foes that are green in them
 CRITICAL_GAP = 4.5  # seconds
 FOLLOW_UP = 2.5  # seconds between two that use one gap
 LOST = 2.0  # seconds until a queue of the other side moves
@@ -28,9 +37,9 @@ GREEN, PERMISSIVE = "GsO", "go"
 SHOWN = GREEN + PERMISSIVE
 
 
-def hourly_flows(vehicles):
+def hourly_flows(vehicles: Iterable[Any]) -> dict[Way, float]:
     """Vehicles an hour from each edge to each next one, over the time in which vehicles depart."""
-    flows = Counter()
+    flows: Counter[Way] = Counter()
     for vehicle in vehicles:
         flows.update(pairwise(vehicle.edges))
     departs = [vehicle.depart for vehicle in vehicles]
@@ -42,31 +51,38 @@ def hourly_flows(vehicles):
 class Movement:
     """A connection over a light's cycle."""
 
-    way: tuple  # edge, next edge
-    lane: tuple  # edge, lane
+    way: Way
+    lane: tuple[str, int]  # edge, lane
     index: int | None  # in the light's state
     cycle: int  # seconds
     sure: int  # the seconds in which it goes first
     green: int  # these and those in which it gives way
-    begins: list  # of the greens: (second, seconds of red before it)
+    begins: list[tuple[int, int]]  # of the greens: (second, seconds of red before it)
     flow: float  # vehicles an hour that wish to pass
     passing: float  # vehicles an hour that do
     headway: float  # seconds between vehicles of a queue, in SUMO
     limit: int  # of its link, cells a step
-    runs: dict  # first second of a permissive green: its length
-    foes: list = field(default_factory=list)  # movements that it gives way to
-    meets: dict = field(default_factory=dict)  # first second of a permissive green: [(seconds, foes that are green)]
-    shown: dict = field(default_factory=dict)  # first second of a permissive green: how many seconds of it are shown
+    runs: dict[int, int]  # first second of a permissive green: its length
+    foes: list[Movement] = field(default_factory=list)  # that it gives way to
+    meets: dict[int, list[Meeting]] = field(default_factory=dict)  # by first second of a permissive green
+    shown: dict[int, int] = field(default_factory=dict)  # first second of a permissive green: how many seconds of it are shown
     parts: int = 1  # in which they are shown
 
 
-def movements_of(connections, states, yields, flows, limits_of):
+def movements_of(
+    connections: Sequence[Connection],
+    states: Sequence[str],
+    yields: Mapping[int, Iterable[int]],
+    flows: Mapping[Way, float],
+    limits_of: Mapping[str, int],
+) -> dict[int, Movement]:
     """The movements of a junction, by the connections' requests."""
     sharing = Counter((connection.source, connection.target) for connection in connections)
     found = {}
     for connection in connections:
         way = connection.source, connection.target
         flow = flows.get(way, 0.0) / sharing[way]
+        assert connection.request is not None
         found[connection.request] = movement_of(connection, states, flow, limits_of[connection.source])
     for request, movement in found.items():
         movement.foes = [found[foe] for foe in sorted(yields.get(request, ())) if foe in found and found[foe].flow]
@@ -76,14 +92,14 @@ def movements_of(connections, states, yields, flows, limits_of):
     return found
 
 
-def is_mixed(movement, movements):
+def is_mixed(movement: Movement, movements: Collection[Movement]) -> bool:
     """Whether others on its lane need not wait, at an edge of several lanes."""
     lanes = {other.lane for other in movements if other.way[0] == movement.way[0]}
     free = any(other.lane == movement.lane and other.flow and not other.runs for other in movements)
     return len(lanes) > 1 and free
 
 
-def movement_of(connection, states, flow, limit):
+def movement_of(connection: Connection, states: Sequence[str], flow: float, limit: int) -> Movement:
     lit, cycle = connection.light is not None, len(states)
     own = "".join(state[connection.index] for state in states) if lit else "G" * cycle
     return Movement(
@@ -102,17 +118,17 @@ def movement_of(connection, states, flow, limit):
     )
 
 
-def seconds_of(states, shown):
+def seconds_of(states: str, shown: str) -> int:
     return sum(1 << second for second, state in enumerate(states) if state in shown)
 
 
-def seconds_from(start, length, cycle):
+def seconds_from(start: int, length: int, cycle: int) -> int:
     """So many seconds from one on, round the cycle."""
     bits = ((1 << min(length, cycle)) - 1) << start % cycle
     return (bits | bits >> cycle) & ((1 << cycle) - 1)
 
 
-def runs_of(states, shown):
+def runs_of(states: str, shown: str) -> dict[int, int]:
     """The unbroken runs round the cycle of seconds that show one of some states: {first second: length}."""
     count = len(states)
     if all(state in shown for state in states):
@@ -124,32 +140,32 @@ def runs_of(states, shown):
     }
 
 
-def red_before(states, start):
+def red_before(states: str, start: int) -> int:
     """The seconds without green that end where a green begins."""
     return next(steps for steps in range(len(states)) if states[start - steps - 1] in SHOWN)
 
 
-def meetings(movement, start, length):
+def meetings(movement: Movement, start: int, length: int) -> list[Meeting]:
     """The seconds of a permissive green by those that are green then of whom it gives way to."""
-    found = defaultdict(int)
+    found: defaultdict[tuple[Movement, ...], int] = defaultdict(int)
     for second in range(start, start + length):
         place = second % movement.cycle
         found[tuple(foe for foe in movement.foes if foe.green >> place & 1)] |= 1 << place
     return [(seconds, foes) for foes, seconds in found.items()]
 
 
-def headway(speed):
+def headway(speed: float) -> float:
     """Seconds between vehicles of a queue that pass a junction in SUMO at a speed."""
     return BEHIND + ROOM / speed
 
 
-def green_here(vehicles, limit):
+def green_here(vehicles: float, limit: int) -> int:
     """The seconds of green in which so many leave a queue here."""
     short = next((second for second, passing in enumerate(SHORT, 1) if passing >= vehicles - 0.1), None)
     return short or round(vehicles * HEADWAYS[limit - 1] - AHEAD)
 
 
-def settle(movements):
+def settle(movements: Sequence[Movement]) -> None:
     """Finds the seconds shown of each permissive green, and the flows that get through, that fit to each other: a
     vehicle that waits to turn blocks those behind it on its lane, and so makes room for those on the other side."""
     lanes = defaultdict(list)
@@ -162,7 +178,7 @@ def settle(movements):
             return
 
 
-def pass_through(sharing):
+def pass_through(sharing: Sequence[Movement]) -> float:
     """Goes half way to what the movements of a lane let pass; gives how far it is."""
     wish = sum(movement.flow for movement in sharing)
     share = min(1.0, capacity(sharing, wish) / wish) if wish else 1.0
@@ -172,7 +188,7 @@ def pass_through(sharing):
     return most
 
 
-def seconds_shown(movement, start, length):
+def seconds_shown(movement: Movement, start: int, length: int) -> int:
     """The seconds of a permissive green in which as many leave a queue as find a gap in all of it: the mean of cycles
     with less and with more traffic than usual."""
     vehicles, usual = 0.0, sum(foe.passing for foe in movement.foes) * movement.cycle / 3600
@@ -182,7 +198,7 @@ def seconds_shown(movement, start, length):
     return min(length, green_here(vehicles, movement.limit))
 
 
-def places(length, seconds, parts):
+def places(length: int, seconds: int, parts: int) -> list[tuple[int, int]]:
     """Where so many seconds of a permissive green are shown, as (begin, end): at its end, for those that are given way
     to go first; or in parts with equal waits before them, so that a vehicle that waits holds its lane up for less long."""
     parts = parts if 2 * parts <= seconds <= 0.9 * length else 1
@@ -190,7 +206,7 @@ def places(length, seconds, parts):
     return [(round((at + 1) * wait + at * shown), round((at + 1) * (wait + shown))) for at in range(parts)]
 
 
-def finding_gaps(movement, start, factor):
+def finding_gaps(movement: Movement, start: int, factor: float) -> float:
     """How many find a gap in a permissive green when the traffic that they give way to is a factor of the usual."""
     blocked, vehicles = 0, 0.0
     for foe in movement.foes:
@@ -201,7 +217,7 @@ def finding_gaps(movement, start, factor):
     return vehicles
 
 
-def queue_seconds(foe, beside, factor):
+def queue_seconds(foe: Movement, beside: Iterable[Movement], factor: float) -> int:
     """The seconds of the cycle in which the queue leaves that has waited for a green: all on one lane who go first."""
     seconds, rate = 0, min(sum(one.passing * one.headway for one in beside) * factor / 3600, 0.99)
     for start, red in foe.begins if foe.passing else ():
@@ -209,14 +225,14 @@ def queue_seconds(foe, beside, factor):
     return seconds
 
 
-def gap_capacity(flow):
+def gap_capacity(flow: float) -> float:
     """Vehicles an hour that find a gap in a flow of so many."""
     if flow <= 0:
         return math.inf
     return flow * math.exp(-flow * CRITICAL_GAP / 3600) / (1 - math.exp(-flow * FOLLOW_UP / 3600))
 
 
-def capacity(sharing, wish):
+def capacity(sharing: Sequence[Movement], wish: float) -> float:
     """Vehicles an hour that a lane lets pass, by its movements: until the first comes that waits to turn, and then in
     the seconds that are shown to it."""
     cycle, green = sharing[0].cycle, 0
@@ -235,31 +251,31 @@ def capacity(sharing, wish):
     return min(whole, passed + shown) * 3600 / cycle
 
 
-def leaving(green, speed):
+def leaving(green: float, speed: float) -> float:
     """Vehicles that leave a queue in SUMO in so many seconds of green."""
     return max(1.0, (green - speed / (2 * ACCELERATION) + EARLY) / headway(speed))
 
 
-def passing_here(seconds, limit):
+def passing_here(seconds: int, limit: int) -> float:
     """Vehicles that leave a queue here in so many seconds of green."""
     return SHORT[seconds - 1] if seconds <= len(SHORT) else (seconds + AHEAD) / HEADWAYS[limit - 1]
 
 
-def hidden_start(length, speed, limit):
+def hidden_start(length: int, speed: float, limit: int) -> int:
     """The seconds at the begin of a green that are not shown, so that as many pass here as in SUMO, where a queue
     starts later and turns are slower."""
     return max(0, length - green_here(leaving(length, speed), limit))
 
 
 @cache
-def hidden_middle(length, speed, limit):
+def hidden_middle(length: int, speed: float, limit: int) -> tuple[int, int]:
     """The same from half of a green on, as (begin, end): who has waited alone for its begin goes at once, as in SUMO. As a
     queue starts twice they are more seconds; one alone does not hold it up. A short green has them at its begin."""
     if length < TWO_PARTS:
         return 0, hidden_start(length, speed, limit)
     half, vehicles = length // 2, leaving(length, speed)
 
-    def off(pause):
+    def off(pause: int) -> float:
         passing = passing_here(length, limit)
         if pause:
             passing = passing_here(half, limit) + passing_here(length - half - pause, limit)
@@ -268,10 +284,10 @@ def hidden_middle(length, speed, limit):
     return half, half + min((0, *range(2, length - half)), key=off)
 
 
-def equivalents(movements):
+def equivalents(movements: Iterable[Movement]) -> dict[Way, float]:
     """In how many places a vehicle counts on its lane that waits for a gap, {(edge, next edge): vehicles}: as many
     others could pass in the whole of its green for each that passes."""
-    found = {}
+    found: dict[Way, float] = {}
     for movement in movements:
         if movement.runs and movement.foes:
             passing = sum(movement.shown.values()) / HEADWAYS[movement.limit - 1]

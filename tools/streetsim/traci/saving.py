@@ -2,7 +2,7 @@
 from __future__ import annotations
 
 import json
-from typing import TYPE_CHECKING
+from typing import TYPE_CHECKING, Any
 
 from ..files import open_text, whole_file
 from .errors import TraCIException
@@ -18,7 +18,8 @@ NAMED = ("cars", "plans", "sizes", "kind_of", "route_of", "wishes", "gone")  # b
 
 def save_state(session: Session, path: str) -> None:
     session.follow()
-    state = {"format": FORMAT, "load": session.source.load.text, "lines": [line.decode() for line in session.client.changes]}
+    lines = [line.decode() for line in session.client.changes]
+    state: dict[str, Any] = {"format": FORMAT, "load": session.source.load.text, "lines": lines}
     state |= {name: getattr(session, name) for name in (*LISTS, *NAMED, "entered", "sent", "clock")}
     state |= {name: list(getattr(session, name).items()) for name in NUMBERED}
     state["seen"] = sorted(session.seen)
