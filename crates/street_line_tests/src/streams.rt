@@ -170,14 +170,6 @@ fn reads_behind_a_flush_are_told(rt: HostRuntime) -> Result<(), Fail> {
     Ok(())
 }
 
-/// All these bytes come.
-fn push_all(part: &mut PartialLine, bytes: &[u8]) -> Result<(), Starved> {
-    for byte in bytes {
-        part.push(*byte)?;
-    }
-    Ok(())
-}
-
 /// The bytes that are kept, and whether they are blank.
 fn check_part(rt: &impl Abort, part: &PartialLine, bytes: &[u8], is_blank: bool) {
     assert!(rt; part.as_slice() == bytes && part.is_blank() == is_blank);
@@ -186,11 +178,15 @@ fn check_part(rt: &impl Abort, part: &PartialLine, bytes: &[u8], is_blank: bool)
 #[test]
 fn one_byte_more_is_kept(rt: HostRuntime) -> Result<(), Fail> {
     let mut part = PartialLine::new(rt.alloc(), 3);
-    push_all(&mut part, b" \t\r\r\r")?;
+    part.extend(b" \t")?;
+    part.extend(b"")?;
+    part.extend(b"\r\r\r")?;
     check_part(&rt, &part, b" \t\r\r", true);
-    part.push(b'x')?;
+    part.extend(b"x")?;
     assert!(rt; !part.is_blank());
     part.clear();
     check_part(&rt, &part, b"", true);
+    part.extend(b"  abc")?;
+    check_part(&rt, &part, b"  ab", false);
     Ok(())
 }

@@ -1,8 +1,7 @@
 -- What is left of a run that broke.
-use Rattle.std.proofs.Common.{◌≡◌, ℕ, List, [], ◌∷◌, ◌++◌, ◌+◌, ◌<◌, take, drop, get_or, length, true, Option, inl, inr, refl, sym, ap, ◌∙◌, subst, arith, append_assoc, append-nil, length-append, if◌then◌else◌}
+use Rattle.std.proofs.Common.{◌≡◌, ℕ, List, [], ◌∷◌, ◌++◌, ◌+◌, ◌<◌, take, length, true, Option, inl, inr, refl, sym, ap, ◌∙◌, subst, arith, append_assoc, append-nil, length-append, if◌then◌else◌}
 use Rattle.std.proofs.KnownBytes.{Appends-trans, Appends-kept}
 use Rattle.std.proofs.Math.Seq.{take-append-add, take-length}
-use Rattle.std.proofs.lemmas.List.{at_drop_more, take-append-drop}
 use Rattle.std.proofs.lemmas.List.Sums.{sum_by_push}
 use Rattle.std.specs.Bool.{⊤}
 use Rattle.std.specs.Io.KnownBytes.{Appends, Keeps}
@@ -144,26 +143,19 @@ module _ {S Stop : Type 0} (takes : S → List ℕ → Effect → S → Type 0) 
       let after = lines_after seen more in
       line_breaks takes stops ⊥ start before (seen ++ 10 ∷ more) (cut seen).0 (cut seen).1 after.0 h.0 s t w v p.tally counted cause after.1 (next_inside seen more) h.1 h.2 h.4 (ends (cut seen).1 h.3)
 
-  -- memory ran out for a byte of a line
-  pub byte_breaks : (s : S) (w : Option (List ℕ)) (p : Progress) (b : ℕ) (tally : Tally) → tally ≡ p.tally → FeedBreaks takes stops longest s w p (b ∷ []) s w (Run Starved) tally
-  byte_breaks s w p b tally same = λ start before seen h more.
-      let later = lines_more seen (b ∷ more) in
-      breaks_whole takes stops ⊥ start before (seen ++ b ∷ more) s w Starved tally (cut seen).0 later.0 h.0 later.1 h.1 h.2 (rw same h.4) (λ read. absurd read)
+  -- memory ran out for bytes of a line
+  pub part_breaks : (s : S) (w : Option (List ℕ)) (p : Progress) (bytes : List ℕ) (tally : Tally) → tally ≡ p.tally → FeedBreaks takes stops longest s w p bytes s w (Run Starved) tally
+  part_breaks s w p bytes tally same = λ start before seen h more.
+      let later = lines_more seen (bytes ++ more) in
+      breaks_whole takes stops ⊥ start before (seen ++ (bytes ++ more)) s w Starved tally (cut seen).0 later.0 h.0 later.1 h.1 h.2 (rw same h.4) (λ read. absurd read)
 
   -- bytes were fed before the end of the run, and others would have followed
-  feed_breaks : (s t u : S) (w v x : Option (List ℕ)) (p q : Progress) (cause : Cause Stop) (tally : Tally) (xs ys zs : List ℕ) → Feeds takes longest s w p xs t v q
-      → FeedBreaks takes stops longest t v q ys u x cause tally → FeedBreaks takes stops longest s w p (xs ++ (ys ++ zs)) u x cause tally
-  feed_breaks s t u w v x p q cause tally xs ys zs f g = λ start before seen h more.
+  pub feed_breaks : (s t u : S) (w v x : Option (List ℕ)) (p q : Progress) (cause : Cause Stop) (tally : Tally) (bytes xs ys zs : List ℕ) → xs ++ (ys ++ zs) ≡ bytes → Feeds takes longest s w p xs t v q
+      → FeedBreaks takes stops longest t v q ys u x cause tally → FeedBreaks takes stops longest s w p bytes u x cause tally
+  feed_breaks s t u w v x p q cause tally bytes xs ys zs split f g = λ start before seen h more.
       let same : (seen ++ xs) ++ (ys ++ (zs ++ more)) ≡ seen ++ ((xs ++ (ys ++ zs)) ++ more) = simp append_assoc in
-      subst (λ z. Breaks takes stops ⊥ start before z u x cause tally) same (g start before (seen ++ xs) (f start before seen h) (zs ++ more))
-
-  -- the byte at i was the last that was fed
-  pub feed_breaks_at : (s t u : S) (w v x : Option (List ℕ)) (p q : Progress) (cause : Cause Stop) (tally : Tally) (bytes : List ℕ) (i : ℕ) → i < length bytes
-      → Feeds takes longest s w p (take i bytes) t v q → FeedBreaks takes stops longest t v q (get_or bytes i 0 ∷ []) u x cause tally → FeedBreaks takes stops longest s w p bytes u x cause tally
-  feed_breaks_at s t u w v x p q cause tally bytes i within f g =
-      let whole : bytes ≡ take i bytes ++ ((get_or bytes i 0 ∷ []) ++ drop (i + 1) bytes) = sym (take-append-drop i bytes) ∙ at_drop_more (λ (r : List ℕ). take i bytes ++ r) bytes i 0 within in
-      subst (λ (z : List ℕ). FeedBreaks takes stops longest s w p z u x cause tally) (sym whole)
-      (feed_breaks s t u w v x p q cause tally (take i bytes) (get_or bytes i 0 ∷ []) (drop (i + 1) bytes) f g)
+      let whole : seen ++ ((xs ++ (ys ++ zs)) ++ more) ≡ seen ++ (bytes ++ more) = ap (λ (b : List ℕ). seen ++ (b ++ more)) split in
+      subst (λ z. Breaks takes stops ⊥ start before z u x cause tally) (same ∙ whole) (g start before (seen ++ xs) (f start before seen h) (zs ++ more))
 
   -- a flush failed after all bytes were fed
   pub fed_breaks : (s t : S) (w v x : Option (List ℕ)) (p q : Progress) (xs : List ℕ) → Feeds takes longest s w p xs t v q → Keeps v x

@@ -1,7 +1,7 @@
 -- A text of lines, a byte at a time.
-use Rattle.std.proofs.Common.{◌≡◌, ℕ, List, [], ◌∷◌, ◌++◌, Bool, true, false, ◌==◌, if◌then◌else◌, inl, inr, refl, sym, ap, ◌∙◌, append_assoc, append-nil}
+use Rattle.std.proofs.Common.{◌≡◌, ℕ, suc, arith, List, [], ◌∷◌, ◌++◌, Bool, true, false, ◌==◌, if◌then◌else◌, inl, inr, refl, sym, ap, ◌∙◌, append_assoc, append-nil}
 use Rattle.std.proofs.lemmas.Bool.{cases_eq, ne_eqb}
-use Rattle.street_stream.specs.Lines.{cut, onto_first, if_any, lines_of}
+use Rattle.street_stream.specs.Lines.{cut, onto_first, if_any, lines_of, IsInsideLine}
 
 onto_first_more : (x b : ℕ) (p : List (List ℕ) × List ℕ) → onto_first x (p.0, p.1 ++ b ∷ []) ≡ ((onto_first x p).0, (onto_first x p).1 ++ b ∷ [])
 onto_first_more x b ([], last) = refl
@@ -27,6 +27,15 @@ pub cut_other : (seen : List ℕ) (b : ℕ) → (b ≡ 10 → ⊥) → cut (seen
 unfolding cut
 cut_other [] b other = rw (ne_eqb b 10 other) refl
 cut_other (x ∷ xs) b other = ap (step (x == 10) x) (cut_other xs b other) ∙ step_more (x == 10) x b (cut xs)
+
+-- bytes that are not LF belong to it
+pub cut_inside : (seen bytes : List ℕ) → IsInsideLine bytes → cut (seen ++ bytes) ≡ ((cut seen).0, (cut seen).1 ++ bytes)
+cut_inside seen [] inside = ap cut (append-nil seen) ∙ ap (λ (last : List ℕ). ((cut seen).0, last)) (sym (append-nil (cut seen).1))
+cut_inside seen (b ∷ more) inside =
+    let one = cut_other seen b (inside 0 (omega arith)) in
+    let rest = cut_inside (seen ++ b ∷ []) more (λ k within. inside (suc k) (omega arith)) in
+    ap cut (sym (append_assoc seen (b ∷ []) more)) ∙ rest ∙ ap (λ (p : List (List ℕ) × List ℕ). (p.0, p.1 ++ more)) one
+    ∙ ap (λ (last : List ℕ). ((cut seen).0, last)) (append_assoc (cut seen).1 (b ∷ []) more)
 
 -- LF ends it
 pub cut_newline : (seen : List ℕ) → cut (seen ++ 10 ∷ []) ≡ ((cut seen).0 ++ (cut seen).1 ∷ [], [])

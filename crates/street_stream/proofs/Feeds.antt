@@ -2,11 +2,11 @@
 use Rattle.std.proofs.Common.{◌≡◌, ℕ, List, [], ◌∷◌, ◌++◌, take, length, Option, refl, sym, ap, ◌∙◌, subst, append_assoc, append-nil}
 use Rattle.std.proofs.KnownBytes.{Appends-nil, Appends-trans, Appends-kept, Consumes-trans}
 use Rattle.std.specs.Io.KnownBytes.{Appends, Consumes, IsAtEnd, Keeps}
-use Rattle.street_stream.proofs.Cut.{cut_other, cut_newline, one_line}
+use Rattle.street_stream.proofs.Cut.{cut_inside, cut_newline, one_line}
 use Rattle.street_stream.proofs.Handles.{handles_more, output_more, one_more_line}
 use Rattle.street_stream.proofs.PartialLines.{kept_none, line_kept}
 use Rattle.street_stream.specs.HandledLines.{Effect, output, text_in, IsTally, Whole}
-use Rattle.street_stream.specs.Lines.{cut, if_any, kept, IsPart}
+use Rattle.street_stream.specs.Lines.{cut, if_any, kept, IsInsideLine, IsPart}
 use Rattle.street_stream.specs.Progress.{Taken, Stands, Feeds, Finishes}
 use Rattle.street_stream.specs.declared.driver.Progress.{Progress}
 use Rattle.street_stream.specs.declared.tally.Tally.{Tally}
@@ -28,6 +28,11 @@ module _ {S : Type 0} (takes : S → List ℕ → Effect → S → Type 0) (long
   feeds_more s t u w v x p q r xs ys f g = λ start before seen h.
       subst (λ z. Stands takes longest start before z u x r) (append_assoc seen xs ys) (g start before (seen ++ xs) (f start before seen h))
 
+  -- the bytes are two parts
+  pub feeds_both : (s t u : S) (w v x : Option (List ℕ)) (p q r : Progress) (bytes xs ys : List ℕ) → xs ++ ys ≡ bytes → Feeds takes longest s w p xs t v q → Feeds takes longest t v q ys u x r
+      → Feeds takes longest s w p bytes u x r
+  feeds_both s t u w v x p q r bytes xs ys split f g = subst (λ (z : List ℕ). Feeds takes longest s w p z u x r) split (feeds_more s t u w v x p q r xs ys f g)
+
   -- one line more was written
   more_written : (before w v : Option (List ℕ)) (es : List Effect) (e : Effect) → Appends before w (output es) → Appends w v (text_in e.reply) → Appends before v (output (es ++ e ∷ []))
   more_written before w v es e h k = subst (Appends before v) (sym (output_more es e)) (Appends-trans before w v (output es) (text_in e.reply) h k)
@@ -41,13 +46,14 @@ module _ {S : Type 0} (takes : S → List ℕ → Effect → S → Type 0) (long
       let tally = one_more_line p.tally q.tally (cut seen).0 (cut seen).1 h.0 e.0 h.4 e.3 in
       (h.0 ++ e.0 ∷ [], rw (cut_newline seen) lines, more_written before w v h.0 e.0 h.2 e.2, rw (cut_newline seen) (empty (cut seen).1 h.3), rw (cut_newline seen) tally)
 
-  -- a byte of a line
-  pub feeds_other : (s : S) (w : Option (List ℕ)) (p q : Progress) (b : ℕ) → (b ≡ 10 → ⊥)
-      → ((line : List ℕ) → IsPart longest p.part line → IsPart longest q.part (line ++ b ∷ [])) → q.tally ≡ p.tally
-      → Feeds takes longest s w p (b ∷ []) s w q
-  feeds_other s w p q b other pushed same = λ start before seen h.
+  -- bytes of a line
+  pub feeds_inside : (s : S) (w : Option (List ℕ)) (p q : Progress) (bytes : List ℕ) → IsInsideLine bytes
+      → ((line : List ℕ) → IsPart longest p.part line → IsPart longest q.part (line ++ bytes)) → q.tally ≡ p.tally
+      → Feeds takes longest s w p bytes s w q
+  feeds_inside s w p q bytes inside extended same = λ start before seen h.
       let tally = subst (λ (t : Tally). IsTally t (cut seen).0 h.0) (sym same) h.4 in
-      (h.0, rw (cut_other seen b other) h.1, h.2, rw (cut_other seen b other) (pushed (cut seen).1 h.3), rw (cut_other seen b other) tally)
+      let cuts = cut_inside seen bytes inside in
+      (h.0, rw cuts h.1, h.2, rw cuts (extended (cut seen).1 h.3), rw cuts tally)
 
   -- nothing stands after the last line
   pub finishes_none : (s : S) (w : Option (List ℕ)) (p : Progress) → ((line : List ℕ) → IsPart longest p.part line → length (kept longest line) ≡ 0) → Finishes takes longest s w p s w p.tally

@@ -1,3 +1,4 @@
+pub mod LinesFound
 pub mod PartialLines
 pub mod Sent
 pub mod Cut

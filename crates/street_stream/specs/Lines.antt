@@ -1,6 +1,6 @@
 -- The lines of a text, and what is kept of a line while it is read.
 -- Source: this profile.
-use Rattle.std.specs.Prelude.{◌≡◌, ℕ, ◌+◌, ◌==◌, ◌||◌, ◌&&◌, List, [], ◌∷◌, ◌++◌, take, Bool, true, if◌then◌else◌}
+use Rattle.std.specs.Prelude.{◌≡◌, ◌≢◌, ℕ, ◌+◌, ◌<◌, ◌==◌, ◌||◌, ◌&&◌, List, [], ◌∷◌, ◌++◌, length, slice_index, take, Bool, true, if◌then◌else◌}
 use Rattle.street_stream.specs.declared.part.PartialLine.{PartialLine}
 
 -- x stands before the first line
@@ -21,6 +21,10 @@ if_any (x ∷ xs) = (x ∷ xs) ∷ []
 -- all lines, the last perhaps without LF
 abbrev pub lines_of : List ℕ → List (List ℕ)
 lines_of text = (cut text).0 ++ if_any (cut text).1
+
+-- no byte of it is LF
+abbrev pub IsInsideLine : List ℕ → Type 0
+IsInsideLine bytes = (k : ℕ) → k < length bytes → slice_index bytes k ≢ 10
 
 -- a space, a tab or a CR
 abbrev pub is_space : ℕ → Bool

@@ -1,12 +1,12 @@
 //! The lines of a text, cut out of reads and handled one after another.
 //!
 //! Source: this profile. Each reply is written, and passed on, before the next read.
-ghost use Rattle.std.specs.Prelude.{◌≡◌, ◌+◌, ◌^◌, ◌<◌, ◌≤◌, ℕ, List, [], ◌∷◌, IfOk, OnOk, IfErr, length, true};
+ghost use Rattle.std.specs.Prelude.{◌≡◌, ◌+◌, ◌^◌, ◌<◌, ◌≤◌, ℕ, List, [], ◌∷◌, ◌++◌, IfOk, OnOk, IfErr, length, true};
 ghost use Rattle.std.specs.Io.KnownBytes.{Consumes, IsAtEnd};
 ghost use Rattle.street_stream.specs.Streams.{IsFresh, IsPrompt};
 ghost use Rattle.street_stream.specs.Faults.{IsCausedBy, IsCausedByLine};
 ghost use Rattle.street_stream.specs.HandledLines.{Whole, Broke, IsTally};
-ghost use Rattle.street_stream.specs.Lines.{IsPart};
+ghost use Rattle.street_stream.specs.Lines.{IsInsideLine, IsPart};
 ghost use Rattle.street_stream.specs.Progress.{IsWithin, Grows, Taken, LineBreaks, Feeds, FeedBreaks, Finishes, FinishBreaks};
 
 use crate::answer::{Answer, Cause, Halt};
@@ -15,6 +15,7 @@ use crate::handler::LineHandler;
 use crate::part::PartialLine;
 use crate::tally::{FaultKind, Tally};
 use crate::writes::{flush_out, write_reply};
+use memchr::memchr;
 use std::alloc::Global;
 use std::io::{Read, Write};
 
@@ -68,30 +69,28 @@ fn end_line<H: LineHandler, W: Write>(
     Ok(())
 }
 
-/// A byte more of the text.
-fn take_byte<H: LineHandler, W: Write>(
+/// The bytes of a line up to its end, and LF.
+fn take_line<H: LineHandler, W: Write>(
     alloc: Global,
     handler: &mut H,
     writer: &mut Counted<W>,
     progress: &mut Progress,
-    byte: u8,
+    bytes: &[u8],
 ) -> Result<(), Cause<H::Stop>>
     requires ready { H.ready }
+    requires inside { IsInsideLine bytes.now }
     requires within { IsWithin progress.old.tally }
     requires room { progress.old.tally.lines < 2 ^ 62 }
-    ensures feeds { OnOk result (Feeds H.takes H.longest handler.old (W.contents writer.old.stream) progress.old (byte ∷ [])
+    ensures feeds { OnOk result (Feeds H.takes H.longest handler.old (W.contents writer.old.stream) progress.old (bytes.now ++ 10 ∷ [])
         handler.new (W.contents writer.new.stream) progress.new) }
     ensures grows { OnOk result (Grows progress.old.tally progress.new.tally 1) }
     ensures broken { IfErr result (λ cause. FeedBreaks H.takes H.stops H.longest handler.old (W.contents writer.old.stream)
-        progress.old (byte ∷ []) handler.new (W.contents writer.new.stream) cause progress.new.tally) }
+        progress.old (bytes.now ++ 10 ∷ []) handler.new (W.contents writer.new.stream) cause progress.new.tally) }
     ensures caused { IfErr result (λ cause. IsCausedByLine cause writer.new) }
 {
-    if byte == b'\n' {
-        end_line(alloc, handler, writer, &progress.part, &mut progress.tally)?;
-        progress.part.clear();
-        return Ok(());
-    }
-    progress.part.push(byte)?;
+    progress.part.extend(bytes)?;
+    end_line(alloc, handler, writer, &progress.part, &mut progress.tally)?;
+    progress.part.clear();
     Ok(())
 }
 
@@ -113,9 +112,12 @@ fn feed<H: LineHandler, W: Write>(
         progress.old bytes.now handler.new (W.contents writer.new.stream) cause progress.new.tally) }
     ensures caused { IfErr result (λ cause. IsCausedByLine cause writer.new) }
 {
-    for byte in bytes {
-        take_byte(alloc, handler, writer, progress, *byte)?;
+    let mut at = 0;
+    'lines: while let Some(size) = memchr(b'\n', &bytes[at..]) {
+        take_line(alloc, handler, writer, progress, &bytes[at..at + size])?;
+        at += size + 1;
     }
+    progress.part.extend(&bytes[at..])?;
     Ok(())
 }
 

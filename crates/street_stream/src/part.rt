@@ -2,6 +2,7 @@
 //!
 //! Source: this profile. A line of spaces, tabs and CR alone is blank, however long it is.
 ghost use Rattle.std.specs.Prelude.{◌≡◌, List, ℕ, [], ◌∷◌, ◌++◌, OnOk};
+ghost use Rattle.std.specs.List.{list_all};
 ghost use Rattle.street_stream.specs.Lines.{is_space, is_blank, kept, IsPart};
 
 use std::alloc::Global;
@@ -21,14 +22,22 @@ pub struct PartialLine {
     most: usize,
 }
 
-/// Takes a byte more of a line, unless enough is kept to tell that it has more than `most` bytes.
-fn keep(bytes: &mut Vec<u8>, byte: u8, most: usize) -> Result<(), Starved>
-    ensures { (line : List ℕ) → bytes.old.items ≡ kept most line → OnOk result (bytes.new.items ≡ kept most (line ++ byte ∷ [])) }
+/// Whether these bytes are spaces, tabs and CR alone.
+fn are_spaces(bytes: &[u8]) -> bool
+    ensures { result ≡ list_all is_space bytes.now }
 {
-    if bytes.len() > most {
+    bytes.iter().all(|byte| is_space(*byte))
+}
+
+/// Takes more bytes of a line, as far as they are wanted to tell whether it has more than `most`.
+fn keep(held: &mut Vec<u8>, bytes: &[u8], most: usize) -> Result<(), Starved>
+    ensures { (line : List ℕ) → held.old.items ≡ kept most line → OnOk result (held.new.items ≡ kept most (line ++ bytes.now)) }
+{
+    if held.len() > most {
         return Ok(());
     }
-    bytes.push(byte)?;
+    let room = (most - held.len()).saturating_add(1);
+    held.extend_from_slice(&bytes[..room.min(bytes.len())])?;
     Ok(())
 }
 
@@ -44,16 +53,16 @@ impl PartialLine {
         }
     }
 
-    /// A byte more, which is not LF.
+    /// More bytes, none of which is LF.
     ///
     /// # Errors
     ///
-    /// `Starved` where there was no memory for it.
-    pub fn push(&mut self, byte: u8) -> Result<(), Starved>
-        ensures { (most : ℕ) (line : List ℕ) → IsPart most self.old line → OnOk result (IsPart most self.new (line ++ byte ∷ [])) }
+    /// `Starved` where there was no memory for them.
+    pub fn extend(&mut self, bytes: &[u8]) -> Result<(), Starved>
+        ensures { (most : ℕ) (line : List ℕ) → IsPart most self.old line → OnOk result (IsPart most self.new (line ++ bytes.now)) }
     {
-        keep(&mut self.bytes, byte, self.most)?;
-        self.is_blank = self.is_blank & is_space(byte);
+        keep(&mut self.bytes, bytes, self.most)?;
+        self.is_blank = self.is_blank && are_spaces(bytes);
         Ok(())
     }
 

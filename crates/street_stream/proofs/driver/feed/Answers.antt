@@ -1,24 +1,44 @@
-use Rattle.std.proofs.Common.{arith}
-use Rattle.std.proofs.lemmas.List.{take_more, take_all}
+use Rattle.std.proofs.Common.{[], ◌++◌, take, refl, sym, ◌∙◌, ap, arith, append-nil, List, ℕ}
 use Rattle.std.proofs.lemmas.Result.{err_from_is_err_and}
-use Rattle.street_stream.proofs.Breaks.{feed_breaks_at}
-use Rattle.street_stream.proofs.Feeds.{feeds_none, feeds_more}
+use Rattle.street_stream.proofs.Breaks.{feed_breaks, part_breaks}
+use Rattle.street_stream.proofs.Feeds.{feeds_none, feeds_inside, feeds_both}
+use Rattle.street_stream.proofs.LinesFound.{rest_from, part_inside, rest_inside, line_found, line_between, rest_behind}
+use Rattle.street_stream.specs.declared.driver.Progress.{Progress}
 use Rattle.street_stream.proofs.driver.feed.Goals as goal
 
-pub loop-byte-init : goal.loop-byte-init
-loop-byte-init g c = (feeds_none g.H.LineHandler.takes g.H.LineHandler.longest _ _ _, record { lines = omega arith; within = c.requires.within })
+pub lines-init : goal.lines-init
+lines-init g c = (omega arith, feeds_none g.H.LineHandler.takes g.H.LineHandler.longest _ _ _, record { lines = omega arith; within = c.requires.within })
 
-pub loop-byte-preserved : goal.loop-byte-preserved
-loop-byte-preserved g c =
-    let fed = c.in_ok-take_byte.ensures in (
-      rw (take_more c.args.bytes.now c.loop-byte.byte-index 0 c.loop-byte-test.true) (feeds_more g.H.LineHandler.takes g.H.LineHandler.longest _ _ _ _ _ _ _ _ _ _ _ c.loop-byte.invariant.0 fed.feeds),
-      record { lines = omega (arith, fed.grows.lines); within = fed.grows.within },
+pub take_line-requires-clause-inside : goal.take_line-requires-clause-inside
+take_line-requires-clause-inside g c = part_inside c.args.bytes.now c.lines.at c.in-Some.size c.in-Some.ensures.0.before
+
+pub lines-preserved : goal.lines-preserved
+lines-preserved g c =
+    let found = line_found c.args.bytes.now c.lines.at c.in-Some.size c.in-Some.ensures.0.high c.in-Some.ensures.1 in
+    let fed = c.in_ok-take_line.ensures in (
+      found.0,
+      feeds_both g.H.LineHandler.takes g.H.LineHandler.longest _ _ _ _ _ _ _ _ _ _ _ _ (sym found.1) c.lines.invariant.1 fed.feeds,
+      record { lines = omega (arith, fed.grows.lines, c.lines.invariant.2.lines); within = fed.grows.within },
     )
 
-pub returns-in_err-take_byte-clause-broken : goal.returns-in_err-take_byte-clause-broken
-returns-in_err-take_byte-clause-broken g c =
+pub returns-in_err-take_line-clause-broken : goal.returns-in_err-take_line-clause-broken
+returns-in_err-take_line-clause-broken g c =
     let p = err_from_is_err_and c.from_residual.result c.from_residual.ensures.1 in
-    rw (p.1, p.2) (feed_breaks_at g.H.LineHandler.takes g.H.LineHandler.stops g.H.LineHandler.longest _ _ _ _ _ _ c.args.progress.now c.loop-byte.progress _ _ c.args.bytes.now c.loop-byte.byte-index c.loop-byte-test.true c.loop-byte.invariant.0 c.in_err-take_byte.ensures.broken)
+    let split = line_between c.args.bytes.now c.lines.at c.in-Some.size c.in-Some.ensures.0.high c.in-Some.ensures.1 in
+    rw (p.1, p.2) (feed_breaks g.H.LineHandler.takes g.H.LineHandler.stops g.H.LineHandler.longest _ _ _ _ _ _ c.args.progress.now c.lines.progress _ _ c.args.bytes.now _ _ _ split c.lines.invariant.1 c.in_err-take_line.ensures.broken)
+
+pub returns-in_err-extend-clause-broken : goal.returns-in_err-extend-clause-broken
+returns-in_err-extend-clause-broken g c =
+    let p = err_from_is_err_and c.from_residual-in_err-extend.result c.from_residual-in_err-extend.ensures.1 in
+    let rest = rest_from c.args.bytes.now c.lines.at in
+    let split = ap (λ (b : List ℕ). take c.lines.at c.args.bytes.now ++ b) (append-nil rest) ∙ rest_behind c.args.bytes.now c.lines.at in
+    rw (p.1, p.2) (feed_breaks g.H.LineHandler.takes g.H.LineHandler.stops g.H.LineHandler.longest _ _ _ _ _ _ c.args.progress.now c.lines.progress _ _ c.args.bytes.now _ rest [] split c.lines.invariant.1
+    (part_breaks g.H.LineHandler.takes g.H.LineHandler.stops g.H.LineHandler.longest _ _ c.lines.progress rest _ refl))
 
 pub returns-clause-feeds : goal.returns-clause-feeds
-returns-clause-feeds g c = rw (take_all c.loop-byte.byte-index c.args.bytes.now c.loop-byte-test.false) at c.loop-byte.invariant.0
+returns-clause-feeds g c =
+    let mid : Progress = record c.lines.progress { part = c.extend.new.self } in
+    let rest = rest_from c.args.bytes.now c.lines.at in
+    let inside = rest_inside c.args.bytes.now c.lines.at c.in_default.ensures in
+    feeds_both g.H.LineHandler.takes g.H.LineHandler.longest _ _ _ _ _ _ c.args.progress.now c.lines.progress mid c.args.bytes.now _ rest (rest_behind c.args.bytes.now c.lines.at) c.lines.invariant.1
+    (feeds_inside g.H.LineHandler.takes g.H.LineHandler.longest _ _ c.lines.progress mid rest inside (λ line part. c.in_ok-extend.ensures _ line part) refl)
