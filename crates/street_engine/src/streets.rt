@@ -30,7 +30,7 @@ use street_base::{
 };
 use street_net::{LaneId, NetFault, Network};
 use street_node::SignalPlan;
-use street_tile::{Gate, Hints, Tile, View};
+use street_tile::{Gate, Hints, Tile, View, step_by};
 
 /// For how many steps what the gate said of threads holds.
 const STEPS_BETWEEN_COUNTS: u64 = 16;
@@ -353,30 +353,39 @@ impl Streets {
         vehicles::sizes(&self.network, &self.tiles).cells
     }
 
-    /// Whether workers share the next step, after so many others of the same advance, the last of which was shared or not: where
-    /// there are several tiles and the gate lets them. The gate is asked once in 16 steps, in which traffic changes little.
-    fn is_shared<G: Gate>(&self, gate: &G, done: u64, before: bool) -> bool {
+    /// How many threads the next step takes, after so many others of the same advance that took so many: one for each tile
+    /// where the gate lets the workers share it, else the caller's alone. The gate is asked once in 16 steps, in which traffic
+    /// changes little.
+    fn threads<G: Gate>(&self, gate: &G, done: u64, before: usize) -> usize
+        requires { 0 < before }
+        ensures { 0 < result }
+    {
         if done % STEPS_BETWEEN_COUNTS != 0 {
             return before;
         }
-        self.tiles.len() > 1 && gate.shares(self.in_cells())
+        let tiles = self.tiles.len();
+        if tiles > 1 && gate.shares(self.in_cells()) {
+            return tiles;
+        }
+        1
     }
 
-    /// One step, shared by the workers or made by the caller's thread alone. Takes no memory.
-    fn step<R: Threads + Sync, G: Gate + Sync>(&mut self, rt: &R, gate: &G, shared: bool)
+    /// One step, by so many threads at most. Takes no memory.
+    fn step<R: Threads + Sync, G: Gate + Sync>(&mut self, rt: &R, gate: &G, threads: usize)
+        requires some { 0 < threads }
         requires prepared { All IsPrepared self.old.tiles }
         requires in_time { self.old.clock < last_clock }
         ensures clock { self.new.clock ≡ self.old.clock + 1 }
         ensures step { StreetsGo step self.old self.new }
     {
-        step_parts::step(
+        step_by(
             rt,
             &self.network,
             &mut self.tiles,
             &mut self.view,
             &mut self.hints,
             gate,
-            shared,
+            threads,
         );
         step_parts::note_arrivals(&mut self.tiles, &mut self.ends, self.clock);
         self.clock += 1;
@@ -388,13 +397,13 @@ impl Streets {
         ensures most { result ≤ count }
         ensures steps { StreetsGo (steps result) self.old self.new }
     {
-        let mut shared = false;
+        let mut threads = 1;
         for done in 0..count {
             if self.prepare().is_err() {
                 return done;
             }
-            shared = self.is_shared(gate, done, shared);
-            self.step(rt, gate, shared);
+            threads = self.threads(gate, done, threads);
+            self.step(rt, gate, threads);
         }
         count
     }

@@ -26,4 +26,5 @@ mod MadeTiles
 mod WrittenList
 pub mod NumberOnce
 pub mod BetweenPhases
+pub mod Lent
 mod KeepsHints

@@ -43,6 +43,7 @@ module _ (net : NetSpec) (x : Part) (tile : IsTileOf net x) where
   pub changes-of : (own : Lanes) → Same x.own own → x.own.room ≤ own.room → ((m : Traffic) → IsOn net m → m.clock ≡ x.clock → LanesStand x.own.places x.own.lanes m → LanesStand own.places own.lanes (changed m)) → LanePhase net x (record x { own = own })
   unfolding changed
   changes-of own same room stand = record {
+    clock = refl;
     arrived = refl;
     detectors = refl;
     goes = record {
@@ -104,6 +105,7 @@ module _ (net : NetSpec) (x : Part) (tile : IsTileOf net x) where
       → EnterPhase net x (record x { own = own; coming = nobody x })
   unfolding departed placed
   enters-of own same goes = record {
+    clock = refl;
     same = record { low = refl; high = refl; links = refl; own = same; sized = refl };
     handed = refl;
     arrived = refl;

@@ -23,6 +23,7 @@ pub record GoesBy (net : NetSpec) (f : Traffic → Traffic) (x y : Part) : Type 
 -- lane changes
 pub record LanePhase (net : NetSpec) (x y : Part) : Type 0 where
   pub goes : GoesBy net changed x y
+  pub clock : y.clock ≡ x.clock
   pub arrived : y.arrived ≡ x.arrived
   pub detectors : y.detectors ≡ x.detectors
 
@@ -47,6 +48,7 @@ pub record ReleasePhase (net : NetSpec) (view : List Bool) (x y : Part) : Type 0
 -- entries and departures
 pub record EnterPhase (net : NetSpec) (x y : Part) : Type 0 where
   pub same : SameTile x y
+  pub clock : y.clock ≡ x.clock
   pub handed : y.handed ≡ x.handed
   pub arrived : y.arrived ≡ x.arrived
   pub coming : y.coming ≡ nobody x
@@ -64,3 +66,9 @@ pub record MeterPhase (net : NetSpec) (x y : Part) : Type 0 where
   pub arrived : y.arrived ≡ x.arrived
   pub noted : (before m : Traffic) → IsOn net m → StandsFor x m → HaveWatched before x.own.places x.detectors
       → MetersStand x m → MetersStand y (noted_by before m)
+
+-- one phase, and then another
+pub record Then (P Q : Part → Part → Type 0) (x z : Part) : Type 0 where
+  pub between : Part
+  pub first : P x between
+  pub second : Q between z

@@ -1,4 +1,4 @@
-//! One step of all tiles, phase by phase, each phase by workers.
+//! One step of all tiles, phase by phase, each phase by a worker for each tile.
 //!
 //! Source: this profile, whose five phases a step has in this order.
 ghost use Rattle.std.specs.Prelude.{◌≡◌, ℕ, ◌+◌, ◌*◌, ◌<◌, ◌≤◌, length, List, [], ◌∷◌, ◌++◌, filter_map, slice_index_or, true};
@@ -79,7 +79,7 @@ fn all_motion<R: Threads + Sync, G: Gate + Sync>(
 }
 
 /// Phase 2 of all tiles.
-fn all_release<R: Threads + Sync, G: Gate + Sync>(
+pub(crate) fn all_release<R: Threads + Sync, G: Gate + Sync>(
     rt: &R,
     net: &Network,
     tiles: &mut [Tile],
@@ -168,7 +168,7 @@ fn all_meter<R: Threads + Sync, G: Gate + Sync>(
 }
 
 /// Each tile shows its mouths, which it found itself: the calling thread only copies.
-fn publish(net: &Network, tiles: &[Tile], view: &mut View)
+pub(crate) fn publish(net: &Network, tiles: &[Tile], view: &mut View)
     requires tiles { AreTiles net.now tiles.now }
     requires shown { All ShowsOwn tiles.now }
     requires view { length view.old ≡ 2 * length net.now.links }
@@ -231,7 +231,7 @@ fn move_from(net: &Network, tiles: &mut [Tile], hints: &mut Hints, i: usize)
 }
 
 /// Each hand-over is moved to the tile that owns its lane.
-fn move_all(net: &Network, tiles: &mut [Tile], hints: &mut Hints)
+pub(crate) fn move_all(net: &Network, tiles: &mut [Tile], hints: &mut Hints)
     requires tiles { AreTiles net.now tiles.old }
     requires nobody { All (λ x. x.coming ≡ nobody x) tiles.old }
     requires lanes { All (λ x. All (λ e. IsLane net.now e.to) x.handed) tiles.old }
@@ -243,45 +243,8 @@ fn move_all(net: &Network, tiles: &mut [Tile], hints: &mut Hints)
     }
 }
 
-/// One step, each phase by so many threads at most: whatever state the tiles stood for, they then stand for the next one, and
-/// hold the numbers of those who arrived. With one thread the caller's runs all tiles in turn and starts none. The hints follow
-/// who enters another link. Takes no memory.
-pub fn step_by<R: Threads + Sync, G: Gate + Sync>(
-    rt: &R,
-    net: &Network,
-    tiles: &mut [Tile],
-    view: &mut View,
-    hints: &mut Hints,
-    gate: &G,
-    threads: usize,
-)
-    requires some { 0 < threads }
-    requires tiles { AreTiles net.now tiles.old }
-    requires few { length tiles.old ≤ 64 }
-    requires idle { All IsIdle tiles.old }
-    requires prepared { All IsPrepared tiles.old }
-    requires view { length view.old ≡ 2 * length net.now.links }
-    requires stand { (m : Traffic) × AllStand net.now tiles.old m × (m.clock < last_clock) }
-    ensures machine { (m : Traffic) → AllStand net.now tiles.old m → AllStand net.now tiles.new (step m) }
-    ensures arrived { (m : Traffic) → AllStand net.now tiles.old m
-        → Each (λ x y. y.arrived ≡ filter_map (λ p. arrival (leaver_of (changed m) p)) x.own.places) tiles.old tiles.new }
-    ensures meters { (m : Traffic) → AllStand net.now tiles.old m → AllMetersStand tiles.old m
-        → AllMetersStand tiles.new (step m) }
-    ensures tiles { AreTiles net.now tiles.new }
-    ensures handed { All (λ x. (x.handed ≡ []) × (x.coming ≡ nobody x)) tiles.new }
-    ensures view { length view.new ≡ length view.old }
-    ensures hints { KeepsHints hints.old hints.new }
-{
-    all_lanes(rt, net, tiles, gate, threads);
-    all_motion(rt, net, tiles, gate, threads);
-    publish(net, tiles, view);
-    all_release(rt, net, tiles, view, gate, threads);
-    move_all(net, tiles, hints);
-    all_enter(rt, net, tiles, gate, threads);
-    all_meter(rt, net, tiles, gate, threads);
-}
-
-/// The step with a thread for each tile.
+/// One step, each phase by a thread for each tile: whatever state the tiles stood for, they then stand for the next one, and hold
+/// the numbers of those who arrived. The hints follow who enters another link. Takes no memory.
 pub fn step_all<R: Threads + Sync, G: Gate + Sync>(
     rt: &R,
     net: &Network,
@@ -307,5 +270,11 @@ pub fn step_all<R: Threads + Sync, G: Gate + Sync>(
     ensures hints { KeepsHints hints.old hints.new }
 {
     let threads = tiles.len().max(1);
-    step_by(rt, net, tiles, view, hints, gate, threads);
+    all_lanes(rt, net, tiles, gate, threads);
+    all_motion(rt, net, tiles, gate, threads);
+    publish(net, tiles, view);
+    all_release(rt, net, tiles, view, gate, threads);
+    move_all(net, tiles, hints);
+    all_enter(rt, net, tiles, gate, threads);
+    all_meter(rt, net, tiles, gate, threads);
 }

@@ -17,11 +17,11 @@ pub note_arrivals-requires : goal.note_arrivals-requires
 note_arrivals-requires g c =
     let s = c.self.inside in
     let xs : List Part = s.tiles.items in
-    let ys : List Part = c.step.new.tiles in
-    let long : length ys ≡ length xs = omega (arith, c.step.auto.tiles, c.deref_mut.ensures.len) in
-    let machine : (m : Traffic) → AllStand s.network xs m → AllStand s.network ys (step m) = λ m a. c.step.ensures.machine m (subst (λ (ts : List Part). AllStand s.network ts m) (sym c.deref_mut.ensures.value) a) in
-    let all : (m : Traffic) → AllStand s.network xs m → Each (λ x y. y.arrived ≡ filter_map (λ p. arrival (leaver_of (changed m) p)) x.own.places) xs ys = λ m a. subst (λ (ts : List Part). Each (λ x y. y.arrived ≡ filter_map (λ p. arrival (leaver_of (changed m) p)) x.own.places) ts ys) c.deref_mut.ensures.value (c.step.ensures.arrived m (subst (λ (ts : List Part). AllStand s.network ts m) (sym c.deref_mut.ensures.value) a)) in
-    let items : (with_items s.tiles ys).items ≡ ys = with_items_is s.tiles ys (omega (arith, c.step.auto.tiles, c.deref_mut.ensures.len)) in
+    let ys : List Part = c.step_by.new.tiles in
+    let long : length ys ≡ length xs = omega (arith, c.step_by.auto.tiles, c.deref_mut.ensures.len) in
+    let machine : (m : Traffic) → AllStand s.network xs m → AllStand s.network ys (step m) = λ m a. c.step_by.ensures.machine m (subst (λ (ts : List Part). AllStand s.network ts m) (sym c.deref_mut.ensures.value) a) in
+    let all : (m : Traffic) → AllStand s.network xs m → Each (λ x y. y.arrived ≡ filter_map (λ p. arrival (leaver_of (changed m) p)) x.own.places) xs ys = λ m a. subst (λ (ts : List Part). Each (λ x y. y.arrived ≡ filter_map (λ p. arrival (leaver_of (changed m) p)) x.own.places) ts ys) c.deref_mut.ensures.value (c.step_by.ensures.arrived m (subst (λ (ts : List Part). AllStand s.network ts m) (sym c.deref_mut.ensures.value) a)) in
+    let items : (with_items s.tiles ys).items ≡ ys = with_items_is s.tiles ys (omega (arith, c.step_by.auto.tiles, c.deref_mut.ensures.len)) in
     let now : c.deref_mut-2.result.now ≡ ys = c.deref_mut-2.ensures.value ∙ items in
     subst (λ (ts : List Part). AreComing (all_arrived ts) s.ends.ends) (sym now) (step-coming s.network s.sites.items s.clock xs ys ys s.ends.ends s.ends.ends c.self.invariant.tiles long refl machine all c.self.invariant.some.0 c.self.invariant.some.1)
 
@@ -29,14 +29,14 @@ pub invariant_of-self : goal.invariant_of-self
 invariant_of-self g c =
     let s = c.self.inside in
     let xs : List Part = s.tiles.items in
-    let ys : List Part = c.step.new.tiles in
+    let ys : List Part = c.step_by.new.tiles in
     let zs : List Part = c.note_arrivals.new.tiles in
     let after : List (Option End) = c.note_arrivals.new.ends.ends in
-    let long : length ys ≡ length xs = omega (arith, c.step.auto.tiles, c.deref_mut.ensures.len) in
-    let machine : (m : Traffic) → AllStand s.network xs m → AllStand s.network ys (step m) = λ m a. c.step.ensures.machine m (subst (λ (ts : List Part). AllStand s.network ts m) (sym c.deref_mut.ensures.value) a) in
-    let all : (m : Traffic) → AllStand s.network xs m → Each (λ x y. y.arrived ≡ filter_map (λ p. arrival (leaver_of (changed m) p)) x.own.places) xs ys = λ m a. subst (λ (ts : List Part). Each (λ x y. y.arrived ≡ filter_map (λ p. arrival (leaver_of (changed m) p)) x.own.places) ts ys) c.deref_mut.ensures.value (c.step.ensures.arrived m (subst (λ (ts : List Part). AllStand s.network ts m) (sym c.deref_mut.ensures.value) a)) in
-    let meters : (m : Traffic) → AllStand s.network xs m → AllMetersStand xs m → AllMetersStand ys (step m) = λ m a kept. c.step.ensures.meters m (subst (λ (ts : List Part). AllStand s.network ts m) (sym c.deref_mut.ensures.value) a) (subst (λ (ts : List Part). AllMetersStand ts m) (sym c.deref_mut.ensures.value) kept) in
-    let items : (with_items s.tiles ys).items ≡ ys = with_items_is s.tiles ys (omega (arith, c.step.auto.tiles, c.deref_mut.ensures.len)) in
+    let long : length ys ≡ length xs = omega (arith, c.step_by.auto.tiles, c.deref_mut.ensures.len) in
+    let machine : (m : Traffic) → AllStand s.network xs m → AllStand s.network ys (step m) = λ m a. c.step_by.ensures.machine m (subst (λ (ts : List Part). AllStand s.network ts m) (sym c.deref_mut.ensures.value) a) in
+    let all : (m : Traffic) → AllStand s.network xs m → Each (λ x y. y.arrived ≡ filter_map (λ p. arrival (leaver_of (changed m) p)) x.own.places) xs ys = λ m a. subst (λ (ts : List Part). Each (λ x y. y.arrived ≡ filter_map (λ p. arrival (leaver_of (changed m) p)) x.own.places) ts ys) c.deref_mut.ensures.value (c.step_by.ensures.arrived m (subst (λ (ts : List Part). AllStand s.network ts m) (sym c.deref_mut.ensures.value) a)) in
+    let meters : (m : Traffic) → AllStand s.network xs m → AllMetersStand xs m → AllMetersStand ys (step m) = λ m a kept. c.step_by.ensures.meters m (subst (λ (ts : List Part). AllStand s.network ts m) (sym c.deref_mut.ensures.value) a) (subst (λ (ts : List Part). AllMetersStand ts m) (sym c.deref_mut.ensures.value) kept) in
+    let items : (with_items s.tiles ys).items ≡ ys = with_items_is s.tiles ys (omega (arith, c.step_by.auto.tiles, c.deref_mut.ensures.len)) in
     let now : c.deref_mut-2.result.now ≡ ys = c.deref_mut-2.ensures.value ∙ items in
     let longer : length zs ≡ length ys = c.note_arrivals.ensures.long ∙ ap length now in
     let noted : Each (λ x y. y ≡ record x { arrived = [] }) ys zs = subst (λ (ts : List Part). Each (λ x y. y ≡ record x { arrived = [] }) ts zs) now c.note_arrivals.ensures.tiles in
@@ -45,11 +45,11 @@ invariant_of-self g c =
     let stands : (m : Traffic) → IsTrafficOf (view s.network s.sites.items s.clock xs s.ends.ends) m → IsTrafficOf (view s.network s.sites.items (s.clock + 1) zs after) (step m) = step-stands s.network s.sites.items s.clock xs ys zs s.ends.ends after c.self.invariant.tiles long longer machine all meters noted ended in
     let early : s.clock < last_clock = subst (λ (v : StreetsView). v.clock < last_clock) (sym c.self.view_is) c.requires.in_time in
     let few = c.self.invariant.few in
-    subst (λ (ts : List Part). IsKept (view s.network s.sites.items (s.clock + 1) ts after) (length c.step.new.view)) (sym last) (record {
-      tiles = noted-tiles s.network ys zs longer noted c.step.ensures.tiles;
+    subst (λ (ts : List Part). IsKept (view s.network s.sites.items (s.clock + 1) ts after) (length c.step_by.new.view)) (sym last) (record {
+      tiles = noted-tiles s.network ys zs longer noted c.step_by.ensures.tiles;
       few = omega (arith, few, long, longer);
-      idle = noted-idle ys zs longer noted c.step.ensures.handed;
-      wide = c.step.ensures.view ∙ c.self.invariant.wide;
+      idle = noted-idle ys zs longer noted c.step_by.ensures.handed;
+      wide = c.step_by.ensures.view ∙ c.self.invariant.wide;
       in_time = omega (arith, early);
       some = (step c.self.invariant.some.0, stands c.self.invariant.some.0 c.self.invariant.some.1);
     })
@@ -58,14 +58,14 @@ pub returns-clause-step : goal.returns-clause-step
 returns-clause-step g c =
     let s = c.self.inside in
     let xs : List Part = s.tiles.items in
-    let ys : List Part = c.step.new.tiles in
+    let ys : List Part = c.step_by.new.tiles in
     let zs : List Part = c.note_arrivals.new.tiles in
     let after : List (Option End) = c.note_arrivals.new.ends.ends in
-    let long : length ys ≡ length xs = omega (arith, c.step.auto.tiles, c.deref_mut.ensures.len) in
-    let machine : (m : Traffic) → AllStand s.network xs m → AllStand s.network ys (step m) = λ m a. c.step.ensures.machine m (subst (λ (ts : List Part). AllStand s.network ts m) (sym c.deref_mut.ensures.value) a) in
-    let all : (m : Traffic) → AllStand s.network xs m → Each (λ x y. y.arrived ≡ filter_map (λ p. arrival (leaver_of (changed m) p)) x.own.places) xs ys = λ m a. subst (λ (ts : List Part). Each (λ x y. y.arrived ≡ filter_map (λ p. arrival (leaver_of (changed m) p)) x.own.places) ts ys) c.deref_mut.ensures.value (c.step.ensures.arrived m (subst (λ (ts : List Part). AllStand s.network ts m) (sym c.deref_mut.ensures.value) a)) in
-    let meters : (m : Traffic) → AllStand s.network xs m → AllMetersStand xs m → AllMetersStand ys (step m) = λ m a kept. c.step.ensures.meters m (subst (λ (ts : List Part). AllStand s.network ts m) (sym c.deref_mut.ensures.value) a) (subst (λ (ts : List Part). AllMetersStand ts m) (sym c.deref_mut.ensures.value) kept) in
-    let items : (with_items s.tiles ys).items ≡ ys = with_items_is s.tiles ys (omega (arith, c.step.auto.tiles, c.deref_mut.ensures.len)) in
+    let long : length ys ≡ length xs = omega (arith, c.step_by.auto.tiles, c.deref_mut.ensures.len) in
+    let machine : (m : Traffic) → AllStand s.network xs m → AllStand s.network ys (step m) = λ m a. c.step_by.ensures.machine m (subst (λ (ts : List Part). AllStand s.network ts m) (sym c.deref_mut.ensures.value) a) in
+    let all : (m : Traffic) → AllStand s.network xs m → Each (λ x y. y.arrived ≡ filter_map (λ p. arrival (leaver_of (changed m) p)) x.own.places) xs ys = λ m a. subst (λ (ts : List Part). Each (λ x y. y.arrived ≡ filter_map (λ p. arrival (leaver_of (changed m) p)) x.own.places) ts ys) c.deref_mut.ensures.value (c.step_by.ensures.arrived m (subst (λ (ts : List Part). AllStand s.network ts m) (sym c.deref_mut.ensures.value) a)) in
+    let meters : (m : Traffic) → AllStand s.network xs m → AllMetersStand xs m → AllMetersStand ys (step m) = λ m a kept. c.step_by.ensures.meters m (subst (λ (ts : List Part). AllStand s.network ts m) (sym c.deref_mut.ensures.value) a) (subst (λ (ts : List Part). AllMetersStand ts m) (sym c.deref_mut.ensures.value) kept) in
+    let items : (with_items s.tiles ys).items ≡ ys = with_items_is s.tiles ys (omega (arith, c.step_by.auto.tiles, c.deref_mut.ensures.len)) in
     let now : c.deref_mut-2.result.now ≡ ys = c.deref_mut-2.ensures.value ∙ items in
     let longer : length zs ≡ length ys = c.note_arrivals.ensures.long ∙ ap length now in
     let noted : Each (λ x y. y ≡ record x { arrived = [] }) ys zs = subst (λ (ts : List Part). Each (λ x y. y ≡ record x { arrived = [] }) ts zs) now c.note_arrivals.ensures.tiles in

@@ -15,4 +15,5 @@ loop-done-preserved g c =
     record {
       stands = λ m s. subst (StreetsStandFor c.step.new.self) (sym (steps-last c.loop-done.done m)) (c.step.ensures.step (steps c.loop-done.done m) (c.prepare.ensures.kept (steps c.loop-done.done m) (c.loop-done.invariant.stands m s)));
       in_time = omega (arith, clock, same, before);
+      some = c.threads-threads.ensures;
     }

@@ -1,7 +1,7 @@
 use Rattle.std.proofs.Common.{arith}
 use Rattle.street_tile.proofs.Rows.{in-row, roads-of}
 use Rattle.street_tile.proofs.BetweenPhases.{tiles-each, tiles-lanes, tiles-motion, tiles-release, tiles-move, tiles-enter, tiles-meter, in-time-lanes, shown-motion, stand-motion, release-lanes, in-time, stand-step, meters-step, arrived-step}
-use Rattle.street_tile.proofs.step.step_by.Goals as goal
+use Rattle.street_tile.proofs.step.step_all.Goals as goal
 
 pub all_motion-requires-clause-tiles : goal.all_motion-requires-clause-tiles
 all_motion-requires-clause-tiles g c κs within = tiles-each c.args.net.now c.all_lanes.new.tiles (tiles-lanes c.args.net.now c.args.tiles.now c.all_lanes.new.tiles (omega arith) c.all_lanes.ensures c.requires.tiles)

@@ -1,0 +1,143 @@
+//! One step of all tiles in three parts that workers share: between them alone a tile needs another's.
+//!
+//! A tile's lane changes and its motion speak of its own lanes, and so do entries, departures and detectors. Before the releases
+//! the tiles show each other their mouths, and after them they hand over who goes.
+//!
+//! Source: this profile, whose five phases a step has in this order.
+ghost use Rattle.std.specs.Prelude.{◌≡◌, ◌*◌, ◌<◌, ◌≤◌, length, [], filter_map};
+ghost use Rattle.std.specs.List.{All};
+ghost use Rattle.street_base.specs.Limits.{last_clock};
+ghost use Rattle.street_base.specs.State.{Traffic};
+ghost use Rattle.street_base.specs.Step.{changed, step, arrival, leaver_of};
+ghost use Rattle.street_tile.specs.Tiles.{IsTileOf, IsIdle, IsPrepared, Each, AreTiles, AllStand, nobody};
+ghost use Rattle.street_tile.specs.TileDetectors.{AllMetersStand};
+ghost use Rattle.street_tile.specs.Phases.{LanePhase, MotionPhase, EnterPhase, MeterPhase, Then};
+ghost use Rattle.street_tile.specs.Hinted.{KeepsHints};
+
+use crate::step::{all_release, move_all, publish};
+use crate::{Gate, Hints, Tile, View};
+use std::thread;
+use std::thread::Threads;
+use street_net::Network;
+
+/// Phases 0 and 1 of a tile.
+fn drive<G: Gate>(net: &Network, worker: u32, tile: &mut Tile, gate: &G)
+    requires tile { IsTileOf net.now tile.old }
+    requires none { tile.old.arrived ≡ [] }
+    requires in_time { tile.old.clock < last_clock }
+    ensures { Then (LanePhase net.now) (MotionPhase net.now) tile.old tile.new }
+{
+    gate.arrive(worker, 0, tile);
+    tile.phase_lanes(net);
+    gate.leave(worker, 0, tile);
+    gate.arrive(worker, 1, tile);
+    tile.phase_motion(net);
+    gate.leave(worker, 1, tile);
+}
+
+/// Phases 3 and 4 of a tile.
+fn settle<G: Gate>(net: &Network, worker: u32, tile: &mut Tile, gate: &G)
+    requires tile { IsTileOf net.now tile.old }
+    requires prepared { IsPrepared tile.old }
+    requires in_time { tile.old.clock < last_clock }
+    ensures { Then (EnterPhase net.now) (MeterPhase net.now) tile.old tile.new }
+{
+    gate.arrive(worker, 3, tile);
+    tile.phase_enter(net);
+    gate.leave(worker, 3, tile);
+    gate.arrive(worker, 4, tile);
+    tile.phase_meter(net);
+    gate.leave(worker, 4, tile);
+}
+
+/// Phases 0 and 1 of all tiles.
+fn all_drive<R: Threads + Sync, G: Gate + Sync>(
+    rt: &R,
+    net: &Network,
+    tiles: &mut [Tile],
+    gate: &G,
+    threads: usize,
+)
+    requires some { 0 < threads }
+    requires few { length tiles.old ≤ 64 }
+    requires tiles { All (IsTileOf net.now) tiles.old }
+    requires none { All (λ x. x.arrived ≡ []) tiles.old }
+    requires in_time { All (λ x. x.clock < last_clock) tiles.old }
+    ensures { Each (Then (LanePhase net.now) (MotionPhase net.now)) tiles.old tiles.new }
+{
+    thread::for_each_mut(
+        rt,
+        tiles,
+        threads,
+        &|i, tile: &mut Tile|
+            requires { (i < 64) × IsTileOf net.now tile.now × (tile.now.arrived ≡ []) × (tile.now.clock < last_clock) }
+            ensures { Then (LanePhase net.entry.now) (MotionPhase net.entry.now) tile.entry.now tile.exit.now }
+        {
+            drive(net, i as u32, tile, gate);
+        },
+    );
+}
+
+/// Phases 3 and 4 of all tiles.
+fn all_settle<R: Threads + Sync, G: Gate + Sync>(
+    rt: &R,
+    net: &Network,
+    tiles: &mut [Tile],
+    gate: &G,
+    threads: usize,
+)
+    requires some { 0 < threads }
+    requires few { length tiles.old ≤ 64 }
+    requires tiles { All (IsTileOf net.now) tiles.old }
+    requires prepared { All IsPrepared tiles.old }
+    requires in_time { All (λ x. x.clock < last_clock) tiles.old }
+    ensures { Each (Then (EnterPhase net.now) (MeterPhase net.now)) tiles.old tiles.new }
+{
+    thread::for_each_mut(
+        rt,
+        tiles,
+        threads,
+        &|i, tile: &mut Tile|
+            requires { (i < 64) × IsTileOf net.now tile.now × IsPrepared tile.now × (tile.now.clock < last_clock) }
+            ensures { Then (EnterPhase net.entry.now) (MeterPhase net.entry.now) tile.entry.now tile.exit.now }
+        {
+            settle(net, i as u32, tile, gate);
+        },
+    );
+}
+
+/// One step by so many threads at most, of the same meaning as [`step_all`](crate::step_all)'s: whatever state the tiles stood
+/// for, they then stand for the next one, and hold the numbers of those who arrived. With one thread the caller's runs all tiles
+/// in turn and starts none. The hints follow who enters another link. Takes no memory.
+pub fn step_by<R: Threads + Sync, G: Gate + Sync>(
+    rt: &R,
+    net: &Network,
+    tiles: &mut [Tile],
+    view: &mut View,
+    hints: &mut Hints,
+    gate: &G,
+    threads: usize,
+)
+    requires some { 0 < threads }
+    requires tiles { AreTiles net.now tiles.old }
+    requires few { length tiles.old ≤ 64 }
+    requires idle { All IsIdle tiles.old }
+    requires prepared { All IsPrepared tiles.old }
+    requires view { length view.old ≡ 2 * length net.now.links }
+    requires stand { (m : Traffic) × AllStand net.now tiles.old m × (m.clock < last_clock) }
+    ensures machine { (m : Traffic) → AllStand net.now tiles.old m → AllStand net.now tiles.new (step m) }
+    ensures arrived { (m : Traffic) → AllStand net.now tiles.old m
+        → Each (λ x y. y.arrived ≡ filter_map (λ p. arrival (leaver_of (changed m) p)) x.own.places) tiles.old tiles.new }
+    ensures meters { (m : Traffic) → AllStand net.now tiles.old m → AllMetersStand tiles.old m
+        → AllMetersStand tiles.new (step m) }
+    ensures tiles { AreTiles net.now tiles.new }
+    ensures handed { All (λ x. (x.handed ≡ []) × (x.coming ≡ nobody x)) tiles.new }
+    ensures view { length view.new ≡ length view.old }
+    ensures hints { KeepsHints hints.old hints.new }
+{
+    all_drive(rt, net, tiles, gate, threads);
+    publish(net, tiles, view);
+    all_release(rt, net, tiles, view, gate, threads);
+    move_all(net, tiles, hints);
+    all_settle(rt, net, tiles, gate, threads);
+}
