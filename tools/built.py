@@ -2,6 +2,8 @@
 
 ./build and ./test write the mark once all is proved; ./streetsim reads it.
 """
+from __future__ import annotations
+
 import hashlib
 import os
 from pathlib import Path
@@ -14,17 +16,17 @@ PAGE = "street_page"
 READ = ("src", "specs", "proofs")
 
 
-def program(top=TOP, crate=CRATE):
+def program(top: Path = TOP, crate: str = CRATE) -> Path:
     """The program's file, built or not."""
     return top / "crates" / crate / "out" / crate
 
 
-def page_module(top=TOP):
+def page_module(top: Path = TOP) -> Path:
     """The file of the page's program for browsers, built or not."""
     return program(top, PAGE).with_suffix(".wasm")
 
 
-def crates(top=TOP, crate=CRATE):
+def crates(top: Path = TOP, crate: str = CRATE) -> dict[str, list[str]]:
     """The crates of the repository that the program stands on, each with what its line of crates.txt names; lowest first, the program's last."""
     lines = (line.partition("#")[0].partition(":") for line in (top / "crates.txt").read_text().splitlines())
     uses = {head.split()[0]: tail.split() for head, colon, tail in lines if colon}
@@ -38,13 +40,13 @@ def crates(top=TOP, crate=CRATE):
     return found
 
 
-def sources(top=TOP, crate=CRATE):
+def sources(top: Path = TOP, crate: str = CRATE) -> list[Path]:
     """The files that the program's check reads, in order."""
     folders = [top / "crates" / name / part for name in crates(top, crate) for part in READ]
     return sorted(path for folder in folders for path in folder.rglob("*") if path.is_file())
 
 
-def sums(top=TOP):
+def sums(top: Path = TOP) -> tuple[str, str]:
     """The sum of the sources, with the crates' lines, and that of the program's file."""
     whole = hashlib.sha256(repr(crates(top)).encode())
     for path in sources(top):
@@ -53,15 +55,15 @@ def sums(top=TOP):
     return whole.hexdigest(), hashlib.sha256(program(top).read_bytes()).hexdigest()
 
 
-def mark_of(top=TOP):
+def mark_of(top: Path = TOP) -> Path:
     return top / "out/streetsim.sums"
 
 
-def unmark(top=TOP):
+def unmark(top: Path = TOP) -> None:
     mark_of(top).unlink(missing_ok=True)
 
 
-def mark(top=TOP):
+def mark(top: Path = TOP) -> None:
     """Notes that the program's file was proved and built from the present sources."""
     mark_of(top).parent.mkdir(exist_ok=True)
     made = mark_of(top).with_suffix(f".{os.getpid()}")
@@ -69,7 +71,7 @@ def mark(top=TOP):
     made.replace(mark_of(top))
 
 
-def why_not(top=TOP):
+def why_not(top: Path = TOP) -> str | None:
     """Why the proved program cannot be run, or none."""
     if not mark_of(top).is_file() or not os.access(program(top), os.X_OK):
         return "the proved program is not built"

@@ -4,7 +4,7 @@ import re
 COUNT = re.compile(r"(\d+) passed, (\d+) failed\n?")
 
 
-def result_of(last, status):
+def result_of(last: str, status: int) -> tuple[int, int]:
     """What passed and failed, by the gate's last line and its status.
 
     One failed where the line has no count, where nothing passed, and where the status is that of a failure.

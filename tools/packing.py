@@ -2,18 +2,21 @@
 
 pip calls these functions (PEP 517); nothing is written beside the sources.
 """
+from __future__ import annotations
+
 import base64
 import hashlib
 import tarfile
 import tomllib
 import zipfile
 from pathlib import Path
+from typing import Any
 
 TOP = Path(__file__).resolve().parent
 STAMP = (2020, 1, 1, 0, 0, 0)  # of each file, so that equal sources give equal bytes
 
 
-def build_wheel(wheel_directory, config_settings=None, metadata_directory=None):
+def build_wheel(wheel_directory: str, config_settings: Any = None, metadata_directory: str | None = None) -> str:
     """Writes the wheel and gives its name."""
     project = read_project()
     stem = stem_of(project)
@@ -28,7 +31,7 @@ def build_wheel(wheel_directory, config_settings=None, metadata_directory=None):
     return name
 
 
-def build_sdist(sdist_directory, config_settings=None):
+def build_sdist(sdist_directory: str, config_settings: Any = None) -> str:
     """Writes an archive of the sources and gives its name."""
     project = read_project()
     name = f"{stem_of(project)}.tar.gz"
@@ -38,22 +41,22 @@ def build_sdist(sdist_directory, config_settings=None):
     return name
 
 
-def read_project():
+def read_project() -> dict[str, Any]:
     return tomllib.loads((TOP / "pyproject.toml").read_text(encoding="utf-8"))["project"]
 
 
-def stem_of(project):
+def stem_of(project: dict[str, Any]) -> str:
     """The name and version, as file names have them."""
     return f"{project['name'].replace('-', '_')}-{project['version']}"
 
 
-def sources():
+def sources() -> dict[str, bytes]:
     """The package's files by their paths."""
     paths = sorted(path for path in (TOP / "streetsim").rglob("*") if path.suffix in (".py", ".html", ".js"))
     return {path.relative_to(TOP).as_posix(): path.read_bytes() for path in paths}
 
 
-def metadata(project, folder):
+def metadata(project: dict[str, Any], folder: str) -> dict[str, bytes]:
     """The files that tell pip what the wheel is and which commands it has."""
     extras = project["optional-dependencies"]
     lines = [
@@ -71,5 +74,5 @@ def metadata(project, folder):
     return {f"{folder}/{name}": "\n".join([*text, ""]).encode() for name, text in texts.items()}
 
 
-def digest(content):
+def digest(content: bytes) -> str:
     return base64.urlsafe_b64encode(hashlib.sha256(content).digest()).rstrip(b"=").decode()

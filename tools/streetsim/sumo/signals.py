@@ -13,8 +13,8 @@ from .report import Report, some
 from .yielding import GREEN, PERMISSIVE, TWO_PARTS, hidden_middle, hidden_start, movements_of, places, runs_of, settle
 
 if TYPE_CHECKING:
-    from .conflicts import Flows, TurnKey
     from ..run.mapping import MapTurn
+    from .conflicts import Flows, TurnKey
     from .net import Connection, Program, SumoNet
     from .network import Network, Turn
     from .yielding import Movement
