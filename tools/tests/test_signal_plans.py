@@ -296,6 +296,19 @@ class Tool(Searching):
             self.assertEqual([phase.get("state") for phase in light], ["Gr", "yr", "rG", "ry"])
             self.assertGreaterEqual(min(durations[0], durations[2]), 5)
 
+    def test_the_search_has_a_reserve_and_the_report_none(self):
+        """The plan given alone is run: trips of the search are longer by it, those of the report are the same."""
+        self.small()
+        given, searched = {}, {}
+        for reserve in (0, 80):
+            words = ("--budget", 1, "--seeds", "1-1", "--check", "101-103", "--reserve", reserve)
+            self.search(*words, until=1500, out=f"reserve{reserve}", status=1)
+            given[reserve] = self.table("before-after.csv", f"reserve{reserve}")[0]
+            searched[reserve] = float(self.table("search.csv", f"reserve{reserve}")[0]["mean_trip_s"])
+        self.assertEqual(given[0], given[80])
+        self.assertAlmostEqual(searched[0], float(given[0]["before"]), delta=0.02 * searched[0])
+        self.assertGreater(searched[80], searched[0] + 1)
+
     def test_not_shown_to_be_better(self):
         """Where nothing may be changed that helps: one signal, offsets alone, few vehicles far apart."""
         one = net(

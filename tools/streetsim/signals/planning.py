@@ -26,6 +26,7 @@ from .town import Reading, Runner, Town, read_town, sessions_of
 CHANGES = ("offsets", "splits", "cycle")
 STEP = 10  # seconds from one cycle that is proposed to the next
 TRIED = 10  # runs of the given plan tell how many seeds a search needs
+RESERVE = 80  # a chance of slowing down, of 1,000, by which a tenth fewer pass in a green
 DRAWN = 500  # seconds of the pictures
 
 
@@ -82,6 +83,14 @@ def add_search(made: argparse.ArgumentParser) -> None:
         "--check", default="101-110", metavar="FIRST-LAST", help="seeds of the report, which the search does not see (default %(default)s)"
     )
     made.add_argument(
+        "--reserve",
+        type=within(0, 1000),
+        default=RESERVE,
+        metavar="N",
+        help="of 1,000, by which vehicles slow down more often in the search than in the report, so that what it finds has room "
+        "(default %(default)s: a green lets some 10 %% fewer pass; 0: as many). Offsets alone are searched without",
+    )
+    made.add_argument(
         "--budget",
         type=within(0, limits.VEHICLES),
         default=1000,
@@ -112,7 +121,7 @@ def main(arguments: list[str]) -> int:
         town = read_town(
             Reading(
                 *(words.run, words.map, words.plans, words.until, words.program, words.least, listed(words.keep)),
-                words.rounds,
+                *(words.rounds, words.reserve if {"splits", "cycle"} & {*changed} else 0),
             )
         )
     check_cycles(words, town, cycles)

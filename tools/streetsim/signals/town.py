@@ -5,6 +5,7 @@ import json
 import sys
 from collections.abc import Callable, Iterable, Iterator, Mapping, Sequence
 from dataclasses import dataclass, field
+from types import MappingProxyType
 from typing import Any, NamedTuple
 
 from ..files import Fault
@@ -19,6 +20,8 @@ from ..sumo.report import some
 from .light_lines import LightLines, read_plans
 from .plans import Light, Plan, light_of, why_kept
 
+EXACT, CAREFUL = 0, 1  # places of sessions: that of the report, that of the search
+
 
 class Reading(NamedTuple):
     """What the user says of a town."""
@@ -31,6 +34,7 @@ class Reading(NamedTuple):
     least: int
     keep: Sequence[str]
     rounds: int = 0
+    reserve: int = 0  # of the search: of 1,000, by which its vehicles slow down more often
 
 
 @dataclass(slots=True)
@@ -41,6 +45,7 @@ class Town:
     plan: Plan  # the one given, of these
     lines: LightLines
     session: Session
+    careful: Session  # of the search, whose vehicles slow down more often, so that what is found has room
     giving: dict[int, int] = field(default_factory=dict)  # seed: the place of a session with its gaps, where vehicles give way
 
     def signals(self, plan: Plan) -> bytes:
@@ -82,7 +87,11 @@ def read_town(reading: Reading) -> Town:
     lights, plan = searched_lights(reading, run, mapping, net)
     nodes = frozenset(node for light, node in mapping.signals if light in lights)
     session = giving_session(reading.program, run, mapping, reading.until, reading.rounds, nodes)
-    town = Town(run, mapping, lights, plan, LightLines(net, run, mapping), session)
+    careful = session
+    if reading.reserve:
+        dawdle = min(1000, run.load.command["dawdle"] + reading.reserve)
+        careful = giving_session(reading.program, run, mapping, reading.until, reading.rounds, nodes, dawdle=dawdle)
+    town = Town(run, mapping, lights, plan, LightLines(net, run, mapping), session, careful)
     warn_of_others(reading, town)
     return town
 
@@ -134,40 +143,42 @@ class Runner:
         self.workers, self.town, self.cars = workers, town, len(town.session.departs)
 
     def means(self, plans: Iterable[Plan], seeds: Sequence[int]) -> Iterator[float]:
-        """For each plan and seed, in order, the mean trip; minor streets have the gaps that were found for the given plan."""
-        for seconds in self.ordered(vehicle_seconds, plans, seeds):
+        """For each plan and seed, in order, the mean trip of the search; minor streets have the gaps that were found for the
+        given plan."""
+        for seconds in self.ordered(vehicle_seconds, plans, seeds, self.town.giving, CAREFUL):
             yield seconds / self.cars
 
     def outcomes(self, plan: Plan, seeds: Sequence[int]) -> list[Outcome]:
         """For each seed, what the plan gives exactly, with gaps of its own."""
-        return list(self.ordered(outcome_giving_way, [plan], seeds, {}))
+        return list(self.ordered(outcome_giving_way, [plan], seeds))
 
     def gaps(self, seeds: Sequence[int]) -> list[Any]:
         """For each seed, the signal lines of minor streets under the given plan, and what they are."""
-        return list(self.ordered(gaps, [self.town.plan], seeds, {}))
+        return list(self.ordered(gaps, [self.town.plan], seeds))
 
     def ordered(
         self,
         function: Callable[..., Any],
         plans: Iterable[Plan],
         seeds: Sequence[int],
-        places: Mapping[int, int] | None = None,
+        places: Mapping[int, int] = MappingProxyType({}),
+        place: int = EXACT,
     ) -> Iterator[Any]:
-        """What a function gives for each plan and seed; each seed's session stands at a place of its own, or at the first."""
-        places = self.town.giving if places is None else places
+        """What a function gives for each plan and seed; each seed's session stands at a place of its own, or at the usual one."""
         made = ((self.town.signals(plan), seed) for plan in plans for seed in seeds)
-        tasks = [(f"the run with seed {seed}", function, places.get(seed, 0), signals, seed) for signals, seed in made]
+        tasks = [(f"the run with seed {seed}", function, places.get(seed, place), signals, seed) for signals, seed in made]
         return self.workers.ordered(tasks)
 
 
 def sessions_of(town: Town, seeds: Sequence[int], runner: Runner) -> list[Session]:
-    """The sessions of a search, of which the first makes its own gaps; the others have those of some seeds."""
-    sessions = [town.session]
+    """The sessions of a search: that of the report and that of the search, which make their own gaps; further ones of the search
+    have those of some seeds."""
+    sessions = [town.session, town.careful]
     if town.session.giving is None:
         return sessions
     for seed, (lines, yielding) in zip(seeds, runner.gaps(seeds), strict=True):
         town.giving[seed] = len(sessions)
-        sessions.append(with_gaps(town.session, lines))
+        sessions.append(with_gaps(town.careful, lines))
     told = f"{yielding.junctions:,} junctions without a light give way by {yielding.lines:,} signal lines"
     print(f"{told} under the given plan; for the plan found these are made anew", file=sys.stderr)
     return sessions
