@@ -178,7 +178,7 @@ class Census:
 Reply = Refused | Starved | Loaded | Short | Vehicle | Lane | Rows | Census | int
 
 
-def reply_of(value: dict[str, Any]) -> Reply:
+def reply_of(value: Any) -> Reply:
     """The typed reply of a JSON object; a refusal or Starved is given as a value. Plain numbers answer enter, advance,
     signal, close, takeout and meter."""
     if "error" in value:

@@ -95,6 +95,8 @@ class Scenarios(Case):
         self.sim.lane.setAllowed("b_0", ["all"])
         self.sim.close("c_0", 15, 45)
         self.assertEqual((self.sim.lane_state("b_0").closed, self.sim.lane_state("c_0").closed), ((), ((2, 5),)))
+        with self.assertRaisesRegex(ValueError, "the map has no lane 'z_0'"):
+            self.sim.close("z_0")
 
     def test_detector(self):
         self.sim.inductionloop.add("d", "a_0", 29.0, 10)  # cell 3

@@ -158,7 +158,8 @@ def lanes_to_join(works: Iterable[Works], mapping: Map) -> list[str]:
 def why_parallel(mapping: Map, lane: str) -> str | None:
     """Why a lane cannot be closed as the map is: nobody could change to the lane beside it. None where it can."""
     place = mapping.place_of(lane)
-    assert place is not None
+    if place is None:
+        raise ValueError(f"the map has no lane {lane!r}")
     link = mapping.links[place[0]]
     if len(link.lanes) > 1 or len(mapping.links_of[link.edge]) == 1:
         return None
