@@ -3,10 +3,12 @@ import csv
 import json
 import unittest
 from collections import Counter
+from types import SimpleNamespace
 
 from support import MAP, PROGRAM, TOOLS, Case, needs_simulator
 from streetsim.junctions import reporting
 from streetsim.junctions.capacity import usual_flow
+from streetsim.junctions.facing import facing
 from streetsim.junctions.layout import PRIORITY, SIGNALS, Approach, Greens, approaches_of, turn_name
 from streetsim.junctions.measures import STOP_LOSS, Measures, Totals, stop_loss, together
 from streetsim.junctions.passages import Passages, discharges, queue_metres
@@ -15,6 +17,7 @@ from streetsim.junctions.sampling import LOOKS, Sampled, moments
 from streetsim.junctions.service import level, percentile
 from streetsim.run.mapping import map_from
 from streetsim.run.tables import read_table
+from streetsim.sumo.conflicts import Foe, Gap, Waiting
 
 CORRIDOR = TOOLS / "examples/corridor"
 # The light is red in steps 0 to 4 of each 10, then green.
@@ -41,7 +44,30 @@ def at_rest(count, first=9):
     return [[number, first - number, 0] for number in range(count)]
 
 
+def cross(left):
+    """A cross whose vertical street goes first: from the west straight on or left, from the east straight on; in an hour so many
+    vehicles go left and 100 straight on from each side."""
+    names = ["wc", "cw", "ec", "ce", "nc", "cn", "sc", "cs"]
+    at = {name: number for number, name in enumerate(names)}
+    gap = Gap(7.0, 3.6, 3.5)
+    main = [Foe(at["nc"], 0, at["cs"], gap, False), Foe(at["sc"], 0, at["cn"], gap, False)]
+    other = Foe(at["ec"], 0, at["cw"], gap, False)
+    ways = {"wc ce": main, "ec cw": main, "wc cn": [*main, other]}
+    turns = {way: tuple(at[name] for name in way.split()) for way in ways}
+    waiting = [Waiting(0, ((turns[way][0], 0, turns[way][1]),), tuple(foes)) for way, foes in ways.items()]
+    links = [SimpleNamespace(edge=name) for name in names]
+    plans = [turns["wc ce"], turns["ec cw"], (at["nc"], at["cs"])] * 100 + [turns["wc cn"]] * left
+    return SimpleNamespace(links=links, nodes=[["C"]], yields=waiting), plans
+
+
 class Definitions(unittest.TestCase):
+    def test_minor_streets_that_wait_for_each_other(self):
+        for left, hours, found in ((60, 1, ["C"]), (20, 1, []), (60, 4, []), (0, 1, [])):
+            self.assertEqual(facing(*cross(left), hours), found, (left, hours))
+        # Where vehicles from the east turn right, and need not wait, theirs is no minor street.
+        mapping, plans = cross(60)
+        self.assertEqual(facing(mapping, [*plans, (2, 5)], 1), [])
+
     def test_turns(self):
         north = [(0, 0), (0, 10)]
         for way, name in (((0, 20), "T"), ((10, 10), "R"), ((-10, 10), "L"), ((0.1, 0), "U"), ((4, 20), "T")):

@@ -6,6 +6,8 @@ from contextlib import AbstractContextManager
 from typing import TYPE_CHECKING
 
 from ..outputs.watching import watch, windows
+from ..sumo.report import some
+from .facing import facing
 from .layout import approaches_of
 from .measures import Measures
 from .passages import Passages
@@ -58,4 +60,7 @@ def write_junctions(
     for begin in range(start, settings.until, interval):
         made.add(measures.interval(begin, min(begin + interval, settings.until)))
     made.write(folder)
-    return [] if exact else ["junctions: lanes are looked at at random moments, as the program takes no more calls (error_s)"]
+    told = [] if exact else ["junctions: lanes are looked at at random moments, as the program takes no more calls (error_s)"]
+    if found := facing(mapping, plans, (settings.until - start) / 3600):
+        told.append(f"junctions: delays are too small where minor streets wait for each other: {some(found)}")
+    return told
