@@ -1,11 +1,11 @@
 #!/usr/bin/python3
 """A day of a city: 900 signals and 240,000 vehicles by the tools, and the processor time of both sides.
 
-Usage: bench/day.py PROGRAM [--vehicles N] [--folder FOLDER] [--until S] [WORDS for streetsim-run ..]
+Usage: bench/day.py PROGRAM [--side N] [--junctions TYPE] [--vehicles N] [--folder FOLDER] [--until S] [WORDS for streetsim-run ..]
        bench/day.py PROGRAM --route ITERATIONS [--vehicles N] [--folder FOLDER] [--until S] [WORDS for streetsim-route ..]
 
-Makes the network by SUMO's netgenerate (30 by 30 junctions 200 m apart, one lane), and vehicles between random edges along
-the grid with two peaks, where the folder does not have them yet; imports them and runs them, or with --route finds ways for their
+Makes the network by SUMO's netgenerate (30 by 30 junctions 200 m apart, one lane; with --side and --junctions others: priority has
+no lights), and vehicles between random edges along the grid with two peaks, where the folder does not have them yet; imports them and runs them, or with --route finds ways for their
 trips by streetsim-route. Prints calls, seconds and memory.
 """
 import argparse
@@ -28,22 +28,22 @@ SIDE = 30
 HOURS = (5, 3, 3, 3, 5, 15, 45, 80, 75, 55, 45, 45, 50, 50, 50, 55, 75, 85, 75, 55, 45, 35, 28, 18)
 
 
-def make_network(path):
-    words = ["netgenerate", "--grid", "--grid.number", SIDE, "--grid.length", 200, "-L", 1, "-j", "traffic_light"]
+def make_network(path, side, kind):
+    words = ["netgenerate", "--grid", "--grid.number", side, "--grid.length", 200, "-L", 1, "-j", kind]
     words += ["--no-turnarounds", "true", "--seed", 1, "-o", path]
     subprocess.run([str(word) for word in words], check=True, stdout=subprocess.DEVNULL)
 
 
-def name_of(column, row):
-    """A junction as netgenerate names those of more than 26 columns: two letters for the column, a number for the row."""
+def name_of(column, row, side):
+    """A junction as netgenerate names it: a letter for the column, two where there are more than 26, and a number for the row."""
     letters = "ABCDEFGHIJKLMNOPQRSTUVWXYZ"
-    return f"{letters[column // 26]}{letters[column % 26]}{row}"
+    return f"{letters[column // 26] if side > 26 else ''}{letters[column % 26]}{row}"
 
 
-def route(draws):
+def route(draws, side):
     """Edges from one junction to another, some along the one street and then the other, some in steps."""
     while True:
-        (x, y), (to_x, to_y) = ((draws.randrange(SIDE), draws.randrange(SIDE)) for _ in range(2))
+        (x, y), (to_x, to_y) = ((draws.randrange(side), draws.randrange(side)) for _ in range(2))
         if abs(x - to_x) + abs(y - to_y) >= 3:
             break
     moves = ["x"] * abs(x - to_x) + ["y"] * abs(y - to_y)
@@ -51,22 +51,22 @@ def route(draws):
         draws.shuffle(moves)
     edges = []
     for move in moves:
-        before = name_of(x, y)
+        before = name_of(x, y, side)
         if move == "x":
             x += 1 if to_x > x else -1
         else:
             y += 1 if to_y > y else -1
-        edges.append(before + name_of(x, y))
+        edges.append(before + name_of(x, y, side))
     return edges
 
 
-def make_routes(path, vehicles):
+def make_routes(path, vehicles, side):
     draws = random.Random(1)
     departs = sorted(3600 * hour + draws.randrange(3600) for hour in draws.choices(range(24), HOURS, k=vehicles))
     with open(path, "w", encoding="utf-8") as file:
         file.write("<routes>\n")
         for number, depart in enumerate(departs):
-            file.write(f'<vehicle id="{number}" depart="{depart}"><route edges="{" ".join(route(draws))}"/></vehicle>\n')
+            file.write(f'<vehicle id="{number}" depart="{depart}"><route edges="{" ".join(route(draws, side))}"/></vehicle>\n')
         file.write("</routes>\n")
 
 
@@ -114,6 +114,8 @@ def main():
     made = argparse.ArgumentParser(description=__doc__, formatter_class=argparse.RawDescriptionHelpFormatter)
     made.add_argument("program")
     made.add_argument("--vehicles", type=int, default=240_000)
+    made.add_argument("--side", type=int, default=SIDE, help="junctions in a row")
+    made.add_argument("--junctions", default="traffic_light", help="their type: traffic_light, priority, ..")
     made.add_argument("--until", type=int)
     made.add_argument("--folder", type=Path, default="/tmp/streetsim-day")
     made.add_argument("--route", type=int, metavar="ITERATIONS")
@@ -122,8 +124,8 @@ def main():
     folder.mkdir(exist_ok=True)
     network, routes, run, mapped = (folder / name for name in ("net.xml", "rou.xml", "run.jsonl", "map.json"))
     if not routes.exists():
-        make_network(network)
-        make_routes(routes, words.vehicles)
+        make_network(network, words.side, words.junctions)
+        make_routes(routes, words.vehicles, words.side)
     if words.route is not None:
         find_ways(words, more, network, routes, folder / "trips.xml")
         return

@@ -18,12 +18,12 @@ sys.path.insert(0, str(TOP / "tools"))
 from streetsim.run import rounds, running  # noqa: E402
 from streetsim.run.folder import read_folder  # noqa: E402
 
-CASES = [(0, 10), (1, 10), (2, 10), (3, 10), (2, 20), (2, 30), (2, 60), (2, 120)]  # rounds, seconds between their polls
+CASES = [(0, 10), (1, 10), (2, 10), (3, 10), (2, 30), (2, 120), (2, 300), (2, 600), (2, 1800)]  # rounds, seconds between their polls
 
 
 def run(args, count, every):
     """Mean trips by seed, and processor seconds a run."""
-    rounds.INTERVALS = (every,)
+    rounds.INTERVALS, rounds.COARSEST = (every,), every
     before = os.times()
     with tempfile.TemporaryDirectory() as folder:
         words = [args.run, "--map", args.map, "--until", str(args.until), "--every", "600", "--seeds", args.seeds, "--jobs", "1"]

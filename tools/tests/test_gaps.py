@@ -3,7 +3,7 @@ import json
 import unittest
 
 from support import Case, lane
-from streetsim.run.gaps import PATIENCE, be_patient, followings, gap_lines, phases_of, red_seconds, slow_down
+from streetsim.run.gaps import PATIENCE, be_patient, followings, gap_lines, phases_of, red_seconds, slow_down, with_wishes
 from streetsim.run.mapping import MapLink, MapTurn
 from streetsim.run.passings import Passings
 from streetsim.run.runs import Line
@@ -71,6 +71,35 @@ class Reds(unittest.TestCase):
         red = red_seconds(waiting, {(0, 0, 1): [30.0]}, 0, 60)
         self.assertEqual([at for at, closed in enumerate(red) if closed], list(range(24, 31)))
         self.assertIsNone(red_seconds(waiting, {}, 0, 60))
+
+    def test_who_is_held_up_counts_as_it_wishes_to_pass(self):
+        # Of 10 in the first 300 s 4 pass, the others later; who is a little late is not held up.
+        wished = [30.0 * at for at in range(10)]
+        self.assertEqual(with_wishes([100.0, 150.0, 200.0, 250.0, 310.0, 350.0], wished), [*wished, 310.0, 350.0])
+        late = [one + 40 for one in wished]
+        self.assertEqual(with_wishes(late, wished), late)
+        self.assertEqual(with_wishes([5.0], [1.0, 2.0, 3.0]), [5.0])
+
+    def test_held_up_by_others_who_give_way(self):
+        # Turn 3 gives way to turn 1, which gives way to turn 0 and of which one of twelve passes, at 290 s.
+        class Both(Links):
+            links = [link(0, 1), link(0, 1), link(1, 2), link(0, 1)]
+            turns = [MapTurn(at, 0, 2, 0, None, 0, False) for at in (0, 1, 3)]
+            yields = [
+                Waiting(1, ((1, 0, 2),), (Foe(0, 0, 2, Gap(5.5, 0.0, 3.5), False),)),
+                Waiting(1, ((3, 0, 2),), (Foe(1, 0, 2, Gap(5.5, 0.0, 3.5), False),)),
+            ]
+
+        passing = {(0, 0): [(100.0, 2)], (1, 0): [(290.0, 2)]}
+        wished = {(0, 0): [(100.0, 2)], (1, 0): [(20.0 * at, 2) for at in range(12)]}
+
+        def seconds_red(turn, *more):
+            phases = [phase for _, line in gap_lines(Both, passing, 0, *more) for phase in line.command["phases"]]
+            return sum(length for length, shown in phases if turn not in shown)
+
+        self.assertEqual(seconds_red((3, 0, 2)), 7)
+        self.assertGreaterEqual(seconds_red((3, 0, 2), wished), 11 * 6)  # the one at 0 s is before the begin
+        self.assertEqual(seconds_red((1, 0, 2), wished), seconds_red((1, 0, 2)))
 
     def test_more_traffic_shorter_red(self):
         waiting = Waiting(1, ((2, 0, 1),), (foe(CROSSING),))

@@ -100,11 +100,19 @@ class Minor(Rounds):
         [(node, turns, foes)] = json.loads((self.folder / "map.json").read_text(encoding="utf-8"))["yields"]
         self.assertEqual((turns, [foe[:3] for foe in foes]), ([[2, 0, 1]], [[0, 0, 1]]))
 
+    def test_polls_are_as_seldom_as_the_calls_need(self):
+        for calls, every in ((110, 300), (120, 120), (140, 60)):
+            with self.subTest(calls):
+                self.run_it("--until", 600, "--every", 0, "--rescue", 0, "--calls", calls, name=f"out{calls}")
+                self.assertEqual(self.setting(f"out{calls}")["yielding"]["every"], every)
+                self.assertGreater(self.trips(f"out{calls}")["s.50"], 138 + 22 - 50)
+
     def test_where_calls_do_not_suffice_nobody_gives_way(self):
-        said, _ = self.run_it("--until", 600, "--every", 0, "--rescue", 0, "--calls", 110)
-        self.assertIn("nobody gives way without a light: its rounds need more than the 110 calls", said)
+        # In 6,000 s ten polls of three lanes; the run itself needs some 380 calls.
+        said, _ = self.run_it("--until", 6000, "--every", 0, "--rescue", 0, "--calls", 386)
+        self.assertIn("nobody gives way without a light: its rounds need more than the 386 calls", said)
         self.assertLess(self.trips()["s.50"], 60)
-        self.assertIn("more than the 110 calls", self.setting()["yielding"]["why_not"])
+        self.assertIn("more than the 386 calls", self.setting()["yielding"]["why_not"])
 
     def test_too_few_calls_are_told_before_it_begins(self):
         # 30 vehicles go first: some two lines of 16 phases, two calls each.

@@ -16,7 +16,7 @@ from ..run.freeflow import FreeFlow
 from ..run.mapping import Map, Place
 from ..run.passings import Passings
 from ..run.record import Recorder, Records, Settings
-from ..run.rounds import COARSEST, gaps_of, places_of, with_lines
+from ..run.rounds import gaps_of, places_of, with_lines
 from ..run.running import seeded
 from ..run.runs import Run
 from ..run.serving import serving
@@ -28,6 +28,7 @@ from .passes import Passes, Sight
 
 ASKED = (1, 2, 3, 5, 10, 15, 30, 60)  # minutes from one time at which vehicles are looked for to the next
 CROWDED = 2.0  # vehicles are on their way so much longer than alone on the road
+COARSEST = 120  # seconds from one look at those who go first to the next
 
 
 @dataclass(frozen=True, slots=True)

@@ -16,32 +16,63 @@ if TYPE_CHECKING:
 
 State = tuple[int, ...]  # for each group whether it is red
 Group = tuple[Sequence["TurnKey"], Sequence[int]]  # turns that give way, and for each second whether they are red
+Passed = Mapping["Place", Sequence[tuple[float, int]]]  # {(link, lane): [(second, next link)]}
+Times = Mapping["TurnKey", Sequence[float]]  # when vehicles pass, by turn
 AFTER = 1  # seconds after one that goes first until the next may go
 AROUND = 300  # seconds before and after, in which those that go first are counted
 SHOWN, HIDDEN = 3, 2  # seconds in turn, where those that use a gap follow each other slowly
 CLOSE = 15  # seconds between two of them that may use one gap, and before and after them for what differs from run to run
 PATIENCE = 150  # seconds without a gap; then one goes
 TAIL = 30  # seconds after the last vehicle
+HELD_UP, FEWER = 0.2, 5  # share of those who wish to pass in AROUND seconds, and how many, from which on they are held up
 
 
-def gap_lines(mapping: Map, passed: Mapping[Place, Sequence[tuple[float, int]]], start: int) -> list[tuple[int, Line]]:
+def gap_lines(mapping: Map, passed: Passed, start: int, wished: Passed | None = None) -> list[tuple[int, Line]]:
     """Signal lines for the nodes where vehicles give way, (clock, line), by when others pass, {(link, lane): [(second, next
-    link)]}."""
+    link)]}. wished: the same of a run in which nobody gives way."""
     end = int(max((second for each in passed.values() for second, _ in each), default=start)) + TAIL
-    times: defaultdict[TurnKey, list[float]] = defaultdict(list)
-    for (link, lane), each in passed.items():
-        for second, following in each:
-            times[link, lane, following].append(second)
+    times = by_turn(passed)
+    coming = times if wished is None else coming_of(mapping, times, by_turn(wished))
     turns_at: defaultdict[int, list[TurnKey]] = defaultdict(list)
     groups_at: defaultdict[int, list[Group]] = defaultdict(list)
     for turn in mapping.turns:
         turns_at[mapping.links[turn.link].end].append((turn.link, turn.lane, turn.next))
     for one in mapping.yields:
-        red = red_seconds(one, times, start, end)
+        red = red_seconds(one, times, start, end, coming)
         if red is not None:
             groups_at[one.node].append((one.turns, red))
     found = [pair for node, groups in groups_at.items() for pair in node_lines(node, turns_at[node], groups, start)]
     return sorted(found, key=lambda pair: (pair[0], pair[1].command["node"]))
+
+
+def by_turn(passed: Passed) -> dict[TurnKey, list[float]]:
+    """{(link, lane, next link): [second]}."""
+    times: defaultdict[TurnKey, list[float]] = defaultdict(list)
+    for (link, lane), each in passed.items():
+        for second, following in each:
+            times[link, lane, following].append(second)
+    return times
+
+
+def coming_of(mapping: Map, times: Times, wished: Times) -> Times:
+    """When those come who go first. Those who give way themselves and are held up count as they wish to pass: in which gaps
+    they do changes from round to round, and others would take these for free."""
+    held = {turn for one in mapping.yields for turn in one.turns}
+    return {turn: with_wishes(seconds, wished.get(turn, ())) if turn in held else seconds for turn, seconds in times.items()}
+
+
+def with_wishes(seconds: Sequence[float], wished: Sequence[float]) -> list[float]:
+    """When the vehicles of a turn pass, or wish to where far fewer pass."""
+    found: defaultdict[float, tuple[list[float], list[float]]] = defaultdict(lambda: ([], []))
+    for at, each in enumerate((seconds, wished)):
+        for second in each:
+            found[second // AROUND][at].append(second)
+    return [second for passing, wishing in found.values() for second in (wishing if are_held_up(passing, wishing) else passing)]
+
+
+def are_held_up(passing: Sequence[float], wishing: Sequence[float]) -> bool:
+    """Whether far fewer pass than wish to."""
+    return len(wishing) - len(passing) >= max(FEWER, HELD_UP * len(wishing))
 
 
 def node_lines(node: int, turns: Sequence[TurnKey], groups: Sequence[Group], start: int) -> Iterator[tuple[int, Line]]:
@@ -79,9 +110,11 @@ def phases_of(reds: Sequence[Sequence[int]]) -> list[tuple[int, State]]:
     return made
 
 
-def red_seconds(waiting: Waiting, times: Mapping[TurnKey, Sequence[float]], start: int, end: int) -> bytearray | None:
-    """For each second from the start whether turns are red, as somebody comes who goes first; none where nobody does."""
-    comes = [(second, foe) for foe in waiting.foes for second in times.get((foe.link, foe.lane, foe.next), ())]
+def red_seconds(waiting: Waiting, times: Times, start: int, end: int, coming: Times | None = None) -> bytearray | None:
+    """For each second from the start whether turns are red, as somebody comes who goes first; none where nobody does. times:
+    when vehicles pass, coming: when those come who go first, where that is another time, by turn."""
+    coming = times if coming is None else coming
+    comes = [(second, foe) for foe in waiting.foes for second in coming.get((foe.link, foe.lane, foe.next), ())]
     comes.sort(key=lambda one: one[0])
     if not comes:
         return None

@@ -14,7 +14,7 @@ from .. import limits
 from ..client import Client, Lane
 from ..files import Fault
 from .budget import INTERVALS, MINUTE, Asking, Budget
-from .gaps import gap_lines
+from .gaps import Passed, gap_lines
 from .mapping import Map, Place
 from .passings import Passings
 from .record import Recorder, Settings, Tell
@@ -22,9 +22,8 @@ from .runs import Line, Run
 from .serving import serving
 
 Start = Callable[[], AbstractContextManager[Client]]  # starts the program
-Passed = Mapping[Place, Sequence[tuple[float, int]]]  # by lane: second and next link
 HOUR = 3600  # seconds
-COARSEST = 120  # seconds between polls: with longer ones passings are not known well enough
+COARSEST = 600  # seconds between polls: a whole day of a city has calls for no more
 
 
 @dataclass(slots=True)
@@ -125,12 +124,14 @@ def gaps_of(
         return [], Yielding()
     places = places_of(mapping)
     asked = Settings(settings.until, rescue=settings.rescue, calls=settings.calls)
-    made, yielding, count = run, Yielding(rounds), expected_lines(run, mapping)
+    made, yielding, count, wished = run, Yielding(rounds), expected_lines(run, mapping), None
     for _ in range(rounds):
         with start() as sim:
             one = Round(sim, made, mapping, asked, places, tell)
             refuse_too_many(run, count, settings, mapping, one.most)
-            lines = gap_lines(mapping, one.record(), run.start())
+            passed = one.record()
+            lines = gap_lines(mapping, passed, run.start(), wished)
+            wished = wished or passed
         yielding.every = one.records.asking.every
         made, count = with_lines(run, lines), len(lines)
     refuse_too_many(run, count, settings, mapping, one.most)
