@@ -96,15 +96,6 @@ class Shown(Case):
         self.assertEqual(shown, sorted(shown, reverse=True))
         self.assertTrue(shown[0] > 30 and shown[-1] <= 3, shown)
 
-    def test_the_queue_of_a_lane_goes_first(self):
-        # 600 an hour come against: 300 of them turn right, slower than those straight on, and all stand in one queue.
-        shown = [
-            self.greens("cross1", {("w", "left"): 300, ("e", "straight"): straight, ("e", "right"): right})["cn"]
-            for straight, right in ((600, 0), (300, 300), (300, 0))
-        ]
-        self.assertLessEqual(shown[1], shown[0])
-        self.assertGreater(shown[2], shown[0])
-
     def test_share_without_demand(self):
         # 70 % of 42 s where no route is known, a quarter where it is said, also with routes.
         self.assertEqual(self.greens("cross1", None)["cn"], 42 - round(42 * 0.3))

@@ -210,16 +210,16 @@ def finding_gaps(movement: Movement, start: int, factor: float) -> float:
     """How many find a gap in a permissive green when the traffic that they give way to is a factor of the usual."""
     blocked, vehicles = 0, 0.0
     for foe in movement.foes:
-        blocked |= queue_seconds(foe, [one for one in movement.foes if one.lane == foe.lane], factor)
+        blocked |= queue_seconds(foe, factor)
     for seconds, foes in movement.meets[start]:
         against = sum(foe.passing for foe in foes) * factor
         vehicles += (seconds & ~blocked).bit_count() * min(1 / movement.headway, gap_capacity(against) / 3600)
     return vehicles
 
 
-def queue_seconds(foe: Movement, beside: Iterable[Movement], factor: float) -> int:
-    """The seconds of the cycle in which the queue leaves that has waited for a green: all on one lane who go first."""
-    seconds, rate = 0, min(sum(one.passing * one.headway for one in beside) * factor / 3600, 0.99)
+def queue_seconds(foe: Movement, factor: float) -> int:
+    """The seconds of the cycle in which the queue leaves that has waited for a green."""
+    seconds, rate = 0, min(foe.passing * factor * foe.headway / 3600, 0.99)
     for start, red in foe.begins if foe.passing else ():
         seconds |= seconds_from(start, round(LOST + red * rate / (1 - rate)), foe.cycle)
     return seconds
