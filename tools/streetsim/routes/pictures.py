@@ -16,6 +16,7 @@ WIDEST = 5.0  # points, of the greatest flow
 CLASSES = 6  # of flows, at most
 APART = ("#08306b", "#2171b5", "#6baed6", "#d8d8d8", "#fdae6b", "#e6550d", "#7f2704")  # fewer to more
 SMALL = 0.1  # of the greatest difference: less is about equal
+ROOM = 1.3  # of the height of lines, so that names stand above them
 NEAR = 250.0  # metres around what differs, at least
 
 
@@ -39,8 +40,8 @@ def gaps(pyplot: Any, searches: Sequence[Diverted]) -> Any:
         axes.plot([one.search.best.number], [100 * one.judged.gap], "o", color="black", markersize=5)
     axes.plot([], [], "o", color="black", label="the routes kept, by seeds that the search did not see")
     axes.set(xlabel="iteration", ylabel="relative gap (%)", title="What all could gain by other ways, of their shortest ways")
-    axes.set_ylim(bottom=0)
-    axes.legend(frameon=False, fontsize=8)
+    axes.set_ylim(0, ROOM * axes.get_ylim()[1])
+    axes.legend(frameon=False, fontsize=8, loc="upper right")
     return figure
 
 
