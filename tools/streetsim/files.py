@@ -195,7 +195,7 @@ def place_of(path: FilePath) -> str:
     return place
 
 
-def refuse_equal(outputs: Mapping[str, str], inputs: Iterable[str] = ()) -> None:
+def refuse_equal(outputs: Mapping[str, FilePath], inputs: Iterable[FilePath] = ()) -> None:
     """Refuses outputs, {what the user calls it: path}, of which two are one file, or one is an input."""
     places: dict[str, str] = {}
     for name, path in outputs.items():
@@ -230,7 +230,7 @@ def whole_file(path: FilePath) -> Iterator[TextFile]:
 
 
 @contextlib.contextmanager
-def whole_folder(path: str, last: str) -> Iterator[str]:
+def whole_folder(path: FilePath, last: str) -> Iterator[str]:
     """A folder to write to, whose files come to an output folder together; after a fault that folder is as it was.
 
     A file of the name `last` is away while the others take their places, so that a folder without it is not whole.
@@ -252,7 +252,7 @@ def whole_folder(path: str, last: str) -> Iterator[str]:
                 os.rmdir(path)
 
 
-def move_files(source: str, target: str, last: str) -> None:
+def move_files(source: str, target: FilePath, last: str) -> None:
     """Moves all files below a folder to their places below another; those of the name `last` at the end."""
     names = [os.path.relpath(os.path.join(folder, name), source) for folder, _, files in os.walk(source) for name in files]
     for name in names:

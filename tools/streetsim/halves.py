@@ -14,9 +14,9 @@ FOLDER = ".half-"
 
 
 @contextlib.contextmanager
-def half_folder(inside: str) -> Iterator[str]:
+def half_folder(inside: str | os.PathLike[str]) -> Iterator[str]:
     """A hidden folder to write to inside another one; it is away in the end."""
-    remove_left(os.path.join(glob.escape(inside), f"{FOLDER}*"))
+    remove_left(os.path.join(glob.escape(os.fspath(inside)), f"{FOLDER}*"))
     path, held = hold_new(lambda: tempfile.mkdtemp(prefix=FOLDER, dir=inside))
     try:
         yield path

@@ -84,7 +84,7 @@ class Scenario:
     def __init__(
         self,
         run: FilePath,
-        mapping: str,
+        mapping: FilePath,
         program: str | None = None,
         workers: int = 1,
         joint: Iterable[str] = (),
@@ -295,7 +295,7 @@ class Scenario:
         run = Run("", Line(0, "", {"dawdle": 0, **self.load}), enters=lines)
         return list(tables.trips(Records(ends=replies), run, replace(self.map, cars=list(self.plans), links_of={})))
 
-    def write_trips(self, path: str) -> None:
+    def write_trips(self, path: FilePath) -> None:
         """Writes these rows as a table."""
         tables.write_table(path, tables.TRIPS, self.trips())
 

@@ -7,7 +7,7 @@ from statistics import fmean, stdev
 from typing import TYPE_CHECKING, Any
 
 from .. import limits
-from ..files import Fault, open_text, reading, whole_file
+from ..files import Fault, FilePath, open_text, reading, whole_file
 from .edgedata import edge_rows
 from .freeflow import FreeFlow
 
@@ -129,14 +129,14 @@ def summary(records: Records) -> Iterator[Entry]:
         yield census.clock, census.admitted, census.waiting, census.cells, census.buffers, census.arrived, census.taken
 
 
-def write_table(path: str, header: Sequence[str], rows: Iterable[Iterable[object]]) -> None:
+def write_table(path: FilePath, header: Sequence[str], rows: Iterable[Iterable[object]]) -> None:
     with whole_file(path) as file:
         writer = csv.writer(file, lineterminator="\n")
         writer.writerow(header)
         writer.writerows(rows)
 
 
-def read_table(path: str, header: Sequence[str]) -> list[dict[str, str]]:
+def read_table(path: FilePath, header: Sequence[str]) -> list[dict[str, str]]:
     """The rows of a table, as dictionaries."""
     with reading(path), open_text(path) as file:
         rows = csv.DictReader(file)

@@ -18,7 +18,7 @@ from typing import Any
 
 from ..cli.progress import Slow
 from ..cli.words import listed, whole_seconds
-from ..files import Fault
+from ..files import Fault, FilePath
 from ..sumo.importing import convert, run_and_map
 from ..sumo.network import Options
 from ..sumo.report import Report, some
@@ -77,7 +77,7 @@ def works_of(text: str, mapping: Map) -> Works:
 
 
 def with_works(
-    run: Run, mapping: Map, map_path: str, works: list[Works], others: Iterable[str] = ()
+    run: Run, mapping: Map, map_path: FilePath, works: list[Works], others: Iterable[str] = ()
 ) -> tuple[Run, Map, list[str]]:
     """The run and its map with works, and what there is to say; others: lanes and edges that are to be joint as well,
     as if they had works."""
@@ -169,7 +169,7 @@ def why_parallel(mapping: Map, lane: str) -> str | None:
     )
 
 
-def joint(run: Run, mapping: Map, map_path: str, names: list[str]) -> tuple[Run, Map]:
+def joint(run: Run, mapping: Map, map_path: FilePath, names: list[str]) -> tuple[Run, Map]:
     """The run and its map, imported anew with more lanes joint."""
     known: dict[str, Any] = {name: tuple(value) if isinstance(value, list) else value for name, value in mapping.options.items()}
     try:

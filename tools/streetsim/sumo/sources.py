@@ -31,7 +31,7 @@ class Sources:
         }
 
 
-def sources_of(kept: dict, map_path: str, run_path: FilePath) -> Sources:
+def sources_of(kept: dict, map_path: FilePath, run_path: FilePath) -> Sources:
     """The sources that a map names. Fault where they, or the run, are not what was imported."""
     if not kept:
         raise Fault(f"{map_path}: does not name the files that it was imported from")
