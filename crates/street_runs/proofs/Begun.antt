@@ -1,26 +1,23 @@
 -- A text of which the first bytes were written, among others.
-use Rattle.std.proofs.Common.{◌≡◌, ◌<◌, ℕ, ◌+◌, List, [], ◌∷◌, ◌++◌, take, drop, get_or, length, Option, refl, sym, ap, ◌∙◌, arith, append_assoc, append-nil, length-append}
+use Rattle.std.proofs.Common.{◌≡◌, ◌<◌, ℕ, ◌+◌, List, [], ◌++◌, take, drop, get_or, length, Option, sym, ap, ◌∙◌, arith, length-append}
 use Rattle.std.proofs.KnownBytes.{Appends-trans}
 use Rattle.std.proofs.Math.Seq.{take-append-add}
-use Rattle.std.proofs.lemmas.List.{take-append-le, take-append-drop, take_more, at_drop_more}
+use Rattle.std.proofs.lemmas.Grind.{flat_map-append}
+use Rattle.std.proofs.lemmas.List.{flat_map_more, take-append-le, take-append-drop, take_more, at_drop_more}
 use Rattle.std.specs.Io.KnownBytes.{Appends}
 use Rattle.street_line.specs.declared.script.Script.{Script}
 use Rattle.street_runs.specs.Outputs.{IsBegun, replies_of}
-
-pub replies_append : {R : Type 0} → (xs ys : List (Script R)) → replies_of (xs ++ ys) ≡ replies_of xs ++ replies_of ys
-replies_append [] ys = refl
-replies_append (x ∷ xs) ys = ap (λ (out : List ℕ). x.replies.items ++ out) (replies_append xs ys) ∙ sym (append_assoc x.replies.items (replies_of xs) (replies_of ys))
 
 -- the script at i is the next
 module _ {R : Type 0} (xs : List (Script R)) (i : ℕ) (d s : Script R) (within : i < length xs) (is : s ≡ get_or xs i d) where
   pub replies_more : replies_of (take (i + 1) xs) ≡ replies_of (take i xs) ++ s.replies.items
   replies_more =
-      ap replies_of (take_more xs i d within) ∙ replies_append (take i xs) (get_or xs i d ∷ [])
-      ∙ ap (λ (t : Script R). replies_of (take i xs) ++ (t.replies.items ++ [])) (sym is) ∙ ap (λ (out : List ℕ). replies_of (take i xs) ++ out) (append-nil s.replies.items)
+      ap replies_of (take_more xs i d within) ∙ sym (flat_map_more (λ (t : Script R). t.replies.items) [] (take i xs) (get_or xs i d))
+      ∙ ap (λ (t : Script R). replies_of (take i xs) ++ t.replies.items) (sym is)
 
   pub replies_rest : replies_of xs ≡ replies_of (take i xs) ++ (s.replies.items ++ replies_of (drop (i + 1) xs))
   replies_rest =
-      ap replies_of (sym (take-append-drop i xs)) ∙ replies_append (take i xs) (drop i xs)
+      ap replies_of (sym (take-append-drop i xs)) ∙ flat_map-append (λ (t : Script R). t.replies.items) (take i xs) (drop i xs)
       ∙ ap (λ (out : List ℕ). replies_of (take i xs) ++ out) (at_drop_more replies_of xs i d within ∙ ap (λ (t : Script R). t.replies.items ++ replies_of (drop (i + 1) xs)) (sym is))
 
 -- what stands before a text is written, and others would have followed

@@ -1,4 +1,5 @@
 pub mod Begun
 pub mod Counts
+pub mod First
 pub mod Scripts
 pub mod Told

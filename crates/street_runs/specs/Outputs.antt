@@ -1,8 +1,9 @@
 -- What is printed of scripts, and what a fault leaves of a text.
 -- Source: this profile.
-use Rattle.std.specs.Prelude.{◌≡◌, ℕ, ◌≤◌, ◌⊎◌, List, [], ◌∷◌, ◌++◌, length, take, codes, Option}
+use Rattle.std.specs.Prelude.{◌≡◌, ℕ, ◌≤◌, ◌⊎◌, List, length, take, codes, Option}
 use Rattle.std.specs.Borrow.{Bor}
 use Rattle.std.specs.Io.KnownBytes.{Appends}
+use Rattle.std.specs.List.{flat_map}
 use Rattle.street_line.specs.declared.script.Script.{Script}
 use Rattle.street_stream.specs.declared.counted.Counted.{Counted}
 use Rattle.street_stream.specs.Streams.{HasFailed}
@@ -11,8 +12,7 @@ use Rattle.street_runs.specs.declared.fault.Fault.TheVariants.{Write}
 
 -- the replies of these scripts, in their order
 abbrev pub replies_of : {R : Type 0} → List (Script R) → List ℕ
-replies_of [] = []
-replies_of (s ∷ ss) = s.replies.items ++ replies_of ss
+replies_of scripts = flat_map (λ s. s.replies.items) scripts
 
 -- of a text the first bytes were written
 pub record IsBegun (before after : Option (List ℕ)) (text : List ℕ) : Type 0 where

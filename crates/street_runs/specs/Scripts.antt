@@ -53,7 +53,7 @@ Tells scripts names before after writer (Err fault) =
     IsFirstFault scripts names fault ⊎ (All (λ s. IsNone s.fault) scripts × HasFailed writer × TellsOutput fault)
 
 -- what became of scripts at a desk: each was opened as the session of its place and served, all replies are written in their order, what is told is the first
--- fault, and the pass is the first script's, and has seen what each script had seen
+-- fault, and the pass is that of the first script's session, and has seen what each script had seen
 pub record ArePlayed {W : Type 0} (R : Type 0) (desk : DeskView) (names : List (Bor (List ℕ))) (before after : Option (List ℕ)) (writer : Counted W)
     (result : Result (Unit {0}) Fault) (pass : PassView) : Type 0 where
   pub opened : List (Script R)
@@ -63,5 +63,5 @@ pub record ArePlayed {W : Type 0} (R : Type 0) (desk : DeskView) (names : List (
   pub run : AreRun opened ran
   pub printed : IsPrinted before after (replies_of ran) writer
   pub told : Tells ran names before after writer result
-  pub first : (d : Script R) → pass.least ≡ (slice_index_or ran 0 d).session.least
+  pub first : pass.least ≡ 0
   pub heard : All (λ s. BeginsWith pass.seen s.session.seen) ran

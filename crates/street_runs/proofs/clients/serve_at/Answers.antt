@@ -1,9 +1,10 @@
-use Rattle.std.proofs.Common.{◌≡◌, List, All, slice_index_or, sym, ap, subst, ◌∙◌, ◌++◌}
+use Rattle.std.proofs.Common.{arith, ◌≡◌, List, All, slice_index_or, sym, ap, subst, ◌∙◌, ◌++◌}
 use Rattle.std.proofs.Math.ListN.{take, length, drop}
 use Rattle.std.proofs.Math.Seq.{take-append_seam}
 use Rattle.street_desk.specs.History.{BeginsWith}
 use Rattle.street_line.specs.declared.script.Script.{Script}
 use Rattle.street_runs.specs.Scripts.{AreRun}
+use Rattle.street_runs.proofs.First.{first_of}
 use Rattle.street_runs.proofs.clients.serve_at.Goals as goal
 
 pub told_pass-pass-requires-clause-desk : goal.told_pass-pass-requires-clause-desk
@@ -35,6 +36,8 @@ returns-clause-played g c =
       run = subst (λ (old : List (Script g.row.R.Denot)). AreRun old new) c.deref_mut.ensures.value c.answer_scripts-served.ensures.run;
       printed = c.answer_scripts-served.ensures.printed;
       told = c.answer_scripts-served.ensures.told;
-      first = λ d. subst (λ (scripts : List (Script g.row.R.Denot)). c.told_pass-pass.result.least ≡ (slice_index_or scripts 0 d).session.least) kept (c.told_pass-pass.ensures.least d);
+      first = first_of c.args.desk.now made.items new c.told_pass-pass.result (omega (arith, all, c.in_ok-scripts.ensures.each, long, c.requires.some)) c.in_ok-scripts.ensures.opened
+          (subst (λ (old : List (Script g.row.R.Denot)). AreRun old new) c.deref_mut.ensures.value c.answer_scripts-served.ensures.run)
+          (λ d. subst (λ (scripts : List (Script g.row.R.Denot)). c.told_pass-pass.result.least ≡ (slice_index_or scripts 0 d).session.least) kept (c.told_pass-pass.ensures.least d));
       heard = subst (λ (scripts : List (Script g.row.R.Denot)). All (λ s. BeginsWith c.told_pass-pass.result.seen s.session.seen) scripts) kept c.told_pass-pass.ensures.told;
     }
