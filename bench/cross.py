@@ -6,27 +6,18 @@ Usage: bench/cross.py PROGRAM --work FOLDER [--seeds 1-3] [--only WORD] [--impor
 Means over demands of several seeds. It needs Debian's sumo, and keeps what SUMO wrote in FOLDER.
 """
 
-import argparse
-import os
 import re
 import shlex
-import subprocess
 import sys
-from pathlib import Path
 from statistics import fmean
 
-TOP = Path(__file__).resolve().parents[1]
-sys.path[:0] = [str(TOP / "tools"), str(TOP / "tools/tests")]
+import shared
+from shared import TOP, run
+
+sys.path.insert(0, str(TOP / "tools/tests"))
 from crosses import LAST, a_green, cases, demand  # noqa: E402
 from streetsim.run.compare import read_tripinfo, trips_of  # noqa: E402
 from streetsim.run.folder import read_folder  # noqa: E402
-
-
-def run(words, folder):
-    words, home = [str(word) for word in words], {"SUMO_HOME": "/usr/share/sumo", **os.environ}
-    done = subprocess.run(words, cwd=folder, env=home, capture_output=True, text=True, check=False)
-    if done.returncode:
-        raise SystemExit(f"{' '.join(words)}\n{done.stderr}")
 
 
 def in_sumo(net, routes, folder):
@@ -46,21 +37,18 @@ def here(net, routes, folder, args):
 
 
 def main():
-    parser = argparse.ArgumentParser(description=__doc__, formatter_class=argparse.RawTextHelpFormatter)
-    parser.add_argument("program")
+    parser = shared.parser_of(__doc__)
     parser.add_argument("--work", required=True)
     parser.add_argument("--seeds", default="1-3")
     parser.add_argument("--only", default="", help="a word of the names of cases")
     parser.add_argument("--import", dest="words", default="", help="more words for the import")
     args = parser.parse_args()
-    args.program, folder = str(Path(args.program).resolve()), Path(args.work).resolve()
-    folder.mkdir(parents=True, exist_ok=True)
-    first, _, last = args.seeds.partition("-")
+    folder = shared.work_of(args)
     print("| Vehicles from the west | SUMO | here |\n|---|---|---|")
     for name, network, flows in (one for one in cases() if args.only in one[0]):
         net = TOP / f"tools/tests/data/{network}.net.xml.gz"
         pairs = []
-        for seed in range(int(first), int(last or first) + 1):
+        for seed in shared.numbers(args.seeds):
             routes = folder / f"{re.sub('[^a-z0-9]+', '-', name)}-{seed}.xml"
             routes.write_text(demand(flows, seed), encoding="utf-8")
             pairs.append((in_sumo(net, routes, folder), here(net, routes, folder, args)))

@@ -13,15 +13,12 @@ import random
 import re
 import resource
 import subprocess
-import sys
 import time
 from pathlib import Path
 
-TOP = Path(__file__).resolve().parents[1]
-sys.path.insert(0, str(TOP / "tools"))
-
-from streetsim.run import running  # noqa: E402
-from streetsim.sumo import importing  # noqa: E402
+from shared import TOP
+from streetsim.run import running
+from streetsim.sumo import importing
 
 SIDE = 30
 # Vehicles of each hour, of 1,000.

@@ -8,20 +8,17 @@ Each of the 240 lanes has an induction loop (e1) 5 m before its stop line, one i
 and by edge. It needs Debian's sumo, and keeps what SUMO wrote in FOLDER.
 """
 
-import argparse
 import csv
 import gzip
-import os
-import subprocess
-import sys
 import xml.etree.ElementTree as ElementTree
 from collections import defaultdict
 from dataclasses import dataclass
-from pathlib import Path
 from statistics import correlation
 
-TOP = Path(__file__).resolve().parents[1]
-NET, ROUTES = (TOP / f"tools/tests/data/grid.{kind}.xml.gz" for kind in ("net", "rou"))
+import shared
+from shared import SAMPLES, TOP, run
+
+NET, ROUTES = (SAMPLES / f"grid.{kind}.xml.gz" for kind in ("net", "rou"))
 PERIOD, COUNTED, UNTIL, AREA = 900, 3600, 4500, 100
 KMH = 3.6
 
@@ -57,13 +54,6 @@ FIGURES = (
     *(Figure(f"e1 in the middle: {name}", "middle", "detectors", *words) for name, *words in LOOP),
     *(Figure(f"e2: {name}", "area", "areas", *words) for name, *words in AREAS),
 )
-
-
-def run(words, folder):
-    words, home = [str(word) for word in words], {"SUMO_HOME": "/usr/share/sumo", **os.environ}
-    done = subprocess.run(words, cwd=folder, env=home, capture_output=True, text=True, check=False)
-    if done.returncode:
-        raise SystemExit(f"{' '.join(words)}\n{done.stderr}")
 
 
 def write_detectors(path):
@@ -129,19 +119,17 @@ def together(pairs):
 
 
 def main():
-    parser = argparse.ArgumentParser(description=__doc__, formatter_class=argparse.RawTextHelpFormatter)
-    parser.add_argument("program")
+    parser = shared.parser_of(__doc__)
     parser.add_argument("--work", required=True)
     parser.add_argument("--seed", type=int, default=1)
     args = parser.parse_args()
-    program, folder = Path(args.program).resolve(), Path(args.work).resolve()
-    folder.mkdir(parents=True, exist_ok=True)
+    folder = shared.work_of(args)
     added = folder / "detectors.add.xml"
     if not (folder / "e2.xml").exists():
         write_detectors(added)
         run(["sumo", "-n", NET, "-r", ROUTES, "-a", added, "--seed", args.seed, "--end", UNTIL, "--no-step-log"], folder)
     run([TOP / "tools/streetsim-import", NET, added, "--routes", ROUTES, "-o", "x.jsonl", "--map", "x.map.json"], folder)
-    words = ["x.jsonl", "--map", "x.map.json", "--until", UNTIL, "--out", "out", "--program", program]
+    words = ["x.jsonl", "--map", "x.map.json", "--until", UNTIL, "--out", "out", "--program", args.program]
     run([TOP / "tools/streetsim-run", *words], folder)
     here, there = ours(folder), sumos(folder)
     print("| Detectors of the grid, quarter hours | SUMO | here | r by lane | r by edge |\n|---|---|---|---|---|")

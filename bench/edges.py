@@ -9,14 +9,12 @@ keeps as counts-SEED.xml. Vehicles that wait outside the network are on no edge.
 
 import argparse
 import csv
-import sys
 import xml.etree.ElementTree as ElementTree
 from collections import Counter
 from pathlib import Path
 
-TOP = Path(__file__).resolve().parents[1]
-sys.path.insert(0, str(TOP / "tools"))
-from streetsim.run.folder import read_folder  # noqa: E402
+import shared  # noqa: F401  # which finds the tools
+from streetsim.run.folder import read_folder
 
 
 def in_sumo(path):

@@ -17,18 +17,19 @@ from collections.abc import Iterator
 from contextlib import contextmanager
 from pathlib import Path
 
-TOP = Path(__file__).resolve().parents[1]
-os.environ.setdefault("SUMO_HOME", "/usr/share/sumo")
-sys.path[:0] = [str(TOP / "tools"), "/usr/share/sumo/tools"]
+from shared import SAMPLES, SUMO_HOME, TOP
+
+os.environ.setdefault("SUMO_HOME", SUMO_HOME)
+sys.path.insert(1, f"{SUMO_HOME}/tools")
 
 import traci  # noqa: E402  SUMO's own
 from streetsim.env import SignalEnv  # noqa: E402
 
 EVERY, YELLOW, GREEN = 5, 3, 6  # seconds, seconds, steps
-CROSS, DATA = TOP / "tools/examples/actuated", TOP / "tools/tests/data"
+CROSS = TOP / "tools/examples/actuated"
 NETS = {
     "cross, 1 light": (CROSS / "cross.net.xml.gz", CROSS / "cross.rou.xml"),
-    "grid, 36 lights": (DATA / "grid.net.xml.gz", DATA / "grid.rou.xml.gz"),
+    "grid, 36 lights": (SAMPLES / "grid.net.xml.gz", SAMPLES / "grid.rou.xml.gz"),
 }
 
 

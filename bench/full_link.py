@@ -7,34 +7,26 @@ The vehicles in cells are counted by a model of the one lane, which is written h
 them by the same rules, and its clock and arrivals are compared with what the program answers.
 """
 
-import argparse
 import json
 import resource
 import statistics
 import subprocess
+
+import shared
 
 LENGTH = 1_000
 CHUNK = 10_000
 
 
 def load(limit):
-    return {
-        "cmd": "load",
-        "nodes": [[1, 1, 2], [2, 1, 2]],
-        "links": [[10, 1, 2, 1, LENGTH, limit]],
-        "turns": [],
-        "zone": 0,
-        "dawdle": 0,
-        "change": 0,
-        "seed": 0,
-    }
+    return shared.load([[1, 1, 2], [2, 1, 2]], [[10, 1, 2, 1, LENGTH, limit]], [])
 
 
 ENTER = {"cmd": "enter", "plan": [10], "lane": 0, "depart": 0}
 
 
 def lines(commands):
-    return "".join(json.dumps(command, separators=(",", ":")) + "\n" for command in commands)
+    return "".join(shared.text_of(command) + "\n" for command in commands)
 
 
 class Lane:
@@ -84,8 +76,7 @@ def best(program, text, times=5):
 
 
 def main():
-    parser = argparse.ArgumentParser(description=__doc__, formatter_class=argparse.RawTextHelpFormatter)
-    parser.add_argument("program")
+    parser = shared.parser_of(__doc__)
     parser.add_argument("--limit", type=int, default=5)
     parser.add_argument("--chunks", type=int, default=1)
     parser.add_argument("--entered", type=int, default=5_500)

@@ -9,13 +9,13 @@ before those that are counted: --before (200) after what a session begins with, 
 the same for each run, however busy the machine is.
 """
 
-import argparse
 import json
 import re
 import subprocess
 import tempfile
 from pathlib import Path
 
+import shared
 from steps import CALLS, SESSIONS, Program, line
 
 WARM = 32  # steps with caches before those that are counted
@@ -69,8 +69,7 @@ def by_function(path):
 
 
 def main():
-    parser = argparse.ArgumentParser(description=__doc__, formatter_class=argparse.RawTextHelpFormatter)
-    parser.add_argument("program")
+    parser = shared.parser_of(__doc__)
     parser.add_argument("--only", default="ring 0.3,grid 20000,grid 100000", help="names of sessions, with commas between")
     parser.add_argument("--before", type=int, default=200)
     parser.add_argument("--steps", type=int, default=32)

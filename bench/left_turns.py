@@ -8,31 +8,20 @@ It needs Debian's sumo and sumo-tools, and no streetsim.
 """
 
 import argparse
-import os
 import random
-import subprocess
-import sys
 from collections import Counter
 from pathlib import Path
 
-TOP = Path(__file__).resolve().parents[1]
-sys.path.insert(0, str(TOP / "tools"))
-from streetsim.run.compare import read_tripinfo  # noqa: E402
+from shared import SHIPPED, run
+from streetsim.run.compare import read_tripinfo
 
-RILSA = Path("/usr/share/sumo/tools/sumolib/scenario/scenarios/RealWorld/RiLSA_example1")
+RILSA = SHIPPED / "RiLSA_example1"
 FIRST, LAST = 600, 3900  # seconds of the count
 RED = ((45, "r" * 12), (10, "r" * 12))
 AFTER = ((3, "yyyrrryyyrrr"), (2, "r" * 12))
 GREEN = "GGgrrrGGgrrr"  # from the north and the south; left turns give way
 NORTH = {"nm ms": 1100, "nm mw": 400}  # vehicles an hour of one lane, straight on and to the right: more than can pass
 LEFT = {"sm mw": 1500}
-
-
-def run(words, folder):
-    words, home = [str(word) for word in words], {"SUMO_HOME": "/usr/share/sumo", **os.environ}
-    done = subprocess.run(words, cwd=folder, env=home, capture_output=True, text=True, check=False)
-    if done.returncode:
-        raise SystemExit(f"{' '.join(words)}\n{done.stderr}")
 
 
 def demand(flows):

@@ -7,12 +7,12 @@ It stops where a reply is not the one that the rules give. Times are those of th
 that the program has had in use once the line is answered; Linux tells it while the program runs.
 """
 
-import argparse
-import json
 import statistics
 import subprocess
 import tempfile
 import time
+
+import shared
 
 MEBIBYTE = 1 << 20
 MOST_NODES = MOST_LINKS = 4_096
@@ -27,22 +27,11 @@ TOO_LONG = b'{"error":22,"name":"LineTooLong"}\n'
 
 
 def line(command):
-    return json.dumps(command, separators=(",", ":")).encode() + b"\n"
+    return shared.text_of(command).encode() + b"\n"
 
 
 def load(nodes, links, turns):
-    return line(
-        {
-            "cmd": "load",
-            "nodes": nodes,
-            "links": links,
-            "turns": turns,
-            "zone": 0,
-            "dawdle": 0,
-            "change": 0,
-            "seed": 0,
-        }
-    )
+    return line(shared.load(nodes, links, turns))
 
 
 SMALL = load([[1, 1, 2], [2, 1, 2]], [[10, 1, 2, 1, 10, 5]], [])
@@ -132,8 +121,7 @@ def time_line(args, name, text, wanted, wanted_next):
 
 
 def main():
-    parser = argparse.ArgumentParser(description=__doc__, formatter_class=argparse.RawTextHelpFormatter)
-    parser.add_argument("program")
+    parser = shared.parser_of(__doc__)
     parser.add_argument("--lines", type=int, default=500_000)
     parser.add_argument("--times", type=int, default=5)
     args = parser.parse_args()

@@ -11,7 +11,6 @@ inside them. It needs Debian's python3-selenium and chromium-driver. The load of
 import argparse
 import json
 import os
-import sys
 import tempfile
 import threading
 import time
@@ -19,17 +18,14 @@ from collections.abc import Iterator
 from contextlib import contextmanager
 from pathlib import Path
 
+import shared  # noqa: F401  # which finds the tools
 import steps
 from selenium import webdriver
-
-TOP = Path(__file__).resolve().parents[1]
-sys.path.insert(0, str(TOP / "tools"))
-
-from streetsim.live.bridge import Bridge  # noqa: E402
-from streetsim.live.engine import Engine  # noqa: E402
-from streetsim.live.page import own_lines, page_of  # noqa: E402
-from streetsim.run.mapping import Map, MapLink, read_map  # noqa: E402
-from streetsim.run.runs import Run, read_run  # noqa: E402
+from streetsim.live.bridge import Bridge
+from streetsim.live.engine import Engine
+from streetsim.live.page import own_lines, page_of
+from streetsim.run.mapping import Map, MapLink, read_map
+from streetsim.run.runs import Run, read_run
 
 VEHICLES, SPACING, SIDE = 10_000, 750, 32
 # Pixels a metre of each view; none is the whole network.

@@ -7,32 +7,20 @@ Two cases: one approach of one lane that is always full, green 42 s of 90, vehic
 grid with 15 % of its vehicles 18 m long. It needs Debian's sumo.
 """
 
-import argparse
 import gzip
-import os
 import random
 import re
-import subprocess
-import sys
-from pathlib import Path
 from statistics import fmean
 
-TOP = Path(__file__).resolve().parents[1]
-sys.path.insert(0, str(TOP / "tools"))
-from streetsim.run.compare import counts_of, geh, read_edgedata, read_tripinfo, trips_of  # noqa: E402
-from streetsim.run.folder import read_folder  # noqa: E402
+import shared
+from shared import SAMPLES, TOP, run
+from streetsim.run.compare import counts_of, geh, read_edgedata, read_tripinfo, trips_of
+from streetsim.run.folder import read_folder
 
 PLAIN, LIT = "priority", "traffic_light"
 NODES = ("a", -800, 0, PLAIN), ("b", 0, 0, LIT), ("c", 400, 0, PLAIN), ("d", 0, -400, PLAIN), ("e", 0, 400, PLAIN)
 EDGES = (("in", "a", "b"), ("out", "b", "c"), ("up", "d", "b"), ("away", "b", "e"))
 FIRST, LAST = 900, 1800  # seconds of the count, when the approach is full
-
-
-def run(words, folder):
-    words, home = [str(word) for word in words], {"SUMO_HOME": "/usr/share/sumo", **os.environ}
-    done = subprocess.run(words, cwd=folder, env=home, capture_output=True, text=True, check=False)
-    if done.returncode:
-        raise SystemExit(f"{' '.join(words)}\n{done.stderr}")
 
 
 def approach(folder):
@@ -96,12 +84,11 @@ def full_approach(folder, program):
 
 def long_grid(folder, program):
     """The sample grid with each vehicle of 15 % 18 m long: mean trips and the share of good counts, in both."""
-    data = TOP / "tools/tests/data"
-    text = gzip.decompress((data / "grid.rou.xml.gz").read_bytes()).decode()
+    text = gzip.decompress((SAMPLES / "grid.rou.xml.gz").read_bytes()).decode()
     draws = random.Random(15)
     text = re.sub("<vehicle ", lambda _: '<vehicle type="long" ' if draws.random() < 0.15 else "<vehicle ", text)
     (folder / "grid.rou.xml").write_text(re.sub("(<routes[^>]*>)", r'\1<vType id="long" length="18"/>', text, count=1))
-    net = data / "grid.net.xml.gz"
+    net = SAMPLES / "grid.net.xml.gz"
     trips, counts = sumo(folder, net, "grid.rou.xml", [], 6000, 900)
     one = here(folder, net, "grid.rou.xml", [], 6000, 900, program)
     own, ours = trips_of(one), counts_of(one)
@@ -113,16 +100,14 @@ def long_grid(folder, program):
 
 
 def main():
-    parser = argparse.ArgumentParser(description=__doc__, formatter_class=argparse.RawTextHelpFormatter)
-    parser.add_argument("program")
+    parser = shared.parser_of(__doc__)
     parser.add_argument("--work", required=True)
     args = parser.parse_args()
-    folder, program = Path(args.work).resolve(), str(Path(args.program).resolve())
-    folder.mkdir(parents=True, exist_ok=True)
+    folder = shared.work_of(args)
     print("| Vehicles | SUMO | here |\n|---|---|---|")
-    for name, there, ours in full_approach(folder, program):
+    for name, there, ours in full_approach(folder, args.program):
         print(f"| {name} | {there} | {ours} ({(ours / there - 1) * 100:+.1f} %) |", flush=True)
-    count, there, ours, good = long_grid(folder, program)
+    count, there, ours, good = long_grid(folder, args.program)
     print(
         f"grid, 15 % of 18 m: {count:,} vehicles, mean trip {there:.1f} s in SUMO, {ours:.1f} s here, "
         f"GEH below 5 for {good * 100:.1f} %"

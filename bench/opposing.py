@@ -6,18 +6,14 @@ Usage: bench/opposing.py PROGRAM --work FOLDER [--seed 1]
 
 Arms of 500 m, one lane, 50 km/h; the main street's vehicles go straight on, half of them from each side. It needs Debian's sumo.
 """
-import argparse
-import os
 import random
-import subprocess
-import sys
 from collections import Counter
 from pathlib import Path
 
-TOP = Path(__file__).resolve().parents[1]
-sys.path.insert(0, str(TOP / "tools"))
-from streetsim.run.compare import read_tripinfo, trips_of  # noqa: E402
-from streetsim.run.folder import read_folder  # noqa: E402
+import shared
+from shared import TOP, run
+from streetsim.run.compare import read_tripinfo, trips_of
+from streetsim.run.folder import read_folder
 
 FLOWS = (200, 400, 600, 800)  # vehicles an hour of the main street
 KINDS = {"both sides, none left": ("sn", 0.0), "one side, 20 % left": ("s", 0.2), "both sides, 20 % left": ("sn", 0.2)}
@@ -31,13 +27,6 @@ WAYS = {"s": ("n", "w"), "n": ("s", "e")}  # straight on and left
 def crosses():
     """(name, minor sides, share that goes left, main flow) of all."""
     return [(f"j{at}_{flow}", *kind, flow) for at, kind in enumerate(KINDS.values()) for flow in FLOWS]
-
-
-def run(words, folder):
-    words, home = [str(word) for word in words], {"SUMO_HOME": "/usr/share/sumo", **os.environ}
-    done = subprocess.run(words, cwd=folder, env=home, capture_output=True, text=True, check=False)
-    if done.returncode:
-        raise SystemExit(f"{' '.join(words)}\n{done.stderr}")
 
 
 def network(folder):
@@ -85,8 +74,7 @@ def passed(trips):
 
 
 def main():
-    parser = argparse.ArgumentParser(description=__doc__, formatter_class=argparse.RawTextHelpFormatter)
-    parser.add_argument("program")
+    parser = shared.parser_of(__doc__)
     parser.add_argument("--work", required=True, type=lambda text: Path(text).resolve())
     parser.add_argument("--seed", type=int, default=1)
     args = parser.parse_args()

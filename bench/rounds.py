@@ -6,17 +6,14 @@ Usage: bench/rounds.py PROGRAM RUN.jsonl MAP.json --until S [--seeds 1-3]
 Times are processor seconds of the tools and of streetsim. Without rounds a run polls as it does with them, every 600 s.
 """
 
-import argparse
 import os
-import sys
 import tempfile
 from pathlib import Path
 from statistics import fmean
 
-TOP = Path(__file__).resolve().parents[1]
-sys.path.insert(0, str(TOP / "tools"))
-from streetsim.run import rounds, running  # noqa: E402
-from streetsim.run.folder import read_folder  # noqa: E402
+import shared
+from streetsim.run import rounds, running
+from streetsim.run.folder import read_folder
 
 CASES = [(0, 10), (1, 10), (2, 10), (3, 10), (2, 30), (2, 120), (2, 300), (2, 600), (2, 1800)]  # rounds, seconds between their polls
 
@@ -34,8 +31,7 @@ def run(args, count, every):
 
 
 def main():
-    parser = argparse.ArgumentParser(description=__doc__, formatter_class=argparse.RawTextHelpFormatter)
-    parser.add_argument("program")
+    parser = shared.parser_of(__doc__)
     parser.add_argument("run")
     parser.add_argument("map")
     parser.add_argument("--until", type=int, required=True)

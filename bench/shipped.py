@@ -7,17 +7,15 @@ Times are those of the clock on the wall, the best of three runs: of the import,
 their replies. It stops where one of these lines is refused.
 """
 
-import argparse
-import sys
 import time
 from pathlib import Path
 
-sys.path.insert(0, str(Path(__file__).resolve().parents[1] / "tools"))
-from streetsim.client import Client  # noqa: E402
-from streetsim.files import Fault  # noqa: E402
-from streetsim.sumo.importing import convert  # noqa: E402
-from streetsim.sumo.network import Options  # noqa: E402
-from streetsim.sumo.report import Report  # noqa: E402
+import shared
+from streetsim.client import Client
+from streetsim.files import Fault
+from streetsim.sumo.importing import convert
+from streetsim.sumo.network import Options
+from streetsim.sumo.report import Report
 
 
 def timed(times, call):
@@ -58,8 +56,7 @@ def row(program, path, times):
 
 
 def main():
-    parser = argparse.ArgumentParser(description=__doc__, formatter_class=argparse.RawTextHelpFormatter)
-    parser.add_argument("program")
+    parser = shared.parser_of(__doc__)
     parser.add_argument("--folder", default="/usr/share/sumo")
     parser.add_argument("--times", type=int, default=3)
     args = parser.parse_args()

@@ -7,20 +7,17 @@ Each is taken by its configuration, else by its files, and runs to the configura
 in both: SUMO with steps of one second. GEH is of counts of each edge over quarter hours, or over the whole where that is shorter.
 """
 
-import argparse
-import os
 import re
 import subprocess
-import sys
 from pathlib import Path
 
-TOP = Path(__file__).resolve().parents[1]
-sys.path.insert(0, str(TOP / "tools"))
-from streetsim.files import Fault  # noqa: E402
-from streetsim.sumo.configuration import files_named, read_configuration  # noqa: E402
+import shared
+from shared import SUMO_HOME, TOP
+from streetsim.files import Fault
+from streetsim.sumo.configuration import files_named, read_configuration
 
-GAMES = Path("/usr/share/sumo/tools/game")
-SCENARIOS = Path("/usr/share/sumo/tools/sumolib/scenario/scenarios")
+GAMES = Path(SUMO_HOME) / "tools/game"
+SCENARIOS = Path(SUMO_HOME) / "tools/sumolib/scenario/scenarios"
 CASES = {  # the configuration, or the network and the routes; the last second, 0 for the configuration's
     **{f"game/{name}": (GAMES / f"{name}.sumocfg", 0) for name in "A10KW DRT bs3d corridor cross grid6 highway ramp square".split()},
     "game/hiking": (GAMES / "hiking/hiking.sumocfg", 1800),
@@ -36,8 +33,8 @@ TOLD = ("weights.random-factor",)  # of configurations, of how vehicles choose t
 
 def done(words, most=0):
     """What a command prints; a Fault with the last line of what it says where it fails, with a status above the most."""
-    home = {"SUMO_HOME": "/usr/share/sumo", **os.environ}
-    made = subprocess.run([str(word) for word in words], env=home, capture_output=True, text=True, check=False)
+    words = [str(word) for word in words]
+    made = subprocess.run(words, env=shared.with_sumo(), capture_output=True, text=True, check=False)
     if made.returncode > most:
         raise Fault(f"refused: {(made.stderr.strip().splitlines() or ['no word'])[-1].partition(': ')[2]}")
     return made.stdout
@@ -79,8 +76,7 @@ def row(program, folder, path, end):
 
 
 def main():
-    parser = argparse.ArgumentParser(description=__doc__, formatter_class=argparse.RawTextHelpFormatter)
-    parser.add_argument("program")
+    parser = shared.parser_of(__doc__)
     parser.add_argument("--work", required=True, help="a folder for what is made")
     parser.add_argument("--only", default="", help="names, with commas between")
     args = parser.parse_args()

@@ -10,11 +10,12 @@ be the same, byte for byte. Times are those of the clock on the wall, so that wo
 each advance is taken.
 """
 
-import argparse
 import json
 import random
 import subprocess
 import time
+
+import shared
 
 DIRECTIONS = [(0, 1), (1, 0), (0, -1), (-1, 0)]
 BATCH = 50  # lines that are sent before their replies are read, so that no pipe fills
@@ -22,11 +23,11 @@ CALLS = ["--calls", "1000000"]  # more than a program serves by itself
 
 
 def line(**fields):
-    return json.dumps(fields, separators=(",", ":"))
+    return shared.text_of(fields)
 
 
 def load(nodes, links, turns, **values):
-    return line(cmd="load", nodes=nodes, links=links, turns=turns, dawdle=200, seed=1, **values)
+    return shared.text_of(shared.load(nodes, links, turns, dawdle=200, seed=1, **values))
 
 
 def ring(density):
@@ -152,8 +153,7 @@ def run(words_of, lines, chunks):
 
 
 def main():
-    parser = argparse.ArgumentParser(description=__doc__, formatter_class=argparse.RawTextHelpFormatter)
-    parser.add_argument("program")
+    parser = shared.parser_of(__doc__)
     parser.add_argument("--workers", default="1")
     parser.add_argument("--beside")
     parser.add_argument("--only", default="")

@@ -7,34 +7,26 @@ The vehicles drive on 1,000 one-lane links of 2,000 cells, each from a node to i
 lines: the runs of both take turns, and their replies must be the same, byte for byte.
 """
 
-import argparse
 import json
 import random
 import resource
 import subprocess
 import tempfile
 
+import shared
+
 LINKS, CELLS, STEPS = 1_000, 2_000, 400  # in which all enter, and few go round
 MOST_CALLS = 1_000_000
 
 
 def line(command):
-    return json.dumps(command, separators=(",", ":")) + "\n"
+    return shared.text_of(command) + "\n"
 
 
 def load(links):
-    return line(
-        {
-            "cmd": "load",
-            "nodes": [[at, 1, 4] for at in range(links)],
-            "links": [[at, at, at, 1, CELLS, 5] for at in range(links)],
-            "turns": [[at, 0, at, 0] for at in range(links)],
-            "zone": 0,
-            "dawdle": 200,
-            "change": 0,
-            "seed": 1,
-        }
-    )
+    here = range(links)
+    nodes, rings = [[at, 1, 4] for at in here], [[at, at, at, 1, CELLS, 5] for at in here]
+    return line(shared.load(nodes, rings, [[at, 0, at, 0] for at in here], dawdle=200, seed=1))
 
 
 def enter(link, depart, laps=1):
@@ -90,8 +82,7 @@ def check(replies, expected):
 
 
 def main():
-    parser = argparse.ArgumentParser(description=__doc__, formatter_class=argparse.RawTextHelpFormatter)
-    parser.add_argument("program")
+    parser = shared.parser_of(__doc__)
     parser.add_argument("--beside")
     parser.add_argument("--vehicles", type=int, default=100_000)
     parser.add_argument("--lines", type=int, default=300_000)

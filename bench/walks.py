@@ -8,14 +8,14 @@ a page shows right after a command each line must be printed, in that order ('..
 status is 1 where a line is lacking or a command fails.
 """
 
-import argparse
 import os
 import re
 import subprocess
 import sys
-from pathlib import Path
 
-TOP = Path(__file__).resolve().parents[1]
+import shared
+from shared import CORRIDOR, SAMPLES, TOP
+
 SECTIONS = {  # of pages: the headings of their walks
     "README": ("A walk of ten minutes",),
     "SIGNALS": ("A walk of two minutes", "A study"),
@@ -65,19 +65,17 @@ def walk(page, heading, folder, surroundings):
 
 
 def main():
-    parser = argparse.ArgumentParser(description=__doc__, formatter_class=argparse.RawTextHelpFormatter)
-    parser.add_argument("program")
+    parser = shared.parser_of(__doc__)
     parser.add_argument("--work", required=True, help="a folder for what is made")
     parser.add_argument("--only", default=",".join(SECTIONS), help="names of pages, with commas between")
     args = parser.parse_args()
-    folder = Path(args.work).resolve()
-    folder.mkdir(parents=True, exist_ok=True)
+    folder = shared.work_of(args)
     surroundings = {
-        **{"SUMO_HOME": "/usr/share/sumo", **os.environ},
+        **shared.with_sumo(),
         "PATH": f"{TOP / 'tools'}:{os.environ['PATH']}",
-        "STREETSIM_PROGRAM": str(Path(args.program).resolve()),
-        "example": str(TOP / "tools/examples/corridor"),
-        "data": str(TOP / "tools/tests/data"),
+        "STREETSIM_PROGRAM": args.program,
+        "example": str(CORRIDOR),
+        "data": str(SAMPLES),
     }
     wrong = sum(walk(page, heading, folder, surroundings) for page in args.only.split(",") for heading in SECTIONS[page])
     print("each walk prints what its page says" if not wrong else f"{wrong} commands print other lines, or fail")

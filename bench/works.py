@@ -15,17 +15,15 @@ import csv
 import gzip
 import json
 import os
-import subprocess
-import sys
 import xml.etree.ElementTree as ElementTree
 from collections import Counter
 from dataclasses import dataclass
 from pathlib import Path
 from statistics import fmean
 
-TOP = Path(__file__).resolve().parents[1]
-SAMPLES = TOP / "tools/tests/data"
-ACOSTA = Path("/usr/share/sumo/tools/sumolib/scenario/scenarios/RealWorld/acosta")
+from shared import SAMPLES, SHIPPED, TOP, numbers, run, teleports_of
+
+ACOSTA = SHIPPED / "acosta"
 UNTIL, BEGIN, LEAST = 7200, 600, 120.0
 LENGTHS, SECONDS = (100, 50, 200), (1800, 3600)
 NETWORKS = {  # network, routes, additional files, and how many edges of each number of lanes
@@ -61,15 +59,6 @@ class Works:
             f'<vehicle id="works" type="works" depart="{BEGIN}" departLane="{self.lane}" departPos="{self.end}" '
             f'departSpeed="0" insertionChecks="none"><route edges="{self.edge}"/>{stop}</vehicle></routes>'
         )
-
-
-def run(words, folder):
-    """Runs a command in a folder; gives what it said."""
-    home = {"SUMO_HOME": "/usr/share/sumo", **os.environ}
-    done = subprocess.run(list(map(str, words)), cwd=folder, env=home, capture_output=True, text=True, check=False)
-    if done.returncode:
-        raise SystemExit(f"{' '.join(map(str, words))}\n{done.stderr}")
-    return done.stdout + done.stderr
 
 
 def chosen(mapping, lines, counts):
@@ -118,7 +107,7 @@ def sumo_trip(name, works, seed, folder):
         run([*words, "--tripinfo-output", trips, "--statistic-output", half], folder)
         os.replace(half, told)
     arrivals = {one.get("id"): float(one.get("arrival")) for one in ElementTree.parse(trips).iter("tripinfo")}
-    return mean_trip(wished(routes), arrivals), int(ElementTree.parse(told).getroot().find("teleports").get("total"))
+    return mean_trip(wished(routes), arrivals), teleports_of(told)
 
 
 def here_trip(name, works, closing, seeds, folder, program):
@@ -138,11 +127,6 @@ def here_trip(name, works, closing, seeds, folder, program):
         arrivals = {row["id"]: float(row["arrival"]) for row in rows if row["arrival"]}
         found.append((mean_trip(departs, arrivals), sum(int(row["rescues"]) for row in rows)))
     return found
-
-
-def numbers(seeds):
-    first, _, last = seeds.partition("-")
-    return range(int(first), int(last or first) + 1)
 
 
 def told(before, after):
