@@ -61,8 +61,8 @@ class Examples(Case):
         run, mapped = self.folder / "run.jsonl", self.folder / "map.json"
         self.tool("import", folder / "street.net.xml", "-o", run, "--map", mapped)
         for text, words in (
-            ("works_0:300-450", "expected LANE:METRES-METRES:S-S, rising"),
-            ("works_0:450-300:0-9", "expected LANE:METRES-METRES:S-S, rising"),
+            ("works_0:300-450", "expected LANE:METRES-METRES:S-S, whole numbers that rise"),
+            ("works_0:450-300:0-9", "expected LANE:METRES-METRES:S-S, whole numbers that rise"),
             ("works_2:0-9:0-9", "the map has no lane 'works_2'"),
         ):
             told = self.tool(
