@@ -4,8 +4,8 @@
 Usage: bench/walks.py PROGRAM --work FOLDER [--only README,SIGNALS,ROUTES]
 
 The commands of a page's sections are run in one folder, in the page's order and with the tools as they are here; of the text that
-a page shows right after a command each line must be printed, in that order ('..' stands for any). It needs Debian's sumo. The
-status is 1 where a line is lacking or a command fails.
+a page shows right after a command each line must be printed, in that order ('..' stands for any line, and within one for any
+text). It needs Debian's sumo. The status is 1 where a line is lacking or a command fails.
 """
 
 import os
@@ -41,10 +41,12 @@ def lacking(shown, printed):
     for line in shown:
         if line == "..":
             continue
-        try:
-            place = printed.index(line, place) + 1
-        except ValueError:
+        wanted = re.compile(".*".join(map(re.escape, line.split(".."))))
+        found = next((at for at in range(place, len(printed)) if wanted.fullmatch(printed[at])), None)
+        if found is None:
             yield line
+        else:
+            place = found + 1
 
 
 def walk(page, heading, folder, surroundings):
