@@ -17,6 +17,8 @@ mod owners;
 #[cfg(test)]
 mod scenes;
 #[cfg(test)]
+mod steps;
+#[cfg(test)]
 mod tiles;
 #[cfg(test)]
 mod workers;

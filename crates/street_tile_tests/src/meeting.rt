@@ -31,6 +31,8 @@ impl Calls {
 #[derive(Drop)]
 pub(crate) struct Meeting {
     held: u32,
+    /// Whether nobody is on the tiles; else a vehicle waits on each.
+    empty: bool,
     pub(crate) first: Calls,
     pub(crate) second: Calls,
     /// How often the held worker went on alone.
@@ -40,10 +42,11 @@ pub(crate) struct Meeting {
 }
 
 impl Meeting {
-    /// Nobody has come yet; this worker is to be held.
-    pub(crate) fn of(held: u32) -> Self {
+    /// Neither worker has come yet; this one is to be held.
+    pub(crate) fn of(held: u32, empty: bool) -> Self {
         Meeting {
             held,
+            empty,
             first: Calls::none(),
             second: Calls::none(),
             alone: AtomicU64::new(0),
@@ -70,18 +73,37 @@ impl Meeting {
         self.alone.fetch_add(1, Ordering::SeqCst);
     }
 
+    /// How many vehicles are on a tile after so many phases of three steps, if one is: it waits, departs in the entries of the
+    /// first step, goes to the buffer in the motion of the second, and in the third is released to the other tile, from which
+    /// another enters.
+    fn sizes(&self, phases: u64) -> TileSizes {
+        let (cells, buffers, waiting) = match phases {
+            _ if self.empty => (0, 0, 0),
+            0..=3 => (0, 0, 1),
+            4..=6 => (1, 0, 0),
+            7..=12 => (0, 1, 0),
+            13 => (0, 0, 0),
+            _ => (1, 0, 0),
+        };
+        TileSizes {
+            cells,
+            buffers,
+            waiting,
+        }
+    }
+
     /// Compares what a call tells, where the worker has begun so many parts before, and ended so many.
     fn compare(&self, worker: u32, phase: u32, tile: &Tile, begun: u64, ended: u64) {
         let right = worker < 2
             && u64::from(phase) == begun % PHASES
-            && tile.sizes() == sizes(ended);
+            && tile.sizes() == self.sizes(ended);
         if !right {
             self.wrong.fetch_add(1, Ordering::SeqCst);
         }
     }
 }
 
-/// A gate that is lent to an engine.
+/// A gate that is lent to an engine, or to a step.
 #[derive(Drop)]
 pub(crate) struct Watched<'a>(pub(crate) &'a Meeting);
 
@@ -102,23 +124,5 @@ impl Gate for Watched<'_> {
         self.0
             .compare(worker, phase, tile, ended, ended.wrapping_add(1));
         own.leaves.store(ended.wrapping_add(1), Ordering::SeqCst);
-    }
-}
-
-/// How many vehicles are on a tile after so many phases of three steps: one waits, departs in the entries of the first step,
-/// goes to the buffer in the motion of the second, and in the third is released to the other tile, from which another
-/// enters.
-fn sizes(phases: u64) -> TileSizes {
-    let (cells, buffers, waiting) = match phases {
-        0..=3 => (0, 0, 1),
-        4..=6 => (1, 0, 0),
-        7..=12 => (0, 1, 0),
-        13 => (0, 0, 0),
-        _ => (1, 0, 0),
-    };
-    TileSizes {
-        cells,
-        buffers,
-        waiting,
     }
 }

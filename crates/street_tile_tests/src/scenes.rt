@@ -24,14 +24,14 @@ pub(crate) fn link(id: u64, from: u64, to: u64, length: u64) -> LinkSpec {
     }
 }
 
-/// A load of these, in which nobody dawdles.
-pub(crate) fn load(
+/// A network of these, in which nobody dawdles.
+fn network(
     alloc: Global,
     nodes: &[NodeSpec],
     links: &[LinkSpec],
     turns: &[TurnSpec],
-) -> Result<Command, AllocError> {
-    Ok(Command::Load(NetSpec {
+) -> Result<NetSpec, AllocError> {
+    Ok(NetSpec {
         nodes: Listing::from_vec(Vec::from_slice(alloc, nodes)?),
         links: Listing::from_vec(Vec::from_slice(alloc, links)?),
         turns: Listing::from_vec(Vec::from_slice(alloc, turns)?),
@@ -40,7 +40,17 @@ pub(crate) fn load(
         change: 0,
         seed: 0,
         start: 0,
-    }))
+    })
+}
+
+/// A load of these, in which nobody dawdles.
+pub(crate) fn load(
+    alloc: Global,
+    nodes: &[NodeSpec],
+    links: &[LinkSpec],
+    turns: &[TurnSpec],
+) -> Result<Command, AllocError> {
+    Ok(Command::Load(network(alloc, nodes, links, turns)?))
 }
 
 /// A load of one link, named 10, of so many cells.
@@ -48,21 +58,26 @@ pub(crate) fn one_link(alloc: Global, length: u64) -> Result<Command, AllocError
     load(alloc, &[node(1)], &[link(10, 1, 1, length)], &[])
 }
 
-/// A load of two nodes, and a link of one cell each way: link 10 runs to the second node, link 20 to the first, and each turns
-/// to the other.
-pub(crate) fn there_and_back(alloc: Global) -> Result<Command, AllocError> {
+/// Two nodes, and a link of one cell each way: link 10 runs to the second node, link 20 to the first, and each turns to the
+/// other.
+pub(crate) fn two_ways(alloc: Global) -> Result<NetSpec, AllocError> {
     let turn = |link: u64, next: u64| TurnSpec {
         link,
         lane: 0,
         next,
         next_lane: 0,
     };
-    load(
+    network(
         alloc,
         &[node(1), node(2)],
         &[link(10, 1, 2, 1), link(20, 2, 1, 1)],
         &[turn(10, 20), turn(20, 10)],
     )
+}
+
+/// A load of that network.
+pub(crate) fn there_and_back(alloc: Global) -> Result<Command, AllocError> {
+    Ok(Command::Load(two_ways(alloc)?))
 }
 
 /// A vehicle goes over these links, from this step on.

@@ -49,7 +49,7 @@ fn is_served<R: Threads + Sync>(
 fn two_workers_meet(rt: HostRuntime) -> Result<(), Fail> {
     let commands = commands(rt.alloc())?;
     for held in [0, 1] {
-        let meeting = Meeting::of(held);
+        let meeting = Meeting::of(held, false);
         assert!(rt; is_served(&rt, rt.alloc(), &meeting, commands.as_slice()));
         assert_eq!(rt;
             meeting.alone.load(Ordering::SeqCst),
