@@ -1,7 +1,7 @@
 #!/usr/bin/python3
 """Road works on edges of the sample grid, town and Acosta, in SUMO and in streetsim: what they add to the mean trip.
 
-Usage: bench/works.py PROGRAM --work FOLDER [--seeds 1-2] [--only NAME,..] [--sides sumo,here]
+Usage: bench/works.py PROGRAM --work FOLDER [--seeds 1-2] [--only NAME,..] [--edges EDGE,..] [--sides sumo,here]
 
 Of each network and number of lanes the edges of 120 m and more are put in order by the vehicles that pass them, and of
 so many equal parts of these (of the busier half, where there are several lanes) the middle one is taken; lane, length
@@ -142,6 +142,7 @@ def main():
     words.add_argument("--work", required=True, type=Path)
     words.add_argument("--seeds", default="1-2")
     words.add_argument("--only", default=",".join(NETWORKS))
+    words.add_argument("--edges", help="of the networks' edges with works, these alone")
     words.add_argument("--sides", default="sumo,here", help="whose cells the rows have")
     args = words.parse_args()
     args.work.mkdir(parents=True, exist_ok=True)
@@ -154,7 +155,10 @@ def main():
         run([TOP / "tools/streetsim-import", network, *additional, "--routes", routes, *made], folder)
         mapping = json.loads((folder / f"{name}.map.json").read_text(encoding="utf-8"))
         lines = map(json.loads, (folder / f"{name}.jsonl").read_text(encoding="utf-8").splitlines())
+        wanted = args.edges.split(",") if args.edges else None
         for works in chosen(mapping, lines, counts):
+            if wanted and works.edge not in wanted:
+                continue
             cells = []
             if "sumo" in args.sides:
                 cells.append(told(*([sumo_trip(name, one, seed, folder) for seed in numbers(args.seeds)] for one in (None, works))))
