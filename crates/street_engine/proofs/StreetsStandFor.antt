@@ -1,6 +1,6 @@
 -- What streets stand for after each command.
 use Rattle.std.proofs.Common.{◌≡◌, ℕ, zero, suc, ◌+◌, ◌*◌, ◌<◌, ◌≤◌, Bool, List, [], ◌∷◌, ◌++◌, length, set, get_or, refl, sym, ◌∙◌, ap, subst, arith}
-use Rattle.std.specs.Prelude.{Option, Some, None, Result, Ok, Err, OnOk, OnErr, All, nat_lt, filter_map, if◌then◌else◌}
+use Rattle.std.specs.Prelude.{Option, Some, None, Result, Ok, Err, OnOk, OnErr, All, nat_lt, if◌then◌else◌}
 use Rattle.std.specs.Option.{option_map_or}
 use Rattle.std.proofs.Math.ListN.{length-map}
 use Rattle.std.proofs.lemmas.Bool.{lt-leb}
@@ -20,7 +20,7 @@ use Rattle.street_base.specs.declared.reply.Reply.TheVariants.{Census}
 use Rattle.street_base.specs.Shown.{census, have_arrived, were_taken, in_cells, in_buffers, in_wait}
 use Rattle.street_base.specs.Release.{released}
 use Rattle.street_base.specs.Departure.{departed}
-use Rattle.street_base.specs.Step.{changed, driven, step, steps, arrival, leaver_of, with_arrivals, noted}
+use Rattle.street_base.specs.Step.{changed, driven, step, steps, with_arrivals, noted}
 use Rattle.street_base.specs.Machine.{loaded, entered, entry_of, plan_links, with_waiting}
 use Rattle.street_base.proofs.FaultLemmas.{good_start}
 use Rattle.street_base.proofs.LoadLemmas.{loaded-sound}
@@ -35,6 +35,7 @@ use Rattle.street_net.specs.Tables.{place_of}
 use Rattle.street_lanes.specs.Lanes.{IsLane}
 use Rattle.street_tile.specs.Commands.{at_place, without, planned}
 use Rattle.street_tile.specs.TileDetectors.{MetersStand, AllMetersStand, detectors_on}
+use Rattle.street_tile.specs.Steps.{Steps}
 use Rattle.street_tile.proofs.BetweenPhases.{tiles-same}
 use Rattle.street_engine.specs.declared.sites.DetectorSite.{DetectorSite}
 use Rattle.street_engine.specs.Sites.{AreDetectorSites}
@@ -226,20 +227,19 @@ noted-idle xs ys long each handed k d l =
     subst IsIdle (sym (each k d within)) (record { handed = h.0; coming = h.1; arrived = refl })
 
 module _ (net : NetSpec) (sites : List DetectorSite) (clock : ℕ) (xs ys zs : List Part) (ends after : List (Option End)) (tiles : AreTiles net xs) (long : length ys ≡ length xs) (longer : length zs ≡ length ys)
-    (machine : (m : Traffic) → AllStand net xs m → AllStand net ys (step m))
-    (all : (m : Traffic) → AllStand net xs m → Each (λ x y. y.arrived ≡ filter_map (λ p. arrival (leaver_of (changed m) p)) x.own.places) xs ys) where
+    (steps_on : Steps net xs ys) where
   -- each of those who arrived was on the way
   pub step-coming : (m : Traffic) → IsTrafficOf (view net sites clock xs ends) m → AreComing (all_arrived ys) ends
-  step-coming m t = subst (AreComing (all_arrived ys)) (sym t.ends) (arrivals-coming net xs ys tiles long m t.tiles.on.network t.sound (all m t.tiles))
+  step-coming m t = subst (AreComing (all_arrived ys)) (sym t.ends) (arrivals-coming net xs ys tiles long m t.tiles.on.network t.sound (steps_on.arrived m t.tiles))
 
-  pub step-stands : ((m : Traffic) → AllStand net xs m → AllMetersStand xs m → AllMetersStand ys (step m)) → Each (λ x y. y ≡ record x { arrived = [] }) ys zs → after ≡ with_arrivals clock (all_arrived ys) ends → (m : Traffic) → IsTrafficOf (view net sites clock xs ends) m → IsTrafficOf (view net sites (clock + 1) zs after) (step m)
-  step-stands meters noted is m t = record {
+  pub step-stands : Each (λ x y. y ≡ record x { arrived = [] }) ys zs → after ≡ with_arrivals clock (all_arrived ys) ends → (m : Traffic) → IsTrafficOf (view net sites clock xs ends) m → IsTrafficOf (view net sites (clock + 1) zs after) (step m)
+  step-stands noted is m t = record {
     clock = ap (λ (n : ℕ). n + 1) t.clock ∙ sym (step-clock m);
-    ends = is ∙ ap (λ (n : ℕ). with_arrivals n (all_arrived ys) ends) t.clock ∙ ap (with_arrivals m.clock (all_arrived ys)) t.ends ∙ arrivals-end net xs ys tiles long m t.tiles.on.network t.sound (all m t.tiles);
-    tiles = noted-stand net ys zs (step m) longer noted (machine m t.tiles);
+    ends = is ∙ ap (λ (n : ℕ). with_arrivals n (all_arrived ys) ends) t.clock ∙ ap (with_arrivals m.clock (all_arrived ys)) t.ends ∙ arrivals-end net xs ys tiles long m t.tiles.on.network t.sound (steps_on.arrived m t.tiles);
+    tiles = noted-stand net ys zs (step m) longer noted (steps_on.machine m t.tiles);
     sound = step-sound m t.sound;
     signals = ap length (step-signals m) ∙ t.signals;
-    meters = noted-meters ys zs (step m) longer noted (meters m t.tiles t.meters);
+    meters = noted-meters ys zs (step m) longer noted (steps_on.meters m t.tiles t.meters);
     sites = step-sites net sites m t.sites;
   }
 

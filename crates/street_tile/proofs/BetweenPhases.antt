@@ -17,6 +17,7 @@ use Rattle.street_lanes.specs.Detectors.{Detectors}
 use Rattle.street_tile.specs.TileDetectors.{detectors_at, HaveWatched, MetersStand, AllMetersStand, noted_by}
 use Rattle.street_tile.specs.Phases.{LanePhase, MotionPhase, ReleasePhase, EnterPhase, ticked, MeterPhase}
 use Rattle.street_tile.specs.HandOvers.{all_handed, received}
+use Rattle.street_tile.specs.Steps.{Steps}
 use Rattle.street_tile.proofs.Rows.{AreInRow}
 use Rattle.street_tile.proofs.OwnLanes.{lane-of}
 use Rattle.street_tile.proofs.SameTile.{tile-then, same-moved, tile-of-same}
@@ -177,7 +178,7 @@ module _ (net : NetSpec) (ys zs ws : List Part) (a : length zs ≡ length ys) (b
     pub row-meter : AreInRow net ys → AreInRow net us
     row-meter row = row-same net 0 (length net.nodes) ws us (omega arith) (λ i d h. (meter i d h).goes.same) (row-enter enters row)
 
-    pub idle-again : All (λ u. (u.handed ≡ []) × (u.coming ≡ nobody u)) us
+    idle-again : All (λ u. (u.handed ≡ []) × (u.coming ≡ nobody u)) us
     idle-again i d h = (
       (meter i d (omega arith)).goes.handed ∙ (enters i d (omega arith)).handed ∙ ap (λ (t : Part). t.handed) (moves i d (omega arith)),
       (meter i d (omega arith)).goes.coming ∙ (enters i d (omega arith)).coming ∙ ap (λ (ps : List Place). map (λ p. None) ps) (sym ((meter i d (omega arith)).goes.same.own.places ∙ (enters i d (omega arith)).same.own.places)),
@@ -208,18 +209,18 @@ module _ (net : NetSpec) (roads : IsRoads net) (view : List Bool) (x0 x1 x2 x3 x
   pub in-time : (m : Traffic) → AllStand net x0 m → m.clock < last_clock → All (λ x. x.clock < last_clock) x5
   in-time m s h i d l = let e = (stand-enter m s).each i d l in let c = e.clock ∙ clock-through m in omega arith
 
-  pub stand-step : (x6 : List Part) → length x6 ≡ length x0 → Each (MeterPhase net) x5 x6 → (m : Traffic) → AllStand net x0 m → AllStand net x6 (step m)
+  stand-step : (x6 : List Part) → length x6 ≡ length x0 → Each (MeterPhase net) x5 x6 → (m : Traffic) → AllStand net x0 m → AllStand net x6 (step m)
   stand-step x6 e6 meter m s =
       let five = stand-enter m s in
       ends-step net x6 m (goes-all net ticked x5 x6 (omega arith) (λ i d h. (meter i d h).goes) (departed (released (driven (changed m)))) (on-ticked net (departed (released (driven (changed m)))) five.on) five)
 
-  pub arrived-step : (x6 : List Part) → length x6 ≡ length x0 → Each (MeterPhase net) x5 x6 → (m : Traffic) → AllStand net x0 m → Each (λ x y. y.arrived ≡ filter_map (λ p. arrival (leaver_of (changed m) p)) x.own.places) x0 x6
+  arrived-step : (x6 : List Part) → length x6 ≡ length x0 → Each (MeterPhase net) x5 x6 → (m : Traffic) → AllStand net x0 m → Each (λ x y. y.arrived ≡ filter_map (λ p. arrival (leaver_of (changed m) p)) x.own.places) x0 x6
   arrived-step x6 e6 meter m s i d h =
       (meter i d (omega arith)).arrived ∙ (enters i d (omega arith)).arrived ∙ ap (λ (t : Part). t.arrived) (moves i d (omega arith)) ∙ (releases i d (omega arith)).arrived
       ∙ arrived-motion net x0 x1 x2 e1 e2 lanes motion m s i d h
 
   -- the detectors note the step
-  pub meters-step : (x6 : List Part) → length x6 ≡ length x0 → Each (MeterPhase net) x5 x6 → (m : Traffic) → AllStand net x0 m → AllMetersStand x0 m → AllMetersStand x6 (step m)
+  meters-step : (x6 : List Part) → length x6 ≡ length x0 → Each (MeterPhase net) x5 x6 → (m : Traffic) → AllStand net x0 m → AllMetersStand x0 m → AllMetersStand x6 (step m)
   meters-step x6 e6 meter m s stands i d h =
       let before = changed m in
       let after = departed (released (driven before)) in
@@ -236,3 +237,18 @@ module _ (net : NetSpec) (roads : IsRoads net) (view : List Bool) (x0 x1 x2 x3 x
       let meters : (k : ℕ) → (detectors_at (get_or x5 i d).detectors k).meters ≡ (detectors_at (get_or x0 i d).detectors k).meters = λ k. ap (λ gs. (detectors_at gs k).meters) detectors ∙ ap (λ (g : Detectors). g.meters) (moved.detectors.each k) ∙ ap (λ gs. (detectors_at gs k).meters) sideways.detectors in
       let stood = meters-through (get_or x0 i d) (get_or x5 i d) m after (places ∙ sideways.goes.same.own.places) meters (detectors-through m) (stands i d (omega arith)) in
       ends-meters (get_or x6 i d) m ((meter i d (omega arith)).noted before after five.on (five.each i d (omega arith)) saw stood)
+
+  pub whole-step : (x6 : List Part) → length x6 ≡ length x0 → Each (MeterPhase net) x5 x6 → AreTiles net x0 → Steps net x0 x6
+  whole-step x6 e6 meter tiles = record {
+    machine = stand-step x6 e6 meter;
+    arrived = arrived-step x6 e6 meter;
+    meters = meters-step x6 e6 meter;
+    tiles =
+        tiles-meter net x5 x6 (omega arith) meter
+        (tiles-enter net x4 x5 (omega arith) enters
+        (tiles-move net x3 x4 (omega arith) moves
+        (tiles-release net view x2 x3 (omega arith) releases
+        (tiles-motion net x1 x2 (omega arith) motion
+        (tiles-lanes net x0 x1 e1 lanes tiles)))));
+    handed = idle-again net x3 x4 x5 (omega arith) (omega arith) moves x6 (omega arith) enters meter;
+  }

@@ -9,14 +9,16 @@ use Rattle.street_tile.specs.Tiles.{Part, Each, AllStand, AreTiles, IsIdle, IsPr
 use Rattle.street_tile.specs.Phases.{LanePhase, MotionPhase, ReleasePhase, EnterPhase, MeterPhase, Then}
 use Rattle.street_tile.specs.Halves.{let_go}
 use Rattle.street_tile.specs.HandOvers.{all_handed, received}
-use Rattle.street_tile.proofs.BetweenPhases.{tiles-lanes, tiles-motion, tiles-enter, tiles-meter, shown-motion, stand-motion, idle-handed, idle-coming, prepared-motion}
+use Rattle.street_tile.specs.Steps.{Steps}
+use Rattle.street_tile.proofs.Rows.{in-row, roads-of}
+use Rattle.street_tile.proofs.BetweenPhases.{tiles-lanes, tiles-motion, shown-motion, stand-motion, idle-handed, idle-coming, prepared-motion, whole-step}
 
 each-cons : (R : Part → Part → Type 0) (x y : Part) (xs ys : List Part) → R x y → Each R xs ys → Each R (x ∷ xs) (y ∷ ys)
 each-cons R x y xs ys r rs zero d h = r
 each-cons R x y xs ys r rs (suc i) d h = rs i d (omega arith)
 
 -- of all tiles there are those between the two phases
-pub each-between : (P Q : Part → Part → Type 0) (xs zs : List Part) → length zs ≡ length xs → Each (Then P Q) xs zs → (ys : List Part) × (length ys ≡ length xs) × Each P xs ys × Each Q ys zs
+each-between : (P Q : Part → Part → Type 0) (xs zs : List Part) → length zs ≡ length xs → Each (Then P Q) xs zs → (ys : List Part) × (length ys ≡ length xs) × Each P xs ys × Each Q ys zs
 each-between P Q [] [] e each = ([], refl, λ i d h. absurd (omega arith), λ i d h. absurd (omega arith))
 each-between P Q [] (z ∷ zs) e each = absurd (omega arith)
 each-between P Q (x ∷ xs) [] e each = absurd (omega arith)
@@ -28,16 +30,16 @@ each-between P Q (x ∷ xs) (z ∷ zs) e each =
 
 -- lane changes and motion
 module _ (net : NetSpec) (xs zs : List Part) (e : length zs ≡ length xs) (drives : Each (Then (LanePhase net) (MotionPhase net)) xs zs) where
-  abbrev pub changed-tiles : List Part
+  abbrev changed-tiles : List Part
   changed-tiles = (each-between (LanePhase net) (MotionPhase net) xs zs e drives).0
 
-  pub changed-long : length changed-tiles ≡ length xs
+  changed-long : length changed-tiles ≡ length xs
   changed-long = (each-between (LanePhase net) (MotionPhase net) xs zs e drives).1
 
-  pub changed-lanes : Each (LanePhase net) xs changed-tiles
+  changed-lanes : Each (LanePhase net) xs changed-tiles
   changed-lanes = (each-between (LanePhase net) (MotionPhase net) xs zs e drives).2
 
-  pub changed-motion : Each (MotionPhase net) changed-tiles zs
+  changed-motion : Each (MotionPhase net) changed-tiles zs
   changed-motion = (each-between (LanePhase net) (MotionPhase net) xs zs e drives).3
 
   pub tiles-drive : AreTiles net xs → AreTiles net zs
@@ -60,20 +62,17 @@ module _ (net : NetSpec) (xs zs : List Part) (e : length zs ≡ length xs) (driv
 
 -- entries, departures and detectors
 module _ (net : NetSpec) (xs zs : List Part) (e : length zs ≡ length xs) (settles : Each (Then (EnterPhase net) (MeterPhase net)) xs zs) where
-  abbrev pub entered-tiles : List Part
+  abbrev entered-tiles : List Part
   entered-tiles = (each-between (EnterPhase net) (MeterPhase net) xs zs e settles).0
 
-  pub entered-long : length entered-tiles ≡ length xs
+  entered-long : length entered-tiles ≡ length xs
   entered-long = (each-between (EnterPhase net) (MeterPhase net) xs zs e settles).1
 
-  pub entered-enter : Each (EnterPhase net) xs entered-tiles
+  entered-enter : Each (EnterPhase net) xs entered-tiles
   entered-enter = (each-between (EnterPhase net) (MeterPhase net) xs zs e settles).2
 
-  pub entered-meter : Each (MeterPhase net) entered-tiles zs
+  entered-meter : Each (MeterPhase net) entered-tiles zs
   entered-meter = (each-between (EnterPhase net) (MeterPhase net) xs zs e settles).3
-
-  pub tiles-settle : AreTiles net xs → AreTiles net zs
-  tiles-settle tiles = let long = entered-long in tiles-meter net entered-tiles zs (omega arith) entered-meter (tiles-enter net xs entered-tiles long entered-enter tiles)
 
 -- releases and hand-overs keep the clock
 through-clock : (m : Traffic) → (let_go (driven (changed m))).clock ≡ m.clock
@@ -87,3 +86,14 @@ in-time-moved net view x2 x3 x4 e3 e4 releases moves m shows s h i d l =
     let let_go_clock = ((releases i d (omega arith)).stands (driven (changed m)) s.on shows before).clock ∙ through-clock m in
     let moved = ap (λ (t : Part). t.clock) (moves i d (omega arith)) in
     omega arith
+
+-- a step whose phases are three parts
+pub lent-step : (net : NetSpec) (view : List Bool) (x0 x2 x3 x4 x6 : List Part) (e2 : length x2 ≡ length x0) (e3 : length x3 ≡ length x2) (e4 : length x4 ≡ length x3) (e6 : length x6 ≡ length x4)
+    → Each (Then (LanePhase net) (MotionPhase net)) x0 x2 → ((m : Traffic) → AllStand net x2 m → Shows net view m) → Each (ReleasePhase net view) x2 x3
+    → Each (λ y z. z ≡ received (all_handed x3) y) x3 x4 → Each (Then (EnterPhase net) (MeterPhase net)) x4 x6 → AreTiles net x0 → Steps net x0 x6
+lent-step net view x0 x2 x3 x4 x6 e2 e3 e4 e6 drives shows releases moves settles tiles =
+    let first = changed-long net x0 x2 e2 drives in
+    let last = entered-long net x4 x6 e6 settles in
+    whole-step net (roads-of net x0 tiles) view x0 (changed-tiles net x0 x2 e2 drives) x2 x3 x4 (entered-tiles net x4 x6 e6 settles)
+    first e2 (omega arith) (omega arith) (omega arith) (in-row net x0 tiles) (changed-lanes net x0 x2 e2 drives) (changed-motion net x0 x2 e2 drives) shows releases moves
+    (entered-enter net x4 x6 e6 settles) x6 (omega arith) (entered-meter net x4 x6 e6 settles) tiles

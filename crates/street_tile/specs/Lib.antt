@@ -8,3 +8,4 @@ pub mod Walks
 pub mod HandOvers
 pub mod Commands
 pub mod Hinted
+pub mod Steps

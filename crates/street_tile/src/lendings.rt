@@ -4,15 +4,13 @@
 //! the tiles show each other their mouths, and after them they hand over who goes.
 //!
 //! Source: this profile, whose five phases a step has in this order.
-ghost use Rattle.std.specs.Prelude.{◌≡◌, ◌*◌, ◌<◌, ◌≤◌, length, [], filter_map};
+ghost use Rattle.std.specs.Prelude.{◌≡◌, ◌*◌, ◌<◌, ◌≤◌, length, []};
 ghost use Rattle.std.specs.List.{All};
 ghost use Rattle.street_base.specs.Limits.{last_clock};
-ghost use Rattle.street_base.specs.State.{Traffic};
-ghost use Rattle.street_base.specs.Step.{changed, step, arrival, leaver_of};
-ghost use Rattle.street_tile.specs.Tiles.{IsTileOf, IsIdle, IsPrepared, Each, AreTiles, AllStand, nobody};
-ghost use Rattle.street_tile.specs.TileDetectors.{AllMetersStand};
+ghost use Rattle.street_tile.specs.Tiles.{IsTileOf, IsPrepared, Each};
 ghost use Rattle.street_tile.specs.Phases.{LanePhase, MotionPhase, EnterPhase, MeterPhase, Then};
 ghost use Rattle.street_tile.specs.Hinted.{KeepsHints};
+ghost use Rattle.street_tile.specs.Steps.{MayStep, Steps};
 
 use crate::step::{all_release, move_all, publish};
 use crate::{Gate, Hints, Tile, View};
@@ -106,9 +104,8 @@ fn all_settle<R: Threads + Sync, G: Gate + Sync>(
     );
 }
 
-/// One step by so many threads at most, of the same meaning as [`step_all`](crate::step_all)'s: whatever state the tiles stood
-/// for, they then stand for the next one, and hold the numbers of those who arrived. With one thread the caller's runs all tiles
-/// in turn and starts none. The hints follow who enters another link. Takes no memory.
+/// One step by so many threads at most, of the same meaning as [`step_all`](crate::step_all)'s. With one thread the caller's runs
+/// all tiles in turn and starts none. The hints follow who enters another link. Takes no memory.
 pub fn step_by<R: Threads + Sync, G: Gate + Sync>(
     rt: &R,
     net: &Network,
@@ -119,19 +116,9 @@ pub fn step_by<R: Threads + Sync, G: Gate + Sync>(
     threads: usize,
 )
     requires some { 0 < threads }
-    requires tiles { AreTiles net.now tiles.old }
-    requires few { length tiles.old ≤ 64 }
-    requires idle { All IsIdle tiles.old }
-    requires prepared { All IsPrepared tiles.old }
+    requires ready { MayStep net.now tiles.old }
     requires view { length view.old ≡ 2 * length net.now.links }
-    requires stand { (m : Traffic) × AllStand net.now tiles.old m × (m.clock < last_clock) }
-    ensures machine { (m : Traffic) → AllStand net.now tiles.old m → AllStand net.now tiles.new (step m) }
-    ensures arrived { (m : Traffic) → AllStand net.now tiles.old m
-        → Each (λ x y. y.arrived ≡ filter_map (λ p. arrival (leaver_of (changed m) p)) x.own.places) tiles.old tiles.new }
-    ensures meters { (m : Traffic) → AllStand net.now tiles.old m → AllMetersStand tiles.old m
-        → AllMetersStand tiles.new (step m) }
-    ensures tiles { AreTiles net.now tiles.new }
-    ensures handed { All (λ x. (x.handed ≡ []) × (x.coming ≡ nobody x)) tiles.new }
+    ensures steps { Steps net.now tiles.old tiles.new }
     ensures view { length view.new ≡ length view.old }
     ensures hints { KeepsHints hints.old hints.new }
 {

@@ -1,19 +1,18 @@
 //! One step of all tiles, phase by phase, each phase by a worker for each tile.
 //!
 //! Source: this profile, whose five phases a step has in this order.
-ghost use Rattle.std.specs.Prelude.{◌≡◌, ℕ, ◌+◌, ◌*◌, ◌<◌, ◌≤◌, length, List, [], ◌∷◌, ◌++◌, filter_map, slice_index_or, true};
+ghost use Rattle.std.specs.Prelude.{◌≡◌, ℕ, ◌+◌, ◌*◌, ◌<◌, ◌≤◌, length, List, [], ◌∷◌, ◌++◌, slice_index_or, true};
 ghost use Rattle.std.specs.List.{All};
 ghost use Rattle.street_base.specs.Limits.{last_clock};
 ghost use Rattle.street_base.specs.State.{Traffic};
-ghost use Rattle.street_base.specs.Step.{changed, step, arrival, leaver_of};
 ghost use Rattle.street_net.specs.Tables.{place_of};
 ghost use Rattle.street_lanes.specs.Lanes.{IsLane};
 ghost use Rattle.street_tile.specs.Halves.{Transfer};
-ghost use Rattle.street_tile.specs.Tiles.{Part, IsTileOf, IsIdle, IsPrepared, Each, AreTiles, AllStand, Shows, ShowsOwn, is_own, nobody};
-ghost use Rattle.street_tile.specs.TileDetectors.{AllMetersStand};
+ghost use Rattle.street_tile.specs.Tiles.{Part, IsTileOf, IsPrepared, Each, AreTiles, AllStand, Shows, ShowsOwn, is_own, nobody};
 ghost use Rattle.street_tile.specs.Phases.{LanePhase, MotionPhase, ReleasePhase, EnterPhase, MeterPhase};
 ghost use Rattle.street_tile.specs.HandOvers.{Awaits, IsMoved, all_handed, received};
 ghost use Rattle.street_tile.specs.Hinted.{KeepsHints};
+ghost use Rattle.street_tile.specs.Steps.{MayStep, Steps};
 
 use crate::{Gate, Hints, Tile, View};
 use std::thread;
@@ -253,19 +252,9 @@ pub fn step_all<R: Threads + Sync, G: Gate + Sync>(
     hints: &mut Hints,
     gate: &G,
 )
-    requires tiles { AreTiles net.now tiles.old }
-    requires few { length tiles.old ≤ 64 }
-    requires idle { All IsIdle tiles.old }
-    requires prepared { All IsPrepared tiles.old }
+    requires ready { MayStep net.now tiles.old }
     requires view { length view.old ≡ 2 * length net.now.links }
-    requires stand { (m : Traffic) × AllStand net.now tiles.old m × (m.clock < last_clock) }
-    ensures machine { (m : Traffic) → AllStand net.now tiles.old m → AllStand net.now tiles.new (step m) }
-    ensures arrived { (m : Traffic) → AllStand net.now tiles.old m
-        → Each (λ x y. y.arrived ≡ filter_map (λ p. arrival (leaver_of (changed m) p)) x.own.places) tiles.old tiles.new }
-    ensures meters { (m : Traffic) → AllStand net.now tiles.old m → AllMetersStand tiles.old m
-        → AllMetersStand tiles.new (step m) }
-    ensures tiles { AreTiles net.now tiles.new }
-    ensures handed { All (λ x. (x.handed ≡ []) × (x.coming ≡ nobody x)) tiles.new }
+    ensures steps { Steps net.now tiles.old tiles.new }
     ensures view { length view.new ≡ length view.old }
     ensures hints { KeepsHints hints.old hints.new }
 {

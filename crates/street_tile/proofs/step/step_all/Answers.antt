@@ -1,18 +1,18 @@
 use Rattle.std.proofs.Common.{arith}
 use Rattle.street_tile.proofs.Rows.{in-row, roads-of}
-use Rattle.street_tile.proofs.BetweenPhases.{tiles-each, tiles-lanes, tiles-motion, tiles-release, tiles-move, tiles-enter, tiles-meter, in-time-lanes, shown-motion, stand-motion, release-lanes, in-time, stand-step, meters-step, arrived-step}
+use Rattle.street_tile.proofs.BetweenPhases.{tiles-each, tiles-lanes, tiles-motion, tiles-release, tiles-move, tiles-enter, tiles-meter, in-time-lanes, shown-motion, stand-motion, release-lanes, in-time, whole-step}
 use Rattle.street_tile.proofs.step.step_all.Goals as goal
 
 pub all_motion-requires-clause-tiles : goal.all_motion-requires-clause-tiles
-all_motion-requires-clause-tiles g c κs within = tiles-each c.args.net.now c.all_lanes.new.tiles (tiles-lanes c.args.net.now c.args.tiles.now c.all_lanes.new.tiles (omega arith) c.all_lanes.ensures c.requires.tiles)
+all_motion-requires-clause-tiles g c κs within = tiles-each c.args.net.now c.all_lanes.new.tiles (tiles-lanes c.args.net.now c.args.tiles.now c.all_lanes.new.tiles (omega arith) c.all_lanes.ensures c.requires.ready.tiles)
 
 pub all_motion-requires-clause-in_time : goal.all_motion-requires-clause-in_time
-all_motion-requires-clause-in_time g c κs within = in-time-lanes c.args.net.now c.args.tiles.now c.all_lanes.new.tiles c.all_lanes.new.tiles (omega arith) (omega arith) c.all_lanes.ensures c.requires.stand.0 c.requires.stand.1 c.requires.stand.2
+all_motion-requires-clause-in_time g c κs within = in-time-lanes c.args.net.now c.args.tiles.now c.all_lanes.new.tiles c.all_lanes.new.tiles (omega arith) (omega arith) c.all_lanes.ensures c.requires.ready.stand.0 c.requires.ready.stand.1 c.requires.ready.stand.2
 
 pub publish-requires-clause-tiles : goal.publish-requires-clause-tiles
 publish-requires-clause-tiles g c =
     tiles-motion c.args.net.now c.all_lanes.new.tiles c.all_motion.new.tiles (omega arith) c.all_motion.ensures
-    (tiles-lanes c.args.net.now c.args.tiles.now c.all_lanes.new.tiles (omega arith) c.all_lanes.ensures c.requires.tiles)
+    (tiles-lanes c.args.net.now c.args.tiles.now c.all_lanes.new.tiles (omega arith) c.all_lanes.ensures c.requires.ready.tiles)
 
 pub publish-requires-clause-shown : goal.publish-requires-clause-shown
 publish-requires-clause-shown g c = shown-motion c.args.net.now c.all_lanes.new.tiles c.all_motion.new.tiles (omega arith) c.all_motion.ensures
@@ -20,17 +20,17 @@ publish-requires-clause-shown g c = shown-motion c.args.net.now c.all_lanes.new.
 pub all_release-requires-clause-tiles : goal.all_release-requires-clause-tiles
 all_release-requires-clause-tiles g c κs within =
     tiles-each c.args.net.now c.all_motion.new.tiles (tiles-motion c.args.net.now c.all_lanes.new.tiles c.all_motion.new.tiles (omega arith) c.all_motion.ensures
-    (tiles-lanes c.args.net.now c.args.tiles.now c.all_lanes.new.tiles (omega arith) c.all_lanes.ensures c.requires.tiles))
+    (tiles-lanes c.args.net.now c.args.tiles.now c.all_lanes.new.tiles (omega arith) c.all_lanes.ensures c.requires.ready.tiles))
 
 pub move_all-requires-clause-tiles : goal.move_all-requires-clause-tiles
 move_all-requires-clause-tiles g c =
     tiles-release c.args.net.now c.publish.new.view c.all_motion.new.tiles c.all_release.new.tiles (omega arith) c.all_release.ensures
     (tiles-motion c.args.net.now c.all_lanes.new.tiles c.all_motion.new.tiles (omega arith) c.all_motion.ensures
-    (tiles-lanes c.args.net.now c.args.tiles.now c.all_lanes.new.tiles (omega arith) c.all_lanes.ensures c.requires.tiles))
+    (tiles-lanes c.args.net.now c.args.tiles.now c.all_lanes.new.tiles (omega arith) c.all_lanes.ensures c.requires.ready.tiles))
 
 pub move_all-requires-clause-lanes : goal.move_all-requires-clause-lanes
 move_all-requires-clause-lanes g c =
-    let two = stand-motion c.args.net.now c.args.tiles.now c.all_lanes.new.tiles c.all_motion.new.tiles (omega arith) (omega arith) c.all_lanes.ensures c.all_motion.ensures c.requires.stand.0 c.requires.stand.1 in
+    let two = stand-motion c.args.net.now c.args.tiles.now c.all_lanes.new.tiles c.all_motion.new.tiles (omega arith) (omega arith) c.all_lanes.ensures c.all_motion.ensures c.requires.ready.stand.0 c.requires.ready.stand.1 in
     release-lanes c.args.net.now c.publish.new.view c.all_motion.new.tiles c.all_release.new.tiles (omega arith) c.all_release.ensures _ two (c.publish.ensures.shows _ two)
 
 pub all_enter-requires-clause-tiles : goal.all_enter-requires-clause-tiles
@@ -39,7 +39,7 @@ all_enter-requires-clause-tiles g c κs within =
     (tiles-move c.args.net.now c.all_release.new.tiles c.move_all.new.tiles (omega arith) c.move_all.ensures.moved
     (tiles-release c.args.net.now c.publish.new.view c.all_motion.new.tiles c.all_release.new.tiles (omega arith) c.all_release.ensures
     (tiles-motion c.args.net.now c.all_lanes.new.tiles c.all_motion.new.tiles (omega arith) c.all_motion.ensures
-    (tiles-lanes c.args.net.now c.args.tiles.now c.all_lanes.new.tiles (omega arith) c.all_lanes.ensures c.requires.tiles))))
+    (tiles-lanes c.args.net.now c.args.tiles.now c.all_lanes.new.tiles (omega arith) c.all_lanes.ensures c.requires.ready.tiles))))
 
 pub all_meter-requires-clause-tiles : goal.all_meter-requires-clause-tiles
 all_meter-requires-clause-tiles g c κs within =
@@ -48,33 +48,14 @@ all_meter-requires-clause-tiles g c κs within =
     (tiles-move c.args.net.now c.all_release.new.tiles c.move_all.new.tiles (omega arith) c.move_all.ensures.moved
     (tiles-release c.args.net.now c.publish.new.view c.all_motion.new.tiles c.all_release.new.tiles (omega arith) c.all_release.ensures
     (tiles-motion c.args.net.now c.all_lanes.new.tiles c.all_motion.new.tiles (omega arith) c.all_motion.ensures
-    (tiles-lanes c.args.net.now c.args.tiles.now c.all_lanes.new.tiles (omega arith) c.all_lanes.ensures c.requires.tiles)))))
+    (tiles-lanes c.args.net.now c.args.tiles.now c.all_lanes.new.tiles (omega arith) c.all_lanes.ensures c.requires.ready.tiles)))))
 
 pub all_meter-requires-clause-in_time : goal.all_meter-requires-clause-in_time
 all_meter-requires-clause-in_time g c κs within =
-    in-time c.args.net.now (roads-of c.args.net.now c.args.tiles.now c.requires.tiles) c.publish.new.view c.args.tiles.now c.all_lanes.new.tiles c.all_motion.new.tiles c.all_release.new.tiles c.move_all.new.tiles c.all_enter.new.tiles (omega arith) (omega arith) (omega arith) (omega arith) (omega arith)
-    (in-row c.args.net.now c.args.tiles.now c.requires.tiles) c.all_lanes.ensures c.all_motion.ensures c.publish.ensures.shows c.all_release.ensures c.move_all.ensures.moved c.all_enter.ensures c.requires.stand.0 c.requires.stand.1 c.requires.stand.2
+    in-time c.args.net.now (roads-of c.args.net.now c.args.tiles.now c.requires.ready.tiles) c.publish.new.view c.args.tiles.now c.all_lanes.new.tiles c.all_motion.new.tiles c.all_release.new.tiles c.move_all.new.tiles c.all_enter.new.tiles (omega arith) (omega arith) (omega arith) (omega arith) (omega arith)
+    (in-row c.args.net.now c.args.tiles.now c.requires.ready.tiles) c.all_lanes.ensures c.all_motion.ensures c.publish.ensures.shows c.all_release.ensures c.move_all.ensures.moved c.all_enter.ensures c.requires.ready.stand.0 c.requires.ready.stand.1 c.requires.ready.stand.2
 
-pub returns-clause-machine : goal.returns-clause-machine
-returns-clause-machine g c =
-    stand-step c.args.net.now (roads-of c.args.net.now c.args.tiles.now c.requires.tiles) c.publish.new.view c.args.tiles.now c.all_lanes.new.tiles c.all_motion.new.tiles c.all_release.new.tiles c.move_all.new.tiles c.all_enter.new.tiles (omega arith) (omega arith) (omega arith) (omega arith) (omega arith)
-    (in-row c.args.net.now c.args.tiles.now c.requires.tiles) c.all_lanes.ensures c.all_motion.ensures c.publish.ensures.shows c.all_release.ensures c.move_all.ensures.moved c.all_enter.ensures c.all_meter.new.tiles (omega arith) c.all_meter.ensures
-
-pub returns-clause-meters : goal.returns-clause-meters
-returns-clause-meters g c =
-    meters-step c.args.net.now (roads-of c.args.net.now c.args.tiles.now c.requires.tiles) c.publish.new.view c.args.tiles.now c.all_lanes.new.tiles c.all_motion.new.tiles c.all_release.new.tiles c.move_all.new.tiles c.all_enter.new.tiles (omega arith) (omega arith) (omega arith) (omega arith) (omega arith)
-    (in-row c.args.net.now c.args.tiles.now c.requires.tiles) c.all_lanes.ensures c.all_motion.ensures c.publish.ensures.shows c.all_release.ensures c.move_all.ensures.moved c.all_enter.ensures c.all_meter.new.tiles (omega arith) c.all_meter.ensures
-
-pub returns-clause-arrived : goal.returns-clause-arrived
-returns-clause-arrived g c =
-    arrived-step c.args.net.now (roads-of c.args.net.now c.args.tiles.now c.requires.tiles) c.publish.new.view c.args.tiles.now c.all_lanes.new.tiles c.all_motion.new.tiles c.all_release.new.tiles c.move_all.new.tiles c.all_enter.new.tiles (omega arith) (omega arith) (omega arith) (omega arith) (omega arith)
-    (in-row c.args.net.now c.args.tiles.now c.requires.tiles) c.all_lanes.ensures c.all_motion.ensures c.publish.ensures.shows c.all_release.ensures c.move_all.ensures.moved c.all_enter.ensures c.all_meter.new.tiles (omega arith) c.all_meter.ensures
-
-pub returns-clause-tiles : goal.returns-clause-tiles
-returns-clause-tiles g c =
-    tiles-meter c.args.net.now c.all_enter.new.tiles c.all_meter.new.tiles (omega arith) c.all_meter.ensures
-    (tiles-enter c.args.net.now c.move_all.new.tiles c.all_enter.new.tiles (omega arith) c.all_enter.ensures
-    (tiles-move c.args.net.now c.all_release.new.tiles c.move_all.new.tiles (omega arith) c.move_all.ensures.moved
-    (tiles-release c.args.net.now c.publish.new.view c.all_motion.new.tiles c.all_release.new.tiles (omega arith) c.all_release.ensures
-    (tiles-motion c.args.net.now c.all_lanes.new.tiles c.all_motion.new.tiles (omega arith) c.all_motion.ensures
-    (tiles-lanes c.args.net.now c.args.tiles.now c.all_lanes.new.tiles (omega arith) c.all_lanes.ensures c.requires.tiles)))))
+pub returns-clause-steps : goal.returns-clause-steps
+returns-clause-steps g c =
+    whole-step c.args.net.now (roads-of c.args.net.now c.args.tiles.now c.requires.ready.tiles) c.publish.new.view c.args.tiles.now c.all_lanes.new.tiles c.all_motion.new.tiles c.all_release.new.tiles c.move_all.new.tiles c.all_enter.new.tiles (omega arith) (omega arith) (omega arith) (omega arith) (omega arith)
+    (in-row c.args.net.now c.args.tiles.now c.requires.ready.tiles) c.all_lanes.ensures c.all_motion.ensures c.publish.ensures.shows c.all_release.ensures c.move_all.ensures.moved c.all_enter.ensures c.all_meter.new.tiles (omega arith) c.all_meter.ensures c.requires.ready.tiles

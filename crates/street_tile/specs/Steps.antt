@@ -1,0 +1,27 @@
+-- One step of all tiles: what it needs, and what it does.
+-- Source: this profile.
+use Rattle.std.specs.Prelude.{◌≡◌, ◌<◌, ◌≤◌, List, [], length, filter_map}
+use Rattle.std.specs.List.{All}
+use Rattle.street_base.specs.declared.net.NetSpec.{NetSpec}
+use Rattle.street_base.specs.Limits.{last_clock}
+use Rattle.street_base.specs.State.{Traffic}
+use Rattle.street_base.specs.Step.{changed, step, arrival, leaver_of}
+use Rattle.street_tile.specs.Tiles.{Part, IsIdle, IsPrepared, Each, AreTiles, AllStand, nobody}
+use Rattle.street_tile.specs.TileDetectors.{AllMetersStand}
+
+-- the tiles of a network, few enough, with nobody on the way and room for a step, which stand for traffic before the last clock
+pub record MayStep (net : NetSpec) (xs : List Part) : Type 0 where
+  pub tiles : AreTiles net xs
+  pub few : length xs ≤ 64
+  pub idle : All IsIdle xs
+  pub prepared : All IsPrepared xs
+  pub stand : (m : Traffic) × AllStand net xs m × (m.clock < last_clock)
+
+-- whatever traffic the tiles stood for, they then stand for the next state, hold the numbers of those who arrived, and their
+-- detectors have noted the step; they are tiles of the network, and nobody is on the way
+pub record Steps (net : NetSpec) (xs ys : List Part) : Type 0 where
+  pub machine : (m : Traffic) → AllStand net xs m → AllStand net ys (step m)
+  pub arrived : (m : Traffic) → AllStand net xs m → Each (λ x y. y.arrived ≡ filter_map (λ p. arrival (leaver_of (changed m) p)) x.own.places) xs ys
+  pub meters : (m : Traffic) → AllStand net xs m → AllMetersStand xs m → AllMetersStand ys (step m)
+  pub tiles : AreTiles net ys
+  pub handed : All (λ x. (x.handed ≡ []) × (x.coming ≡ nobody x)) ys
