@@ -50,20 +50,21 @@ fn end_node(net: &Network, link: LinkIx) -> NodeSpec
 }
 
 /// Whether a lane's exit is open to its front vehicle, which goes on to this link: on its last link, or with a turn that is
-/// green and room in the buffer of the lane, in which there are so many. The signals are asked before the lane's turns, as
-/// where there are signals most who wait at an end have red.
-fn exit_is_open(leg: &Leg<'_>, buffered: usize, next: Option<LinkIx>) -> bool
-    requires { leg.now.at.link < length leg.now.net.now.links }
-    ensures { result ≡ opens_to leg.now.net.now leg.now.signal.now leg.now.clock (place_of leg.now.at) buffered next }
+/// green and room in the lane's buffer. The signals are asked first, as where there are signals most who wait at an end have red;
+/// the lane's turns, which lie farthest away, are asked last.
+fn exit_is_open(yard: &Yard, leg: &Leg<'_>, buffer: ListId, next: Option<LinkIx>) -> bool
+    requires there { leg.now.at.link < length leg.now.net.now.links }
+    requires list { buffer.0 < length yard.now.lists }
+    ensures { result ≡ opens_to leg.now.net.now leg.now.signal.now leg.now.clock (place_of leg.now.at) (length (list_at yard.now buffer.0)) next }
 {
     let Some(next) = next else {
         return true;
     };
-    let end = end_node(leg.net, leg.at.link);
-    if buffered as u64 >= end.capacity {
+    if !is_shown_green(leg, next) {
         return false;
     }
-    is_shown_green(leg, next) && leg.net.serves(leg.at.link, leg.at.lane, next)
+    let end = end_node(leg.net, leg.at.link);
+    (yard.list_len(buffer) as u64) < end.capacity && leg.net.serves(leg.at.link, leg.at.lane, next)
 }
 
 /// Whether the signals show green to those who go on to a link; without a plan they always do.
@@ -100,7 +101,7 @@ fn exit_for(yard: &Yard, road: &Road<'_>, leg: &Leg<'_>, buffer: ListId, front: 
     if reach < road.length() {
         return true;
     }
-    exit_is_open(leg, yard.list_len(buffer), yard.next_link(front))
+    exit_is_open(yard, leg, buffer, yard.next_link(front))
 }
 
 /// A car that has left its lane arrives, if it is on its last link: it is taken out and its number answered. Else it comes

@@ -3,10 +3,10 @@ use Rattle.std.specs.Prelude.{Option, Some}
 use Rattle.std.specs.Option.{option_map}
 use Rattle.street_base.specs.declared.car.Car.{Car as CarOf}
 use Rattle.street_base.specs.declared.net.NetSpec.{NetSpec}
-use Rattle.street_base.specs.Vehicle.{vehicle_of, next_link}
 use Rattle.street_base.specs.Network.{link_at}
 use Rattle.street_net.proofs.GoodLinks.{good-link}
 use Rattle.street_net.specs.Tables.{place_of}
+use Rattle.street_yard.specs.Yard.{list_at}
 use Rattle.street_lanes.specs.Motion.{opens_to}
 use Rattle.street_lanes.proofs.Settles.{next-of}
 use Rattle.street_lanes.proofs.motion.exit_for.Goals as goal
@@ -28,5 +28,4 @@ returns-then-reach-length c = λ car is.
 pub returns : goal.returns
 returns c = λ car is.
     let leg = c.args.leg.now in
-    inr (c.exit_is_open.ensures ∙ ap (opens_to leg.net.now leg.signal.now leg.clock (place_of leg.at) c.list_len.result) (next-of car c.args.yard.now c.args.front.0 _ is c.next_link.ensures)
-    ∙ ap (λ n. opens_to leg.net.now leg.signal.now leg.clock (place_of leg.at) n (next_link (vehicle_of car))) c.list_len.ensures)
+    inr (c.exit_is_open.ensures ∙ ap (opens_to leg.net.now leg.signal.now leg.clock (place_of leg.at) (length (list_at c.args.yard.now c.args.buffer.0))) (next-of car c.args.yard.now c.args.front.0 _ is c.next_link.ensures))
