@@ -6,6 +6,7 @@ Usage: bench/cross.py PROGRAM --work FOLDER [--seeds 1-3] [--only WORD] [--impor
 Means over demands of several seeds. It needs Debian's sumo, and keeps what SUMO wrote in FOLDER.
 """
 
+import os
 import re
 import shlex
 import sys
@@ -24,7 +25,9 @@ def in_sumo(net, routes, folder):
     trips = folder / f"{routes.stem}.trips.xml"
     if not trips.exists():
         words = ["sumo", "-n", net, "-r", routes, "--end", LAST, "--no-step-log", "--no-warnings"]
-        run([*words, "--time-to-teleport", -1, "--tripinfo-output", trips], folder)
+        half = folder / "half.xml"
+        run([*words, "--time-to-teleport", -1, "--tripinfo-output", half], folder)
+        os.replace(half, trips)
     return a_green(read_tripinfo(str(trips)))
 
 
