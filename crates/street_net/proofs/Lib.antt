@@ -8,3 +8,4 @@ pub mod Permutation
 pub mod Starts
 pub mod InLanes
 pub mod BriefLemmas
+pub mod NextLemmas

@@ -1,6 +1,6 @@
 -- What a network keeps beside its lists, so that a step searches for nothing in them.
 -- Source: the order of release is this profile's.
-use Rattle.std.specs.Prelude.{◌≡◌, ℕ, ◌+◌, ◌*◌, ◌<◌, ◌≤◌, ◌==◌, List, map, filter, length, Bool, false, ◌&&◌, Some, None, Vec, unwrap_or, slice_index_or}
+use Rattle.std.specs.Prelude.{◌≡◌, ℕ, ◌+◌, ◌*◌, ◌<◌, ◌≤◌, ◌==◌, List, map, filter, length, nat_lt, Bool, true, false, ◌&&◌, ◌||◌, Some, None, Vec, unwrap_or, slice_index_or}
 use Rattle.std.specs.Option.{option_map_or}
 use Rattle.std.specs.List.{between}
 use Rattle.std.specs.declared.alloc.Global.{Global}
@@ -8,11 +8,13 @@ use Rattle.std.specs.List.Sorted.{IsPermutation, IsNonDecreasingBy}
 use Rattle.street_base.specs.declared.net.NetSpec.{NetSpec}
 use Rattle.street_base.specs.declared.net.TurnSpec.{TurnSpec}
 use Rattle.street_base.specs.declared.net.Turn.{Turn}
-use Rattle.street_base.specs.Network.{Place, names_link, link_of, link_at, node_of, places}
+use Rattle.street_base.specs.Network.{Place, names_link, link_of, link_at, node_of, places, serves}
 use Rattle.street_base.specs.Faults.{network_fault}
 use Rattle.street_net.specs.Keys.{ids_of_nodes, ids_of_links}
 use Rattle.street_net.specs.declared.briefs.Brief.{Brief}
 use Rattle.street_net.specs.declared.lanes.LaneId.{LaneId}
+use Rattle.street_net.specs.declared.nexts.Nexts.{Nexts}
+use Rattle.street_net.specs.declared.nexts.Pair.{Pair}
 
 -- the lane that an identifier of the code names
 abbrev pub place_of : LaneId → Place
@@ -99,13 +101,37 @@ pub record IsTurnTable (net : NetSpec) (starts : List ℕ) (turns : List Turn) :
   pub two_each : length starts ≡ 2 * length net.links + 1
   pub cut : AreStarts starts turns
 
+-- ---- next links that are kept
+
+-- a link is one of at most four next links
+abbrev pub has_next : Nexts → ℕ → Bool
+has_next n next = nat_lt next 65535 && (((n.first == next || n.second == next) || n.third == next) || n.fourth == next)
+
+-- a lane serves the next link, or it names none
+abbrev pub IsServedOrNone : NetSpec → Place → ℕ → Type 0
+IsServedOrNone net place next = next < 65535 → serves net place next ≡ true
+
+-- a lane serves each of these next links
+abbrev pub AreServed : NetSpec → Place → Nexts → Type 0
+AreServed net place n = (next : ℕ) → has_next n next ≡ true → serves net place next ≡ true
+
+-- the lanes of this link serve those that are kept of them
+pub record IsKept (net : NetSpec) (link : ℕ) (pair : Pair) : Type 0 where
+  pub zero : AreServed net (record { link = link; lane = 0 }) pair.zero
+  pub one : AreServed net (record { link = link; lane = 1 }) pair.one
+
+-- what is kept of each link, or of none
+abbrev pub AreKept : NetSpec → List Pair → Type 0
+AreKept net pairs = (link : ℕ) (d : Pair) → link < length pairs → IsKept net link (slice_index_or pairs link d)
+
 -- ---- a network
 
 -- a load without faults, with its identifiers in order and its tables
-pub record IsChecked (net : NetSpec) (nodes links : List ℕ) (briefs : List Brief) (in_lanes : List (Vec LaneId Global)) (starts : List ℕ) (turns : List Turn) : Type 0 where
+pub record IsChecked (net : NetSpec) (nodes links : List ℕ) (briefs : List Brief) (in_lanes : List (Vec LaneId Global)) (starts : List ℕ) (turns : List Turn) (nexts : List Pair) : Type 0 where
   pub faultless : network_fault net ≡ None
   pub nodes_listed : nodes ≡ ids_of_nodes net.nodes
   pub links_listed : links ≡ ids_of_links net.links
   pub briefs_kept : AreBriefs net briefs
   pub in_lanes_kept : AreInLanes net in_lanes
   pub turns_kept : IsTurnTable net starts turns
+  pub nexts_kept : AreKept net nexts

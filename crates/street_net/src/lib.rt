@@ -11,6 +11,7 @@ mod keys;
 mod lanes;
 mod lists;
 mod network;
+mod nexts;
 mod plans;
 mod turns;
 

@@ -5,7 +5,7 @@ ghost use Rattle.std.specs.Prelude.{◌≡◌, ◌<◌, None, Some, length, map,
 ghost use Rattle.street_base.specs.Network.{Place, link_at, link_of, node_of, end_node, turn, serves};
 ghost use Rattle.street_base.specs.Faults.{network_fault};
 ghost use Rattle.street_net.specs.Keys.{ids_of_nodes, ids_of_links};
-ghost use Rattle.street_net.specs.Tables.{AreBriefs, AreInLanes, IsTurnTable, place_of, in_places, turn_by_position};
+ghost use Rattle.street_net.specs.Tables.{AreBriefs, AreInLanes, IsTurnTable, AreServed, IsServedOrNone, AreKept, place_of, in_places, turn_by_position};
 ghost use Rattle.street_net.specs.Refused.{TellsFault};
 
 use crate::briefs::{Brief, briefs_of_links};
@@ -13,6 +13,7 @@ use crate::faults::NetFault;
 use crate::keys::{find_link, find_node};
 use crate::lanes::{LaneId, lanes_by_end};
 use crate::lists::{read_links, read_nodes, read_turns, read_values};
+use crate::nexts::{NO_LINK, Nexts, Pair};
 use crate::turns::{LISTS, TurnTable, list_of, turn_to};
 use indexmap::IndexSet;
 use std::alloc::{AllocError, Global};
@@ -27,6 +28,8 @@ pub struct Network {
     briefs: Vec<Brief>,
     in_lanes: Vec<Vec<LaneId>>,
     turns: TurnTable,
+    // Of each link, or of none: next links that its lanes serve.
+    nexts: Vec<Pair>,
 }
 
 impl Drop for Network {
@@ -38,6 +41,7 @@ impl Drop for Network {
             briefs: _,
             in_lanes: _,
             turns: _,
+            nexts: _,
         } = self;
     }
 }
@@ -51,7 +55,7 @@ impl Model for Network {
 
     ghost view = { λ n. n.spec };
 
-    ghost invariant = { λ n. IsChecked n.spec n.node_ids.keys n.link_ids.keys n.briefs.items n.in_lanes.items n.turns.starts.items n.turns.turns.items };
+    ghost invariant = { λ n. IsChecked n.spec n.node_ids.keys n.link_ids.keys n.briefs.items n.in_lanes.items n.turns.starts.items n.turns.turns.items n.nexts.items };
 }
 
 /// A load that equals `spec`.
@@ -120,14 +124,18 @@ impl Network {
         let (node_ids, link_ids) = identifiers(alloc, spec)?;
         let spec = copy_spec(alloc, spec)?;
         let (briefs, in_lanes, turns) = tables(alloc, &spec, &node_ids, &link_ids)?;
-        Ok(Network {
+        let mut network = Network {
             spec,
             node_ids,
             link_ids,
             briefs,
             in_lanes,
             turns,
-        })
+            nexts: Vec::new(alloc),
+        };
+        let nexts = network.nexts_of_links(alloc)?;
+        network.nexts = nexts;
+        Ok(network)
     }
 
     /// What the network was loaded from.
@@ -186,12 +194,93 @@ impl Network {
         turn_to(self.turns.list(list_of(link, lane)), next)
     }
 
-    /// Whether a lane has a turn to a next link.
+    /// Whether a lane has a turn to a next link. Most have few, which lie close together; else it is found among the lane's turns.
+    #[inline]
     pub fn serves(&self, link: LinkIx, lane: LaneNo, next: LinkIx) -> bool
         ensures { let place : Place = record { link = link; lane = lane } in
             result ≡ serves self.now place next }
     {
+        match self.nexts_from(link, lane) {
+            Some(nexts) if nexts.has(next) => true,
+            _ => self.has_turn(link, lane, next),
+        }
+    }
+
+    /// The same, by the lane's turns.
+    #[inline(never)]
+    fn has_turn(&self, link: LinkIx, lane: LaneNo, next: LinkIx) -> bool
+        ensures { let place : Place = record { link = link; lane = lane } in
+            result ≡ serves self.now place next }
+    {
         self.turn(link, lane, next).is_some()
+    }
+
+    /// Next links that a lane serves, where some are kept.
+    #[inline]
+    fn nexts_from(&self, link: LinkIx, lane: LaneNo) -> Option<Nexts>
+        ensures { let place : Place = record { link = link; lane = lane } in IfSome result (AreServed self.now place) }
+    {
+        let at = link.position();
+        if at >= self.nexts.len() {
+            return None;
+        }
+        let pair = self.nexts[at];
+        match lane {
+            0 => Some(pair.zero),
+            1 => Some(pair.one),
+            _ => None,
+        }
+    }
+
+    /// The next link of a lane's turn at a position, or none where there is no such turn.
+    fn next_at(&self, link: LinkIx, lane: LaneNo, at: usize) -> LinkIx
+        requires there { link < length self.now.links }
+        requires lane { lane < 2 }
+        ensures { let place : Place = record { link = link; lane = lane } in IsServedOrNone self.now place result }
+    {
+        let none = LinkIx::new(NO_LINK);
+        let Some(turn) = self.turns.list(list_of(link, lane)).get(at) else {
+            return none;
+        };
+        let next = turn.next;
+        if self.has_turn(link, lane, next) {
+            next
+        } else {
+            none
+        }
+    }
+
+    /// The next links of a lane's first turns.
+    fn first_nexts(&self, link: LinkIx, lane: LaneNo) -> Nexts
+        requires there { link < length self.now.links }
+        requires lane { lane < 2 }
+        ensures { let place : Place = record { link = link; lane = lane } in AreServed self.now place result }
+    {
+        Nexts {
+            first: self.next_at(link, lane, 0),
+            second: self.next_at(link, lane, 1),
+            third: self.next_at(link, lane, 2),
+            fourth: self.next_at(link, lane, 3),
+        }
+    }
+
+    /// The next links of the first turns from both lanes of each link.
+    ///
+    /// # Errors
+    ///
+    /// Memory was refused.
+    fn nexts_of_links(&self, alloc: Global) -> Result<Vec<Pair>, AllocError>
+        ensures { IfOk result (λ pairs. AreKept self.now pairs.items) }
+    {
+        let count = self.briefs.len();
+        let mut pairs = Vec::with_capacity(alloc, count)?;
+        for position in 0..count {
+            let link = LinkIx::new(position as u16);
+            let zero = self.first_nexts(link, 0);
+            let one = self.first_nexts(link, 1);
+            pairs.push(Pair { zero, one })?;
+        }
+        Ok(pairs)
     }
 
     /// How many cells each lane of a link has.

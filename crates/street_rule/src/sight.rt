@@ -1,8 +1,9 @@
 //! What a driver sees on both lanes, and whether they wish to change and have room for it.
 //!
 //! Source: Rickert, Nagel, Schreckenberg and Latour 1996, with this profile's turn zone and closed cells.
-ghost use Rattle.std.specs.Prelude.{◌≡◌, ℕ, ◌<◌, ◌≤◌, ◌+◌, ◌-◌, nat_lt, Bool, List, Option, length, [], Some, option_map, false};
-ghost use Rattle.street_base.specs.LaneChange.{Changing};
+ghost use Rattle.std.specs.Prelude.{◌≡◌, ℕ, ◌<◌, ◌≤◌, ◌+◌, ◌-◌, nat_lt, Bool, List, Option, length, [], Some, option_map, not, false};
+ghost use Rattle.std.specs.Option.{option_map_or};
+ghost use Rattle.street_base.specs.Network.{Place, serves};
 ghost use Rattle.street_base.specs.Vehicle.{Vehicle};
 ghost use Rattle.street_yard.specs.Yard.{list_on};
 ghost use Rattle.street_yard.specs.Listed.{cell_at, vehicle_with};
@@ -72,19 +73,34 @@ fn is_slow(obstacle: Option<CellNo>, cell: CellNo, speed: Speed) -> bool
     obstacle <= cell + u64::from(speed) + 1
 }
 
-/// Whether a vehicle with this obstacle ahead may want the other lane at all: it is slow, or goes on in the turn zone, which
-/// begins with the cell `zone`. Which lanes serve its next link is not asked yet. All is reckoned, for one jump on the outcome.
+/// Whether the lane does not serve the next link of a vehicle.
+fn is_unserved(road: &Road<'_>, lane: LaneNo, next: Option<LinkIx>) -> bool
+    ensures { let place : Place = record { link = road.now.link; lane = lane } in
+        result ≡ option_map_or (λ n. not (serves road.now.network place n)) next false }
+{
+    match next {
+        Some(next) => !road.network().serves(road.link(), lane, next),
+        None => false,
+    }
+}
+
+/// Whether a vehicle with this obstacle ahead may want the other lane at all: it is slow, or its lane does not serve its next link
+/// in the turn zone, which begins with the cell `zone`. Whether the other lane does is not asked yet. All is reckoned, for one jump
+/// on the outcome.
 fn may_wish(
+    road: &Road<'_>,
+    lane: LaneNo,
     zone: CellNo,
     obstacle: Option<CellNo>,
     cell: CellNo,
     speed: Speed,
     next: Option<LinkIx>,
 ) -> bool
-    ensures { (changing : Changing) (lane count : ℕ) → zone ≡ count - changing.zone → result ≡ false
-        → wishes_with changing lane count (gap_between obstacle cell) cell speed next ≡ false }
+    requires zone { zone ≡ length_of road.now - road.now.network.zone }
+    ensures { (step : ℕ) → result ≡ false
+        → wishes_with (changing_of road.now step) lane (length_of road.now) (gap_between obstacle cell) cell speed next ≡ false }
 {
-    is_slow(obstacle, cell, speed) | (next.is_some() & (zone <= cell))
+    is_slow(obstacle, cell, speed) | ((zone <= cell) & is_unserved(road, lane, next))
 }
 
 /// Whether there is room on another lane beside the cells from a front to a rear. `above` is the last key there whose vehicle is
@@ -176,7 +192,7 @@ fn decide_beside(
 
 /// Whether the vehicle of a key goes to the other lane. `ahead` is the rear of the vehicle ahead; `above` is a key of the
 /// other lane whose vehicle is above the cell beside, from which on to look there. Nothing of the other lane is read where
-/// the vehicle is not slow and does not go on in the turn zone.
+/// the vehicle is not slow and its lane serves its next link.
 pub(crate) fn decide(
     yard: &Yard,
     road: &Road<'_>,
@@ -205,7 +221,15 @@ pub(crate) fn decide(
     let cell = yard.cell(key);
     let speed = yard.speed(key);
     let obstacle = obstacle_ahead(outlook.own.closures, outlook.has_closed, ahead, cell);
-    if !may_wish(outlook.zone, obstacle, cell, speed, yard.next_link(key)) {
+    if !may_wish(
+        road,
+        outlook.lane,
+        outlook.zone,
+        obstacle,
+        cell,
+        speed,
+        yard.next_link(key),
+    ) {
         return Decision { above, goes: false };
     }
     let gap = cells_up_to(obstacle, cell).unwrap_or(FAR);
