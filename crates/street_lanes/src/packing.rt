@@ -5,11 +5,16 @@ ghost use Rattle.street_lanes.specs.Lists.{Packs};
 
 use crate::lanes::Lanes;
 use crate::lists::{buffer_list, cells_list};
+use street_base::Step;
 use street_rule::Dice;
 use street_yard::{ListId, Yard};
 
 /// The fewest who come to lanes until keys are given anew.
 const FEWEST: usize = 64;
+
+/// Keys are given anew in steps that are multiples of this, so that workers who share steps mostly do it in the same one. They wait
+/// for the slowest of them in each step.
+const TOGETHER: Step = 8;
 
 /// The cars on a list take spare keys one after another, from a position among those on; answers the position behind them.
 /// Where there are no more, cars keep their keys.
@@ -50,13 +55,13 @@ fn pack_lanes(yard: &mut Yard, dice: &mut Dice, lanes: usize) -> usize
 }
 
 impl Lanes {
-    /// Gives the vehicles in cells and buffers keys in the order in which they stand, once as many have come to lanes as half
-    /// of those who stood there as this was last done: a walk along a lane is then one along memory. Nothing else changes.
-    /// Takes no memory.
-    pub fn pack(&mut self)
+    /// Gives the vehicles in cells and buffers keys in the order in which they stand, in the first step of eight once as many have
+    /// come to lanes as half of those who stood there as this was last done: a walk along a lane is then one along memory. Nothing
+    /// else changes. Takes no memory.
+    pub fn pack(&mut self, clock: Step)
         ensures { self.new ≡ self.old }
     {
-        if self.come < FEWEST.max(self.packed / 2) {
+        if clock % TOGETHER != 0 || self.come < FEWEST.max(self.packed / 2) {
             return;
         }
         self.come = 0;

@@ -168,7 +168,7 @@ impl Tile {
         ensures { MeterPhase net.now self.old self.new }
     {
         note_lanes(self.has_meters, &mut self.detectors, &self.own);
-        self.own.pack();
+        self.own.pack(self.clock);
         self.clock += 1;
     }
 
