@@ -1,9 +1,9 @@
 //! Lines served by an engine.
 //!
 //! Source: this profile.
-ghost use Rattle.std.specs.Prelude.{◌≡◌, ◌≤◌, IfOk, IfErr};
+ghost use Rattle.std.specs.Prelude.{◌≡◌, ◌≤◌, IfOk, IfErr, OnOk};
 ghost use Rattle.street_base.specs.State.{State};
-ghost use Rattle.street_stream.specs.Streams.{IsFresh, IsPrompt};
+ghost use Rattle.street_stream.specs.Streams.{IsFlushed, IsFresh, IsPrompt};
 ghost use Rattle.street_stream.specs.Faults.{IsCaused};
 ghost use Rattle.street_engine.specs.Refines.{StandsFor};
 ghost use Rattle.street_line.specs.Engines.{MachineServes};
@@ -97,6 +97,7 @@ pub fn run_engine<R: Threads + Sync, D: Read, W: Write>(
     ensures caused { IfErr result (λ fault. IsCaused fault.kind reader.new writer.new 1000000000) }
     ensures bounded { reader.new.calls ≤ 1000000000 }
     ensures prompt { IsPrompt reader.new }
+    ensures flushed { OnOk result (IsFlushed writer.new) }
 {
     run_lines(alloc, session, reader, writer)
 }

@@ -1,8 +1,8 @@
 //! A text of lines, served one after another.
 //!
 //! Source: this profile. Each reply is written, and passed on, before the next read.
-ghost use Rattle.std.specs.Prelude.{◌≡◌, ◌≤◌, IfOk, IfErr};
-ghost use Rattle.street_stream.specs.Streams.{IsFresh, IsPrompt};
+ghost use Rattle.std.specs.Prelude.{◌≡◌, ◌≤◌, IfOk, IfErr, OnOk};
+ghost use Rattle.street_stream.specs.Streams.{IsFlushed, IsFresh, IsPrompt};
 ghost use Rattle.street_stream.specs.Faults.{IsCaused};
 ghost use Rattle.street_line.specs.Faults.{ServedInPart, kind_of};
 ghost use Rattle.street_line.specs.Runs.{ServedWhole};
@@ -49,6 +49,7 @@ fn serve_all<S: Service, R: Read, W: Write>(
     ensures caused { IfErr result (λ fault. IsCaused fault.kind reader.new writer.new reads) }
     ensures bounded { reader.new.calls ≤ reads }
     ensures prompt { IsPrompt reader.new }
+    ensures flushed { OnOk result (IsFlushed writer.new) }
 {
     let limits = Limits {
         line: LONGEST_LINE,
@@ -91,6 +92,7 @@ pub fn run_lines_within<S: Service, R: Read, W: Write>(
     ensures caused { IfErr result (λ fault. IsCaused fault.kind reader.new writer.new reads) }
     ensures bounded { reader.new.calls ≤ reads }
     ensures prompt { IsPrompt reader.new }
+    ensures flushed { OnOk result (IsFlushed writer.new) }
 {
     let mut server = LineServer { service };
     serve_all(alloc, &mut server, reader, writer, reads)
@@ -117,6 +119,7 @@ pub fn run_lines<S: Service, R: Read, W: Write>(
     ensures caused { IfErr result (λ fault. IsCaused fault.kind reader.new writer.new 1000000000) }
     ensures bounded { reader.new.calls ≤ 1000000000 }
     ensures prompt { IsPrompt reader.new }
+    ensures flushed { OnOk result (IsFlushed writer.new) }
 {
     run_lines_within(alloc, service, reader, writer, MOST_READS)
 }

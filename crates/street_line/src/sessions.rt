@@ -1,8 +1,8 @@
 //! Lines served through a desk.
 //!
 //! Source: this profile.
-ghost use Rattle.std.specs.Prelude.{◌≡◌, ◌≤◌, IfOk, IfErr};
-ghost use Rattle.street_stream.specs.Streams.{IsFresh, IsPrompt};
+ghost use Rattle.std.specs.Prelude.{◌≡◌, ◌≤◌, IfOk, IfErr, OnOk};
+ghost use Rattle.street_stream.specs.Streams.{IsFlushed, IsFresh, IsPrompt};
 ghost use Rattle.street_stream.specs.Faults.{IsCaused};
 ghost use Rattle.street_line.specs.Faults.{ServedInPart};
 ghost use Rattle.street_line.specs.Runs.{ServedWhole};
@@ -37,6 +37,7 @@ pub fn run_session<R: Threads + Wait + Sync, D: Read, W: Write>(
     ensures caused { IfErr result (λ fault. IsCaused fault.kind reader.new writer.new 1000000000) }
     ensures bounded { reader.new.calls ≤ 1000000000 }
     ensures prompt { IsPrompt reader.new }
+    ensures flushed { OnOk result (IsFlushed writer.new) }
     ensures same { session.new.desk ≡ session.old.desk }
 {
     run_lines(alloc, session, reader, writer)
@@ -67,6 +68,7 @@ pub fn run_alone<R: Threads + Wait + Sync, D: Read, W: Write>(
     ensures caused { IfErr result (λ fault. IsCaused fault.kind reader.new writer.new 1000000000) }
     ensures bounded { reader.new.calls ≤ 1000000000 }
     ensures prompt { IsPrompt reader.new }
+    ensures flushed { OnOk result (IsFlushed writer.new) }
     ensures same { session.new.desk ≡ session.old.desk }
 {
     run_session(alloc, session, reader, writer)

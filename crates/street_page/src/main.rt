@@ -4,9 +4,9 @@
 //! is looked at. The status is 1 where the run was cut off.
 #![tactic(auto)]
 
-ghost use Rattle.std.specs.Prelude.{None, IfOk, IfErr};
+ghost use Rattle.std.specs.Prelude.{None, IfOk, IfErr, OnOk};
 ghost use Rattle.street_base.specs.State.{State};
-ghost use Rattle.street_stream.specs.Streams.{IsFresh, IsPrompt};
+ghost use Rattle.street_stream.specs.Streams.{IsFlushed, IsFresh, IsPrompt};
 ghost use Rattle.street_stream.specs.Faults.{IsCaused};
 ghost use Rattle.street_line.specs.Engines.{MachineServes};
 ghost use Rattle.street_line.specs.Faults.{ServedInPart};
@@ -51,6 +51,7 @@ fn serve<R: Threads + Sync, D: Read, W: Write>(
         new (D.remaining reader.new.stream) (W.contents writer.new.stream) fault) }
     ensures caused { IfErr result (λ fault. IsCaused fault.kind reader.new writer.new 1000000000) }
     ensures prompt { IsPrompt reader.new }
+    ensures flushed { OnOk result (IsFlushed writer.new) }
 {
     let mut session = EngineSession::new(rt, Engine::new(alloc, 1, Unwatched::new()));
     run_engine(alloc, &mut session, reader, writer)

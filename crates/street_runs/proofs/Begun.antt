@@ -1,10 +1,10 @@
 -- A text of which the first bytes were written, among others.
 use Rattle.std.proofs.Common.{◌≡◌, ◌<◌, ℕ, ◌+◌, List, [], ◌++◌, take, drop, get_or, length, Option, sym, ap, ◌∙◌, arith, length-append}
-use Rattle.std.proofs.KnownBytes.{Appends-trans}
+use Rattle.std.proofs.KnownBytes.{Appends-trans, Appends-kept}
 use Rattle.std.proofs.Math.Seq.{take-append-add}
 use Rattle.std.proofs.lemmas.Grind.{flat_map-append}
-use Rattle.std.proofs.lemmas.List.{flat_map_more, take-append-le, take-append-drop, take_more, at_drop_more}
-use Rattle.std.specs.Io.KnownBytes.{Appends}
+use Rattle.std.proofs.lemmas.List.{flat_map_more, take-append-le, take-append-drop, take_all, take_more, at_drop_more}
+use Rattle.std.specs.Io.KnownBytes.{Appends, Keeps}
 use Rattle.street_line.specs.declared.script.Script.{Script}
 use Rattle.street_runs.specs.Outputs.{IsBegun, replies_of}
 
@@ -26,4 +26,12 @@ begun_within before mid after done text rest wrote b = record {
   sent = length done + b.sent;
   within = omega (arith, b.within, length-append done (text ++ rest), length-append text rest);
   written = rw (take-append-add done (text ++ rest) b.sent, take-append-le b.sent text rest b.within) (Appends-trans before mid after done (take b.sent text) wrote b.written);
+}
+
+-- a text that was written whole, but perhaps not passed on
+pub begun_kept : (before mid after : Option (List ℕ)) (text : List ℕ) → Appends before mid text → Keeps mid after → IsBegun before after text
+begun_kept before mid after text wrote kept = record {
+  sent = length text;
+  within = omega arith;
+  written = rw (take_all (length text) text (omega arith)) (Appends-kept before mid after text wrote kept);
 }

@@ -6,7 +6,7 @@ use Rattle.std.specs.Io.KnownBytes.{Appends}
 use Rattle.std.specs.List.{flat_map}
 use Rattle.street_line.specs.declared.script.Script.{Script}
 use Rattle.street_stream.specs.declared.counted.Counted.{Counted}
-use Rattle.street_stream.specs.Streams.{HasFailed}
+use Rattle.street_stream.specs.Streams.{HasFailed, IsFlushed}
 use Rattle.street_runs.specs.declared.fault.Fault.{Fault}
 use Rattle.street_runs.specs.declared.fault.Fault.TheVariants.{Write}
 
@@ -20,9 +20,9 @@ pub record IsBegun (before after : Option (List ℕ)) (text : List ℕ) : Type 0
   pub within : sent ≤ length text
   pub written : Appends before after (take sent text)
 
--- a text was written; or its first bytes were, and the writer has failed
+-- a text was written and passed on; or its first bytes were written, and the writer has failed
 abbrev pub IsPrinted : {W : Type 0} → Option (List ℕ) → Option (List ℕ) → List ℕ → Counted W → Type 0
-IsPrinted before after text writer = Appends before after text ⊎ (IsBegun before after text × HasFailed writer)
+IsPrinted before after text writer = (Appends before after text × IsFlushed writer) ⊎ (IsBegun before after text × HasFailed writer)
 
 -- what is told where standard output fails
 pub record TellsOutput (fault : Fault) : Type 0 where

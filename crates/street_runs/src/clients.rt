@@ -13,9 +13,9 @@ ghost use Rattle.street_runs.specs.Outputs.{IsBegun, IsPrinted, TellsOutput, rep
 ghost use Rattle.street_runs.specs.Scripts.{AreOpened, ArePassesFrom, ArePlayed, AreRun, IsFirstFault, Tells};
 ghost use Rattle.street_runs.specs.Words.{IsInRange};
 ghost use Rattle.street_stream.specs.Faults.{IsCaused};
-ghost use Rattle.street_stream.specs.Streams.{HasFailed, IsFresh, IsPrompt};
+ghost use Rattle.street_stream.specs.Streams.{HasFailed, IsFlushed, IsFresh, IsPrompt};
 
-use crate::outputs::{STANDARD_INPUT, STANDARD_OUTPUT, keep_tape, print_text};
+use crate::outputs::{STANDARD_INPUT, STANDARD_OUTPUT, keep_tape, pass_on, write_out};
 use crate::{Fault, Options};
 use std::alloc::Global;
 use std::fs::File;
@@ -84,7 +84,7 @@ fn serve_alone<R: Threads + Wait + Sync, D: Read, W: Write>(
         [] (D.remaining reader.old.stream) (W.contents writer.old.stream)
         r.2.seen (D.remaining reader.new.stream) (W.contents writer.new.stream) fault)) }
     ensures caused { IfOk result (λ r. IfErr r.0 (λ fault. IsCaused fault.kind reader.new writer.new 1000000000)) }
-    ensures prompt { OnOk result (IsPrompt reader.new) }
+    ensures prompt { IfOk result (λ r. IsPrompt reader.new × OnOk r.0 (IsFlushed writer.new)) }
     ensures desk { IfOk result (λ r. r.2.desk ≡ r.1) }
     ensures starved { OnErr result ((reader.new ≡ reader.old) × (writer.new ≡ writer.old)) }
 {
@@ -268,18 +268,20 @@ fn first_fault<'a, R: Threads + Wait + Sync>(
     Ok(())
 }
 
-/// Writes the replies of scripts in their order.
+/// Writes the replies of scripts in their order, and passes them on.
 fn print_replies<R: Threads + Wait + Sync, W: Write>(
     writer: &mut Counted<W>,
     scripts: &[Script<'_, R>],
 ) -> Result<(), Fault<'static>>
     ensures written { OnOk result (Appends (W.contents writer.old.stream) (W.contents writer.new.stream) (replies_of scripts.now)) }
+    ensures flushed { OnOk result (IsFlushed writer.new) }
     ensures part { OnErr result (IsBegun (W.contents writer.old.stream) (W.contents writer.new.stream) (replies_of scripts.now)) }
     ensures failed { IfErr result (λ fault. HasFailed writer.new × TellsOutput fault) }
 {
     for script in scripts {
-        print_text(writer, script.replies.as_slice())?;
+        write_out(writer, script.replies.as_slice())?;
     }
+    pass_on(writer)?;
     Ok(())
 }
 

@@ -1,11 +1,11 @@
 //! The program's files and standard output.
 //!
 //! Source: this profile.
-ghost use Rattle.std.specs.Io.KnownBytes.{Appends};
+ghost use Rattle.std.specs.Io.KnownBytes.{Appends, Keeps};
 ghost use Rattle.std.specs.Prelude.{◌≡◌, OnOk, OnErr, IfErr};
 ghost use Rattle.street_runs.specs.Ends.{IsTaped, StopsTape, TellsWriting};
 ghost use Rattle.street_runs.specs.Outputs.{IsBegun, TellsOutput};
-ghost use Rattle.street_stream.specs.Streams.{HasFailed, IsFresh};
+ghost use Rattle.street_stream.specs.Streams.{HasFailed, IsFlushed, IsFresh};
 ghost use Rattle.street_tape.specs.Tapes.{tape_text};
 
 use crate::Fault;
@@ -25,18 +25,39 @@ pub const STANDARD_INPUT: &str = "standard input";
 /// The name of standard output in faults.
 pub const STANDARD_OUTPUT: &str = "standard output";
 
-/// Writes a text to standard output, and passes it on.
-pub fn print_text<W: Write>(writer: &mut Counted<W>, text: &[u8]) -> Result<(), Fault<'static>>
+/// Writes a text to standard output.
+pub fn write_out<W: Write>(writer: &mut Counted<W>, text: &[u8]) -> Result<(), Fault<'static>>
     ensures written { OnOk result (Appends (W.contents writer.old.stream) (W.contents writer.new.stream) text.now) }
     ensures part { OnErr result (IsBegun (W.contents writer.old.stream) (W.contents writer.new.stream) text.now) }
     ensures failed { IfErr result (λ fault. HasFailed writer.new × TellsOutput fault) }
 {
-    if street_stream::write_text(writer, text).is_err()
-        || street_stream::flush_out(writer).is_err()
-    {
+    if street_stream::write_text(writer, text).is_err() {
         return Err(Fault::Write(STANDARD_OUTPUT));
     }
     Ok(())
+}
+
+/// Passes on what standard output was given.
+pub fn pass_on<W: Write>(writer: &mut Counted<W>) -> Result<(), Fault<'static>>
+    ensures kept { Keeps (W.contents writer.old.stream) (W.contents writer.new.stream) }
+    ensures flushed { OnOk result (IsFlushed writer.new) }
+    ensures failed { IfErr result (λ fault. HasFailed writer.new × TellsOutput fault) }
+{
+    if street_stream::flush_out(writer).is_err() {
+        return Err(Fault::Write(STANDARD_OUTPUT));
+    }
+    Ok(())
+}
+
+/// Writes a text to standard output, and passes it on.
+pub fn print_text<W: Write>(writer: &mut Counted<W>, text: &[u8]) -> Result<(), Fault<'static>>
+    ensures written { OnOk result (Appends (W.contents writer.old.stream) (W.contents writer.new.stream) text.now) }
+    ensures flushed { OnOk result (IsFlushed writer.new) }
+    ensures part { OnErr result (IsBegun (W.contents writer.old.stream) (W.contents writer.new.stream) text.now) }
+    ensures failed { IfErr result (λ fault. HasFailed writer.new × TellsOutput fault) }
+{
+    write_out(writer, text)?;
+    pass_on(writer)
 }
 
 /// Ends the desk and writes its tape to the file that is asked for, if one is.
@@ -68,6 +89,7 @@ fn end_with_tape<'a, W: Write>(
     requires desk { pass.desk ≡ desk }
     requires writer { IsFresh writer.old }
     ensures written { OnOk result (IsTaped pass (W.contents writer.old.stream) (W.contents writer.new.stream)) }
+    ensures flushed { OnOk result (IsFlushed writer.new) }
     ensures stops { IfErr result (λ fault. StopsTape pass (W.contents writer.old.stream) (W.contents writer.new.stream)
         writer.old writer.new name.entry fault) }
 {
@@ -86,6 +108,7 @@ fn write_journal<'a, W: Write>(
 ) -> Result<(), Fault<'a>>
     requires { IsFresh writer.old }
     ensures written { OnOk result (Appends (W.contents writer.old.stream) (W.contents writer.new.stream) (tape_text journal.now)) }
+    ensures flushed { OnOk result (IsFlushed writer.new) }
     ensures part { OnErr result (IsBegun (W.contents writer.old.stream) (W.contents writer.new.stream) (tape_text journal.now)) }
     ensures told { IfErr result (λ fault. TellsWriting fault name.entry writer.new) }
 {

@@ -5,7 +5,9 @@ ghost use Rattle.std.specs.Prelude.{◌≤◌, IfErr, OnOk};
 ghost use Rattle.std.specs.Io.KnownBytes.{Appends};
 ghost use Rattle.street_runs.specs.Outputs.{IsBegun};
 ghost use Rattle.street_runs.specs.Replays.{ReplaysCounted, CountedStops};
-ghost use Rattle.street_stream.specs.Streams.{IsFresh};
+ghost use Rattle.street_stream.specs.Faults.{IsCausedByWriting};
+ghost use Rattle.street_stream.specs.Streams.{IsFlushed, IsFresh, IsPrompt};
+ghost use Rattle.street_tape.specs.Faults.{IsTapeCaused};
 ghost use Rattle.street_text.specs.ReplyLines.{reply_line};
 
 use crate::Fault;
@@ -60,6 +62,9 @@ fn replay_and_count<R: Threads + Sync, D: Read, W: Write>(
         (D.remaining reader.new.stream) (W.contents writer.new.stream)) }
     ensures stops { IfErr result (λ fault. CountedStops (D.remaining reader.old.stream) (W.contents writer.old.stream)
         (D.remaining reader.new.stream) (W.contents writer.new.stream) fault) }
+    ensures caused { IfErr result (λ fault. IsTapeCaused fault reader.new writer.new 1000000000) }
+    ensures prompt { IsPrompt reader.new }
+    ensures flushed { OnOk result (IsFlushed writer.new) }
 {
     let mut engine = Engine::new(alloc, workers, Unwatched::new());
     let tally = match replay(rt, alloc, reader, &mut engine, writer) {
@@ -81,6 +86,8 @@ fn print_reply<W: Write>(
 ) -> Result<(), FaultKind>
     ensures written { OnOk result (Appends (W.contents writer.old.stream) (W.contents writer.new.stream) (reply_line reply.now)) }
     ensures part { IfErr result (λ kind. IsBegun (W.contents writer.old.stream) (W.contents writer.new.stream) (reply_line reply.now)) }
+    ensures caused { IfErr result (λ kind. IsCausedByWriting kind writer.new) }
+    ensures flushed { OnOk result (IsFlushed writer.new) }
 {
     let Ok(text) = reply_text(alloc, reply) else {
         return Err(FaultKind::Starved);

@@ -23,6 +23,10 @@ HasFailed c = 0 < c.failures + c.empty_writes
 abbrev pub IsPrompt : {T : Type 0} → Counted T → Type 0
 IsPrompt reader = 0 < reader.calls → reader.is_prompt ≡ true
 
+-- the writer's last call was a flush that did not fail: nothing that it was given waits in it
+abbrev pub IsFlushed : {T : Type 0} → Counted T → Type 0
+IsFlushed writer = writer.is_flushed ≡ true
+
 -- no call of the writer was made behind the last read
 abbrev pub IsLastRead : {R W : Type 0} → Counted R → Counted W → Type 0
 IsLastRead reader writer = reader.writer_calls ≡ writer.calls

@@ -1,9 +1,9 @@
 //! The lines of a text, cut out of reads and handled one after another.
 //!
 //! Source: this profile. Each reply is written, and passed on, before the next read.
-ghost use Rattle.std.specs.Prelude.{◌≡◌, ◌+◌, ◌^◌, ◌<◌, ◌≤◌, ℕ, List, [], ◌∷◌, ◌++◌, IfOk, OnOk, IfErr, length, true};
+ghost use Rattle.std.specs.Prelude.{◌≡◌, ◌+◌, ◌^◌, ◌<◌, ◌≤◌, ℕ, List, [], ◌∷◌, ◌++◌, IfOk, OnOk, IfErr, length};
 ghost use Rattle.std.specs.Io.KnownBytes.{Consumes, IsAtEnd};
-ghost use Rattle.street_stream.specs.Streams.{IsFresh, IsPrompt};
+ghost use Rattle.street_stream.specs.Streams.{IsFlushed, IsFresh, IsPrompt};
 ghost use Rattle.street_stream.specs.Faults.{IsCausedBy, IsCausedByLine};
 ghost use Rattle.street_stream.specs.HandledLines.{Whole, Broke, IsTally};
 ghost use Rattle.street_stream.specs.Lines.{IsInsideLine, IsPart};
@@ -138,7 +138,7 @@ fn feed_through<H: LineHandler, W: Write>(
     ensures broken { IfErr result (λ cause. FeedBreaks H.takes H.stops H.longest handler.old (W.contents writer.old.stream)
         progress.old bytes.now handler.new (W.contents writer.new.stream) cause progress.new.tally) }
     ensures caused { IfErr result (λ cause. IsCausedByLine cause writer.new) }
-    ensures passed { OnOk result (writer.new.is_flushed ≡ true) }
+    ensures passed { OnOk result (IsFlushed writer.new) }
 {
     feed(alloc, handler, writer, progress, bytes)?;
     flush_out(writer)?;
@@ -185,6 +185,7 @@ fn finish_through<H: LineHandler, W: Write>(
     ensures broken { IfErr result (λ cause. FinishBreaks H.takes H.stops H.longest handler.old (W.contents writer.old.stream)
         progress.old handler.new (W.contents writer.new.stream) cause progress.new.tally) }
     ensures caused { IfErr result (λ cause. IsCausedByLine cause writer.new) }
+    ensures passed { OnOk result (IsFlushed writer.new) }
 {
     finish(alloc, handler, writer, progress)?;
     flush_out(writer)?;
@@ -202,8 +203,7 @@ fn drive_all<H: LineHandler, R: Read, W: Write>(
 ) -> Result<(), Cause<H::Stop>>
     requires ready { H.ready }
     requires fresh { IsFresh reader.old }
-    requires part { IsPart H.longest progress.old.part [] }
-    requires tally { IsTally progress.old.tally [] [] }
+    requires begun { IsPart H.longest progress.old.part [] × IsTally progress.old.tally [] [] }
     ensures whole { OnOk result (Whole H.takes handler.old (R.remaining reader.old.stream) (W.contents writer.old.stream)
         handler.new (R.remaining reader.new.stream) (W.contents writer.new.stream) progress.new.tally) }
     ensures few { OnOk result (progress.new.tally.lines < 2 ^ 62) }
@@ -212,6 +212,7 @@ fn drive_all<H: LineHandler, R: Read, W: Write>(
     ensures caused { IfErr result (λ cause. IsCausedBy cause reader.new writer.new reads) }
     ensures bounded { reader.new.calls ≤ reads }
     ensures prompt { IsPrompt reader.new }
+    ensures flushed { OnOk result (IsFlushed writer.new) }
 {
     let mut buffer = [0u8; 4096];
     for _ in 0..reads {
@@ -233,7 +234,8 @@ fn drive_all<H: LineHandler, R: Read, W: Write>(
 ///
 /// Each read but the first comes right behind a flush that did not fail. Where a read failed, the whole output of the lines
 /// that were read to their end was written before it, and the writer was not called behind it. Whether a read will fail is not
-/// known before it is made, so each finds the same: the flush before it held the output of all that was read till then.
+/// known before it is made, so each finds the same: the flush before it held the output of all that was read till then. A run
+/// without a fault ends with such a flush, too.
 ///
 /// A line ends with LF or where the text ends; a last part of no bytes is no line. Of a line no more is kept than one byte
 /// above the most that it may have. The ends are fresh: nothing was called of them yet.
@@ -252,8 +254,7 @@ pub fn drive_lines<H: LineHandler, R: Read, W: Write>(
 ) -> Result<Tally, Halt<H::Stop>>
     requires ready { H.ready }
     requires longest { limits.line ≡ H.longest }
-    requires reader { IsFresh reader.old }
-    requires writer { IsFresh writer.old }
+    requires fresh { IsFresh reader.old × IsFresh writer.old }
     ensures whole { IfOk result (λ tally. Whole H.takes handler.old (R.remaining reader.old.stream) (W.contents writer.old.stream)
         handler.new (R.remaining reader.new.stream) (W.contents writer.new.stream) tally) }
     ensures few { IfOk result (λ tally. tally.lines < 2 ^ 62) }
@@ -262,6 +263,7 @@ pub fn drive_lines<H: LineHandler, R: Read, W: Write>(
     ensures caused { IfErr result (λ halt. IsCausedBy halt.cause reader.new writer.new limits.reads) }
     ensures bounded { reader.new.calls ≤ limits.reads }
     ensures prompt { IsPrompt reader.new }
+    ensures flushed { OnOk result (IsFlushed writer.new) }
 {
     let mut progress = Progress {
         part: PartialLine::new(alloc, limits.line),

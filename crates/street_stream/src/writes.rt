@@ -1,9 +1,9 @@
 //! Bytes that go out in parts.
 //!
 //! Source: this profile. A write that takes no bytes is a fault.
-ghost use Rattle.std.specs.Prelude.{◌≡◌, ◌<◌, ◌+◌, ◌^◌, OnOk, OnErr, IfErr, length, take, true};
+ghost use Rattle.std.specs.Prelude.{◌≡◌, ◌<◌, ◌+◌, ◌^◌, OnOk, OnErr, IfErr, length, take};
 ghost use Rattle.std.specs.Io.KnownBytes.{Appends, Keeps};
-ghost use Rattle.street_stream.specs.Streams.{one_more, HasFailed, IsWritten, IsCut};
+ghost use Rattle.street_stream.specs.Streams.{one_more, HasFailed, IsFlushed, IsWritten, IsCut};
 ghost use Rattle.street_stream.specs.declared.tally.FaultKind.TheVariants as kinds;
 
 use crate::counted::Counted;
@@ -64,7 +64,7 @@ pub fn write_reply<W: Write>(
 pub fn flush_out<W: Write>(writer: &mut Counted<W>) -> Result<(), FaultKind>
     ensures called { writer.new.calls ≡ one_more writer.old.calls }
     ensures kept { Keeps (W.contents writer.old.stream) (W.contents writer.new.stream) }
-    ensures passed { OnOk result (writer.new.is_flushed ≡ true) }
+    ensures passed { OnOk result (IsFlushed writer.new) }
     ensures failed { IfErr result (λ kind. (kind ≡ kinds.Write) × HasFailed writer.new) }
 {
     if writer.flush().is_err() {

@@ -3,7 +3,7 @@
 //! Source: this profile.
 ghost use Rattle.std.specs.Prelude.{◌≡◌, ◌≤◌, ◌+◌, ◌-◌, ◌^◌, ◌++◌, OnOk, IfOk, IfErr, length, take};
 ghost use Rattle.std.specs.Io.KnownBytes.{Appends};
-ghost use Rattle.street_stream.specs.Streams.{HasFailed, IsFresh};
+ghost use Rattle.street_stream.specs.Streams.{HasFailed, IsFlushed, IsFresh};
 ghost use Rattle.street_stream.specs.Faults.{IsCausedByWriting};
 ghost use Rattle.street_stream.specs.declared.tally.FaultKind.TheVariants as kinds;
 ghost use Rattle.street_tape.specs.Tapes.{head_line, tape_text};
@@ -54,6 +54,7 @@ pub fn write_lines<W: Write>(
     requires { bytes.old ≡ 0 }
     ensures written { OnOk result ((bytes.new ≡ length (head_line calls ++ lines.now))
         × Appends (W.contents writer.old.stream) (W.contents writer.new.stream) (head_line calls ++ lines.now)) }
+    ensures flushed { OnOk result (IsFlushed writer.new) }
     ensures part { IfErr result (λ kind. IsCausedByWriting kind writer.new
         × IsPrefix (W.contents writer.old.stream) 0 (head_line calls ++ lines.now) (W.contents writer.new.stream) bytes.new) }
 {
@@ -73,6 +74,7 @@ fn write_calls<W: Write>(
     requires { bytes.old ≡ 0 }
     ensures written { OnOk result ((bytes.new ≡ length (tape_text journal.now))
         × Appends (W.contents writer.old.stream) (W.contents writer.new.stream) (tape_text journal.now)) }
+    ensures flushed { OnOk result (IsFlushed writer.new) }
     ensures part { IfErr result (λ kind. IsCausedByWriting kind writer.new
         × IsPrefix (W.contents writer.old.stream) 0 (tape_text journal.now) (W.contents writer.new.stream) bytes.new) }
 {
@@ -121,6 +123,7 @@ pub fn write_tape<W: Write>(
     requires writer { IsFresh writer.old }
     ensures written { IfOk result (λ bytes. (bytes ≡ length (tape_text journal.now))
         × Appends (W.contents writer.old.stream) (W.contents writer.new.stream) (tape_text journal.now)) }
+    ensures flushed { OnOk result (IsFlushed writer.new) }
     ensures part { IfErr result (λ fault. IsPrefix (W.contents writer.old.stream) 0 (tape_text journal.now)
         (W.contents writer.new.stream) fault.tally.bytes) }
     ensures caused { IfErr result (λ fault. IsCausedByWriting fault.kind writer.new) }

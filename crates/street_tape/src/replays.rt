@@ -1,9 +1,9 @@
 //! A tape, replayed line by line.
 //!
 //! Source: this profile. Replies are passed on before the next read.
-ghost use Rattle.std.specs.Prelude.{◌≡◌, ◌≤◌, None, Some, IfOk, IfErr};
+ghost use Rattle.std.specs.Prelude.{◌≡◌, ◌≤◌, None, Some, IfOk, IfErr, OnOk};
 ghost use Rattle.street_base.specs.State.{State};
-ghost use Rattle.street_stream.specs.Streams.{IsFresh, IsPrompt};
+ghost use Rattle.street_stream.specs.Streams.{IsFlushed, IsFresh, IsPrompt};
 ghost use Rattle.street_stream.specs.HandledLines.{Effect, Gives};
 ghost use Rattle.street_engine.specs.Refines.{StandsFor};
 ghost use Rattle.street_tape.specs.Faults.{ReplaysWhole, ReplayStops, IsTapeCaused};
@@ -93,8 +93,7 @@ fn replay_lines<R: Threads + Sync, D: Read, W: Write>(
     writer: &mut Counted<W>,
     reads: u32,
 ) -> Result<Tally, TapeFault>
-    requires reader { IsFresh reader.old }
-    requires writer { IsFresh writer.old }
+    requires fresh { IsFresh reader.old × IsFresh writer.old }
     requires engine { StandsFor replayer.old.engine.now None }
     requires tape { replayer.old.tape.rest ≡ None }
     ensures same_reference { replayer.new.engine.ghost_name ≡ replayer.old.engine.ghost_name }
@@ -105,6 +104,7 @@ fn replay_lines<R: Threads + Sync, D: Read, W: Write>(
     ensures caused { IfErr result (λ fault. IsTapeCaused fault reader.new writer.new reads) }
     ensures bounded { reader.new.calls ≤ reads }
     ensures prompt { IsPrompt reader.new }
+    ensures flushed { OnOk result (IsFlushed writer.new) }
 {
     let limits = Limits {
         line: LONGEST_TAPE_LINE,
@@ -143,6 +143,7 @@ pub fn replay_within<R: Threads + Sync, D: Read, W: Write>(
     ensures caused { IfErr result (λ fault. IsTapeCaused fault reader.new writer.new reads) }
     ensures bounded { reader.new.calls ≤ reads }
     ensures prompt { IsPrompt reader.new }
+    ensures flushed { OnOk result (IsFlushed writer.new) }
 {
     let mut replayer = Replayer {
         rt,
@@ -186,6 +187,7 @@ pub fn replay<R: Threads + Sync, D: Read, W: Write>(
     ensures caused { IfErr result (λ fault. IsTapeCaused fault reader.new writer.new 1000000000) }
     ensures bounded { reader.new.calls ≤ 1000000000 }
     ensures prompt { IsPrompt reader.new }
+    ensures flushed { OnOk result (IsFlushed writer.new) }
 {
     replay_within(rt, alloc, reader, engine, writer, MOST_READS)
 }

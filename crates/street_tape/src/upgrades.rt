@@ -3,7 +3,7 @@
 //! Source: this profile. Nothing is written before the tape was read to its end.
 ghost use Rattle.std.specs.Prelude.{◌≡◌, ◌≤◌, ◌<◌, ◌^◌, ◌++◌, OnOk, IfOk, IfErr, length};
 ghost use Rattle.std.specs.Io.KnownBytes.{Appends};
-ghost use Rattle.street_stream.specs.Streams.{IsFresh};
+ghost use Rattle.street_stream.specs.Streams.{IsFlushed, IsFresh};
 ghost use Rattle.street_stream.specs.Faults.{IsCausedByWriting};
 ghost use Rattle.street_tape.specs.Faults.{IsTapeCaused};
 ghost use Rattle.street_tape.specs.Upgrades.{UpgradesWhole, UpgradeStops, CutShort, with_bytes};
@@ -89,6 +89,7 @@ fn write_kept<W: Write>(
     ensures part { IfErr result (λ fault. CutShort tally (W.contents writer.old.stream) (head_line tally.calls ++ lines.now)
         (W.contents writer.new.stream) fault) }
     ensures caused { IfErr result (λ fault. IsCausedByWriting fault.kind writer.new) }
+    ensures flushed { OnOk result (IsFlushed writer.new) }
 {
     let mut bytes = 0;
     match write_lines(alloc, tally.calls as u64, lines, writer, &mut bytes) {
@@ -130,6 +131,7 @@ pub fn upgrade_within<D: Read, W: Write>(
     ensures stops { IfErr result (λ fault. UpgradeStops (D.remaining reader.old.stream) (W.contents writer.old.stream)
         (D.remaining reader.new.stream) (W.contents writer.new.stream) fault) }
     ensures caused { IfErr result (λ fault. IsTapeCaused fault reader.new writer.new reads) }
+    ensures flushed { OnOk result (IsFlushed writer.new) }
     ensures bounded { reader.new.calls ≤ reads }
 {
     let tape = Tape::new();
@@ -176,6 +178,7 @@ pub fn upgrade<D: Read, W: Write>(
     ensures stops { IfErr result (λ fault. UpgradeStops (D.remaining reader.old.stream) (W.contents writer.old.stream)
         (D.remaining reader.new.stream) (W.contents writer.new.stream) fault) }
     ensures caused { IfErr result (λ fault. IsTapeCaused fault reader.new writer.new 1000000000) }
+    ensures flushed { OnOk result (IsFlushed writer.new) }
     ensures bounded { reader.new.calls ≤ 1000000000 }
 {
     upgrade_within(alloc, reader, writer, MOST_READS)

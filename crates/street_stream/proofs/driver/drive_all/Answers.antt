@@ -11,7 +11,7 @@ use Rattle.street_stream.proofs.driver.drive_all.Goals as goal
 
 pub loop-init : goal.loop-init
 loop-init g c =
-    ([], Consumes-nil _, feeds_none g.H.LineHandler.takes g.H.LineHandler.longest _ _ _, record { lines = omega arith; within = none_within c.args.progress.now.tally c.requires.tally }, c.requires.fresh.calls, λ some. absurd (omega (arith, some)))
+    ([], Consumes-nil _, feeds_none g.H.LineHandler.takes g.H.LineHandler.longest _ _ _, record { lines = omega arith; within = none_within c.args.progress.now.tally c.requires.begun.1 }, c.requires.fresh.calls, λ some. absurd (omega (arith, some)))
 
 pub loop-preserved : goal.loop-preserved
 loop-preserved g c =
@@ -29,13 +29,13 @@ loop-preserved g c =
 pub returns-in-Err-clause-broken : goal.returns-in-Err-clause-broken
 returns-in-Err-clause-broken g c =
     let before = c.loop.invariant in
-    let stands = begun g.H.LineHandler.takes g.H.LineHandler.longest _ _ _ _ c.args.progress.now before.0 c.loop.progress c.requires.part c.requires.tally before.2 in
+    let stands = begun g.H.LineHandler.takes g.H.LineHandler.longest _ _ _ _ c.args.progress.now before.0 c.loop.progress c.requires.begun.0 c.requires.begun.1 before.2 in
     record { text = before.0; read = Consumes-kept _ _ _ before.0 before.1 c.in-Err.ensures.bytes; breaks = read_breaks g.H.LineHandler.takes g.H.LineHandler.stops g.H.LineHandler.longest _ _ _ _ _ _ c.loop.progress _ stands }
 
 pub returns-in_err-finish_through-clause-broken : goal.returns-in_err-finish_through-clause-broken
 returns-in_err-finish_through-clause-broken g c =
     let before = c.loop.invariant in
-    let stands = begun g.H.LineHandler.takes g.H.LineHandler.longest _ _ _ _ c.args.progress.now before.0 c.loop.progress c.requires.part c.requires.tally before.2 in
+    let stands = begun g.H.LineHandler.takes g.H.LineHandler.longest _ _ _ _ c.args.progress.now before.0 c.loop.progress c.requires.begun.0 c.requires.begun.1 before.2 in
     let p = err_from_is_err_and c.from_residual.result c.from_residual.ensures.1 in
     let over = c.in-Ok.ensures.bytes.1 c.if-count-eq0.true (omega arith) in
     rw (p.1, p.2) (record {
@@ -47,13 +47,13 @@ returns-in_err-finish_through-clause-broken g c =
 pub returns-then-count-eq0-clause-whole : goal.returns-then-count-eq0-clause-whole
 returns-then-count-eq0-clause-whole g c =
     let before = c.loop.invariant in
-    whole_run g.H.LineHandler.takes g.H.LineHandler.longest _ _ _ _ _ _ c.args.progress.now c.loop.progress before.0 _ _ _ c.requires.part c.requires.tally before.2 c.in_ok-finish_through.ensures.finishes
+    whole_run g.H.LineHandler.takes g.H.LineHandler.longest _ _ _ _ _ _ c.args.progress.now c.loop.progress before.0 _ _ _ c.requires.begun.0 c.requires.begun.1 before.2 c.in_ok-finish_through.ensures.finishes
     (consumes_end _ _ _ before.0 c.in-Ok.count c.read_behind.new.buffer c.if-count-eq0.true before.1 c.in-Ok.ensures.bytes.0) (c.in-Ok.ensures.bytes.1 c.if-count-eq0.true (omega arith))
 
 pub returns-in_err-feed_through-clause-broken : goal.returns-in_err-feed_through-clause-broken
 returns-in_err-feed_through-clause-broken g c =
     let before = c.loop.invariant in
-    let stands = begun g.H.LineHandler.takes g.H.LineHandler.longest _ _ _ _ c.args.progress.now before.0 c.loop.progress c.requires.part c.requires.tally before.2 in
+    let stands = begun g.H.LineHandler.takes g.H.LineHandler.longest _ _ _ _ c.args.progress.now before.0 c.loop.progress c.requires.begun.0 c.requires.begun.1 before.2 in
     let p = err_from_is_err_and c.from_residual-in_err-feed_through.result c.from_residual-in_err-feed_through.ensures.1 in
     let got : List ℕ = take c.in-Ok.count c.read_behind.new.buffer in
     rw (p.1, p.2) (record {
@@ -65,7 +65,7 @@ returns-in_err-feed_through-clause-broken g c =
 pub returns-clause-broken : goal.returns-clause-broken
 returns-clause-broken g c =
     let before = c.loop.invariant in
-    let stands = begun g.H.LineHandler.takes g.H.LineHandler.longest _ _ _ _ c.args.progress.now before.0 c.loop.progress c.requires.part c.requires.tally before.2 in
+    let stands = begun g.H.LineHandler.takes g.H.LineHandler.longest _ _ _ _ c.args.progress.now before.0 c.loop.progress c.requires.begun.0 c.requires.begun.1 before.2 in
     record { text = before.0; read = before.1; breaks = read_breaks g.H.LineHandler.takes g.H.LineHandler.stops g.H.LineHandler.longest _ _ _ _ _ _ c.loop.progress _ stands }
 
 pub returns-in-Err-clause-prompt : goal.returns-in-Err-clause-prompt
