@@ -1,12 +1,16 @@
 #!/usr/bin/env python3
-"""Times the program on short lines, on one long load line and on a line that is too long, and tells its memory.
+"""Times the program on short lines, on lines of a kind, on one long load line and on one that is too long.
 
-Usage: bench/lines.py PROGRAM [--lines N] [--times N]
+Usage: bench/lines.py PROGRAM [--beside OTHER] [--lines N] [--times N]
 
-It stops where a reply is not the one that the rules give. Times are those of the clock on the wall. Memory is the most
-that the program has had in use once the line is answered; Linux tells it while the program runs.
+It stops where a reply is not the one that the rules give. Times are those of the clock on the wall, but for lines of a
+kind: theirs is the processor's, each kind in turn with the same lines and a member `"x":null` more, which are read by
+way of a JSON value. Memory, told of the two long lines, is the most that the program has had in use once the line is
+answered; Linux tells it while the program runs. OTHER is another program for the lines of a kind: the runs of both take
+turns, and their replies must be the same.
 """
 
+import resource
 import statistics
 import subprocess
 import tempfile
@@ -19,6 +23,9 @@ MOST_NODES = MOST_LINKS = 4_096
 TURNS_OF_A_LINK = 8
 ALL_CALLS = ["--calls", "1000000"]  # by default fewer are served
 FIRST_LINK = 100_000_000
+
+LINKS_OF_A_PLAN = 20
+SHARE_OF_A_KIND = 5  # so many fewer lines of a kind than short lines
 
 NOTHING = b'{"cmd":"advance","steps":0}\n'
 NOT_LOADED = b'{"error":1,"name":"NotLoaded"}\n'
@@ -51,6 +58,24 @@ def great():
     return load(nodes, links, turns), reply
 
 
+def ring():
+    """A ring of links that a plan does not go round, and its reply."""
+    count = 2 * LINKS_OF_A_PLAN
+    nodes = [[number, 1, 2] for number in range(1, count + 1)]
+    links = [[FIRST_LINK + at, at + 1, (at + 1) % count + 1, 1, 10, 5] for at in range(count)]
+    turns = [[FIRST_LINK + at, 0, FIRST_LINK + (at + 1) % count, 0] for at in range(count)]
+    return load(nodes, links, turns), line({"links": count, "nodes": count, "turns": count})
+
+
+def kinds(number):
+    """So many lines of each kind, as commands, and their replies."""
+    plan = [FIRST_LINK + at for at in range(LINKS_OF_A_PLAN)]
+    nobody = {"admitted": 0, "arrived": 0, "buffers": 0, "cells": 0, "clock": 0, "taken": 0, "waiting": 0}
+    enter = {"cmd": "enter", "plan": plan, "lane": 0, "depart": 1_000}
+    yield "count", [{"cmd": "count"}] * number, [nobody] * number
+    yield f"enter of {LINKS_OF_A_PLAN} links", [enter] * number, [{"car": car} for car in range(number)]
+
+
 def equal(said, wanted):
     if said != wanted:
         raise SystemExit(f"wanted {wanted!r:.120}, but the program gave {said!r:.120}")
@@ -67,6 +92,14 @@ def whole_run(program, text, wanted):
         target.seek(0)
         equal(target.read(), wanted)
     return spent
+
+
+def processor_time(program, text, wanted):
+    """The processor time of a run from a file to a file, in seconds."""
+    before = resource.getrusage(resource.RUSAGE_CHILDREN)
+    whole_run(program, text, wanted)
+    after = resource.getrusage(resource.RUSAGE_CHILDREN)
+    return after.ru_utime + after.ru_stime - before.ru_utime - before.ru_stime
 
 
 def peak(process):
@@ -112,6 +145,34 @@ def time_short_lines(args):
     tell("lines a second", f"{args.lines / min(runs):.0f} (median {args.lines / statistics.median(runs):.0f})")
 
 
+def microseconds(program, start, texts, number):
+    """The processor time of a line of each text, in µs. That of the session without these lines is taken off."""
+    base = processor_time(program, *start)
+    return [(processor_time(program, text, said) - base) / number * 1e6 for text, said in texts]
+
+
+def time_kind(args, start, name, commands, replies):
+    said = start[1] + b"".join(map(line, replies))
+    with_null = [{**command, "x": None} for command in commands]
+    texts = [(start[0] + b"".join(map(line, sent)), said) for sent in (commands, with_null)]
+    programs = [args.program, args.beside] if args.beside else [args.program]
+    turns = [[microseconds(program, start, texts, len(commands)) for program in programs] for _ in range(args.times)]
+    print(f"{len(commands)} lines: {name}")
+    for at, program in enumerate(programs):
+        plain, null = zip(*(turn[at] for turn in turns))
+        tell("processor time a line", f"{min(plain):.2f} µs (median {statistics.median(plain):.2f} µs) {program}")
+        tell('with "x":null', f"{min(null):.2f} µs (median {statistics.median(null):.2f} µs)")
+    if args.beside:
+        ratios = [other[0] / one[0] for one, other in turns]
+        tell("lines a second", f"{statistics.median(ratios):.2f} of the other program's (median of the turns)")
+
+
+def time_kinds(args):
+    number = max(1, args.lines // SHARE_OF_A_KIND)
+    for name, commands, replies in kinds(number):
+        time_kind(args, ring(), name, commands, replies)
+
+
 def time_line(args, name, text, wanted, wanted_next):
     runs = [one_line(args.program, text, wanted, wanted_next) for _ in range(args.times)]
     spent = [run[0] * 1_000 for run in runs]
@@ -122,11 +183,13 @@ def time_line(args, name, text, wanted, wanted_next):
 
 def main():
     parser = shared.parser_of(__doc__)
+    parser.add_argument("--beside", metavar="OTHER")
     parser.add_argument("--lines", type=int, default=500_000)
     parser.add_argument("--times", type=int, default=5)
     args = parser.parse_args()
 
     time_short_lines(args)
+    time_kinds(args)
     time_line(args, "one load of 4,096 nodes, 4,096 links and 32,768 turns", *great(), AT_ZERO)
     time_line(args, "one line that is too long", b"x" * (10 * MEBIBYTE) + b"\n", TOO_LONG, NOT_LOADED)
 

@@ -13,7 +13,7 @@ use std::alloc::Global;
 use std::io::{Read, Write};
 use street_base::Starved;
 use street_stream::{Cause, Counted, FaultKind, Limits, RunFault, Tally, drive_lines};
-use street_text::LONGEST_LINE;
+use street_text::{LONGEST_LINE, LineReader};
 
 /// The most calls of `read` in one run.
 const MOST_READS: u32 = 1_000_000_000;
@@ -94,7 +94,11 @@ pub fn run_lines_within<S: Service, R: Read, W: Write>(
     ensures prompt { IsPrompt reader.new }
     ensures flushed { OnOk result (IsFlushed writer.new) }
 {
-    let mut server = LineServer { service };
+    let mut lines = LineReader::new(alloc);
+    let mut server = LineServer {
+        service,
+        reader: &mut lines,
+    };
     serve_all(alloc, &mut server, reader, writer, reads)
 }
 

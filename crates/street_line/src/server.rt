@@ -12,23 +12,30 @@ use crate::service::Service;
 use std::alloc::Global;
 use street_base::Starved;
 use street_stream::{Answer, LineHandler, PartialLine};
-use street_text::{fault_text, read_command};
+use street_text::{LineReader, fault_text};
 
 /// A service as a handler of lines.
 #[derive(Drop)]
 pub(crate) struct LineServer<'a, S> {
     /// What serves.
     pub(crate) service: &'a mut S,
+    /// What reads the lines.
+    pub(crate) reader: &'a mut LineReader,
 }
 
 /// What is answered to a line that is not blank.
-fn answer<S: Service>(alloc: Global, service: &mut S, line: &[u8]) -> Result<Answer, Starved>
+fn answer<S: Service>(
+    alloc: Global,
+    reader: &mut LineReader,
+    service: &mut S,
+    line: &[u8],
+) -> Result<Answer, Starved>
     requires ready { S.ready }
     ensures answered { IfOk result (λ answer. (effect : Effect)
         × IsAnswered S.serves service.old (said_by (reading line.now)) effect service.new × Gives answer effect) }
     ensures starved { OnErr result (service.new ≡ service.old) }
 {
-    let command = match read_command(alloc, line) {
+    let command = match reader.read(alloc, line) {
         Ok(command) => command,
         Err(fault) => {
             let text = fault_text(alloc, fault)?;
@@ -73,6 +80,6 @@ impl<'a, S: Service> LineHandler for LineServer<'a, S> {
                 reply: Ok(None),
             });
         }
-        answer(alloc, self.service, line.as_slice())
+        answer(alloc, self.reader, self.service, line.as_slice())
     }
 }

@@ -4,7 +4,7 @@ use std::alloc::{AllocError, Global};
 use std::process::Abort;
 use std::test::Fail;
 use street_base::{Command, GreenSpec, LinkSpec, NetSpec, NodeSpec, PhaseSpec, TurnSpec};
-use street_text::{LineFault, read_command};
+use street_text::{LineFault, LineReader, read_command};
 
 /// The name of a command.
 fn name(command: &Command) -> &'static str {
@@ -24,9 +24,17 @@ fn name(command: &Command) -> &'static str {
     }
 }
 
-/// The name of the command or of the fault that a line reads as.
-fn kind(alloc: Global, line: &[u8]) -> &'static str {
-    match read_command(alloc, line) {
+/// What a line is to a reader that has read another line, which has escapes and more numbers than most.
+fn read_next(alloc: Global, line: &[u8]) -> Result<Command, LineFault> {
+    let mut reader = LineReader::new(alloc);
+    let before = br#"{"\u0063md":"enter","plan":[7,8,9],"lane":3,"depart":4,"size":2,"lane":5}"#;
+    let _read = reader.read(alloc, before);
+    reader.read(alloc, line)
+}
+
+/// The name of the command or of the fault that was read.
+fn kind(read: Result<Command, LineFault>) -> &'static str {
+    match read {
         Ok(command) => name(&command),
         Err(fault) => fault.name(),
     }
@@ -34,7 +42,14 @@ fn kind(alloc: Global, line: &[u8]) -> &'static str {
 
 /// A line, which this number tells from the others, reads as this command or fault.
 fn check_kind(rt: &(impl Abort + AllocGlobal), number: usize, line: &[u8], want: &str) {
-    assert!(rt; kind(rt.alloc(), line) == want, "no {want} at {number}");
+    assert!(rt;
+        kind(read_command(rt.alloc(), line)) == want,
+        "no {want} at {number}"
+    );
+    assert!(rt;
+        kind(read_next(rt.alloc(), line)) == want,
+        "no {want} at {number}, as a next line"
+    );
 }
 
 /// Numbers as they may be written, and what a line with them is.
@@ -181,6 +196,15 @@ fn a_line_has_at_most_1048576_bytes(rt: HostRuntime) -> Result<(), Fail> {
     Ok(())
 }
 
+#[test]
+fn lines_around_the_longest_that_is_read_in_one_pass(rt: HostRuntime) -> Result<(), Fail> {
+    for spaces in [4_068, 4_069, 4_070] {
+        let line = spaced(rt.alloc(), spaces)?;
+        check_kind(&rt, spaces, line.as_slice(), "advance");
+    }
+    Ok(())
+}
+
 /// What a load has: the lengths of its lists, the numbers of the last entry of each, and its values.
 #[derive(Clone, Copy)]
 struct Load {
@@ -260,8 +284,8 @@ fn two_links(plan: &[u64]) -> Option<[u64; 2]> {
 }
 
 /// The links of the plan of an entry, its lane, its departure and its size.
-fn enter_of(alloc: Global, line: &[u8]) -> Option<([u64; 2], u64, u64, u64)> {
-    match read_command(alloc, line) {
+fn enter_of(read: Result<Command, LineFault>) -> Option<([u64; 2], u64, u64, u64)> {
+    match read {
         Ok(
             Command::Enter {
                 plan,
@@ -277,13 +301,15 @@ fn enter_of(alloc: Global, line: &[u8]) -> Option<([u64; 2], u64, u64, u64)> {
 #[test]
 fn reads_the_fields_of_an_enter(rt: HostRuntime) {
     let line = b"{\"cmd\":\"enter\",\"depart\":3,\"plan\":[20,10],\"lane\":1}";
-    assert!(rt; enter_of(rt.alloc(), line) == Some(([20, 10], 1, 3, 1)));
+    assert!(rt; enter_of(read_command(rt.alloc(), line)) == Some(([20, 10], 1, 3, 1)));
+    assert!(rt; enter_of(read_next(rt.alloc(), line)) == Some(([20, 10], 1, 3, 1)));
 }
 
 #[test]
 fn reads_the_size_of_an_enter(rt: HostRuntime) {
     let line = b"{\"cmd\":\"enter\",\"depart\":3,\"plan\":[20,10],\"lane\":1,\"size\":3}";
-    assert!(rt; enter_of(rt.alloc(), line) == Some(([20, 10], 1, 3, 3)));
+    assert!(rt; enter_of(read_command(rt.alloc(), line)) == Some(([20, 10], 1, 3, 3)));
+    assert!(rt; enter_of(read_next(rt.alloc(), line)) == Some(([20, 10], 1, 3, 3)));
 }
 
 /// Sizes as they may be written, and those that are read: whether a vehicle may have one is tested by the machine.
@@ -302,8 +328,8 @@ static SIZES: [(&str, Option<u64>); 11] = [
 ];
 
 /// The size of the entry that a line reads as; nothing where it is a bad command.
-fn size_of(rt: &(impl Abort + AllocGlobal), line: &[u8]) -> Option<u64> {
-    match read_command(rt.alloc(), line) {
+fn size_of(rt: &impl Abort, read: Result<Command, LineFault>) -> Option<u64> {
+    match read {
         Ok(Command::Enter { size, .. }) => Some(size),
         read => {
             assert!(rt; matches!(read, Err(LineFault::BadCommand)));
@@ -318,7 +344,10 @@ fn sizes_are_digits_alone(rt: HostRuntime) -> Result<(), Fail> {
         let line = format!(in rt.alloc();
             "{{\"cmd\":\"enter\",\"depart\":0,\"lane\":0,\"plan\":[10],\"size\":{size}}}"
         )?;
-        assert!(rt; size_of(&rt, line.as_bytes()) == *want, "size {size}");
+        let read = read_command(rt.alloc(), line.as_bytes());
+        assert!(rt; size_of(&rt, read) == *want, "size {size}");
+        let read = read_next(rt.alloc(), line.as_bytes());
+        assert!(rt; size_of(&rt, read) == *want, "size {size}, as a next line");
     }
     Ok(())
 }
@@ -350,8 +379,8 @@ fn numbers(command: &Command) -> Option<[u64; 4]> {
 }
 
 /// The name of the command of a line, and its numbers.
-fn numbers_of(alloc: Global, line: &[u8]) -> Option<(&'static str, [u64; 4])> {
-    match read_command(alloc, line) {
+fn numbers_of(read: Result<Command, LineFault>) -> Option<(&'static str, [u64; 4])> {
+    match read {
         Ok(command) => Some((name(&command), numbers(&command)?)),
         Err(_) => None,
     }
@@ -385,7 +414,14 @@ static LINES_WITH_NUMBERS: [(&[u8], &str, [u64; 4]); 4] = [
 fn reads_the_numbers_of_each_other_command(rt: HostRuntime) {
     for (line, name, numbers) in &LINES_WITH_NUMBERS {
         let want = Some((*name, *numbers));
-        assert!(rt; numbers_of(rt.alloc(), line) == want, "at {name}");
+        assert!(rt;
+            numbers_of(read_command(rt.alloc(), line)) == want,
+            "at {name}"
+        );
+        assert!(rt;
+            numbers_of(read_next(rt.alloc(), line)) == want,
+            "at {name}, as a next line"
+        );
     }
 }
 

@@ -3,7 +3,7 @@
 use crate::calls::Stop;
 use std::alloc::Global;
 use street_base::{Command, Reply};
-use street_text::{LineFault, read_command, reply_text};
+use street_text::{LineFault, LineReader, reply_text};
 
 /// The command of a line.
 pub(crate) fn read(alloc: Global, line: &str) -> Result<Command, Stop> {
@@ -14,7 +14,7 @@ pub(crate) fn read(alloc: Global, line: &str) -> Result<Command, Stop> {
 }
 
 fn read_once(alloc: Global, line: &str) -> Result<Command, Stop> {
-    match read_command(alloc, line.as_bytes()) {
+    match LineReader::new(alloc).read(alloc, line.as_bytes()) {
         Ok(command) => Ok(command),
         Err(LineFault::Starved) => Err(Stop::OutOfMemory),
         Err(_) => Err(Stop::Wrong("no command")),

@@ -6,3 +6,5 @@ pub mod Texts
 pub mod Items
 pub mod Puts
 pub mod Tokens
+pub mod Converted
+pub mod FlatReading

@@ -1,6 +1,7 @@
 pub mod CommandTexts
 pub mod FaultLines
 pub mod Fits
+pub mod FlatLines
 pub mod Faults
 pub mod LineCommands
 pub mod ReplyLines

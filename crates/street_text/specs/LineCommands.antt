@@ -195,11 +195,15 @@ observing_names =
     (codes "meter", place_meter_in) ∷ (codes "read", read_meter_in) ∷ (codes "vehicle", vehicle_in) ∷ (codes "lane", lane_in)
     ∷ (codes "count", λ d. Some Count) ∷ []
 
+-- the names of the commands whose fields are numbers and lists of numbers
+abbrev pub number_names : Bool → List (List ℕ × (Data → Option Command))
+number_names sized =
+    (codes "enter", enter_in sized) ∷ (codes "advance", advance_in) ∷ (codes "close", close_in) ∷ (codes "reopen", reopen_in)
+    ∷ (codes "takeout", take_out_in) ∷ observing_names
+
 -- each name that `cmd` may have, and how that command is read
 abbrev pub names : Bool → List (List ℕ × (Data → Option Command))
-names sized =
-    (codes "load", load_in) ∷ (codes "signal", signal_in) ∷ (codes "enter", enter_in sized) ∷ (codes "advance", advance_in)
-    ∷ (codes "close", close_in) ∷ (codes "reopen", reopen_in) ∷ (codes "takeout", take_out_in) ∷ observing_names
+names sized = (codes "load", load_in) ∷ (codes "signal", signal_in) ∷ number_names sized
 
 -- the command of the first entry with this name
 abbrev pub named_in : List (List ℕ × (Data → Option Command)) → List ℕ → Data → Option Command

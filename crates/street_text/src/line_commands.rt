@@ -4,11 +4,11 @@
 ghost use Rattle.std.specs.Prelude.{◌≡◌, ◌⊎◌};
 ghost use Rattle.serde_json.specs.Errors.{IsMemory};
 ghost use Rattle.serde_json.specs.View.{view};
-ghost use Rattle.street_text.specs.LineCommands.{numbers_in, load_in, signal_in, size_in, enter_in, advance_in, close_in, reopen_in};
-ghost use Rattle.street_text.specs.LineCommands.{take_out_in, place_meter_in, read_meter_in, vehicle_in, lane_in, observing_names, named_in, named};
+ghost use Rattle.street_text.specs.LineCommands.{numbers_in, load_in, signal_in, named};
 ghost use Rattle.street_text.specs.LineCommands.{command_in, or_fault, reading, value_of, Gives, GivesValue};
 
 use crate::fault::LineFault;
+use crate::number_commands::of_numbers;
 use crate::values::{field_of, number_or};
 use serde_json::{Category, Error, Value};
 use std::alloc::Global;
@@ -79,136 +79,6 @@ fn signal(alloc: Global, value: &Value) -> Result<Command, LineFault>
     })
 }
 
-/// How many cells a vehicle covers: 1 where the field is absent, and where sizes are not read.
-fn size_of_vehicle(value: &Value, sized: bool) -> Result<u64, LineFault>
-    ensures { Gives result (or_fault LineFault.BadCommand (size_in sized (view value.now))) }
-{
-    if sized {
-        number_or(value, "size", 1)
-    } else {
-        Ok(1)
-    }
-}
-
-#[tactic(auto, unfolding(crate::specs::LineCommands::enter_in))]
-fn enter(alloc: Global, value: &Value, sized: bool) -> Result<Command, LineFault>
-    ensures { Gives result (or_fault LineFault.BadCommand (enter_in sized (view value.now))) }
-{
-    let plan = field_of(alloc, value, "plan")?;
-    let lane = field_of(alloc, value, "lane")?;
-    let depart = field_of(alloc, value, "depart")?;
-    let size = size_of_vehicle(value, sized)?;
-    Ok(Command::Enter {
-        plan,
-        lane,
-        depart,
-        size,
-    })
-}
-
-#[tactic(auto, unfolding(crate::specs::LineCommands::advance_in))]
-fn advance(alloc: Global, value: &Value) -> Result<Command, LineFault>
-    ensures { Gives result (or_fault LineFault.BadCommand (advance_in (view value.now))) }
-{
-    let steps = field_of(alloc, value, "steps")?;
-    Ok(Command::Advance { steps })
-}
-
-#[tactic(auto, unfolding(crate::specs::LineCommands::close_in))]
-fn close(alloc: Global, value: &Value) -> Result<Command, LineFault>
-    ensures { Gives result (or_fault LineFault.BadCommand (close_in (view value.now))) }
-{
-    let link = field_of(alloc, value, "link")?;
-    let lane = field_of(alloc, value, "lane")?;
-    let first = field_of(alloc, value, "first")?;
-    let last = field_of(alloc, value, "last")?;
-    Ok(Command::CloseLane {
-        link,
-        lane,
-        first,
-        last,
-    })
-}
-
-#[tactic(auto, unfolding(crate::specs::LineCommands::reopen_in))]
-fn reopen(alloc: Global, value: &Value) -> Result<Command, LineFault>
-    ensures { Gives result (or_fault LineFault.BadCommand (reopen_in (view value.now))) }
-{
-    let link = field_of(alloc, value, "link")?;
-    let lane = field_of(alloc, value, "lane")?;
-    let first = field_of(alloc, value, "first")?;
-    let last = field_of(alloc, value, "last")?;
-    Ok(Command::ReopenLane {
-        link,
-        lane,
-        first,
-        last,
-    })
-}
-
-#[tactic(auto, unfolding(crate::specs::LineCommands::take_out_in))]
-fn take_out(alloc: Global, value: &Value) -> Result<Command, LineFault>
-    ensures { Gives result (or_fault LineFault.BadCommand (take_out_in (view value.now))) }
-{
-    let car = field_of(alloc, value, "car")?;
-    Ok(Command::TakeOut { car })
-}
-
-#[tactic(auto, unfolding(crate::specs::LineCommands::place_meter_in))]
-fn place_meter(alloc: Global, value: &Value) -> Result<Command, LineFault>
-    ensures { Gives result (or_fault LineFault.BadCommand (place_meter_in (view value.now))) }
-{
-    let link = field_of(alloc, value, "link")?;
-    let lane = field_of(alloc, value, "lane")?;
-    let cell = field_of(alloc, value, "cell")?;
-    let period = field_of(alloc, value, "period")?;
-    Ok(Command::PlaceMeter {
-        link,
-        lane,
-        cell,
-        period,
-    })
-}
-
-#[tactic(auto, unfolding(crate::specs::LineCommands::read_meter_in))]
-fn read_meter(alloc: Global, value: &Value) -> Result<Command, LineFault>
-    ensures { Gives result (or_fault LineFault.BadCommand (read_meter_in (view value.now))) }
-{
-    let meter = field_of(alloc, value, "meter")?;
-    Ok(Command::ReadMeter { meter })
-}
-
-#[tactic(auto, unfolding(crate::specs::LineCommands::vehicle_in))]
-fn vehicle(alloc: Global, value: &Value) -> Result<Command, LineFault>
-    ensures { Gives result (or_fault LineFault.BadCommand (vehicle_in (view value.now))) }
-{
-    let car = field_of(alloc, value, "car")?;
-    Ok(Command::Vehicle { car })
-}
-
-#[tactic(auto, unfolding(crate::specs::LineCommands::lane_in))]
-fn lane(alloc: Global, value: &Value) -> Result<Command, LineFault>
-    ensures { Gives result (or_fault LineFault.BadCommand (lane_in (view value.now))) }
-{
-    let link = field_of(alloc, value, "link")?;
-    let lane = field_of(alloc, value, "lane")?;
-    Ok(Command::Lane { link, lane })
-}
-
-/// The command of a name that observes: by a meter, a vehicle, a lane, or a count of all.
-fn observing(alloc: Global, name: &str, value: &Value) -> Result<Command, LineFault>
-    ensures { Gives result (or_fault LineFault.BadCommand (named_in observing_names name.now (view value.now))) }
-{
-    match name {
-        "meter" => place_meter(alloc, value),
-        "read" => read_meter(alloc, value),
-        "vehicle" => vehicle(alloc, value),
-        "lane" => lane(alloc, value),
-        "count" => Ok(Command::Count),
-        _ => Err(LineFault::BadCommand),
-    }
-}
-
 /// The command of a name.
 #[tactic(auto, unfolding(crate::specs::LineCommands::named))]
 fn named(alloc: Global, name: &str, value: &Value, sized: bool) -> Result<Command, LineFault>
@@ -217,12 +87,7 @@ fn named(alloc: Global, name: &str, value: &Value, sized: bool) -> Result<Comman
     match name {
         "load" => load(alloc, value),
         "signal" => signal(alloc, value),
-        "enter" => enter(alloc, value, sized),
-        "advance" => advance(alloc, value),
-        "close" => close(alloc, value),
-        "reopen" => reopen(alloc, value),
-        "takeout" => take_out(alloc, value),
-        _ => observing(alloc, name, value),
+        _ => of_numbers(alloc, name, value, sized),
     }
 }
 

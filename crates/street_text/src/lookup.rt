@@ -1,0 +1,47 @@
+//! Where the fields of a command are looked up.
+//!
+//! Source: this profile.
+ghost use Rattle.std.specs.Prelude.{ℕ, List};
+ghost use Rattle.serde_json.specs.Data.{Data};
+ghost use Rattle.serde_json.specs.View.{view};
+ghost use Rattle.street_text.specs.LineCommands.{number_in, list_in, field, number_field, number_or, or_fault, Gives};
+
+use crate::fault::LineFault;
+use crate::values;
+use serde_json::Value;
+use std::alloc::Global;
+use street_base::Listing;
+
+/// Where the fields of a command are looked up: what a line says, as a JSON object.
+pub(crate) trait Lookup {
+    ghost shows: { Self → Data };
+
+    /// The number of a name.
+    fn number(&self, name: &str) -> Result<u64, LineFault>
+        ensures { Gives result (or_fault LineFault.BadCommand (number_field name.now (shows self.now))) };
+
+    /// The number of a name, and `absent` where the field is absent.
+    fn number_or(&self, name: &str, absent: u64) -> Result<u64, LineFault>
+        ensures { Gives result (or_fault LineFault.BadCommand (number_or absent name.now (shows self.now))) };
+
+    /// The list of numbers of a name.
+    fn numbers(&self, alloc: Global, name: &str) -> Result<Listing<u64>, LineFault>
+        ensures { Gives result (or_fault LineFault.BadCommand (field (list_in number_in) name.now (shows self.now))) };
+}
+
+impl Lookup for Value {
+    ghost shows = { view };
+
+    fn number(&self, name: &str) -> Result<u64, LineFault> {
+        let found = self.get(name).ok_or(LineFault::BadCommand)?;
+        found.as_u64().ok_or(LineFault::BadCommand)
+    }
+
+    fn number_or(&self, name: &str, absent: u64) -> Result<u64, LineFault> {
+        values::number_or(self, name, absent)
+    }
+
+    fn numbers(&self, alloc: Global, name: &str) -> Result<Listing<u64>, LineFault> {
+        values::field_of(alloc, self, name)
+    }
+}

@@ -1,0 +1,160 @@
+//! Commands whose fields are numbers and lists of numbers: one small function for each.
+//!
+//! Source: this profile.
+ghost use Rattle.street_text.specs.LineCommands.{size_in, enter_in, advance_in, close_in, reopen_in};
+ghost use Rattle.street_text.specs.LineCommands.{take_out_in, place_meter_in, read_meter_in, vehicle_in, lane_in, observing_names, number_names, named_in};
+ghost use Rattle.street_text.specs.LineCommands.{or_fault, Gives};
+
+use crate::fault::LineFault;
+use crate::lookup::Lookup;
+use std::alloc::Global;
+use street_base::Command;
+
+/// How many cells a vehicle covers: 1 where the field is absent, and where sizes are not read.
+fn size_of_vehicle<L: Lookup>(line: &L, sized: bool) -> Result<u64, LineFault>
+    ensures { Gives result (or_fault LineFault.BadCommand (size_in sized (L.shows line.now))) }
+{
+    if sized {
+        line.number_or("size", 1)
+    } else {
+        Ok(1)
+    }
+}
+
+#[tactic(auto, unfolding(crate::specs::LineCommands::enter_in))]
+fn enter<L: Lookup>(alloc: Global, line: &L, sized: bool) -> Result<Command, LineFault>
+    ensures { Gives result (or_fault LineFault.BadCommand (enter_in sized (L.shows line.now))) }
+{
+    let plan = line.numbers(alloc, "plan")?;
+    let lane = line.number("lane")?;
+    let depart = line.number("depart")?;
+    let size = size_of_vehicle(line, sized)?;
+    Ok(Command::Enter {
+        plan,
+        lane,
+        depart,
+        size,
+    })
+}
+
+#[tactic(auto, unfolding(crate::specs::LineCommands::advance_in))]
+fn advance<L: Lookup>(line: &L) -> Result<Command, LineFault>
+    ensures { Gives result (or_fault LineFault.BadCommand (advance_in (L.shows line.now))) }
+{
+    let steps = line.number("steps")?;
+    Ok(Command::Advance { steps })
+}
+
+#[tactic(auto, unfolding(crate::specs::LineCommands::close_in))]
+fn close<L: Lookup>(line: &L) -> Result<Command, LineFault>
+    ensures { Gives result (or_fault LineFault.BadCommand (close_in (L.shows line.now))) }
+{
+    let link = line.number("link")?;
+    let lane = line.number("lane")?;
+    let first = line.number("first")?;
+    let last = line.number("last")?;
+    Ok(Command::CloseLane {
+        link,
+        lane,
+        first,
+        last,
+    })
+}
+
+#[tactic(auto, unfolding(crate::specs::LineCommands::reopen_in))]
+fn reopen<L: Lookup>(line: &L) -> Result<Command, LineFault>
+    ensures { Gives result (or_fault LineFault.BadCommand (reopen_in (L.shows line.now))) }
+{
+    let link = line.number("link")?;
+    let lane = line.number("lane")?;
+    let first = line.number("first")?;
+    let last = line.number("last")?;
+    Ok(Command::ReopenLane {
+        link,
+        lane,
+        first,
+        last,
+    })
+}
+
+#[tactic(auto, unfolding(crate::specs::LineCommands::take_out_in))]
+fn take_out<L: Lookup>(line: &L) -> Result<Command, LineFault>
+    ensures { Gives result (or_fault LineFault.BadCommand (take_out_in (L.shows line.now))) }
+{
+    let car = line.number("car")?;
+    Ok(Command::TakeOut { car })
+}
+
+#[tactic(auto, unfolding(crate::specs::LineCommands::place_meter_in))]
+fn place_meter<L: Lookup>(line: &L) -> Result<Command, LineFault>
+    ensures { Gives result (or_fault LineFault.BadCommand (place_meter_in (L.shows line.now))) }
+{
+    let link = line.number("link")?;
+    let lane = line.number("lane")?;
+    let cell = line.number("cell")?;
+    let period = line.number("period")?;
+    Ok(Command::PlaceMeter {
+        link,
+        lane,
+        cell,
+        period,
+    })
+}
+
+#[tactic(auto, unfolding(crate::specs::LineCommands::read_meter_in))]
+fn read_meter<L: Lookup>(line: &L) -> Result<Command, LineFault>
+    ensures { Gives result (or_fault LineFault.BadCommand (read_meter_in (L.shows line.now))) }
+{
+    let meter = line.number("meter")?;
+    Ok(Command::ReadMeter { meter })
+}
+
+#[tactic(auto, unfolding(crate::specs::LineCommands::vehicle_in))]
+fn vehicle<L: Lookup>(line: &L) -> Result<Command, LineFault>
+    ensures { Gives result (or_fault LineFault.BadCommand (vehicle_in (L.shows line.now))) }
+{
+    let car = line.number("car")?;
+    Ok(Command::Vehicle { car })
+}
+
+#[tactic(auto, unfolding(crate::specs::LineCommands::lane_in))]
+fn lane<L: Lookup>(line: &L) -> Result<Command, LineFault>
+    ensures { Gives result (or_fault LineFault.BadCommand (lane_in (L.shows line.now))) }
+{
+    let link = line.number("link")?;
+    let lane = line.number("lane")?;
+    Ok(Command::Lane { link, lane })
+}
+
+/// The command of a name that observes: by a meter, a vehicle, a lane, or a count of all.
+fn observing<L: Lookup>(name: &str, line: &L) -> Result<Command, LineFault>
+    ensures { Gives result (or_fault LineFault.BadCommand (named_in observing_names name.now (L.shows line.now))) }
+{
+    match name {
+        "meter" => place_meter(line),
+        "read" => read_meter(line),
+        "vehicle" => vehicle(line),
+        "lane" => lane(line),
+        "count" => Ok(Command::Count),
+        _ => Err(LineFault::BadCommand),
+    }
+}
+
+/// The command of a name whose fields are numbers and lists of numbers.
+pub(crate) fn of_numbers<L: Lookup>(
+    alloc: Global,
+    name: &str,
+    line: &L,
+    sized: bool,
+) -> Result<Command, LineFault>
+    ensures { Gives result (or_fault LineFault.BadCommand (named_in (number_names sized) name.now (L.shows line.now))) }
+{
+    match name {
+        "enter" => enter(alloc, line, sized),
+        "advance" => advance(line),
+        "close" => close(line),
+        "reopen" => reopen(line),
+        "takeout" => take_out(line),
+        _ => observing(name, line),
+    }
+}
