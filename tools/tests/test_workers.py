@@ -1,6 +1,7 @@
 """Steps shared by threads: with more vehicles in cells than a step of one thread has, the replies have equal bytes for each number
 of workers, and threads beside the first are seen at work."""
 import json
+import os
 import subprocess
 import threading
 import time
@@ -9,8 +10,8 @@ from pathlib import Path
 
 from support import PROGRAM, needs_simulator
 
-# Above this number of vehicles in cells a step is shared (docs/LINES.md).
-SHARED_FROM = 30_000
+# Above this number of vehicles in cells a step is shared, where there are several processors (docs/LINES.md).
+SHARED_FROM = 1_500
 NODES = 512
 LANES = (0, 1)
 CELLS = 120
@@ -126,7 +127,7 @@ class Workers(unittest.TestCase):
         for workers in (2, 4, 64):
             with self.subTest(workers=workers):
                 told, threads = self.served(workers, lines)
-                self.assertGreater(threads, 0)
+                self.assertEqual(threads > 0, len(os.sched_getaffinity(0)) > 1)
                 self.assertEqual(told, alone)
 
 

@@ -83,7 +83,7 @@ impl<G: Gate + Sync + Drop + Send> Desk<G> {
     }
 
     /// Uses the turn of a seat that has it, and gives it back: the engine is taken out, called, and put back.
-    fn turn<R: Threads + Sync>(
+    fn turn<R: Threads + Wait + Sync>(
         &self,
         rt: &R,
         seat: &mut DeskSeat<G>,

@@ -8,6 +8,7 @@ ghost use Rattle.street_desk.specs.History.{entry, state_of, IsLegal};
 
 use std::alloc::{AllocError, Global};
 use std::marker::Model;
+use std::sync::Wait;
 use std::thread::Threads;
 use street_base::{Command, Outcome, Reply};
 use street_engine::{Engine, Gate};
@@ -112,7 +113,7 @@ impl<G: Gate + Sync + Drop> Recorder<G> {
     }
 
     /// Applies a command and writes it down. The journal takes no memory.
-    pub(crate) fn call<R: Threads + Sync>(
+    pub(crate) fn call<R: Threads + Wait + Sync>(
         &mut self,
         rt: &R,
         session: u64,
@@ -125,7 +126,7 @@ impl<G: Gate + Sync + Drop> Recorder<G> {
         ensures room { self.new.calls ≡ self.old.calls }
         ensures legal { IsLegal self.new.history }
     {
-        let (reply, outcome) = self.engine.apply(rt, &command);
+        let (reply, outcome) = self.engine.apply_by_team(rt, &command);
         self.entries.push_reserved(Entry {
             session,
             command,

@@ -23,3 +23,4 @@ mod AreComing
 mod StepArrivals
 mod AreCounted
 mod StreetsStandFor
+mod RanSteps

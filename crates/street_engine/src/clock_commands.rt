@@ -10,6 +10,8 @@ ghost use Rattle.street_engine.specs.Refines.{Serves, KeepsRefused};
 ghost use Rattle.street_engine.specs.Streets.{StreetsStandFor};
 
 use crate::Streets;
+use std::alloc::Global;
+use std::sync::Wait;
 use std::thread::Threads;
 use street_base::{LAST_CLOCK, Outcome, Refusal, Reply};
 use street_tile::Gate;
@@ -52,6 +54,36 @@ pub(crate) fn advance<R: Threads + Sync, G: Gate + Sync>(
         (Reply::Starved, Outcome::Starved)
     } else {
         (Reply::Short { clock, short: made }, Outcome::Short(made))
+    }
+}
+
+/// As [`advance`], by workers that stay: also what they leave.
+pub(crate) fn advance_by_team<R: Threads + Wait + Sync, G: Gate + Sync>(
+    rt: &R,
+    gate: &G,
+    alloc: Global,
+    streets: Streets,
+    steps: u64,
+) -> (Streets, Reply, Outcome)
+    ensures serves { Serves (Some streets) (Advance steps) result.1 result.2 (Some result.0) }
+    ensures refused { KeepsRefused (Some streets) result.1 (Some result.0) }
+{
+    if let Some(refusal) = advance_refusal(&streets, steps) {
+        return (streets, Reply::Refused(refusal), Outcome::Whole);
+    }
+    let before = u64::from(streets.clock());
+    let (streets, made) = streets.steps_by_team(rt, alloc, gate, steps);
+    let clock = before + made;
+    if made == steps {
+        (streets, Reply::Clock { clock }, Outcome::Whole)
+    } else if made == 0 {
+        (streets, Reply::Starved, Outcome::Starved)
+    } else {
+        (
+            streets,
+            Reply::Short { clock, short: made },
+            Outcome::Short(made),
+        )
     }
 }
 

@@ -6,11 +6,12 @@ ghost use Rattle.street_base.specs.declared.command.Command.TheVariants.{Load};
 ghost use Rattle.street_engine.specs.Refines.{Serves, KeepsRefused};
 
 use crate::Streets;
-use crate::clock_commands::{advance, count};
+use crate::clock_commands::{advance, advance_by_team, count};
 use crate::detector_commands::{place_meter, read_meter};
 use crate::lane_commands::{close_lane, lane, reopen_lane, signal};
 use crate::vehicle_commands::{enter, take_out, vehicle};
 use std::alloc::Global;
+use std::sync::Wait;
 use std::thread::Threads;
 use street_base::{Command, NetSpec, Outcome, Refusal, Reply};
 use street_net::NetFault;
@@ -41,6 +42,30 @@ pub(crate) fn apply<R: Threads + Sync, G: Gate + Sync>(
             _ => (Reply::Refused(Refusal::NotLoaded), Outcome::Whole),
         },
     }
+}
+
+/// As [`apply`], and an advance is made by workers that stay.
+pub(crate) fn apply_by_team<R: Threads + Wait + Sync, G: Gate + Sync>(
+    rt: &R,
+    gate: &G,
+    alloc: Global,
+    workers: usize,
+    state: &mut Option<Streets>,
+    command: &Command,
+) -> (Reply, Outcome)
+    requires some { 1 ≤ workers }
+    requires few { workers ≤ 64 }
+    ensures serves { Serves state.old command.now result.0 result.1 state.new }
+    ensures refused { KeepsRefused state.old result.0 state.new }
+{
+    if let Command::Advance { steps } = command {
+        if let Some(streets) = state.take() {
+            let (streets, reply, outcome) = advance_by_team(rt, gate, alloc, streets, *steps);
+            *state = Some(streets);
+            return (reply, outcome);
+        }
+    }
+    apply(rt, gate, alloc, workers, state, command)
 }
 
 /// Applies one command to a loaded network.

@@ -13,6 +13,7 @@ use crate::clock_commands::advance_refusal;
 use crate::{Streets, commands};
 use std::alloc::{AllocError, Global};
 use std::marker::Model;
+use std::sync::Wait;
 use std::thread::Threads;
 use street_base::{Command, Outcome, Refusal, Reply};
 use street_tile::Gate;
@@ -69,6 +70,26 @@ impl<G: Gate + Sync + Drop> Engine<G> {
         ensures refused { (refusal : Refusal) → result.0 ≡ Refused refusal → self.new ≡ self.old }
     {
         commands::apply(
+            rt,
+            &self.gate,
+            self.alloc,
+            self.workers as usize,
+            &mut self.streets,
+            command,
+        )
+    }
+
+    /// As [`apply`](Self::apply), and an advance is made by workers that stay, which wait for each other: it keeps the same promise
+    /// if it returns.
+    pub fn apply_by_team<R: Threads + Wait + Sync>(
+        &mut self,
+        rt: &R,
+        command: &Command,
+    ) -> (Reply, Outcome)
+        ensures serves { Serves self.old command.now result.0 result.1 self.new }
+        ensures refused { (refusal : Refusal) → result.0 ≡ Refused refusal → self.new ≡ self.old }
+    {
+        commands::apply_by_team(
             rt,
             &self.gate,
             self.alloc,

@@ -21,6 +21,7 @@ mod owners;
 mod sites;
 mod step_parts;
 mod streets;
+mod teams;
 mod unwatched;
 mod vehicle_commands;
 mod vehicles;

@@ -17,23 +17,30 @@ ghost use Rattle.street_net.specs.Refused.{TellsFault};
 ghost use Rattle.street_node.specs.Greens.{ShowsAs};
 ghost use Rattle.street_lanes.specs.Lanes.{IsLane};
 ghost use Rattle.street_tile.specs.Tiles.{IsPrepared};
-ghost use Rattle.street_engine.specs.Streets.{StreetsStandFor, StreetsGo};
+ghost use Rattle.street_engine.specs.Streets.{StreetsStandFor, StreetsGo, IsKept};
+ghost use Rattle.street_engine.specs.Ran.{streets_of};
 
 use crate::ends::Ends;
 use crate::sites::DetectorSite;
+use crate::teams::{Moving, run_with_locks};
 use crate::{detectors, lanes, step_parts, vehicles};
 use std::alloc::Global;
-use std::marker::Model;
+use std::marker::{Brand, Model};
+use std::sync::Wait;
 use std::thread::Threads;
 use street_base::{
     Car, CarNo, CellNo, End, LaneNo, NetSpec, NodeIx, Plan, Reply, Size, Starved, Step, Whereabouts,
 };
 use street_net::{LaneId, NetFault, Network};
 use street_node::SignalPlan;
+use street_team::locks;
 use street_tile::{Gate, Hints, Tile, View, step_by};
 
 /// For how many steps what the gate said of threads holds.
 const STEPS_BETWEEN_COUNTS: u64 = 16;
+
+/// How often a step lends the tiles.
+const LENDINGS: usize = 3;
 
 /// A loaded network, its clock, its tiles, how each vehicle ended, on which link it was last put, and where each detector is.
 pub struct Streets {
@@ -406,5 +413,183 @@ impl Streets {
             self.step(rt, gate, threads);
         }
         count
+    }
+
+    /// So many steps by the caller's thread alone, or fewer where memory was refused for one: tells how many.
+    fn steps_in_turn<R: Threads + Sync, G: Gate + Sync>(
+        &mut self,
+        rt: &R,
+        gate: &G,
+        count: u64,
+    ) -> u64
+        requires { self.old.clock + count ≤ last_clock }
+        ensures most { result ≤ count }
+        ensures clock { self.new.clock ≡ self.old.clock + result }
+        ensures steps { StreetsGo (steps result) self.old self.new }
+    {
+        for done in 0..count {
+            if self.prepare().is_err() {
+                return done;
+            }
+            self.step(rt, gate, 1);
+        }
+        count
+    }
+
+    /// So many steps by the caller's thread alone, or fewer where memory was refused for one: what they leave, and how many.
+    fn steps_alone<R: Threads + Sync, G: Gate + Sync>(
+        self,
+        rt: &R,
+        gate: &G,
+        count: u64,
+    ) -> (Streets, u64)
+        requires in_time { self.clock + count ≤ last_clock }
+        ensures most { result.1 ≤ count }
+        ensures clock { result.0.clock ≡ self.clock + result.1 }
+        ensures steps { StreetsGo (steps result.1) self result.0 }
+    {
+        let mut streets = self;
+        let made = streets.steps_in_turn(rt, gate, count);
+        (streets, made)
+    }
+
+    /// The network, and all else.
+    fn into_parts(self) -> (Network, Moving)
+        ensures streets { self ≡ streets_of result.0 result.1.sites.items result.1.clock result.1.tiles.items result.1.ends.ends }
+        ensures kept { IsKept self (length result.1.view) }
+    {
+        let Streets {
+            network,
+            clock,
+            tiles,
+            view,
+            ends,
+            hints,
+            sites,
+        } = self;
+        let moving = Moving {
+            clock,
+            tiles,
+            view,
+            ends,
+            hints,
+            sites,
+        };
+        (network, moving)
+    }
+
+    /// Of a network and all else.
+    fn of_parts(network: Network, moving: Moving) -> Streets
+        requires kept { IsKept (streets_of network moving.sites.items moving.clock moving.tiles.items moving.ends.ends) (length moving.view) }
+        ensures streets { result ≡ streets_of network moving.sites.items moving.clock moving.tiles.items moving.ends.ends }
+    {
+        let Moving {
+            clock,
+            tiles,
+            view,
+            ends,
+            hints,
+            sites,
+        } = moving;
+        Streets {
+            network,
+            clock,
+            tiles,
+            view,
+            ends,
+            hints,
+            sites,
+        }
+    }
+
+    /// So many steps by a team: what it leaves, and how many were made, which is none where memory for the team was refused.
+    fn team_steps<R: Threads + Wait + Sync, G: Gate + Sync>(
+        self,
+        rt: &R,
+        alloc: Global,
+        gate: &G,
+        count: u64,
+        threads: usize,
+    ) -> (Streets, u64)
+        requires few { count ≤ 16 }
+        requires in_time { self.clock + count ≤ last_clock }
+        ensures most { result.1 ≤ count }
+        ensures clock { result.0.clock ≡ self.clock + result.1 }
+        ensures steps { StreetsGo (steps result.1) self result.0 }
+    {
+        let tiles = self.tiles.len();
+        let Ok(known) = locks::<Tile>(alloc, LENDINGS * tiles * count as usize) else {
+            return (self, 0);
+        };
+        let (network, moving) = self.into_parts();
+        let (moving, made) = run_with_locks::<Brand, Brand, G, R>(
+            rt, alloc, gate, &known, &network, moving, count, threads,
+        );
+        (Streets::of_parts(network, moving), made)
+    }
+
+    /// How many threads stay for the next steps: the caller's alone where there is one tile, or the gate does not share them.
+    fn staying<G: Gate>(&self, gate: &G) -> usize {
+        let tiles = self.tiles.len();
+        if tiles > 1 && gate.shares(self.in_cells()) {
+            tiles.min(gate.processors())
+        } else {
+            1
+        }
+    }
+
+    /// At most 16 steps: by a team where several threads stay, else in turn. Where a team makes none, they are made in turn too, so
+    /// that memory for the team alone starves no step.
+    fn some_steps<R: Threads + Wait + Sync, G: Gate + Sync>(
+        self,
+        rt: &R,
+        alloc: Global,
+        gate: &G,
+        count: u64,
+    ) -> (Streets, u64)
+        requires few { count ≤ 16 }
+        requires in_time { self.clock + count ≤ last_clock }
+        ensures most { result.1 ≤ count }
+        ensures clock { result.0.clock ≡ self.clock + result.1 }
+        ensures steps { StreetsGo (steps result.1) self result.0 }
+    {
+        let threads = self.staying(gate);
+        if threads > 1 {
+            let (left, made) = self.team_steps(rt, alloc, gate, count, threads);
+            if made > 0 {
+                return (left, made);
+            }
+            return left.steps_alone(rt, gate, count);
+        }
+        self.steps_alone(rt, gate, count)
+    }
+
+    /// So many steps, or fewer where memory was refused for one, by workers that stay for up to 16 steps: what they leave, and how
+    /// many were made.
+    pub fn steps_by_team<R: Threads + Wait + Sync, G: Gate + Sync>(
+        self,
+        rt: &R,
+        alloc: Global,
+        gate: &G,
+        count: u64,
+    ) -> (Streets, u64)
+        requires { self.clock + count ≤ last_clock }
+        ensures most { result.1 ≤ count }
+        ensures clock { result.0.clock ≡ self.clock + result.1 }
+        ensures steps { StreetsGo (steps result.1) self result.0 }
+    {
+        let mut streets = self;
+        let mut done = 0;
+        for _ in 0..count {
+            let some = (count - done).min(STEPS_BETWEEN_COUNTS);
+            let (left, made) = streets.some_steps(rt, alloc, gate, some);
+            streets = left;
+            done += made;
+            let over = made < some || done == count;
+            if over {
+                return (streets, done);
+            }
+        }
+        (streets, done)
     }
 }

@@ -75,7 +75,10 @@ fn same_before<R: Threads + Sync + AllocGlobal>(
     requires { (1 ≤ workers) × (workers ≤ 64) }
 {
     let gate = if shared {
-        Unwatched { from: 0 }
+        Unwatched {
+            from: 0,
+            processors: 1,
+        }
     } else {
         Unwatched::new()
     };

@@ -1,5 +1,6 @@
 //! One command while at most one request for memory is refused.
 
+use std::sync::Wait;
 use std::thread::Threads;
 use street_base::{Command, Outcome, Reply};
 use street_engine::{Engine, Unwatched};
@@ -33,7 +34,10 @@ pub(crate) enum Answer {
 type Counts = Option<(u64, u64, u64, u64, u64, u64, u64)>;
 
 /// What a count answers, which takes no memory.
-fn counts<R: Threads + Sync>(rt: &R, engine: &mut Engine<Unwatched>) -> Result<Counts, Stop> {
+fn counts<R: Threads + Wait + Sync>(
+    rt: &R,
+    engine: &mut Engine<Unwatched>,
+) -> Result<Counts, Stop> {
     let (reply, outcome) = engine.apply(rt, &Command::Count);
     if outcome != Outcome::Whole {
         return Err(Stop::Wrong("a count was starved"));
@@ -65,12 +69,12 @@ fn may_starve(command: &Command, want: &str) -> bool {
 }
 
 /// What a command answers that is called when memory is there.
-pub(crate) fn call_with_memory<R: Threads + Sync>(
+pub(crate) fn call_with_memory<R: Threads + Wait + Sync>(
     rt: &R,
     engine: &mut Engine<Unwatched>,
     command: &Command,
 ) -> Result<Reply, Stop> {
-    let (reply, outcome) = engine.apply(rt, command);
+    let (reply, outcome) = engine.apply_by_team(rt, command);
     match outcome {
         Outcome::Whole => Ok(reply),
         _ => Err(Stop::OutOfMemory),
@@ -79,7 +83,7 @@ pub(crate) fn call_with_memory<R: Threads + Sync>(
 
 /// What a command answers that is to be answered by this line. Where it was starved, nothing has changed, and it is called
 /// once more.
-pub(crate) fn call<R: Threads + Sync>(
+pub(crate) fn call<R: Threads + Wait + Sync>(
     rt: &R,
     engine: &mut Engine<Unwatched>,
     command: &Command,
@@ -87,7 +91,7 @@ pub(crate) fn call<R: Threads + Sync>(
     met: &mut Met,
 ) -> Result<Answer, Stop> {
     let before = counts(rt, engine)?;
-    let (reply, outcome) = engine.apply(rt, command);
+    let (reply, outcome) = engine.apply_by_team(rt, command);
     match outcome {
         Outcome::Whole => Ok(Answer::Whole(reply)),
         Outcome::Starved => {
@@ -141,7 +145,7 @@ fn rest_of(command: &Command, reply: &Reply, before: u64, made: u64) -> Result<u
 }
 
 /// A command that takes no memory is never starved.
-fn check_whole<R: Threads + Sync>(
+fn check_whole<R: Threads + Wait + Sync>(
     rt: &R,
     engine: &mut Engine<Unwatched>,
     command: &Command,
@@ -155,7 +159,7 @@ fn check_whole<R: Threads + Sync>(
 
 /// Whatever takes no memory is done while every request is refused: what is refused, no steps, a count, and at last each
 /// vehicle is taken out, and told as ended.
-pub(crate) fn go_on_without<R: Threads + Sync>(
+pub(crate) fn go_on_without<R: Threads + Wait + Sync>(
     rt: &R,
     engine: &mut Engine<Unwatched>,
 ) -> Result<(), Stop> {

@@ -4,6 +4,7 @@ use crate::calls::{Answer, Met, Stop, call, call_with_memory, go_on_without};
 use crate::sessions::Session;
 use crate::texts::{is_line, read, text_of};
 use std::alloc::Global;
+use std::sync::Wait;
 use std::thread::Threads;
 use street_base::{Command, Reply};
 use street_engine::{Engine, Unwatched};
@@ -18,7 +19,7 @@ pub(crate) struct Wrong {
 }
 
 /// What the command of a line answers that is called when memory is there.
-fn answer_with_memory<R: Threads + Sync>(
+fn answer_with_memory<R: Threads + Wait + Sync>(
     rt: &R,
     alloc: Global,
     engine: &mut Engine<Unwatched>,
@@ -30,7 +31,7 @@ fn answer_with_memory<R: Threads + Sync>(
 }
 
 /// An engine that had memory for the lines of a session before this one, and then for so many steps.
-fn engine_with_memory<R: Threads + Sync>(
+fn engine_with_memory<R: Threads + Wait + Sync>(
     rt: &R,
     alloc: Global,
     session: &Session,
@@ -47,7 +48,7 @@ fn engine_with_memory<R: Threads + Sync>(
 }
 
 /// Two engines answer alike for each lane.
-fn compare_lanes<R: Threads + Sync>(
+fn compare_lanes<R: Threads + Wait + Sync>(
     rt: &R,
     alloc: Global,
     engine: &mut Engine<Unwatched>,
@@ -66,7 +67,7 @@ fn compare_lanes<R: Threads + Sync>(
 
 /// What the line at this place is answered. Where an advance stops short, each lane is then as after those steps with
 /// memory, and the rest of its steps is made.
-fn answer<R: Threads + Sync>(
+fn answer<R: Threads + Wait + Sync>(
     rt: &R,
     alloc: Global,
     engine: &mut Engine<Unwatched>,
@@ -89,7 +90,7 @@ fn answer<R: Threads + Sync>(
 }
 
 /// Serves the line at this place.
-fn serve_line<R: Threads + Sync>(
+fn serve_line<R: Threads + Wait + Sync>(
     rt: &R,
     alloc: Global,
     engine: &mut Engine<Unwatched>,
@@ -107,14 +108,17 @@ fn serve_line<R: Threads + Sync>(
 
 /// Serves a session by an engine of its own. Whether it was served to its end; else every request was refused from some line
 /// on, and what takes no memory was done.
-pub(crate) fn serve_session<R: Threads + Sync>(
+pub(crate) fn serve_session<R: Threads + Wait + Sync>(
     rt: &R,
     alloc: Global,
     session: &Session,
     met: &mut Met,
 ) -> Result<bool, Wrong> {
     // Steps are shared however few the vehicles are, so that threads are started while requests are refused.
-    let gate = Unwatched { from: 0 };
+    let gate = Unwatched {
+        from: 0,
+        processors: 4,
+    };
     let mut engine = Engine::new(alloc, session.workers.clamp(1, 64), gate);
     for at in 0..session.lines.len() {
         let stop = match serve_line(rt, alloc, &mut engine, session, at, met) {

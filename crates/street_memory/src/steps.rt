@@ -4,6 +4,7 @@
 use crate::calls::{Stop, call_with_memory, go_on_without};
 use crate::texts::read;
 use std::alloc::Global;
+use std::sync::Wait;
 use std::thread::Threads;
 use street_base::{Command, Outcome, Refusal, Reply};
 use street_engine::{Engine, Unwatched};
@@ -22,13 +23,17 @@ const SHORT: &str = r#"{"cmd":"enter","plan":[10],"lane":0,"depart":0}"#;
 const LONG: &str = r#"{"cmd":"enter","plan":[10,20],"lane":0,"depart":0}"#;
 
 /// An engine in which a vehicle has departed, on this way, and another waits.
-fn begun<R: Threads + Sync>(
+fn begun<R: Threads + Wait + Sync>(
     rt: &R,
     alloc: Global,
     workers: u32,
     way: &str,
 ) -> Result<Engine<Unwatched>, Stop> {
-    let mut engine = Engine::new(alloc, workers.clamp(1, 64), Unwatched { from: 0 });
+    let gate = Unwatched {
+        from: 0,
+        processors: 1,
+    };
+    let mut engine = Engine::new(alloc, workers.clamp(1, 64), gate);
     for line in [LOAD, way, LATE, r#"{"cmd":"advance","steps":1}"#] {
         let command = read(alloc, line)?;
         let _reply = call_with_memory(rt, &mut engine, &command)?;
@@ -37,7 +42,7 @@ fn begun<R: Threads + Sync>(
 }
 
 /// The steps are made whole, up to this clock.
-fn are_made<R: Threads + Sync>(
+fn are_made<R: Threads + Wait + Sync>(
     rt: &R,
     engine: &mut Engine<Unwatched>,
     steps: u64,
@@ -51,7 +56,7 @@ fn are_made<R: Threads + Sync>(
 }
 
 /// The first vehicle has arrived, and the other waits.
-fn has_arrived<R: Threads + Sync>(rt: &R, engine: &mut Engine<Unwatched>) -> bool {
+fn has_arrived<R: Threads + Wait + Sync>(rt: &R, engine: &mut Engine<Unwatched>) -> bool {
     match engine.apply(rt, &Command::Count) {
         (
             Reply::Census {
@@ -67,7 +72,7 @@ fn has_arrived<R: Threads + Sync>(rt: &R, engine: &mut Engine<Unwatched>) -> boo
 }
 
 /// A refusal has its number and its name.
-fn is_refused<R: Threads + Sync>(rt: &R, engine: &mut Engine<Unwatched>) -> bool {
+fn is_refused<R: Threads + Wait + Sync>(rt: &R, engine: &mut Engine<Unwatched>) -> bool {
     match engine.apply(rt, &Command::Vehicle { car: 9 }) {
         (Reply::Refused(refusal), Outcome::Whole) => is_named(&refusal),
         _ => false,
@@ -79,7 +84,7 @@ fn is_named(refusal: &Refusal) -> bool {
 }
 
 /// Steps until the first vehicle has arrived, a count, a refusal, and all that `go_on_without` calls; or what is wrong.
-fn go_on<R: Threads + Sync>(
+fn go_on<R: Threads + Wait + Sync>(
     rt: &R,
     engine: Engine<Unwatched>,
     steps: u64,
@@ -99,7 +104,7 @@ fn go_on<R: Threads + Sync>(
 
 /// One worker and both links, so that a vehicle goes from one lane to another; three workers and one link, so that each step is
 /// shared by threads. Whether memory was there for the begin of both; or what is wrong.
-pub(crate) fn steps_without<R: Threads + Sync>(
+pub(crate) fn steps_without<R: Threads + Wait + Sync>(
     rt: &R,
     alloc: Global,
 ) -> Result<bool, &'static str> {

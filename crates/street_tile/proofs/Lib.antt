@@ -28,3 +28,4 @@ pub mod NumberOnce
 pub mod BetweenPhases
 pub mod Lent
 mod KeepsHints
+mod Looked

@@ -3,6 +3,7 @@ pub mod Tiles
 pub mod Inside
 pub mod Motion
 pub mod TileDetectors
+pub mod Parts
 pub mod Phases
 pub mod Walks
 pub mod HandOvers

@@ -16,4 +16,10 @@ pub trait Gate {
     fn shares(&self, vehicles: u64) -> bool {
         true
     }
+
+    /// How many threads at most stay for the steps of an advance, with the calling one: the tiles are shared out among them. The
+    /// steps are the same.
+    fn processors(&self) -> usize {
+        64
+    }
 }

@@ -8,7 +8,7 @@ ghost use Rattle.std.specs.Prelude.{◌≡◌, ◌*◌, ◌<◌, ◌≤◌, leng
 ghost use Rattle.std.specs.List.{All};
 ghost use Rattle.street_base.specs.Limits.{last_clock};
 ghost use Rattle.street_tile.specs.Tiles.{IsTileOf, IsPrepared, Each};
-ghost use Rattle.street_tile.specs.Phases.{LanePhase, MotionPhase, EnterPhase, MeterPhase, Then};
+ghost use Rattle.street_tile.specs.Phases.{LanePhase, MotionPhase, ReleasePhase, EnterPhase, MeterPhase, Then};
 ghost use Rattle.street_tile.specs.Hinted.{KeepsHints};
 ghost use Rattle.street_tile.specs.Steps.{MayStep, Steps};
 
@@ -19,7 +19,7 @@ use std::thread::Threads;
 use street_net::Network;
 
 /// Phases 0 and 1 of a tile.
-fn drive<G: Gate>(net: &Network, worker: u32, tile: &mut Tile, gate: &G)
+pub(crate) fn drive<G: Gate>(net: &Network, worker: u32, tile: &mut Tile, gate: &G)
     requires tile { IsTileOf net.now tile.old }
     requires none { tile.old.arrived ≡ [] }
     requires in_time { tile.old.clock < last_clock }
@@ -33,8 +33,19 @@ fn drive<G: Gate>(net: &Network, worker: u32, tile: &mut Tile, gate: &G)
     gate.leave(worker, 1, tile);
 }
 
+/// Phase 2 of a tile that holds the view.
+pub(crate) fn release<G: Gate>(net: &Network, worker: u32, tile: &mut Tile, gate: &G)
+    requires tile { IsTileOf net.now tile.old }
+    requires empty { tile.old.handed ≡ [] }
+    ensures { ReleasePhase net.now tile.old.mouths tile.old tile.new }
+{
+    gate.arrive(worker, 2, tile);
+    tile.release_as_held(net);
+    gate.leave(worker, 2, tile);
+}
+
 /// Phases 3 and 4 of a tile.
-fn settle<G: Gate>(net: &Network, worker: u32, tile: &mut Tile, gate: &G)
+pub(crate) fn settle<G: Gate>(net: &Network, worker: u32, tile: &mut Tile, gate: &G)
     requires tile { IsTileOf net.now tile.old }
     requires prepared { IsPrepared tile.old }
     requires in_time { tile.old.clock < last_clock }

@@ -21,6 +21,7 @@ mod mouths;
 mod release;
 mod step;
 mod tile;
+mod tile_work;
 mod vehicles;
 mod view;
 
@@ -30,5 +31,6 @@ pub use hints::Hints;
 pub use lendings::step_by;
 pub use step::step_all;
 pub use tile::Tile;
+pub use tile_work::{Course, TileWork, step_with};
 pub use vehicles::TileSizes;
 pub use view::View;

@@ -151,6 +151,29 @@ impl Tile {
         );
     }
 
+    /// Takes over what the view shows of all mouths. Takes no memory.
+    pub(crate) fn look(&mut self, view: &View)
+        requires { length view.now ≡ 2 * self.old.links }
+        ensures { self.new ≡ record self.old { mouths = view.now } }
+    {
+        self.mouths.copy_from_slice(view.mouths());
+    }
+
+    /// As [`phase_release`](Self::phase_release), by what the tile holds of mouths. Takes no memory.
+    pub(crate) fn release_as_held(&mut self, net: &Network)
+        requires tile { IsTileOf net.now self.old }
+        requires empty { self.old.handed ≡ [] }
+        ensures { ReleasePhase net.now self.old.mouths self.old self.new }
+    {
+        release_lanes(
+            &mut self.own,
+            net,
+            self.clock,
+            &mut self.mouths,
+            &mut self.handed,
+        );
+    }
+
     /// Who comes stands in cell 0, and then at most one vehicle departs on each own lane. Takes no memory.
     pub fn phase_enter(&mut self, net: &Network)
         requires tile { IsTileOf net.now self.old }

@@ -19,6 +19,8 @@ mod scenes;
 #[cfg(test)]
 mod steps;
 #[cfg(test)]
+mod teams;
+#[cfg(test)]
 mod tiles;
 #[cfg(test)]
 mod workers;

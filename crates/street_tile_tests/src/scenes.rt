@@ -75,7 +75,27 @@ pub(crate) fn two_ways(alloc: Global) -> Result<NetSpec, AllocError> {
     )
 }
 
-/// A load of that network.
+/// A load of a ring of so many nodes: the link of each number runs from the node of that number to the next one, and turns to the
+/// next link.
+pub(crate) fn ring(alloc: Global, around: u64) -> Result<Command, AllocError> {
+    let mut nodes = Vec::new(alloc);
+    let mut links = Vec::new(alloc);
+    let mut turns = Vec::new(alloc);
+    for at in 0..around {
+        let next = if at + 1 == around { 0 } else { at + 1 };
+        nodes.push(node(at))?;
+        links.push(link(at, at, next, 3))?;
+        turns.push(TurnSpec {
+            link: at,
+            lane: 0,
+            next,
+            next_lane: 0,
+        })?;
+    }
+    load(alloc, nodes.as_slice(), links.as_slice(), turns.as_slice())
+}
+
+/// A load of the network of two ways.
 pub(crate) fn there_and_back(alloc: Global) -> Result<Command, AllocError> {
     Ok(Command::Load(two_ways(alloc)?))
 }

@@ -4,6 +4,7 @@ use crate::meeting::{Calls, Meeting, Watched};
 use crate::scenes::{enter, there_and_back};
 use std::alloc::{AllocError, Global};
 use std::process::Abort;
+use std::sync::Wait;
 use std::sync::atomic::Ordering;
 use std::test::Fail;
 use std::thread::Threads;
@@ -26,21 +27,47 @@ fn check_calls(rt: &impl Abort, calls: &Calls) {
     assert_eq!(rt; calls.leaves.load(Ordering::SeqCst), 15);
 }
 
-/// Whether an engine of two workers serves the commands, watched by this gate.
-fn is_served<R: Threads + Sync>(
+/// Whether an engine of two workers serves the commands, watched by this gate, an advance by workers that stay or not.
+fn is_served<R: Threads + Wait + Sync>(
     rt: &R,
     alloc: Global,
     meeting: &Meeting,
     commands: &[Command],
+    stay: bool,
 ) -> bool {
     let mut engine = Engine::new(alloc, 2, Watched(meeting));
-    match engine.apply_all(rt, commands) {
-        Ok(replies) => matches!(
-            replies.as_slice().last(),
-            Some((Reply::Clock { clock: 3 }, Outcome::Whole))
-        ),
-        Err(_) => false,
+    let mut last = (Reply::Starved, Outcome::Starved);
+    for command in commands {
+        last = if stay {
+            engine.apply_by_team(rt, command)
+        } else {
+            engine.apply(rt, command)
+        };
     }
+    matches!(last, (Reply::Clock { clock: 3 }, Outcome::Whole))
+}
+
+/// One worker is held in each phase until the other has left it.
+fn check_held<R: Threads + Wait + Sync + Abort + AllocGlobal>(
+    rt: &R,
+    commands: &[Command],
+    held: u32,
+    stay: bool,
+) {
+    let meeting = Meeting::of(held, false);
+    assert!(rt; is_served(rt, rt.alloc(), &meeting, commands, stay));
+    assert_eq!(rt;
+        meeting.alone.load(Ordering::SeqCst),
+        0,
+        "worker {held} went on alone"
+    );
+    assert_eq!(rt;
+        meeting.wrong.load(Ordering::SeqCst),
+        0,
+        "calls, while worker {held} is held"
+    );
+    check_calls(rt, &meeting.first);
+    check_calls(rt, &meeting.second);
 }
 
 /// In each phase one worker is held until the other has left it: the second first, then the other way round. So no thread
@@ -49,20 +76,8 @@ fn is_served<R: Threads + Sync>(
 fn two_workers_meet(rt: HostRuntime) -> Result<(), Fail> {
     let commands = commands(rt.alloc())?;
     for held in [0, 1] {
-        let meeting = Meeting::of(held, false);
-        assert!(rt; is_served(&rt, rt.alloc(), &meeting, commands.as_slice()));
-        assert_eq!(rt;
-            meeting.alone.load(Ordering::SeqCst),
-            0,
-            "worker {held} went on alone"
-        );
-        assert_eq!(rt;
-            meeting.wrong.load(Ordering::SeqCst),
-            0,
-            "calls, while worker {held} is held"
-        );
-        check_calls(&rt, &meeting.first);
-        check_calls(&rt, &meeting.second);
+        check_held(&rt, commands.as_slice(), held, false);
+        check_held(&rt, commands.as_slice(), held, true);
     }
     Ok(())
 }

@@ -1,0 +1,12 @@
+use Rattle.std.proofs.Common.{slice_get}
+use Rattle.std.specs.Option.{option_map_or}
+use Rattle.street_engine.specs.Ran.{streets_of}
+use Rattle.street_engine.proofs.streets.Streets.team_steps.Given as goal
+
+-- the network, and the locks that were made
+abbrev pub ghosts-run_with_locks-K-Course : goal.ghosts-run_with_locks-K-Course
+ghosts-run_with_locks-K-Course g a = record { net = a.net.now; lock = λ k. option_map_or (λ l. l.id) (slice_get a.locks.now k) 0 }
+
+-- the streets as they begin
+abbrev pub ghosts-run_with_locks-B-Begun : goal.ghosts-run_with_locks-B-Begun
+ghosts-run_with_locks-B-Begun g a = record { begun = streets_of a.net.now a.moving.sites.items a.moving.clock a.moving.tiles.items a.moving.ends.ends; most = a.count }

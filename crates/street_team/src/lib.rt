@@ -1,0 +1,15 @@
+//! Workers that stay: threads that a caller lends items to, again and again, and that wait in between.
+#![tactic(auto)]
+
+mod errand;
+mod shared;
+mod team;
+#[cfg(test)]
+mod tests;
+mod waits;
+mod work;
+
+pub use errand::{Done, Errand};
+pub use shared::{Shared, start};
+pub use team::{Team, locks};
+pub use work::Work;

@@ -1,0 +1,163 @@
+//! Numbers that a team adds to.
+ghost use Rattle.std.specs.Prelude.{◌≡◌, ℕ, ◌+◌, ◌<◌, length, slice_get, slice_index_or, List, Some, IfOk};
+
+use super::{Shared, Team, Work, locks, start};
+use std::alloc::{AllocError, Global};
+use std::marker::{Brand, Model, PhantomData};
+use std::snapshot::Snapshot;
+use std::sync::{OnceLock, Wait};
+use std::test::*;
+use std::thread;
+use std::thread::Threads;
+
+trait Course {
+    ghost lock: { ℕ → ℕ };
+
+    ghost begun: { List ℕ };
+}
+
+impl Course for Brand {
+    ghost use Rattle.std.specs.Prelude.{[]};
+
+    ghost lock = { λ k. 0 };
+
+    ghost begun = { [] };
+}
+
+#[derive(Drop)]
+struct Adding<K: Course> {
+    of: PhantomData<K>,
+}
+
+impl<K: Course> Work<u32> for Adding<K> {
+    ghost use Rattle.std.specs.Prelude.{◌≡◌, ◌+◌, ◌<◌};
+
+    ghost lock = { K.lock };
+
+    ghost may = { λ part number x. x < 1000 };
+
+    ghost does = { λ part number x y. y ≡ x + 1 };
+
+    fn work(&self, part: u32, number: usize, item: &mut u32) {
+        *item += 1;
+    }
+}
+
+/// Numbers to each of which 1 was added.
+#[derive(Drop)]
+struct Added<K: Course> {
+    items: Vec<u32>,
+    of: PhantomData<K>,
+}
+
+impl<K: Course> Model for Added<K> {
+    ghost use Rattle.std.specs.Prelude.{◌≡◌, ℕ, ◌+◌, ◌<◌, List, length, slice_index_or};
+
+    ghost Value = { List ℕ };
+
+    ghost view = { λ a. a.items.items };
+
+    ghost invariant = { λ a. (i : ℕ) (d : ℕ) → i < length K.begun → slice_index_or a.items.items i d ≡ slice_index_or K.begun i d + 1 };
+}
+
+impl<K: Course> Added<K> {
+    fn new(items: Vec<u32>) -> Self
+        requires { (i : ℕ) (d : ℕ) → i < length K.begun → slice_index_or items.items i d ≡ slice_index_or K.begun i d + 1 }
+    {
+        Added {
+            items,
+            of: PhantomData,
+        }
+    }
+
+    fn into_items(self) -> Vec<u32>
+        ensures { (i : ℕ) (d : ℕ) → i < length K.begun → slice_index_or result.items i d ≡ slice_index_or K.begun i d + 1 }
+    {
+        let Added { items, of: _ } = self;
+        items
+    }
+}
+
+/// One more each, by a team.
+fn add_all<K: Course, R: Wait>(
+    team: &mut Team<'_, '_, '_, '_, u32, Adding<K>, R>,
+    items: Vec<u32>,
+) -> Added<K>
+    requires begun { items.items ≡ K.begun }
+    requires small { (i : ℕ) (d : ℕ) → i < length K.begun → slice_index_or K.begun i d < 1000 }
+{
+    let mut items = items;
+    team.lend(0, &mut items);
+    Added::new(items)
+}
+
+/// One more each, by so many threads.
+fn add_with<'a, K: Course + Send + Sync, R: Threads + Wait + Sync>(
+    rt: &R,
+    shared: &Shared<'a, '_, u32, Adding<K>>,
+    locks: &'a [OnceLock<Snapshot<u32>>],
+    items: Vec<u32>,
+    threads: usize,
+) -> Added<K>
+    requires locks { (k : ℕ) (l : _) → slice_get locks.now k ≡ Some l → l.id ≡ K.lock k }
+    requires begun { items.items ≡ K.begun }
+    requires small { (i : ℕ) (d : ℕ) → i < length K.begun → slice_index_or K.begun i d < 1000 }
+{
+    thread::scope(
+        thread::scope_env(),
+        rt,
+        move |scope| -> Added<K>
+            requires { ((k : ℕ) (l : _) → slice_get locks.now k ≡ Some l → l.id ≡ K.lock k)
+                × (items.items ≡ K.begun)
+                × ((i : ℕ) (d : ℕ) → i < length K.begun → slice_index_or K.begun i d < 1000) }
+        {
+            let here = start(scope, rt, shared, items.len(), threads);
+            let mut team = Team::new(rt, shared, locks, here);
+            let added = add_all(&mut team, items);
+            shared.end();
+            added
+        },
+    )
+}
+
+/// One more each, by so many threads, which are known by these locks.
+fn add_by<K: Course + Send + Sync, R: Threads + Wait + Sync>(
+    rt: &R,
+    alloc: Global,
+    locks: &[OnceLock<Snapshot<u32>>],
+    items: Vec<u32>,
+    threads: usize,
+) -> Result<Vec<u32>, AllocError>
+    requires locks { (k : ℕ) (l : _) → slice_get locks.now k ≡ Some l → l.id ≡ K.lock k }
+    requires begun { items.items ≡ K.begun }
+    requires small { (i : ℕ) (d : ℕ) → i < length K.begun → slice_index_or K.begun i d < 1000 }
+    ensures { IfOk result (λ ys. (i : ℕ) (d : ℕ) → i < length K.begun → slice_index_or ys.items i d ≡ slice_index_or K.begun i d + 1) }
+{
+    let work = Adding::<K> { of: PhantomData };
+    let shared = Shared::new(alloc, &work, items.len())?;
+    Ok(add_with(rt, &shared, locks, items, threads).into_items())
+}
+
+fn add<R: Threads + Wait + Sync>(
+    rt: &R,
+    alloc: Global,
+    items: Vec<u32>,
+    threads: usize,
+) -> Result<Vec<u32>, AllocError>
+    requires small { (i : ℕ) (d : ℕ) → i < length items.items → slice_index_or items.items i d < 1000 }
+    ensures { IfOk result (λ ys. (i : ℕ) (d : ℕ) → i < length items.items → slice_index_or ys.items i d ≡ slice_index_or items.items i d + 1) }
+{
+    let all = locks::<u32>(alloc, items.len())?;
+    add_by::<Brand, R>(rt, alloc, &all, items, threads)
+}
+
+#[test]
+fn adds(rt: HostRuntime) -> Result<(), Fail> {
+    let alloc: Global = rt.alloc();
+    let ys = add(&rt, alloc, vec![in alloc; 5; 7]?, 3)?;
+    assert_eq!(rt; ys.len(), 7);
+    for i in 0..ys.len() {
+        assert_eq!(rt; ys[i], 6);
+    }
+    Ok(())
+}

@@ -1,0 +1,188 @@
+//! Steps by a team: workers that stay, to which the tiles are lent by value.
+//!
+//! Source: this profile, whose five phases a step has in this order.
+ghost use Rattle.std.specs.Prelude.{◌≡◌, ℕ, ◌*◌, ◌<◌, ◌≤◌, length, []};
+ghost use Rattle.std.specs.List.{All};
+ghost use Rattle.street_base.specs.declared.net.NetSpec.{NetSpec};
+ghost use Rattle.street_base.specs.Limits.{last_clock};
+ghost use Rattle.street_base.specs.State.{Traffic};
+ghost use Rattle.street_lanes.specs.Lanes.{IsLane};
+ghost use Rattle.street_tile.specs.HandOvers.{all_handed, received};
+ghost use Rattle.street_tile.specs.Hinted.{KeepsHints};
+ghost use Rattle.street_tile.specs.Parts.{MayWork, DoesWork};
+ghost use Rattle.street_tile.specs.Phases.{LanePhase, MotionPhase, ReleasePhase, EnterPhase, MeterPhase, Then};
+ghost use Rattle.street_tile.specs.Steps.{MayStep, Steps};
+ghost use Rattle.street_tile.specs.Tiles.{IsTileOf, IsPrepared, Each, AreTiles, AllStand, Shows, ShowsOwn, nobody};
+
+use crate::lendings::{drive, release, settle};
+use crate::step::{move_all, publish};
+use crate::{Gate, Hints, Tile, View};
+use std::marker::{Brand, PhantomData};
+use std::sync::Wait;
+use street_net::Network;
+use street_team::{Team, Work};
+
+/// The network of a team's tiles, and the locks that tell what they were.
+pub trait Course {
+    ghost net: { NetSpec };
+
+    ghost lock: { ℕ → ℕ };
+}
+
+impl Course for Brand {
+    ghost use Rattle.std.specs.Prelude.{[]};
+
+    ghost net = { record { nodes = []; links = []; turns = []; zone = 0; change = 0; dawdle = 0; seed = 0; start = 0 } };
+
+    ghost lock = { λ k. 0 };
+}
+
+/// The parts of a step as workers make them.
+#[derive(Drop)]
+pub struct TileWork<'b, G: Gate + Sync, K: Course> {
+    net: &'b Network,
+    gate: &'b G,
+    of: PhantomData<K>,
+    ghost net_is: { net.now ≡ K.net },
+}
+
+impl<'b, G: Gate + Sync, K: Course> TileWork<'b, G, K> {
+    /// Of a network's tiles.
+    pub fn new(net: &'b Network, gate: &'b G) -> Self
+        requires { net.now ≡ K.net }
+    {
+        TileWork {
+            net,
+            gate,
+            of: PhantomData,
+        }
+    }
+}
+
+impl<'b, G: Gate + Sync, K: Course> Work<Tile> for TileWork<'b, G, K> {
+    ghost use Rattle.std.specs.Prelude.{◌<◌};
+
+    ghost lock = { K.lock };
+
+    ghost may = { λ part number tile. (number < 64) × MayWork K.net part tile };
+
+    ghost does = { λ part number x y. DoesWork K.net part x y };
+
+    fn work(&self, part: u32, number: usize, item: &mut Tile) {
+        match part {
+            0 => drive(self.net, number as u32, item, self.gate),
+            1 => release(self.net, number as u32, item, self.gate),
+            _ => settle(self.net, number as u32, item, self.gate),
+        }
+    }
+}
+
+/// Phases 0 and 1 of all tiles.
+fn drive_with<G: Gate + Sync, K: Course, R: Wait>(
+    team: &mut Team<'_, '_, '_, '_, Tile, TileWork<'_, G, K>, R>,
+    net: &Network,
+    tiles: &mut Vec<Tile>,
+)
+    requires net { net.now ≡ K.net }
+    requires few { length tiles.old.items ≤ 64 }
+    requires tiles { All (IsTileOf net.now) tiles.old.items }
+    requires none { All (λ x. x.arrived ≡ []) tiles.old.items }
+    requires in_time { All (λ x. x.clock < last_clock) tiles.old.items }
+    ensures len { length tiles.new.items ≡ length tiles.old.items }
+    ensures each { Each (Then (LanePhase net.now) (MotionPhase net.now)) tiles.old.items tiles.new.items }
+{
+    team.lend(0, tiles);
+}
+
+/// Each tile takes over the view.
+fn look_all(tiles: &mut [Tile], view: &View)
+    requires { All (λ x. length view.now ≡ 2 * x.links) tiles.old }
+    ensures { Each (λ x y. y ≡ record x { mouths = view.now }) tiles.old tiles.new }
+{
+    for i in 0..tiles.len() {
+        tiles[i].look(view);
+    }
+}
+
+/// Phase 2 of all tiles.
+fn release_with<G: Gate + Sync, K: Course, R: Wait>(
+    team: &mut Team<'_, '_, '_, '_, Tile, TileWork<'_, G, K>, R>,
+    net: &Network,
+    view: &View,
+    tiles: &mut Vec<Tile>,
+)
+    requires net { net.now ≡ K.net }
+    requires few { length tiles.old.items ≤ 64 }
+    requires tiles { All (IsTileOf net.now) tiles.old.items }
+    requires empty { All (λ x. x.handed ≡ []) tiles.old.items }
+    requires view { length view.now ≡ 2 * length net.now.links }
+    ensures len { length tiles.new.items ≡ length tiles.old.items }
+    ensures each { Each (ReleasePhase net.now view.now) tiles.old.items tiles.new.items }
+{
+    look_all(tiles, view);
+    team.lend(1, tiles);
+}
+
+/// Phases 3 and 4 of all tiles.
+fn settle_with<G: Gate + Sync, K: Course, R: Wait>(
+    team: &mut Team<'_, '_, '_, '_, Tile, TileWork<'_, G, K>, R>,
+    net: &Network,
+    tiles: &mut Vec<Tile>,
+)
+    requires net { net.now ≡ K.net }
+    requires few { length tiles.old.items ≤ 64 }
+    requires tiles { All (IsTileOf net.now) tiles.old.items }
+    requires prepared { All IsPrepared tiles.old.items }
+    requires in_time { All (λ x. x.clock < last_clock) tiles.old.items }
+    ensures len { length tiles.new.items ≡ length tiles.old.items }
+    ensures each { Each (Then (EnterPhase net.now) (MeterPhase net.now)) tiles.old.items tiles.new.items }
+{
+    team.lend(2, tiles);
+}
+
+/// Each tile shows its mouths.
+fn publish_with(net: &Network, tiles: &Vec<Tile>, view: &mut View)
+    requires tiles { AreTiles net.now tiles.now.items }
+    requires shown { All ShowsOwn tiles.now.items }
+    requires view { length view.old ≡ 2 * length net.now.links }
+    ensures shows { (m : Traffic) → AllStand net.now tiles.now.items m → Shows net.now view.new m }
+    ensures wide { length view.new ≡ length view.old }
+{
+    publish(net, tiles, view);
+}
+
+/// Each hand-over is moved to the tile that owns its lane.
+fn move_with(net: &Network, tiles: &mut Vec<Tile>, hints: &mut Hints)
+    requires tiles { AreTiles net.now tiles.old.items }
+    requires nobody { All (λ x. x.coming ≡ nobody x) tiles.old.items }
+    requires lanes { All (λ x. All (λ e. IsLane net.now e.to) x.handed) tiles.old.items }
+    ensures len { length tiles.new.items ≡ length tiles.old.items }
+    ensures moved { Each (λ x y. y ≡ received (all_handed tiles.old.items) x) tiles.old.items tiles.new.items }
+    ensures hints { KeepsHints hints.old hints.new }
+{
+    move_all(net, tiles, hints);
+}
+
+/// One step by a team, of the same meaning as [`step_by`](crate::step_by)'s. The hints follow who enters another link. Takes no
+/// memory.
+pub fn step_with<G: Gate + Sync, K: Course, R: Wait>(
+    team: &mut Team<'_, '_, '_, '_, Tile, TileWork<'_, G, K>, R>,
+    net: &Network,
+    tiles: &mut Vec<Tile>,
+    view: &mut View,
+    hints: &mut Hints,
+)
+    requires net { net.now ≡ K.net }
+    requires ready { MayStep net.now tiles.old.items }
+    requires view { length view.old ≡ 2 * length net.now.links }
+    ensures len { length tiles.new.items ≡ length tiles.old.items }
+    ensures steps { Steps net.now tiles.old.items tiles.new.items }
+    ensures view { length view.new ≡ length view.old }
+    ensures hints { KeepsHints hints.old hints.new }
+{
+    drive_with(team, net, tiles);
+    publish_with(net, tiles, view);
+    release_with(team, net, view, tiles);
+    move_with(net, tiles, hints);
+    settle_with(team, net, tiles);
+}
