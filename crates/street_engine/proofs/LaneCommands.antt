@@ -12,10 +12,10 @@ use Rattle.street_base.specs.State.{Traffic, lane_at}
 use Rattle.street_base.specs.Closing.{with_closure}
 use Rattle.street_base.specs.Effects.{named_lane}
 use Rattle.street_base.specs.Shown.{shown_lane}
-use Rattle.street_base.specs.Machine.{first_of, lane_tests, lane_refusal, closure_refusal, closed_after}
+use Rattle.street_base.specs.Machine.{refusal, first_of, lane_tests, lane_refusal, closure_refusal, closed_after}
 use Rattle.street_base.specs.Outcomes.{MayStarveUnder}
 use Rattle.street_engine.specs.Streets.{StreetsView, StreetsStandFor, StreetsGo}
-use Rattle.street_engine.specs.Refines.{Serves}
+use Rattle.street_engine.specs.Refines.{closing, Serves}
 use Rattle.street_engine.proofs.Serves.{same-network, streets-refused, streets-starved, streets-starving, streets-done, streets-told}
 
 module _ (s : StreetsView) (link lane : ℕ) where
@@ -25,44 +25,46 @@ module _ (s : StreetsView) (link lane : ℕ) where
 
   -- ---- cells
 
-  module _ (first last : ℕ) where
-    pub close-refused : (q : Refusal) → ((m : Traffic) → m.network ≡ s.network → closure_refusal link lane first last m ≡ Some q) → Serves (Some s) (CloseLane link lane first last) (Refused q) Whole (Some s)
-    close-refused q refused = streets-refused s (CloseLane link lane first last) q (λ m stands. refused m (same-network s m stands))
-
-    pub reopen-refused : (q : Refusal) → ((m : Traffic) → m.network ≡ s.network → closure_refusal link lane first last m ≡ Some q) → Serves (Some s) (ReopenLane link lane first last) (Refused q) Whole (Some s)
-    reopen-refused q refused = streets-refused s (ReopenLane link lane first last) q (λ m stands. refused m (same-network s m stands))
+  module _ (first last : ℕ) (closed : Bool) where
+    pub closing-refused : (q : Refusal) → ((m : Traffic) → m.network ≡ s.network → closure_refusal link lane first last m ≡ Some q) → Serves (Some s) (closing closed link lane first last) (Refused q) Whole (Some s)
+    closing-refused q refused = streets-refused s (closing closed link lane first last) q (λ m stands. refusal-of closed m ∙ refused m (same-network s m stands))
+      where
+        refusal-of : (b : Bool) (m : Traffic) → refusal (Some m) (closing b link lane first last) ≡ closure_refusal link lane first last m
+        refusal-of true m = refl
+        refusal-of false m = refl
 
     module _ (passed : (m : Traffic) → m.network ≡ s.network → closure_refusal link lane first last m ≡ None) (t : StreetsView) where
       accepted : (m : Traffic) → StreetsStandFor s m → closure_refusal link lane first last m ≡ None
       accepted m stands = passed m (same-network s m stands)
 
-      pub close-starved : StreetsGo (λ m. m) s t → Serves (Some s) (CloseLane link lane first last) StarvedReply Starved (Some t)
-      close-starved keeps = streets-starved s (CloseLane link lane first last) t (λ m stands. subst MayStarveUnder (sym (accepted m stands)) tt) keeps
-
-      pub reopen-starved : StreetsGo (λ m. m) s t → Serves (Some s) (ReopenLane link lane first last) StarvedReply Starved (Some t)
-      reopen-starved keeps = streets-starved s (ReopenLane link lane first last) t (λ m stands. subst MayStarveUnder (sym (accepted m stands)) tt) keeps
+      pub closing-starved : StreetsGo (λ m. m) s t → Serves (Some s) (closing closed link lane first last) StarvedReply Starved (Some t)
+      closing-starved keeps = by_closed closed
+        where
+          by_closed : (b : Bool) → Serves (Some s) (closing b link lane first last) StarvedReply Starved (Some t)
+          by_closed true = streets-starved s (CloseLane link lane first last) t (λ m stands. subst MayStarveUnder (sym (accepted m stands)) tt) keeps
+          by_closed false = streets-starved s (ReopenLane link lane first last) t (λ m stands. subst MayStarveUnder (sym (accepted m stands)) tt) keeps
 
       module _ (at : Place) (low high count : ℕ) (place : at ≡ named_lane s.network link lane) (low_is : low ≡ first) (high_is : high ≡ last) where
-        goes-as : (closed : Bool) → StreetsGo (with_closure closed at low high) s t → StreetsGo (λ m. with_closure closed (named_lane m.network link lane) first last m) s t
-        goes-as closed goes = λ m stands.
+        goes-as : StreetsGo (with_closure closed at low high) s t → StreetsGo (λ m. with_closure closed (named_lane m.network link lane) first last m) s t
+        goes-as goes = λ m stands.
             subst (λ (p : Place). StreetsStandFor t (with_closure closed p first last m)) (named-as at place m stands)
             (subst (λ n. StreetsStandFor t (with_closure closed at first n m)) high_is
             (subst (λ n. StreetsStandFor t (with_closure closed at n high m)) low_is (goes m stands)))
 
-        counts-as : (closed : Bool) → ((m : Traffic) → StreetsStandFor s m → count ≡ closed_after closed low high (lane_at m at)) → (m : Traffic) → StreetsStandFor s m → count ≡ closed_after closed first last (lane_at m (named_lane m.network link lane))
-        counts-as closed counts m stands =
+        counts-as : ((m : Traffic) → StreetsStandFor s m → count ≡ closed_after closed low high (lane_at m at)) → (m : Traffic) → StreetsStandFor s m → count ≡ closed_after closed first last (lane_at m (named_lane m.network link lane))
+        counts-as counts m stands =
             counts m stands
             ∙ ap (λ n. closed_after closed n high (lane_at m at)) low_is
             ∙ ap (λ n. closed_after closed first n (lane_at m at)) high_is
             ∙ ap (λ (p : Place). closed_after closed first last (lane_at m p)) (named-as at place m stands)
 
-        pub close-done : StreetsGo (with_closure true at low high) s t → ((m : Traffic) → StreetsStandFor s m → count ≡ closed_after true low high (lane_at m at)) → Serves (Some s) (CloseLane link lane first last) (Closed count) Whole (Some t)
-        close-done goes counts = streets-done s (CloseLane link lane first last) t (Closed count) (λ m. with_closure true (named_lane m.network link lane) first last m) (λ m. refl) (goes-as true goes)
-            (λ m stands. (accepted m stands, ap (λ n. Closed n) (counts-as true counts m stands)))
-
-        pub reopen-done : StreetsGo (with_closure false at low high) s t → ((m : Traffic) → StreetsStandFor s m → count ≡ closed_after false low high (lane_at m at)) → Serves (Some s) (ReopenLane link lane first last) (Closed count) Whole (Some t)
-        reopen-done goes counts = streets-done s (ReopenLane link lane first last) t (Closed count) (λ m. with_closure false (named_lane m.network link lane) first last m) (λ m. refl) (goes-as false goes)
-            (λ m stands. (accepted m stands, ap (λ n. Closed n) (counts-as false counts m stands)))
+        pub closing-done : StreetsGo (with_closure closed at low high) s t → ((m : Traffic) → StreetsStandFor s m → count ≡ closed_after closed low high (lane_at m at)) → Serves (Some s) (closing closed link lane first last) (Closed count) Whole (Some t)
+        closing-done goes counts = by_closed closed (goes-as goes) (counts-as counts)
+          where
+            by_closed : (b : Bool) → StreetsGo (λ m. with_closure b (named_lane m.network link lane) first last m) s t → ((m : Traffic) → StreetsStandFor s m → count ≡ closed_after b first last (lane_at m (named_lane m.network link lane)))
+                → Serves (Some s) (closing b link lane first last) (Closed count) Whole (Some t)
+            by_closed true g n = streets-done s (CloseLane link lane first last) t (Closed count) (λ m. with_closure true (named_lane m.network link lane) first last m) (λ m. refl) g (λ m stands. (accepted m stands, ap (λ n. Closed n) (n m stands)))
+            by_closed false g n = streets-done s (ReopenLane link lane first last) t (Closed count) (λ m. with_closure false (named_lane m.network link lane) first last m) (λ m. refl) g (λ m stands. (accepted m stands, ap (λ n. Closed n) (n m stands)))
 
   -- ---- a lane
 

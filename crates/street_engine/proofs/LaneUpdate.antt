@@ -14,7 +14,8 @@ use Rattle.street_lanes.specs.Whole.{IsOn}
 use Rattle.street_tile.specs.Tiles.{Part, IsTileOf, AreTiles, StandsFor, IsIdle, is_own}
 use Rattle.street_tile.specs.Commands.{at_place, DoesIf}
 use Rattle.street_tile.proofs.Each.{lane_at-each}
-use Rattle.street_tile.proofs.OwnLanes.{own-lanes, at-any}
+use Rattle.street_node.proofs.BufferWalk.{at-any}
+use Rattle.street_tile.proofs.OwnLanes.{own-lanes}
 use Rattle.street_tile.proofs.Rows.{in-row}
 use Rattle.street_tile.proofs.MovedHandOvers.{row-alone, not-listed}
 use Rattle.street_tile.proofs.PhasesOfAll.{tiles-of}

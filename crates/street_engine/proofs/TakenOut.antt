@@ -19,7 +19,8 @@ use Rattle.street_lanes.specs.Whole.{IsOn}
 use Rattle.street_tile.specs.Tiles.{Part, IsTileOf, AreTiles, AllStand, StandsFor, IsIdle, is_own, own_places}
 use Rattle.street_tile.specs.Commands.{without, DoesIf, HaveNot, Have, HaveAtMostOne}
 use Rattle.street_tile.proofs.NumberOnce.{own-number, lane-same, lane_at-without}
-use Rattle.street_tile.proofs.OwnLanes.{own-lanes, filter-holds}
+use Rattle.street_node.proofs.LaneWalk.{filter-holds}
+use Rattle.street_tile.proofs.OwnLanes.{own-lanes}
 use Rattle.street_tile.proofs.Rows.{in-row}
 use Rattle.street_tile.proofs.MovedHandOvers.{row-alone}
 use Rattle.street_tile.proofs.PhasesOfAll.{tiles-of}

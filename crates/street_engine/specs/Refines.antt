@@ -1,7 +1,8 @@
 -- What an engine stands for, and what it owes at each command.
 -- Source: this profile.
-use Rattle.std.specs.Prelude.{◌≡◌, List, Option, Some, None}
+use Rattle.std.specs.Prelude.{◌≡◌, ℕ, List, Bool, true, false, Option, Some, None}
 use Rattle.street_base.specs.declared.command.Command.{Command}
+use Rattle.street_base.specs.declared.command.Command.TheVariants.{CloseLane, ReopenLane}
 use Rattle.street_base.specs.declared.refusal.Refusal.{Refusal}
 use Rattle.street_base.specs.declared.reply.Reply.{Reply}
 use Rattle.street_base.specs.declared.reply.Reply.TheVariants.{Refused}
@@ -29,6 +30,11 @@ Serves before command reply outcome after = (old : State) → StandsFor before o
 -- what was refused is as it was
 abbrev pub KeepsRefused : EngineView → Reply → EngineView → Type 0
 KeepsRefused before reply after = (refusal : Refusal) → reply ≡ Refused refusal → after ≡ before
+
+-- the command that closes cells of a lane, or opens them
+abbrev pub closing : Bool → ℕ → ℕ → ℕ → ℕ → Command
+closing true link lane first last = CloseLane link lane first last
+closing false link lane first last = ReopenLane link lane first last
 
 -- as `Serves`, for a list of commands
 abbrev pub ServesAll : EngineView → List Command → List (Reply × Outcome) → EngineView → Type 0

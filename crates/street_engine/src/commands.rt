@@ -8,7 +8,7 @@ ghost use Rattle.street_engine.specs.Refines.{Serves, KeepsRefused};
 use crate::Streets;
 use crate::clock_commands::{advance, advance_by_team, count};
 use crate::detector_commands::{place_meter, read_meter};
-use crate::lane_commands::{close_lane, lane, reopen_lane, signal};
+use crate::lane_commands::{lane, set_closed, signal};
 use crate::vehicle_commands::{enter, take_out, vehicle};
 use std::alloc::Global;
 use std::sync::Wait;
@@ -98,13 +98,13 @@ fn serve<R: Threads + Sync, G: Gate + Sync>(
             lane,
             first,
             last,
-        } => close_lane(streets, *link, *lane, *first, *last),
+        } => set_closed(streets, *link, *lane, *first, *last, true),
         Command::ReopenLane {
             link,
             lane,
             first,
             last,
-        } => reopen_lane(streets, *link, *lane, *first, *last),
+        } => set_closed(streets, *link, *lane, *first, *last, false),
         Command::TakeOut { car } => take_out(streets, *car),
         Command::PlaceMeter {
             link,

@@ -1,9 +1,8 @@
 //! Commands that name a node or a lane.
 //!
 //! Source: this profile.
-ghost use Rattle.std.specs.Prelude.{◌≡◌};
-ghost use Rattle.street_base.specs.declared.command.Command.TheVariants.{Signal, CloseLane, ReopenLane, Lane};
-ghost use Rattle.street_engine.specs.Refines.{Serves, KeepsRefused};
+ghost use Rattle.street_base.specs.declared.command.Command.TheVariants.{Signal, Lane};
+ghost use Rattle.street_engine.specs.Refines.{closing, Serves, KeepsRefused};
 
 use crate::Streets;
 use crate::names::{named_cells, named_lane};
@@ -38,43 +37,23 @@ pub(crate) fn signal(
     }
 }
 
-/// Takes memory for a stretch of closed cells.
-pub(crate) fn close_lane(
+/// Cells are closed, or opened again. Takes memory for a stretch of closed cells.
+pub(crate) fn set_closed(
     streets: &mut Streets,
     link: u64,
     lane: u64,
     first: u64,
     last: u64,
+    closed: bool,
 ) -> (Reply, Outcome)
-    ensures serves { Serves (Some streets.old) (CloseLane link lane first last) result.0 result.1 (Some streets.new) }
+    ensures serves { Serves (Some streets.old) (closing closed link lane first last) result.0 result.1 (Some streets.new) }
     ensures refused { KeepsRefused (Some streets.old) result.0 (Some streets.new) }
 {
     let cells = match named_cells(streets.network(), link, lane, first, last) {
         Ok(cells) => cells,
         Err(refusal) => return (Reply::Refused(refusal), Outcome::Whole),
     };
-    match streets.close(cells.at, cells.first, cells.last) {
-        Ok(closed) => (Reply::Closed { closed }, Outcome::Whole),
-        Err(_) => (Reply::Starved, Outcome::Starved),
-    }
-}
-
-/// Takes memory for a stretch of closed cells.
-pub(crate) fn reopen_lane(
-    streets: &mut Streets,
-    link: u64,
-    lane: u64,
-    first: u64,
-    last: u64,
-) -> (Reply, Outcome)
-    ensures serves { Serves (Some streets.old) (ReopenLane link lane first last) result.0 result.1 (Some streets.new) }
-    ensures refused { KeepsRefused (Some streets.old) result.0 (Some streets.new) }
-{
-    let cells = match named_cells(streets.network(), link, lane, first, last) {
-        Ok(cells) => cells,
-        Err(refusal) => return (Reply::Refused(refusal), Outcome::Whole),
-    };
-    match streets.reopen(cells.at, cells.first, cells.last) {
+    match streets.set_closed(cells.at, cells.first, cells.last, closed) {
         Ok(closed) => (Reply::Closed { closed }, Outcome::Whole),
         Err(_) => (Reply::Starved, Outcome::Starved),
     }

@@ -1,7 +1,7 @@
 //! Commands that name a node or a lane: one tile does them, the others stay as they are.
 //!
 //! Source: this profile.
-ghost use Rattle.std.specs.Prelude.{◌≡◌, ◌<◌, ◌≤◌, length, true, false, IfOk, OnOk, OnErr};
+ghost use Rattle.std.specs.Prelude.{◌≡◌, ◌<◌, ◌≤◌, length, IfOk, OnOk, OnErr};
 ghost use Rattle.std.specs.List.{All};
 ghost use Rattle.street_base.specs.Network.{link_at};
 ghost use Rattle.street_base.specs.Signal.{SignalPlan as PlanSeen};
@@ -55,52 +55,29 @@ pub(crate) fn set_signal(net: &Network, tiles: &mut [Tile], node: NodeIx, plan: 
     tiles[i].set_signal(node, plan);
 }
 
-/// Closes cells of a lane, and tells how many of its cells are closed then.
+/// Closes cells of a lane, or opens them, and tells how many of its cells are closed then.
 ///
 /// # Errors
 /// Memory was refused; the tiles stand for what they stood for.
-pub(crate) fn close(
+pub(crate) fn set_closed(
     net: &Network,
     tiles: &mut [Tile],
     at: LaneId,
     first: CellNo,
     last: CellNo,
+    closed: bool,
 ) -> Result<u64, Starved>
     requires tiles { AreTiles net.now tiles.old }
     requires idle { All IsIdle tiles.old }
     requires lane { IsLane net.now (place_of at) }
     requires order { first ≤ last }
     requires within { last < (link_at net.now at.link).length }
-    ensures closes { OnOk result (AllDoIf net.now (λ m. Unit) (at_place (place_of at) (with_marks true first last)) tiles.old tiles.new) }
-    ensures count { IfOk result (λ count. (m : Traffic) → AllStand net.now tiles.old m → count ≡ closed_after true first last (lane_at m (place_of at))) }
+    ensures marks { OnOk result (AllDoIf net.now (λ m. Unit) (at_place (place_of at) (with_marks closed first last)) tiles.old tiles.new) }
+    ensures count { IfOk result (λ count. (m : Traffic) → AllStand net.now tiles.old m → count ≡ closed_after closed first last (lane_at m (place_of at))) }
     ensures starved { OnErr result (AllKeep net.now tiles.old tiles.new) }
 {
     let i = owner_of_link(net, tiles, at.link);
-    tiles[i].close(net, at, first, last)
-}
-
-/// Opens cells of a lane again, and tells how many of its cells are closed then.
-///
-/// # Errors
-/// Memory was refused; the tiles stand for what they stood for.
-pub(crate) fn reopen(
-    net: &Network,
-    tiles: &mut [Tile],
-    at: LaneId,
-    first: CellNo,
-    last: CellNo,
-) -> Result<u64, Starved>
-    requires tiles { AreTiles net.now tiles.old }
-    requires idle { All IsIdle tiles.old }
-    requires lane { IsLane net.now (place_of at) }
-    requires order { first ≤ last }
-    requires within { last < (link_at net.now at.link).length }
-    ensures opens { OnOk result (AllDoIf net.now (λ m. Unit) (at_place (place_of at) (with_marks false first last)) tiles.old tiles.new) }
-    ensures count { IfOk result (λ count. (m : Traffic) → AllStand net.now tiles.old m → count ≡ closed_after false first last (lane_at m (place_of at))) }
-    ensures starved { OnErr result (AllKeep net.now tiles.old tiles.new) }
-{
-    let i = owner_of_link(net, tiles, at.link);
-    tiles[i].reopen(net, at, first, last)
+    tiles[i].set_closed(net, at, first, last, closed)
 }
 
 /// All of a lane.

@@ -1,6 +1,5 @@
 //! The traffic on a loaded network.
-ghost use Rattle.std.specs.Prelude.{◌≡◌, ℕ, ◌+◌, ◌<◌, ◌≤◌, List, length, slice_get, slice_index_or, min, true, false};
-ghost use Rattle.std.specs.Prelude.{Some, None, option_map, IfOk, IfErr, OnOk, OnErr};
+ghost use Rattle.std.specs.Prelude.{◌≡◌, ℕ, ◌+◌, ◌<◌, ◌≤◌, List, length, slice_get, slice_index_or, min, Some, None, option_map, IfOk, IfErr, OnOk, OnErr};
 ghost use Rattle.std.specs.List.{All};
 ghost use Rattle.street_base.specs.Limits.{last_clock, most_plan, most_vehicles, most_period, most_detectors};
 ghost use Rattle.street_base.specs.Network.{link_at, node_of};
@@ -192,34 +191,25 @@ impl Streets {
         lanes::set_signal(&self.network, &mut self.tiles, node, plan);
     }
 
-    /// Closes cells of a lane, and tells how many of its cells are closed then.
+    /// Closes cells of a lane, or opens them, and tells how many of its cells are closed then.
     ///
     /// # Errors
     /// Memory was refused; the streets stand for what they stood for.
-    pub fn close(&mut self, at: LaneId, first: CellNo, last: CellNo) -> Result<u64, Starved>
+    pub fn set_closed(
+        &mut self,
+        at: LaneId,
+        first: CellNo,
+        last: CellNo,
+        closed: bool,
+    ) -> Result<u64, Starved>
         requires lane { IsLane self.old.network (place_of at) }
         requires order { first ≤ last }
         requires within { last < (link_at self.old.network at.link).length }
-        ensures closes { OnOk result (StreetsGo (with_closure true (place_of at) first last) self.old self.new) }
-        ensures count { IfOk result (λ count. (m : Traffic) → StreetsStandFor self.old m → count ≡ closed_after true first last (lane_at m (place_of at))) }
+        ensures marks { OnOk result (StreetsGo (with_closure closed (place_of at) first last) self.old self.new) }
+        ensures count { IfOk result (λ count. (m : Traffic) → StreetsStandFor self.old m → count ≡ closed_after closed first last (lane_at m (place_of at))) }
         ensures starved { OnErr result (StreetsGo (λ m. m) self.old self.new) }
     {
-        lanes::close(&self.network, &mut self.tiles, at, first, last)
-    }
-
-    /// Opens cells of a lane again, and tells how many of its cells are closed then.
-    ///
-    /// # Errors
-    /// Memory was refused; the streets stand for what they stood for.
-    pub fn reopen(&mut self, at: LaneId, first: CellNo, last: CellNo) -> Result<u64, Starved>
-        requires lane { IsLane self.old.network (place_of at) }
-        requires order { first ≤ last }
-        requires within { last < (link_at self.old.network at.link).length }
-        ensures opens { OnOk result (StreetsGo (with_closure false (place_of at) first last) self.old self.new) }
-        ensures count { IfOk result (λ count. (m : Traffic) → StreetsStandFor self.old m → count ≡ closed_after false first last (lane_at m (place_of at))) }
-        ensures starved { OnErr result (StreetsGo (λ m. m) self.old self.new) }
-    {
-        lanes::reopen(&self.network, &mut self.tiles, at, first, last)
+        lanes::set_closed(&self.network, &mut self.tiles, at, first, last, closed)
     }
 
     /// Takes a vehicle out that has not ended, wherever it is. Takes no memory.

@@ -13,18 +13,16 @@ use Rattle.street_rule.specs.Odds.{Odds}
 use Rattle.street_gap.specs.declared.closures.Stretch.{Stretch}
 use Rattle.street_gap.specs.Closed.{is_between, is_in, IsWithin, closed_marks}
 use Rattle.street_gap.proofs.Marks.{closed_marks-length, closed_marks-at}
+use Rattle.street_gap.proofs.Uniqueness.{IsWithin-closed, IsWithin-opened}
 use Rattle.street_yard.specs.Yard.{Yard}
 use Rattle.street_yard.specs.Listed.{cells_at}
 use Rattle.street_lanes.specs.declared.lanes.Extent.{Extent}
 use Rattle.street_lanes.specs.Views.{LaneView, IsLaneOf, LaneStands}
 use Rattle.street_lanes.specs.Lanes.{GoesAt}
+use Rattle.street_lanes.specs.Marks.{Marks}
 use Rattle.street_lanes.specs.Lists.{cells_list}
 use Rattle.street_lanes.specs.Inside.{length_at, closed_at, lane_in, lanes_in, view_of, IsLaidOut}
 use Rattle.street_lanes.proofs.Frames.{lane-in, lanes-count, sizes-are}
-
--- the closed cells after cells from first to last were closed, or opened
-abbrev pub Marks : Bool → ℕ → ℕ → List Stretch → List Stretch → Type 0
-Marks closed first last old new = (x : ℕ) → is_in new x ≡ cond (is_between first last x) closed (is_in old x)
 
 by_closing : (b c : Bool) → (b || c) ≡ cond c true b
 by_closing true true = refl
@@ -43,6 +41,10 @@ closing-marks first last old new h x = h x ∙ by_closing (is_in old x) (is_betw
 
 pub opening-marks : (first last : ℕ) (old new : List Stretch) → ((x : ℕ) → is_in new x ≡ (is_in old x && not (is_between first last x))) → Marks false first last old new
 opening-marks first last old new h x = h x ∙ by_opening (is_in old x) (is_between first last x)
+
+pub within-marked : (closed : Bool) (old new : List Stretch) (first last count : ℕ) → Marks closed first last old new → last < count → IsWithin old count → IsWithin new count
+within-marked true old new first last count marks low inside = IsWithin-closed old new first last count (λ x. marks x ∙ sym (by_closing (is_in old x) (is_between first last x))) low inside
+within-marked false old new first last count marks low inside = IsWithin-opened old new first last count (λ x. marks x ∙ sym (by_opening (is_in old x) (is_between first last x))) inside
 
 -- the marks of the cells are those of the definition
 pub marks-are : (closed : Bool) (first last count : ℕ) (old new : List Stretch) → Marks closed first last old new → IsWithin old count → IsWithin new count → closed_marks new count ≡ marked closed first last (closed_marks old count)

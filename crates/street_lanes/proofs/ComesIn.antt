@@ -14,13 +14,8 @@ use Rattle.street_yard.specs.Yard.{Yard, list_at, car_of, Has, IsWhole}
 use Rattle.street_yard.specs.Listed.{cell_at, vehicle_with, key_at, seen_at, cells_at, IsFalling, IsLane, AllAbove}
 use Rattle.street_yard.proofs.Keys.{has-later}
 use Rattle.street_yard.proofs.YardLemmas.{cell_is}
-use Rattle.street_yard.proofs.FallingLists.{above-none, key_at-append, key_at-drop, cells-length, cells-read, seen-key, falling-agree, found-agree}
+use Rattle.street_yard.proofs.FallingLists.{falling-push, above-none, key_at-append, key_at-drop, cells-length, cells-read, seen-key, falling-agree, found-agree}
 use Rattle.street_lanes.specs.Lists.{ComesIn}
-
--- the list is longer by a key at its end
-pub falling-push : (f : ℕ → ℕ) (bound : ℕ) (xs : List ℕ) (x : ℕ) → IsFalling f bound xs → AllAbove f (f x) xs → f x < bound → IsFalling f bound (xs ++ x ∷ [])
-falling-push f bound [] x h above low = (low, tt)
-falling-push f bound (y ∷ ys) x h above low = (h.0, falling-push f (f y) ys x h.1 above.1 above.0)
 
 -- where nobody stands in cell 0, all stand above it
 pub all-above : (f : ℕ → ℕ) (xs : List ℕ) → key_at f xs 0 ≡ None → AllAbove f 0 xs

@@ -9,11 +9,11 @@ use Rattle.street_base.specs.declared.car.Car.{Car}
 use Rattle.street_base.specs.Shown.{put_in_order}
 use Rattle.street_yard.specs.Yard.{YardEntry, Yard, list_at, entry_at, car_of, list_on, list_set, put_behind, first_or, last_or, Has, IsApart, IsOnList, IsWhole, Updates}
 use Rattle.street_yard.proofs.Keys.{snoc_cases, last_or-push, has-behind, put_behind-last}
-use Rattle.street_yard.proofs.YardLemmas.{list-written, car_of-list_set}
+use Rattle.street_yard.proofs.YardLemmas.{list-written, car_of-list_set, mapped-same}
 use Rattle.street_lanes.specs.Views.{waiting_of, AreInOrder}
 use Rattle.street_lanes.specs.Lists.{cars_on, Touches, IsShort, IsPlaceFor, Enters, Joins}
 use Rattle.street_lanes.proofs.WaitingOrder.{LastNotAfter, LastNotAfter-push, GoesBeforeFirst, put-split}
-use Rattle.street_lanes.proofs.Cars.{mapped-same, car_there}
+use Rattle.street_lanes.proofs.Cars.{car_there}
 use Rattle.street_lanes.proofs.Touches.{touch-trans, touch-more, relisted, admitted, not-loose}
 use Rattle.street_lanes.proofs.Loose.{loose-but, loose-placed}
 use Rattle.street_lanes.proofs.ComesIn.{comes-in}

@@ -11,9 +11,8 @@ use Rattle.std.proofs.lemmas.List.Sums.{sum_by-cons}
 use Rattle.street_base.specs.declared.car.Car.{Car}
 use Rattle.street_base.specs.Vehicle.{Vehicle, vehicle_of}
 use Rattle.street_base.specs.Lane.{Cells, Track, vehicle_at}
-use Rattle.street_base.specs.Apart.{AreDisjoint}
+use Rattle.street_base.specs.Apart.{AreDisjoint, weight}
 use Rattle.street_base.specs.State.{LaneState, Queued, Waiting}
-use Rattle.street_base.specs.Apart.{weight}
 use Rattle.street_base.specs.Census.{in_lane}
 use Rattle.street_base.specs.Effects.{lane_without, cell_without}
 use Rattle.street_base.specs.Shown.{in_order}
@@ -23,7 +22,7 @@ use Rattle.street_gap.specs.Closed.{closed_marks}
 use Rattle.street_yard.specs.Yard.{Yard, list_at, car_of, without, Has, IsWhole}
 use Rattle.street_yard.specs.Listed.{cell_at, vehicle_with, key_at, seen_at, cells_at, IsFalling, IsLane}
 use Rattle.street_yard.proofs.Keys.{has-later, has-away, append-Away}
-use Rattle.street_yard.proofs.YardLemmas.{without-is, parts_apart}
+use Rattle.street_yard.proofs.YardLemmas.{without-is, parts_apart, mapped-same}
 use Rattle.street_yard.proofs.FallingLists.{falling-wider, falling-split, key_at-split, key_at-is, key_at-drop, key_at-gone, cells-length, cells-read, seen-key, falling-agree, found-agree}
 use Rattle.street_lanes.specs.declared.lanes.Extent.{Extent}
 use Rattle.street_lanes.specs.Views.{IsLaneOf, waiting_of, queued_of, AreInOrder}
@@ -31,7 +30,7 @@ use Rattle.street_lanes.specs.Lanes.{GoesIf}
 use Rattle.street_lanes.specs.Lists.{cells_list, buffer_list, waiting_list, cars_on, SameList, Touches}
 use Rattle.street_lanes.specs.Search.{IsSought, IsOf, IsFound, TakesOut}
 use Rattle.street_lanes.specs.Inside.{length_at, closed_at, lane_in, view_of, IsLaidOut}
-use Rattle.street_lanes.proofs.Cars.{mapped-same, car_there}
+use Rattle.street_lanes.proofs.Cars.{car_there}
 use Rattle.street_lanes.proofs.Frames.{with-cells, with-buffer, with-waiting, frame-sound, frame-if}
 use Rattle.street_lanes.proofs.LaneCalls.{still-cells, same-track, same-queue, same-waiting, three-apart}
 use Rattle.street_lanes.proofs.Without.{counted, stays, all-stay, at-least, one-goes, cells-stay, cell-counted, cell-goes, cells-none, order-filter, filter-in_order, in_order-sum}

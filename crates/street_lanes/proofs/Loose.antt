@@ -1,5 +1,5 @@
 -- Who is on no list of a yard after a call.
-use Rattle.std.proofs.Common.{◌≡◌, ◌≢◌, ℕ, zero, suc, List, [], ◌∷◌, ◌++◌, get_or, set, Option, Some, None, IsSome, IsSomeAnd, refl, sym, ap, subst, ◌∙◌, inl, inr}
+use Rattle.std.proofs.Common.{◌≡◌, ◌≢◌, ℕ, suc, List, [], ◌∷◌, ◌++◌, get_or, set, Option, Some, None, IsSome, IsSomeAnd, refl, sym, ap, subst, ◌∙◌, inl, inr}
 use Rattle.std.specs.Prelude.{filter_map}
 use Rattle.std.specs.Option.{option_map, option_and_then}
 use Rattle.std.proofs.lemmas.Bool.{cases_eq, eq-eqb, ne_eqb}
@@ -9,7 +9,7 @@ use Rattle.street_rule.specs.Changed.{KeepsRest}
 use Rattle.street_rule.specs.Pass.{MovesList, stopped, left_lists}
 use Rattle.street_yard.specs.Yard.{YardEntry, Yard, list_at, entry_at, list_on, list_set, without, Has, Away, IsLoose, IsWhole}
 use Rattle.street_yard.proofs.Keys.{has_or_away, has-later, listed_within}
-use Rattle.street_yard.proofs.YardLemmas.{entry-kept_set, entry-kept_set_other, list-written}
+use Rattle.street_yard.proofs.YardLemmas.{entry-gone, entry-kept_set, entry-kept_set_other, list-written}
 use Rattle.street_lanes.specs.Lists.{NoneLoose, NoneLooseBut}
 use Rattle.street_lanes.specs.Inside.{loose_one, loose_in}
 use Rattle.street_lanes.proofs.Touches.{loose-off}
@@ -43,17 +43,12 @@ loose-placed old between new key list others placed but =
     (λ loose. on-list (get_or between.kept key None) list (subst IsOff (ap (λ es. get_or es key None) placed ∙ entry-kept_set between.kept key (λ e. record e { list = Some list })) loose))
     but
 
-gone : (es : List (Option YardEntry)) (k : ℕ) → get_or (set es k None) k None ≡ None
-gone [] k = refl
-gone (e ∷ es) zero = refl
-gone (e ∷ es) (suc k) = gone es k
-
 -- the one was taken out
 pub loose-gone : (old between new : Yard) (key : ℕ) → ((k : ℕ) → k ≢ key → entry_at between k ≡ entry_at old k) → new.kept ≡ set between.kept key None → NoneLooseBut key old → NoneLoose new
 loose-gone old between new key others taken but =
     loose-settled old new key
     (λ k ne. ap (λ es. get_or es k None) taken ∙ get_or-set_other between.kept key k None None ne ∙ others k ne)
-    (λ loose. subst IsOff (ap (λ es. get_or es key None) taken ∙ gone between.kept key) loose)
+    (λ loose. subst IsOff (ap (λ es. get_or es key None) taken ∙ entry-gone between.kept key) loose)
     but
 
 -- ---- a pass over lists

@@ -9,10 +9,9 @@ use Rattle.std.proofs.lemmas.List.Elements.{filter_map-append}
 use Rattle.street_base.specs.declared.car.Car.{Car}
 use Rattle.street_base.specs.Vehicle.{vehicle_of, next_link, is_on_last}
 use Rattle.street_yard.specs.Yard.{YardEntry, Yard, list_at, car_of, entry_at, car_set, list_set, IsLoose, IsWhole}
-use Rattle.street_yard.proofs.YardLemmas.{car_of-car_set, car_of-car_set_other, car_of-list_set, entry-kept_set_other, list-written}
+use Rattle.street_yard.proofs.YardLemmas.{car_of-car_set, car_of-car_set_other, car_of-list_set, entry-kept_set_other, list-written, mapped-same}
 use Rattle.street_lanes.specs.Lists.{cars_on, NoneLoose, NoneLooseBut}
 use Rattle.street_lanes.specs.Motion.{Settles}
-use Rattle.street_lanes.proofs.Cars.{mapped-same}
 use Rattle.street_lanes.proofs.Touches.{touch-trans, touch-more, relisted, not-loose, loose-off, taken, written}
 use Rattle.street_lanes.proofs.Loose.{loose-placed, loose-gone}
 

@@ -1,11 +1,11 @@
 -- Which lists of a yard a call changes.
-use Rattle.std.proofs.Common.{◌≡◌, ◌≢◌, ℕ, zero, suc, ◌+◌, false, List, [], ◌∷◌, length, get_or, set, Option, Some, None, IsSomeAnd, refl, sym, ap, subst, ◌∙◌, inl, inr}
+use Rattle.std.proofs.Common.{◌≡◌, ◌≢◌, ℕ, ◌+◌, false, List, [], ◌∷◌, length, get_or, set, Option, Some, None, IsSomeAnd, refl, sym, ap, subst, ◌∙◌, inl, inr}
 use Rattle.std.specs.Option.{option_map, option_and_then}
 use Rattle.std.proofs.lemmas.Bool.{cases_eq}
 use Rattle.std.proofs.lemmas.List.{length-set, get_or-set_other}
 use Rattle.street_base.specs.declared.car.Car.{Car}
 use Rattle.street_yard.specs.Yard.{YardEntry, Yard, list_at, entry_at, car_of, list_on, car_set, Has, Away, IsLoose, IsWhole, Updates}
-use Rattle.street_yard.proofs.YardLemmas.{list-other, car_of-car_set, car_of-car_set_other}
+use Rattle.street_yard.proofs.YardLemmas.{entry-gone, list-other, car_of-car_set, car_of-car_set_other}
 use Rattle.street_lanes.specs.Lists.{SameList, Touches, IsShort, AreShort}
 
 pub touch-none-at-all : (ls : List ℕ) (y : Yard) → Touches ls y y
@@ -66,16 +66,11 @@ module _ (y new : Yard) (key : ℕ) (whole : IsWhole y) (loose : list_on y key �
     ];
   }
 
-gone : (es : List (Option YardEntry)) (k : ℕ) → get_or (set es k None) k None ≡ None
-gone [] k = refl
-gone (e ∷ es) zero = refl
-gone (e ∷ es) (suc k) = gone es k
-
 -- a loose car is taken out
 pub taken : (y : Yard) (key : ℕ) → IsWhole y → IsLoose y key → Touches [] y (record y { kept = set y.kept key None; room = y.room + 1 })
 taken y key whole loose =
     touch-none y _ key whole (loose-off y key loose) refl (λ k ne. ap (option_map (λ (e : YardEntry). e.car)) (get_or-set_other y.kept key k None None ne))
-    (λ short car is. (let none : ◌≡◌ {A = Option Car} (Some car) None = sym is ∙ ap (option_map (λ (e : YardEntry). e.car)) (gone y.kept key) in cc))
+    (λ short car is. (let none : ◌≡◌ {A = Option Car} (Some car) None = sym is ∙ ap (option_map (λ (e : YardEntry). e.car)) (entry-gone y.kept key) in cc))
 
 mapped-plan : (key : ℕ) (f : Car → Car) → ((c : Car) → (f c).plan ≡ c.plan) → (o : Option Car) → ((c : Car) → o ≡ Some c → IsShort key c) → (car : Car) → option_map f o ≡ Some car → IsShort key car
 mapped-plan key f keeps None short car is = cc

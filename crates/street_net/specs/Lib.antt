@@ -1,3 +1,4 @@
 pub mod Keys
 pub mod Refused
+pub mod Slots
 pub mod Tables

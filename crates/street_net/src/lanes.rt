@@ -1,12 +1,11 @@
 //! Which lanes run to a node.
 //!
 //! Source: this profile, in whose order of releases the lanes to a node stand.
-ghost use Rattle.std.specs.Prelude.{◌≡◌, ◌++◌, [], length, map, slice_index_or, Vec, EachIndex, None, IfOk, OnOk};
+ghost use Rattle.std.specs.Prelude.{◌≡◌, ◌+◌, ◌*◌, ◌<◌, ◌++◌, [], length, map, slice_index_or, Vec, EachIndex, None, IfOk, OnOk};
 ghost use Rattle.std.specs.List.{range_with_len};
 ghost use Rattle.std.specs.declared.alloc.Global.{Global};
-ghost use Rattle.street_base.specs.Network.{Place};
 ghost use Rattle.street_base.specs.Faults.{network_fault};
-ghost use Rattle.street_net.specs.Tables.{place_of, AreBriefs, AreInLanes};
+ghost use Rattle.street_net.specs.Tables.{AreBriefs, AreInLanes};
 
 use crate::briefs::Brief;
 use std::alloc::{AllocError, Global};
@@ -19,6 +18,14 @@ pub struct LaneId {
     pub link: LinkIx,
     /// Its number on the link.
     pub lane: LaneNo,
+}
+
+/// Where a lane stands in a list of two entries a link.
+pub fn slot(link: LinkIx, lane: LaneNo) -> usize
+    requires { 2 * link + lane < 18446744073709551616 }
+    ensures { result ≡ 2 * link + lane }
+{
+    2 * link.position() + usize::from(lane)
 }
 
 /// For each node the lanes that run to it, in the order of release. `briefs` are those of the links.

@@ -1,34 +1,20 @@
 -- The order of a walk over buffers, against the choice by entrance.
-use Rattle.std.proofs.Common.{◌≡◌, ℕ, zero, suc, ◌+◌, ◌<◌, ◌≤◌, Bool, true, false, List, [], ◌∷◌, length, get_or, take, refl, sym, ◌∙◌, ap, arith, inl, inr}
+use Rattle.std.proofs.Common.{◌≡◌, ℕ, zero, suc, ◌+◌, ◌<◌, ◌≤◌, Bool, true, false, List, [], ◌∷◌, length, get_or, take, refl, sym, ◌∙◌, ap, subst, arith, inl, inr}
 use Rattle.std.specs.Prelude.{Option, Some, None, slice_get, find, not, ◌&&◌, if◌then◌else◌}
 use Rattle.std.specs.Option.{option_map_or}
 use Rattle.std.specs.List.{list_any}
-use Rattle.std.proofs.lemmas.Bool.{cases_Bool}
+use Rattle.std.proofs.lemmas.Bool.{cases_Bool, both_ways, or_left}
+use Rattle.std.proofs.lemmas.List.Folds.{list_any_at}
 use Rattle.std.proofs.lemmas.List.Sums.{sum_by-cons}
 use Rattle.std.proofs.lemmas.Option.{slice_get_within, get_or_from_slice_get}
 use Rattle.street_base.specs.Network.{Place, is_place, places}
 use Rattle.street_base.specs.Lane.{is_free}
 use Rattle.street_base.specs.State.{Traffic, lane_at}
 use Rattle.street_base.specs.Census.{one_if}
-use Rattle.street_base.specs.Release.{target, may_give, giver, gives}
+use Rattle.street_base.specs.Release.{target, is_this, may_give, giver, gives}
+use Rattle.street_base.proofs.OptionLemmas.{holds-some}
 use Rattle.street_base.proofs.ReleaseLemmas.{is_place-same, is_place-refl, find-holds}
-use Rattle.std.specs.Prelude.{sum_by}
-
--- a buffer is chosen by an entrance
-abbrev pub takes : Option Place → Place → Bool
-takes chosen from = option_map_or (is_place from) chosen false
-
--- how often a lane stands in a list
-abbrev pub times : Place → List Place → ℕ
-times q ps = sum_by (λ p. one_if (is_place q p)) ps
-
-abbrev pub AtMostOnce : List Place → Type 0
-AtMostOnce ps = (q : Place) → times q ps ≤ 1
-
--- the order of a walk over buffers: each at most once; and for a lane to which one of them leads, the first is that of the whole network
-pub record IsWalk (m : Traffic) (ps : List Place) : Type 0 where
-  pub once : AtMostOnce ps
-  pub firsts : (k : ℕ) (to from : Place) → slice_get ps k ≡ Some from → may_give m to from ≡ true → find (may_give m to) ps ≡ find (may_give m to) (places m.network)
+use Rattle.street_node.specs.Walks.{times, AtMostOnce, IsWalk}
 
 -- ---- a place stands at most once in a list
 
@@ -45,14 +31,28 @@ times-at q d (p ∷ ps) (suc k) h e = omega (arith, times-cons q p ps, times-at 
 pub once-rest : (p : Place) (ps : List Place) → AtMostOnce (p ∷ ps) → AtMostOnce ps
 once-rest p ps h q = omega (arith, times-cons q p ps, h q)
 
+pub none-times : (q : Place) (ps : List Place) → list_any (is_place q) ps ≡ false → times q ps ≡ 0
+none-times q [] e = refl
+none-times q (p ∷ ps) e = elim (cases_Bool (is_place q p)) as (λ _. times q (p ∷ ps) ≡ 0) [
+  | inl here ↦ absurd (both_ways (list_any (is_place q) (p ∷ ps)) e (or_left (is_place q p) (list_any (is_place q) ps) here))
+  | inr other ↦ (
+      let away : list_any (is_place q) ps ≡ false = rw other at e in
+      let none : one_if (is_place q p) ≡ 0 = ap one_if other in
+      omega (arith, times-cons q p ps, none, none-times q ps away))
+]
+
+-- who stands at a place of a list is in it
+pub at-any : (ps : List Place) (k : ℕ) (p : Place) → slice_get ps k ≡ Some p → list_any (is_place p) ps ≡ true
+at-any ps k p at = list_any_at (is_place p) ps k p (slice_get_within ps k p at) (ap (is_place p) (get_or_from_slice_get ps k p p at) ∙ is_place-refl p)
+
 -- ---- the first of a list at which a test holds is that at k, unless it holds before k
 
-pub first-at : (t : Place → Bool) (ps : List Place) (k : ℕ) (q d : Place) → k < length ps → get_or ps k d ≡ q → t q ≡ true → AtMostOnce ps → takes (find t ps) q ≡ not (list_any t (take k ps))
+pub first-at : (t : Place → Bool) (ps : List Place) (k : ℕ) (q d : Place) → k < length ps → get_or ps k d ≡ q → t q ≡ true → AtMostOnce ps → is_this q (find t ps) ≡ not (list_any t (take k ps))
 first-at t [] k q d h e holds once = absurd (omega arith)
 first-at t (p ∷ ps) zero q d h e holds once =
     let here : t p ≡ true = ap t e ∙ holds in
     rw (here, e, is_place-refl q) refl
-first-at t (p ∷ ps) (suc k) q d h e holds once = elim (cases_Bool (t p)) as (λ _. takes (find t (p ∷ ps)) q ≡ not (list_any t (take (suc k) (p ∷ ps)))) [
+first-at t (p ∷ ps) (suc k) q d h e holds once = elim (cases_Bool (t p)) as (λ _. is_this q (find t (p ∷ ps)) ≡ not (list_any t (take (suc k) (p ∷ ps)))) [
   | inl here ↦ (
       let apart : is_place q p ≡ false = elim (cases_Bool (is_place q p)) as (λ _. is_place q p ≡ false) [
         | inl same ↦ absurd (
@@ -67,24 +67,31 @@ first-at t (p ∷ ps) (suc k) q d h e holds once = elim (cases_Bool (t p)) as (�
 -- ---- who goes
 
 module _ (m : Traffic) where
-  pub takes-some : (o : Option Place) (from : Place) → takes o from ≡ true → o ≡ Some from
-  takes-some None from e = cc
-  takes-some (Some f) from e = ap (λ (p : Place). Some p) (sym (is_place-same from f e))
+  pub taken-from : (o : Option Place) (from : Place) → is_this from o ≡ true → o ≡ Some from
+  taken-from None from e = cc
+  taken-from (Some f) from e = ap (λ (p : Place). Some p) (sym (is_place-same from f e))
 
   -- who is chosen leads there
-  pub chosen-leads : (to from : Place) → takes (giver m to) from ≡ true → may_give m to from ≡ true
+  pub chosen-leads : (to from : Place) → is_this from (giver m to) ≡ true → may_give m to from ≡ true
   unfolding giver
   chosen-leads to from e = elim (cases_Bool (is_free (lane_at m to).track 0)) as (λ _. may_give m to from ≡ true) [
-    | inl free ↦ find-holds (may_give m to) (places m.network) from (takes-some (find (may_give m to) (places m.network)) from (rw free at e))
+    | inl free ↦ find-holds (may_give m to) (places m.network) from (taken-from (find (may_give m to) (places m.network)) from (rw free at e))
     | inr shut ↦ (let none : false ≡ true = rw shut at e in cc)
   ]
+
+  -- a front that a lane takes goes
+  pub taken-goes : (to from : Place) → is_this from (giver m to) ≡ true → gives m from ≡ true
+  taken-goes to from t =
+      let found = holds-some (is_place to) (target m from) (chosen-leads to from t) in
+      let same : to ≡ found.0 = is_place-same to found.0 found.2 in
+      rw found.1 (subst (λ (p : Place). is_this from (giver m p) ≡ true) same t)
 
   -- a front that is not ready or has no turn stays
   pub stays : (from : Place) → target m from ≡ None → gives m from ≡ false
   stays from none = rw none refl
 
   -- a front that leads to a lane goes if that lane takes it
-  pub goes-if-taken : (from to : Place) → target m from ≡ Some to → gives m from ≡ takes (giver m to) from
+  pub goes-if-taken : (from to : Place) → target m from ≡ Some to → gives m from ≡ is_this from (giver m to)
   goes-if-taken from to is = rw is refl
 
   -- the front at k of the walk goes if its lane is free and no front before k leads there
@@ -95,8 +102,8 @@ module _ (m : Traffic) where
       let leads : may_give m to from ≡ true = ap (λ (o : Option Place). option_map_or (is_place to) o false) is ∙ is_place-refl to in
       let firsts = walk.firsts k to from at leads in
       let first = first-at (may_give m to) ps k from from (slice_get_within ps k from at) (get_or_from_slice_get ps k from from at) leads walk.once in
-      goes-if-taken from to is ∙ by_free (is_free (lane_at m to).track 0) (find (may_give m to) (places m.network)) (ap (λ (o : Option Place). takes o from) (sym firsts) ∙ first)
+      goes-if-taken from to is ∙ by_free (is_free (lane_at m to).track 0) (find (may_give m to) (places m.network)) (ap (λ (o : Option Place). is_this from o) (sym firsts) ∙ first)
     where
-      by_free : (b : Bool) (o : Option Place) → takes o from ≡ not (list_any (may_give m to) (take k ps)) → takes (if b then o else None) from ≡ b && not (list_any (may_give m to) (take k ps))
+      by_free : (b : Bool) (o : Option Place) → is_this from o ≡ not (list_any (may_give m to) (take k ps)) → is_this from (if b then o else None) ≡ b && not (list_any (may_give m to) (take k ps))
       by_free true o e = e
       by_free false o e = refl

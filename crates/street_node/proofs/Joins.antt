@@ -25,6 +25,33 @@ pub record Joins (net : NetSpec) (from to : Place) : Type 0 where
   pub few : to.lane < 2
   pub meet : (link_at net from.link).to ≡ (link_at net to.link).from
 
+-- a turn leads from this lane to that one
+abbrev pub Turns : NetSpec → Place → Place → Type 0
+Turns net from to = (t : TurnSpec) × (turn net from to.link ≡ Some t) × (◌≡◌ {A = Place} (record { link = to.link; lane = t.next_lane }) to)
+
+-- where a front goes, a turn leads
+pub way-turn : (net : NetSpec) (clock : ℕ) (from to : Place) (o : Option Queued) → way_out net clock from o ≡ Some to → Turns net from to
+way-turn net clock from to o e = by_front o e
+  where
+    by_turn : (next : ℕ) (o : Option TurnSpec) → turn net from next ≡ o → option_map (λ (t : TurnSpec). record { link = next; lane = t.next_lane }) o ≡ Some to → Turns net from to
+    by_turn next None t x = cc
+    by_turn next (Some t) is x =
+        let same : ◌≡◌ {A = Place} (record { link = next; lane = t.next_lane }) to = cc in
+        let link : next ≡ to.link = ap (λ (p : Place). p.link) same in
+        (t, subst (λ (n : ℕ). turn net from n ≡ Some t) link is, ap (λ (n : ℕ). record { link = n; lane = t.next_lane }) (sym link) ∙ same)
+
+    by_next : (o : Option ℕ) → option_and_then (λ next. option_map (λ (t : TurnSpec). record { link = next; lane = t.next_lane }) (turn net from next)) o ≡ Some to → Turns net from to
+    by_next None x = cc
+    by_next (Some next) x = by_turn next (turn net from next) refl x
+
+    by_ready : (b : Bool) (v : Vehicle) → (if b then option_and_then (λ next. option_map (λ (t : TurnSpec). record { link = next; lane = t.next_lane }) (turn net from next)) (next_link v) else None) ≡ Some to → Turns net from to
+    by_ready true v x = by_next (next_link v) x
+    by_ready false v x = cc
+
+    by_front : (o : Option Queued) → way_out net clock from o ≡ Some to → Turns net from to
+    by_front None x = cc
+    by_front (Some q) x = by_ready (nat_le q.ready clock) q.vehicle x
+
 module _ (net : NetSpec) (faultless : network_fault net ≡ None) where
   pub turn-joins : (from : Place) (next : ℕ) (t : TurnSpec) → turn net from next ≡ Some t → Joins net from (record { link = next; lane = t.next_lane })
   turn-joins from next t e =
@@ -49,25 +76,7 @@ module _ (net : NetSpec) (faultless : network_fault net ≡ None) where
 
   -- where a front goes is a lane of a link that begins where its own ends
   pub way-joins : (clock : ℕ) (from to : Place) (o : Option Queued) → way_out net clock from o ≡ Some to → Joins net from to
-  way-joins clock from to o e = by_front o e
-    where
-      by_turn : (next : ℕ) (o : Option TurnSpec) → turn net from next ≡ o → option_map (λ (t : TurnSpec). record { link = next; lane = t.next_lane }) o ≡ Some to → Joins net from to
-      by_turn next None t e = cc
-      by_turn next (Some t) is e =
-          let same : ◌≡◌ {A = Place} (record { link = next; lane = t.next_lane }) to = cc in
-          subst (Joins net from) same (turn-joins from next t is)
-
-      by_next : (o : Option ℕ) → option_and_then (λ next. option_map (λ (t : TurnSpec). record { link = next; lane = t.next_lane }) (turn net from next)) o ≡ Some to → Joins net from to
-      by_next None x = cc
-      by_next (Some next) x = by_turn next (turn net from next) refl x
-
-      by_ready : (b : Bool) (v : Vehicle) → (if b then option_and_then (λ next. option_map (λ (t : TurnSpec). record { link = next; lane = t.next_lane }) (turn net from next)) (next_link v) else None) ≡ Some to → Joins net from to
-      by_ready true v e = by_next (next_link v) e
-      by_ready false v e = cc
-
-      by_front : (o : Option Queued) → way_out net clock from o ≡ Some to → Joins net from to
-      by_front None e = cc
-      by_front (Some q) e = by_ready (nat_le q.ready clock) q.vehicle e
+  way-joins clock from to o e = let way = way-turn net clock from to o e in subst (Joins net from) way.2 (turn-joins from to.link way.0 way.1)
 
   ends-begins : (node : ℕ) (from to : Place) → ends_at net node from ≡ true → Joins net from to → begins_at net node to ≡ true
   ends-begins node from to ends j = ap (λ (n : ℕ). option_map_or (λ begin. begin == node) (node_of net n) false) (sym j.meet) ∙ ends

@@ -4,10 +4,12 @@ pub mod Shown
 pub mod GreenTurns
 pub mod LinkMarks
 pub mod KeptPlan
-mod Joins
+pub mod Joins
 mod Queues
-mod BufferWalk
-mod LaneWalk
+pub mod BufferWalk
+pub mod LaneWalk
+pub mod Mouths
+pub mod Crossings
 mod Sends
 mod ReleaseLemmas
 mod Steps

@@ -4,11 +4,10 @@ use Rattle.std.specs.Prelude.{filter_map, drop, take, slice_get}
 use Rattle.std.specs.Option.{option_map, option_and_then}
 use Rattle.street_base.specs.declared.car.Car.{Car}
 use Rattle.street_base.specs.Vehicle.{vehicle_of}
-use Rattle.street_base.specs.State.{Queued}
 use Rattle.street_base.specs.Release.{on_next_link}
 use Rattle.street_yard.specs.Yard.{YardEntry, Yard, list_at, entry_at, car_of, list_on, first_or, Has, Away, IsApart, IsWhole}
-use Rattle.street_yard.proofs.Keys.{has-later, has-away}
-use Rattle.street_yard.proofs.YardLemmas.{head_is, on_has_entry, parts_apart, without-is}
+use Rattle.street_yard.proofs.Keys.{has-away}
+use Rattle.street_yard.proofs.YardLemmas.{some_car, mapped-same, head_is, on_has_entry, parts_apart, without-is}
 use Rattle.street_node.specs.Buffers.{queued_of, queue_of}
 use Rattle.street_node.specs.Releases.{sent_on, SendsOn}
 
@@ -36,10 +35,6 @@ queue-empty y n h = by_list (list_at y n) refl h
 
 -- ---- queues that stay
 
-mapped-same : (f g : ℕ → Option Queued) (xs : List ℕ) → ((x : ℕ) → Has xs x → f x ≡ g x) → filter_map f xs ≡ filter_map g xs
-mapped-same f g [] same = refl
-mapped-same f g (x ∷ xs) same = rw (same x ([], xs, refl), mapped-same f g xs (λ z h. same z (has-later x z xs h))) refl
-
 held-same : (y now : Yard) (x : ℕ) → entry_at now x ≡ entry_at y x → option_map queued_of (car_of now x) ≡ option_map queued_of (car_of y x)
 held-same y now x e = ap (λ (o : Option YardEntry). option_map queued_of (option_map (λ (e : YardEntry). e.car) o)) e
 
@@ -49,10 +44,6 @@ queue-kept y now n same entries =
     ∙ mapped-same (λ k. option_map queued_of (car_of now k)) (λ k. option_map queued_of (car_of y k)) (list_at y n) (λ x h. held-same y now x (entries x h))
 
 -- ---- a front that is sent on
-
-some_car : (o : Option YardEntry) → IsSome o → (c : Car) × (option_map (λ (e : YardEntry). e.car) o ≡ Some c)
-some_car None h = absurd (cc)
-some_car (Some e) h = (e.car, refl)
 
 module _ (y now : Yard) (n key limit : ℕ) (whole : IsWhole y) (first : first_or (list_at y n) None ≡ Some key) (s : SendsOn y now n key limit) where
   -- its buffer loses it

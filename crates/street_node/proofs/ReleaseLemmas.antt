@@ -1,95 +1,35 @@
 -- The walk over buffers against the release phase, whatever traffic the lists and mouths stand for.
 use Rattle.std.proofs.Common.{◌≡◌, ℕ, suc, ◌+◌, ◌*◌, ◌<◌, Bool, true, false, List, [], ◌∷◌, ◌++◌, length, map, get_or, take, drop, refl, sym, ◌∙◌, ap, arith, inl, inr}
-use Rattle.std.specs.Prelude.{Option, Some, None, option_map, slice_get, slice_set, filter_map, not, ◌&&◌, ◌||◌, if◌then◌else◌, nat_le}
-use Rattle.std.specs.Option.{option_map_or}
-use Rattle.std.specs.List.{All, list_any, cons_option}
-use Rattle.std.proofs.lemmas.Bool.{cases_Bool, cases_eq, both_ways}
-use Rattle.std.proofs.lemmas.List.{take_more, get_or-set_same, get_or-set_other, append-nil, map-append}
-use Rattle.std.proofs.lemmas.List.Folds.{list_any-append}
-use Rattle.std.proofs.lemmas.List.Elements.{filter_map-append}
-use Rattle.std.proofs.lemmas.Option.{slice_get_within, get_or_from_slice_get, same_Some}
+use Rattle.std.specs.Prelude.{Option, Some, None, option_map, slice_get, slice_set, filter_map, ◌==◌}
+use Rattle.std.specs.List.{All, cons_option}
+use Rattle.std.proofs.lemmas.Bool.{cases_eq}
+use Rattle.std.proofs.lemmas.List.{append-nil, map-append}
+use Rattle.std.proofs.lemmas.Option.{slice_get_within, same_Some}
 use Rattle.street_base.specs.declared.net.NetSpec.{NetSpec}
 use Rattle.street_base.specs.declared.net.TurnSpec.{TurnSpec}
 use Rattle.street_base.specs.declared.net.Turn.{Turn}
 use Rattle.street_base.specs.Faults.{network_fault}
-use Rattle.street_base.specs.Network.{Place, is_place, link_at, turn, places}
+use Rattle.street_base.specs.Network.{Place, link_at, turn, places}
 use Rattle.street_base.specs.Vehicle.{Vehicle, vehicle_of}
-use Rattle.street_base.specs.Lane.{is_free}
 use Rattle.street_base.specs.State.{Traffic, Queued, lane_at}
-use Rattle.street_base.specs.Release.{front, target, may_give, giver, gives, on_next_link}
-use Rattle.street_base.proofs.ReleaseLemmas.{is_place-same, is_place-refl, is_place-swap}
+use Rattle.street_base.specs.Release.{front, target, gives, on_next_link}
+use Rattle.street_net.specs.Slots.{slot_of, mouth}
 use Rattle.street_net.specs.Tables.{ends_at, in_places, turn_by_position}
 use Rattle.street_yard.specs.Yard.{YardEntry, Yard, entry_at, list_on, IsApart}
 use Rattle.street_yard.specs.Listed.{vehicle_with}
 use Rattle.street_node.specs.Buffers.{queued_of, queue_of}
-use Rattle.street_node.specs.Releases.{Crossing, crossing, crossing_in, queue_after, mouth, slot_of, IsAhead, IsFront, Shows, SendsOn, ReleasesFirst, lane_to, lane_from, way_out}
+use Rattle.street_node.specs.Walks.{IsWalk, AreShut}
+use Rattle.street_node.specs.Releases.{Crossing, crossing, crossing_in, queue_after, IsAhead, IsFront, Shows, SendsOn, ReleasesFirst, lane_to, lane_from, way_out}
 use Rattle.street_node.specs.declared.release.Released.{Released}
-use Rattle.street_node.proofs.Joins.{Joins, way-joins, joins-ahead, ahead-few}
+use Rattle.street_node.proofs.Joins.{Joins, turn-joins, way-joins, joins-ahead, ahead-few}
 use Rattle.street_node.proofs.Queues.{head-on, queue-first, queue-sent, queue-other, sent-vehicle, apart-at}
-use Rattle.street_node.proofs.BufferWalk.{takes, takes-some, stays, goes-at}
+use Rattle.street_node.proofs.BufferWalk.{stays}
 use Rattle.street_node.proofs.LaneWalk.{filter-holds, lanes-walk}
+use Rattle.street_node.proofs.Mouths.{shut-start, shut-none, shut-before, shut-behind, gives-by}
+use Rattle.street_node.proofs.Crossings.{leads-of, crossing-goes, crossing-stays, crossings-more}
 use Rattle.street_node.proofs.Sends.{Walked, queue-here, others-stay}
 
--- ---- who crosses
-
--- what is known of a front that may go to a lane
-pub record Leads (m : Traffic) (from to : Place) (q : Queued) : Type 0 where
-  pub front : front m from ≡ Some q
-  pub target : target m from ≡ Some to
-
-pub leads-of : (m : Traffic) (from to : Place) → target m from ≡ Some to → (q : Queued) × Leads m from to q
-leads-of m from to is = by_front (front m from) refl
-  where
-    by_front : (o : Option Queued) → front m from ≡ o → (q : Queued) × Leads m from to q
-    by_front None e = let none : ◌≡◌ {A = Option Place} None (Some to) = rw e at is in cc
-    by_front (Some q) e = (q, record { front = e; target = is })
-
-pub crossing-goes : (m : Traffic) (from to : Place) (q : Queued) → Leads m from to q → gives m from ≡ true → crossing m from ≡ Some (record { from = from; to = to; vehicle = on_next_link (link_at m.network to.link).limit q.vehicle })
-crossing-goes m from to q l goes =
-    let taken : takes (giver m to) from ≡ true = rw l.target at goes in
-    let given : giver m to ≡ Some from = takes-some m (giver m to) from taken in
-    rw (l.target, given, l.front, is_place-refl from) refl
-
-pub crossing-stays : (m : Traffic) (from : Place) → gives m from ≡ false → crossing m from ≡ None
-crossing-stays m from no_one = rw no_one refl
-
 -- ---- a walk and its next buffer
-
-pub slot-apart : (p q : Place) → p.lane < 2 → q.lane < 2 → is_place p q ≡ false → (slot_of q ≡ slot_of p → ⊥)
-slot-apart p q a b other e =
-    let link : p.link ≡ q.link = omega arith in
-    let lane : p.lane ≡ q.lane = omega arith in
-    let same : p ≡ q = made p q link lane in
-    both_ways (is_place p q) other (ap (is_place p) (sym same) ∙ is_place-refl p)
-  where
-    made : (p q : Place) → p.link ≡ q.link → p.lane ≡ q.lane → p ≡ q
-    made p q a b = ap (λ (n : ℕ). record { link = n; lane = p.lane }) a ∙ ap (λ (n : ℕ). record { link = q.link; lane = n }) b
-
-or_none : (b : Bool) → (b || false) ≡ b
-or_none true = refl
-or_none false = refl
-
-never : (a b : Bool) → (a && not (b || true)) ≡ false
-never true true = refl
-never true false = refl
-never false b = refl
-
-and_true : (b : Bool) → (b && true) ≡ b
-and_true true = refl
-and_true false = refl
-
-pub any-more : (t : Place → Bool) (ps : List Place) (k : ℕ) (p : Place) → slice_get ps k ≡ Some p → list_any t (take (k + 1) ps) ≡ list_any t (take k ps) || t p
-any-more t ps k p at =
-    let h = slice_get_within ps k p at in
-    ap (list_any t) (take_more ps k p h ∙ ap (λ (x : Place). take k ps ++ x ∷ []) (get_or_from_slice_get ps k p p at))
-    ∙ list_any-append t (take k ps) (p ∷ [])
-    ∙ ap (λ (b : Bool). list_any t (take k ps) || b) (or_none (t p))
-
-pub crossings-more : (c : Place → Option Crossing) (ps : List Place) (k : ℕ) (p : Place) → slice_get ps k ≡ Some p → filter_map c (take (k + 1) ps) ≡ filter_map c (take k ps) ++ cons_option (c p) []
-crossings-more c ps k p at =
-    let h = slice_get_within ps k p at in
-    ap (filter_map c) (take_more ps k p h ∙ ap (λ (x : Place). take k ps ++ x ∷ []) (get_or_from_slice_get ps k p p at))
-    ∙ filter_map-append c (take k ps) (p ∷ [])
 
 same-crossings : (now after : Yard) (more : List Released) → All (λ r. entry_at after r.key.0 ≡ entry_at now r.key.0) more → map (crossing_in after) more ≡ map (crossing_in now) more
 same-crossings now after [] a = refl
@@ -121,7 +61,7 @@ module _ (net : NetSpec) (faultless : network_fault net ≡ None) (node clock : 
   pub goes-start : Done 0 old mouths []
   goes-start = record {
     queues = λ j p low at. absurd (omega arith);
-    shut = λ p there. shows.shown p there ∙ sym (and_true (is_free (lane_at m p).track 0));
+    shut = shut-start m (IsAhead net node) ps mouths shows.shown;
     crossings = refl;
   }
 
@@ -144,9 +84,9 @@ module _ (net : NetSpec) (faultless : network_fault net ≡ None) (node clock : 
   ahead-of : (k : ℕ) (from to : Place) → slice_get ps k ≡ Some from → target m from ≡ Some to → IsAhead net node to
   ahead-of k from to at is = joins-ahead net faultless node from to (filter-holds (ends_at net node) (places net) k from at) (joins-of from to is)
 
-  -- nobody goes from the buffer at k, and no mouth would have been shut by it
+  -- nobody goes from the buffer at k
   stays-on : (k : ℕ) (now : Yard) (open_now : List Bool) (more : List Released) (from : Place) → Walks k now more → Done k now open_now more → slice_get ps k ≡ Some from → gives m from ≡ false
-      → ((p : Place) → IsAhead net node p → may_give m p from ≡ true → mouth open_now p ≡ false) → Done (k + 1) now open_now more
+      → AreShut m (IsAhead net node) ps (k + 1) open_now → Done (k + 1) now open_now more
   stays-on k now open_now more from w d at not_so shut = record {
     queues = λ j p low there. elim (cases_eq j k) as (λ _. queue_of now (get_or ns j 0) ≡ queue_after m p) [
       | inl same ↦ (
@@ -156,10 +96,7 @@ module _ (net : NetSpec) (faultless : network_fault net ≡ None) (node clock : 
           ap (λ i. queue_of now (get_or ns i 0)) same ∙ at_k ∙ ap (queue_after m) e)
       | inr other ↦ d.queues j p (omega arith) there
     ];
-    shut = λ p there. elim (cases_Bool (may_give m p from)) as (λ _. mouth open_now p ≡ is_free (lane_at m p).track 0 && not (list_any (may_give m p) (take (k + 1) ps))) [
-      | inl leads ↦ shut p there leads ∙ sym (rw (any-more (may_give m p) ps k from at, leads) (never (is_free (lane_at m p).track 0) (list_any (may_give m p) (take k ps))))
-      | inr none ↦ d.shut p there ∙ sym (rw (any-more (may_give m p) ps k from at, none) (ap (λ (b : Bool). is_free (lane_at m p).track 0 && not b) (or_none (list_any (may_give m p) (take k ps)))))
-    ];
+    shut = shut;
     crossings = d.crossings ∙ sym (ap (map (λ c. Some c)) (crossings-more (crossing m) ps k from at ∙ rw (crossing-stays m from not_so) (append-nil (filter_map (crossing m) (take k ps)))));
   }
 
@@ -168,22 +105,19 @@ module _ (net : NetSpec) (faultless : network_fault net ≡ None) (node clock : 
       → None ≡ way_out net clock from (slice_get (queue_of now (get_or ns k 0)) 0) → Done (k + 1) now open_now more
   goes-none k now open_now more from w d at way =
       let none : target m from ≡ None = sym (way ∙ target-is k now more from w at) in
-      stays-on k now open_now more from w d at (stays m from none)
-      (λ p there leads. let h : option_map_or (is_place p) (target m from) false ≡ true = leads in let no : false ≡ true = rw none at h in absurd (both_ways false refl no))
-
-  leads-there : (from to p : Place) → target m from ≡ Some to → may_give m p from ≡ true → is_place p to ≡ true
-  leads-there from to p is leads = let h : option_map_or (is_place p) (target m from) false ≡ true = leads in rw is at h
+      stays-on k now open_now more from w d at (stays m from none) (shut-none m (IsAhead net node) ps k from at open_now d.shut none)
 
   by-mouth : (k : ℕ) (now : Yard) (open_now : List Bool) (more : List Released) (from to : Place) → Done k now open_now more → slice_get ps k ≡ Some from → target m from ≡ Some to → gives m from ≡ mouth open_now to
-  by-mouth k now open_now more from to d at is = goes-at m ps (lanes-walk net faultless m shows.network node) k from to at is ∙ sym (d.shut to (ahead-of k from to at is))
+  by-mouth k now open_now more from to d at is =
+      let walk : IsWalk m ps = lanes-walk net (λ a next t e. (turn-joins net faultless a next t e).meet) m shows.network (λ end. end == node) in
+      gives-by m (IsAhead net node) ps k from at open_now d.shut to is walk (ahead-of k from to at is)
 
   -- a buffer whose front finds the mouth shut
   pub goes-shut : (k : ℕ) (now : Yard) (open_now : List Bool) (more : List Released) (from to : Place) → Walks k now more → Done k now open_now more → slice_get ps k ≡ Some from
       → Some to ≡ way_out net clock from (slice_get (queue_of now (get_or ns k 0)) 0) → mouth open_now to ≡ false → Done (k + 1) now open_now more
   goes-shut k now open_now more from to w d at way shut =
       let is : target m from ≡ Some to = sym (way ∙ target-is k now more from w at) in
-      stays-on k now open_now more from w d at (by-mouth k now open_now more from to d at is ∙ shut)
-      (λ p _ to_p. let same : p ≡ to = is_place-same p to (leads-there from to p is to_p) in ap (mouth open_now) same ∙ shut)
+      stays-on k now open_now more from w d at (by-mouth k now open_now more from to d at is ∙ shut) (shut-before m (IsAhead net node) ps k from at open_now d.shut to is shut)
 
   -- a buffer whose front goes
   pub goes-sent : (k : ℕ) (now after : Yard) (open_now : List Bool) (more : List Released) (from : Place) (r : Released) → Walks k now more → Done k now open_now more → slice_get ps k ≡ Some from
@@ -209,21 +143,10 @@ module _ (net : NetSpec) (faultless : network_fault net ≡ None) (node clock : 
               ap (λ i. queue_of after (get_or ns i 0)) same ∙ at_k ∙ ap (queue_after m) e)
           | inr other ↦ queue-other now after n r.key.0 (link_at net r.turn.next).limit w.whole f.first s (get_or ns j 0) (apart-at ns j k apart (omega arith) (inside k from at)) ∙ d.queues j p (omega arith) there
         ];
-        shut = λ p lane. elim (cases_Bool (is_place to p)) as (λ _. mouth (slice_set open_now (slot_of to) false) p ≡ is_free (lane_at m p).track 0 && not (list_any (may_give m p) (take (k + 1) ps))) [
-          | inl same_place ↦ (
-              let same : to ≡ p = is_place-same to p same_place in
-              let led : may_give m p from ≡ true = ap (λ (o : Option Place). option_map_or (is_place p) o false) is ∙ is_place-swap p to ∙ same_place in
-              let few = ahead-few net faultless node to ahead in
-              let within = ahead.link in
-              let fits : slot_of to < length open_now = omega arith in
-              ap (mouth (slice_set open_now (slot_of to) false)) (sym same) ∙ get_or-set_same open_now (slot_of to) false false fits
-              ∙ sym (rw (any-more (may_give m p) ps k from at, led) (never (is_free (lane_at m p).track 0) (list_any (may_give m p) (take k ps)))))
-          | inr other ↦ (
-              let none : may_give m p from ≡ false = ap (λ (o : Option Place). option_map_or (is_place p) o false) is ∙ is_place-swap p to ∙ other in
-              get_or-set_other open_now (slot_of to) (slot_of p) false false (slot-apart to p (ahead-few net faultless node to ahead) (ahead-few net faultless node p lane) other)
-              ∙ d.shut p lane
-              ∙ sym (rw (any-more (may_give m p) ps k from at, none) (ap (λ (b : Bool). is_free (lane_at m p).track 0 && not b) (or_none (list_any (may_give m p) (take k ps))))))
-        ];
+        shut =
+            let few = ahead-few net faultless node to ahead in
+            let within = ahead.link in
+            shut-behind m (IsAhead net node) ps k from at open_now d.shut to is (ahead-few net faultless node) ahead (omega arith);
         crossings =
             let limit = (link_at net r.turn.next).limit in
             let vehicle : vehicle_with after r.key.0 ≡ Some (on_next_link limit (vehicle_of f.car)) = ap (λ (o : Option YardEntry). option_map vehicle_of (option_map (λ (e : YardEntry). e.car) o)) s.sent ∙ sent-vehicle limit (entry_at now r.key.0) f.car f.held in

@@ -12,12 +12,13 @@ use Rattle.street_base.specs.Network.{Place, link_at}
 use Rattle.street_base.specs.Lane.{is_free}
 use Rattle.street_base.specs.State.{Traffic, lane_at}
 use Rattle.street_base.specs.Release.{may_give}
+use Rattle.street_net.specs.Slots.{mouth, slot_of}
 use Rattle.street_net.specs.Tables.{place_of as place_of_lane, in_places}
 use Rattle.street_net.specs.declared.lanes.LaneId.{LaneId}
 use Rattle.street_yard.specs.declared.names.ListId.{ListId}
 use Rattle.street_yard.specs.Yard.{YardEntry, Yard, car_of, list_on, IsApart, IsWhole}
 use Rattle.street_node.specs.Buffers.{queue_of, HaveShortPlans}
-use Rattle.street_node.specs.Releases.{mouth, slot_of, lane_to, way_out, IsFront, SendsOn, Shows, ReleasesFirst, crossing}
+use Rattle.street_node.specs.Releases.{lane_to, way_out, IsFront, SendsOn, Shows, ReleasesFirst, crossing}
 use Rattle.street_node.specs.declared.release.Released.{Released}
 use Rattle.street_node.proofs.Joins.{Joins, way-joins}
 use Rattle.street_node.proofs.Queues.{head-on}

@@ -1,6 +1,6 @@
 -- The buffers of a node, as lists of a yard.
 -- Source: this profile.
-use Rattle.std.specs.Prelude.{◌≡◌, ℕ, ◌<◌, ◌≤◌, List, length, filter_map, Some, option_map, slice_index_or}
+use Rattle.std.specs.Prelude.{◌≡◌, ℕ, ◌<◌, ◌≤◌, List, [], ◌∷◌, ◌++◌, length, filter_map, Some, option_map, slice_set, slice_index_or}
 use Rattle.std.specs.List.{All}
 use Rattle.street_base.specs.declared.net.NetSpec.{NetSpec}
 use Rattle.street_base.specs.declared.net.NodeSpec.{NodeSpec}
@@ -9,7 +9,7 @@ use Rattle.street_base.specs.Limits.{most_plan}
 use Rattle.street_base.specs.Vehicle.{vehicle_of}
 use Rattle.street_base.specs.State.{Queued}
 use Rattle.street_net.specs.Tables.{in_places}
-use Rattle.street_yard.specs.Yard.{Yard, list_at, car_of, IsApart}
+use Rattle.street_yard.specs.Yard.{Yard, list_at, car_of, car_set, list_set, IsApart}
 
 -- the position of a node, how many vehicles each of its buffers holds, and their lists
 pub record Buffers : Type 0 where
@@ -50,3 +50,10 @@ queued_of car = record { vehicle = vehicle_of car; ready = car.step }
 -- the queue that a list of the yard stands for
 abbrev pub queue_of : Yard → ℕ → List Queued
 queue_of y n = filter_map (λ k. option_map queued_of (car_of y k)) (list_at y n)
+
+-- key k comes last on a list, and may go on from the step `ready`
+abbrev pub taken_in : Yard → ℕ → ℕ → ℕ → Yard
+taken_in y n k ready = record y {
+  lists = slice_set y.lists n (list_at y n ++ k ∷ []);
+  kept = car_set (list_set y.kept k (Some n)) k (λ c. record c { step = ready });
+}

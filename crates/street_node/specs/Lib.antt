@@ -1,3 +1,4 @@
 pub mod Greens
 pub mod Buffers
+pub mod Walks
 pub mod Releases

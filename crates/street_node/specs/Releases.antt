@@ -1,7 +1,7 @@
 -- The release phase of one node: which fronts go, whereto, and what is left.
 -- Source: this profile.
-use Rattle.std.specs.Prelude.{◌≡◌, ◌≢◌, ℕ, ◌+◌, ◌*◌, ◌<◌, ◌==◌, nat_le, min, List, ◌++◌, length, map, drop, take, filter_map, Bool, true, false, not, ◌&&◌, Option, Some, None, option_map, option_and_then, slice_get, slice_index_or, if◌then◌else◌}
-use Rattle.std.specs.List.{All, list_any}
+use Rattle.std.specs.Prelude.{◌≡◌, ◌≢◌, ℕ, ◌+◌, ◌<◌, ◌==◌, nat_le, min, List, [], ◌∷◌, ◌++◌, length, map, drop, take, filter_map, Bool, true, false, Option, Some, None, option_map, option_and_then, slice_get, slice_set, slice_index_or, if◌then◌else◌}
+use Rattle.std.specs.List.{All}
 use Rattle.std.specs.Option.{option_map_or}
 use Rattle.street_base.specs.declared.net.NetSpec.{NetSpec}
 use Rattle.street_base.specs.declared.car.Car.{Car}
@@ -9,11 +9,13 @@ use Rattle.street_base.specs.Vehicle.{Vehicle, vehicle_of, next_link}
 use Rattle.street_base.specs.Lane.{is_free}
 use Rattle.street_base.specs.Network.{Place, link_at, node_of, turn}
 use Rattle.street_base.specs.State.{Traffic, Queued, lane_at}
-use Rattle.street_base.specs.Release.{target, may_give, gives, entering}
+use Rattle.street_base.specs.Release.{target, gives, entering}
+use Rattle.street_net.specs.Slots.{slot_of, mouth}
 use Rattle.street_net.specs.Tables.{in_places, turn_by_position}
 use Rattle.street_yard.specs.Yard.{Yard, YardEntry, list_at, entry_at, car_of, without, first_or, Away, IsWhole}
 use Rattle.street_yard.specs.Listed.{vehicle_with}
 use Rattle.street_node.specs.Buffers.{queue_of}
+use Rattle.street_node.specs.Walks.{AreShut}
 use Rattle.street_node.specs.declared.release.Released.{Released}
 
 -- ---- who crosses, by the machine
@@ -42,13 +44,6 @@ pub record IsAhead (net : NetSpec) (node : ℕ) (p : Place) : Type 0 where
   pub link : p.link < length net.links
   pub lane : p.lane < (link_at net p.link).lanes
   pub begins : begins_at net node p ≡ true
-
--- mouths are listed two a link
-abbrev pub slot_of : Place → ℕ
-slot_of p = 2 * p.link + p.lane
-
-abbrev pub mouth : List Bool → Place → Bool
-mouth mouths p = slice_index_or mouths (slot_of p) false
 
 -- ---- what the buffers and the mouths of a node stand for
 
@@ -103,6 +98,13 @@ pub record SendsOn (old new : Yard) (n key limit : ℕ) : Type 0 where
   pub room : new.room ≡ old.room
   pub whole : IsWhole new
 
+-- a front that finds the mouth shut stays, and nothing changes; else it is sent on and told, and the mouth closes behind it
+pub record SendsFront (limit n : ℕ) (front : Released) (old new : Yard) (open_old open_new : List Bool) (before after : List Released) : Type 0 where
+  pub shut : mouth open_old (lane_to front) ≡ false → (new ≡ old) × (open_new ≡ open_old) × (after ≡ before)
+  pub goes : mouth open_old (lane_to front) ≡ true → SendsOn old new n front.key.0 limit
+  pub closes : mouth open_old (lane_to front) ≡ true → open_new ≡ slice_set open_old (slot_of (lane_to front)) false
+  pub told : mouth open_old (lane_to front) ≡ true → after ≡ before ++ front ∷ []
+
 -- ---- the walk over the first k buffers
 
 -- those told are sent on, and no other; only these buffers have changed
@@ -117,7 +119,7 @@ pub record Sends (net : NetSpec) (ns : List ℕ) (old new : Yard) (more : List R
 -- none of them is ready to go there
 pub record ReleasesFirst (net : NetSpec) (node : ℕ) (ns : List ℕ) (m : Traffic) (k : ℕ) (new : Yard) (mouths : List Bool) (more : List Released) : Type 0 where
   pub queues : (j : ℕ) (p : Place) → j < k → slice_get (in_places net node) j ≡ Some p → queue_of new (slice_index_or ns j 0) ≡ queue_after m p
-  pub shut : (p : Place) → IsAhead net node p → mouth mouths p ≡ is_free (lane_at m p).track 0 && not (list_any (may_give m p) (take k (in_places net node)))
+  pub shut : AreShut m (IsAhead net node) (in_places net node) k mouths
   pub crossings : map (crossing_in new) more ≡ map (λ c. Some c) (filter_map (crossing m) (take k (in_places net node)))
 
 -- the releases of a node: in any traffic that the lists and the mouths stand for, those of its buffers

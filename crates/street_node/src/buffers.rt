@@ -1,10 +1,10 @@
 //! The buffers of a node.
 //!
 //! Source: this profile.
-ghost use Rattle.std.specs.Prelude.{◌≡◌, ◌+◌, ◌*◌, ◌<◌, ◌≤◌, ◌++◌, ◌∷◌, [], Some, length, map, nat_lt, slice_set, vec_len, vec_capacity};
+ghost use Rattle.std.specs.Prelude.{◌≡◌, ◌+◌, ◌*◌, ◌<◌, ◌≤◌, length, map, nat_lt, vec_len, vec_capacity};
 ghost use Rattle.street_net.specs.Tables.{in_places};
-ghost use Rattle.street_yard.specs.Yard.{list_at, car_set, list_set, IsLoose};
-ghost use Rattle.street_node.specs.Buffers.{node_at, list_of, AreOf, AreIn, HaveShortPlans};
+ghost use Rattle.street_yard.specs.Yard.{list_at, IsLoose};
+ghost use Rattle.street_node.specs.Buffers.{node_at, list_of, taken_in, AreOf, AreIn, HaveShortPlans};
 ghost use Rattle.street_node.specs.Releases.{Releases};
 
 use crate::release::{Released, release_lanes};
@@ -63,10 +63,7 @@ impl Buffers {
         requires lists { AreIn yard.old self.now }
         requires loose { IsLoose yard.old key.0 }
         requires room { length (list_at yard.old (list_of self.now lane)) < self.now.capacity }
-        ensures { yard.new ≡ record yard.old {
-          lists = slice_set yard.old.lists (list_of self.now lane) (list_at yard.old (list_of self.now lane) ++ key.0 ∷ []);
-          kept = car_set (list_set yard.old.kept key.0 (Some (list_of self.now lane))) key.0 (λ c. record c { step = ready });
-        } }
+        ensures { yard.new ≡ taken_in yard.old (list_of self.now lane) key.0 ready }
     {
         yard.push_back(self.lists[lane], key);
         yard.set_step(key, ready);

@@ -1,17 +1,17 @@
 //! Releases from the buffers of one node.
 //!
 //! Source: this profile.
-ghost use Rattle.std.specs.Prelude.{◌≡◌, ◌+◌, ◌*◌, ◌<◌, ◌≤◌, ◌++◌, ◌∷◌, [], true, false, length, map, option_map, slice_get, slice_set, vec_len, vec_capacity, IfSome, IsSomeAnd, Some};
+ghost use Rattle.std.specs.Prelude.{◌≡◌, ◌+◌, ◌*◌, ◌<◌, ◌≤◌, false, length, map, option_map, slice_get, vec_len, vec_capacity, IfSome, IsSomeAnd, Some};
 ghost use Rattle.street_base.specs.Network.{link_at};
 ghost use Rattle.street_base.specs.Vehicle.{vehicle_of, next_link};
 ghost use Rattle.street_net.specs.Tables.{place_of as lane_of, in_places};
 ghost use Rattle.street_yard.specs.Yard.{car_of, list_on};
 ghost use Rattle.street_yard.specs.View.{viewed};
 ghost use Rattle.street_node.specs.Buffers.{queue_of, AreListed, HaveShortPlans};
-ghost use Rattle.street_node.specs.Releases.{way_out, lane_to, slot_of, mouth, IsFront, SendsOn, ReleasesFirst, Releases};
+ghost use Rattle.street_node.specs.Releases.{way_out, lane_to, IsFront, SendsOn, SendsFront, Releases};
 
-use street_base::{LaneNo, LinkIx, NodeIx, Speed, Step, Turn};
-use street_net::{LaneId, Network};
+use street_base::{LinkIx, NodeIx, Speed, Step, Turn};
+use street_net::{LaneId, Network, slot};
 use street_yard::{CarView, Key, ListId, Yard};
 
 /// A vehicle on its way from a buffer into a lane of its next link.
@@ -67,14 +67,6 @@ fn send_on(yard: &mut Yard, list: ListId, key: Key, limit: Speed)
     yard.whole();
 }
 
-/// Where the mouth of a lane stands, two a link.
-fn slot(link: LinkIx, lane: LaneNo) -> usize
-    requires { 2 * link + lane < 18446744073709551616 }
-    ensures { result ≡ 2 * link + lane }
-{
-    2 * link.position() + usize::from(lane)
-}
-
 /// A front goes, if the mouth that its turn leads to is open, which then closes.
 fn release_front(
     network: &Network,
@@ -90,10 +82,7 @@ fn release_front(
     requires lane { front.now.turn.next_lane < 2 }
     requires mouths { length mouths.old ≡ 2 * length network.now.links }
     requires room { vec_len released.old < vec_capacity released.old }
-    ensures shut { mouth mouths.old (lane_to front.now) ≡ false → (yard.new ≡ yard.old) × (mouths.new ≡ mouths.old) × (released.new.items ≡ released.old.items) }
-    ensures goes { mouth mouths.old (lane_to front.now) ≡ true → SendsOn yard.old yard.new list.0 front.now.key.0 (link_at network.now front.now.turn.next).limit }
-    ensures closes { mouth mouths.old (lane_to front.now) ≡ true → mouths.new ≡ slice_set mouths.old (slot_of (lane_to front.now)) false }
-    ensures told { mouth mouths.old (lane_to front.now) ≡ true → released.new.items ≡ released.old.items ++ front.now ∷ [] }
+    ensures front { SendsFront (link_at network.now front.now.turn.next).limit list.0 front.now yard.old yard.new mouths.old mouths.new released.old.items released.new.items }
     ensures grown { vec_len released.new ≤ vec_len released.old + 1 }
     ensures capacity { vec_capacity released.old ≤ vec_capacity released.new }
 {

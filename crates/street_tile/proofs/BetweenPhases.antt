@@ -1,17 +1,20 @@
 -- What holds of all tiles between the phases of a step.
-use Rattle.std.proofs.Common.{◌≡◌, ℕ, zero, suc, ◌<◌, ◌≤◌, Bool, true, false, List, [], ◌∷◌, length, map, get_or, refl, sym, ◌∙◌, ap, subst, arith}
-use Rattle.std.specs.Prelude.{Option, Some, None, All, filter_map, option_and_then, if◌then◌else◌}
+use Rattle.std.proofs.Common.{◌≡◌, ℕ, zero, suc, ◌<◌, ◌≤◌, Bool, true, List, [], ◌∷◌, length, map, get_or, refl, sym, ◌∙◌, ap, subst, arith}
+use Rattle.std.specs.Prelude.{Option, Some, None, All, filter_map}
 use Rattle.std.specs.List.{list_any, cons_option}
 use Rattle.street_base.specs.declared.net.NetSpec.{NetSpec}
 use Rattle.street_base.specs.Limits.{last_clock}
 use Rattle.street_base.specs.Network.{Place, is_place, places}
-use Rattle.street_base.specs.State.{Traffic, Queued}
+use Rattle.street_base.specs.State.{Traffic}
 use Rattle.street_base.specs.Step.{changed, driven, step, arrival, leaver_of}
-use Rattle.street_base.specs.Release.{front, exit_lane, giver, released}
+use Rattle.street_base.specs.Release.{released}
 use Rattle.street_base.specs.Departure.{departed}
+use Rattle.street_base.proofs.OptionLemmas.{option_map-some}
 use Rattle.street_lanes.specs.Lanes.{IsLane}
 use Rattle.street_lanes.specs.Whole.{IsOn}
-use Rattle.street_tile.specs.Halves.{Transfer, takes, entry_on, crossing}
+use Rattle.street_node.specs.Releases.{Crossing, crossing as crosses}
+use Rattle.street_node.proofs.Crossings.{crossing-leads}
+use Rattle.street_tile.specs.Halves.{Transfer, crossing}
 use Rattle.street_tile.specs.Tiles.{Part, IsRoads, IsTileOf, IsShare, AreTiles, SameTile, Each, AllStand, IsIdle, IsPrepared, nobody, Shows, ShowsOwn}
 use Rattle.street_lanes.specs.Detectors.{Detectors}
 use Rattle.street_tile.specs.TileDetectors.{detectors_at, HaveWatched, MetersStand, AllMetersStand, noted_by}
@@ -26,22 +29,11 @@ use Rattle.street_tile.proofs.PhasesOfAll.{row-same, goes-all, on-changed, on-dr
 
 -- each hand-over leads to a lane of the network
 crossing-lane : (net : NetSpec) (m : Traffic) → IsOn net m → (p : Place) (e : Transfer) → crossing m p ≡ Some e → IsLane net e.to
-crossing-lane net m on p e is = by_front (front m p) is
-  where
-    among : (q : Queued) (to : Place) → exit_lane m p q.vehicle ≡ Some to → IsLane net to
-    among q to x = lane-of net to (subst (λ (n : NetSpec). list_any (is_place to) (places n) ≡ true) on.network (on.formed.turns p to q.vehicle x))
-
-    by_test : (b : Bool) (q : Queued) (to : Place) → exit_lane m p q.vehicle ≡ Some to → (if b then Some (entry_on m.network q.vehicle to) else None) ≡ Some e → IsLane net e.to
-    by_test true q to x f = let same : entry_on m.network q.vehicle to ≡ e = cc in subst (λ (t : Transfer). IsLane net t.to) same (among q to x)
-    by_test false q to x f = cc
-
-    by_exit : (q : Queued) (o : Option Place) → exit_lane m p q.vehicle ≡ o → option_and_then (λ to. if takes (giver m to) p then Some (entry_on m.network q.vehicle to) else None) o ≡ Some e → IsLane net e.to
-    by_exit q None x f = cc
-    by_exit q (Some to) x f = by_test (takes (giver m to) p) q to x f
-
-    by_front : (o : Option Queued) → option_and_then (λ q. option_and_then (λ to. if takes (giver m to) p then Some (entry_on m.network q.vehicle to) else None) (exit_lane m p q.vehicle)) o ≡ Some e → IsLane net e.to
-    by_front None f = cc
-    by_front (Some q) f = by_exit q (exit_lane m p q.vehicle) refl f
+crossing-lane net m on p e is =
+    let crossed = option_map-some (λ (c : Crossing). record { to = c.to; vehicle = c.vehicle }) (crosses m p) e is in
+    let led = crossing-leads m p crossed.0 crossed.1 in
+    let there = lane-of net crossed.0.to (subst (λ (n : NetSpec). list_any (is_place crossed.0.to) (places n) ≡ true) on.network (on.formed.turns p crossed.0.to led.0.vehicle led.1.exit)) in
+    subst (λ (t : Transfer). IsLane net t.to) crossed.2 there
 
 pub crossings-lanes : (net : NetSpec) (m : Traffic) → IsOn net m → (ps : List Place) → All (λ (e : Transfer). IsLane net e.to) (filter_map (crossing m) ps)
 crossings-lanes net m on [] k d h = absurd (omega arith)

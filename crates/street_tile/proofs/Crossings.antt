@@ -1,19 +1,21 @@
 -- The hand-overs of all tiles together are the entries of the machine.
 use Rattle.std.proofs.Common.{◌≡◌, Bool, true, false, List, [], ◌∷◌, ◌++◌, map, refl, sym, ◌∙◌, ap, arith, inl, inr}
-use Rattle.std.specs.Prelude.{Option, Some, None, filter, filter_map, option_to_list, option_map, option_and_then, if◌then◌else◌, nat_le}
+use Rattle.std.specs.Prelude.{Option, Some, None, filter, filter_map, option_to_list, option_map, option_and_then, if◌then◌else◌}
 use Rattle.std.specs.Option.{option_map_or}
 use Rattle.std.specs.List.{list_any, cons_option}
-use Rattle.std.proofs.lemmas.Bool.{cases_Bool, cond-true, cond-false, both_ways}
+use Rattle.std.proofs.lemmas.Bool.{cases_Bool, cond-true, cond-false, both_ways, false_from_ne_true}
 use Rattle.street_base.specs.Lane.{is_free}
 use Rattle.street_base.specs.Network.{Place, is_place, link_at, places}
 use Rattle.street_base.specs.Vehicle.{Vehicle}
 use Rattle.street_base.specs.State.{Traffic, Queued, lane_at}
 use Rattle.street_base.specs.Census.{one_if}
-use Rattle.street_base.specs.Release.{front, exit_lane, may_give, giver, entering, on_next_link}
+use Rattle.street_base.specs.Release.{front, target, is_this, may_give, giver, gives, entering, on_next_link}
 use Rattle.street_base.proofs.ReleaseLemmas.{is_place-same, is_place-refl, is_place-swap, find-among}
-use Rattle.street_tile.specs.Halves.{Transfer, takes, entry_on, crossing, entries_to}
-use Rattle.street_tile.specs.Walks.{times}
-use Rattle.street_tile.proofs.Walks.{times-cons, chosen-leads}
+use Rattle.street_tile.specs.Halves.{Transfer, crossing, entries_to}
+use Rattle.street_node.specs.Walks.{times}
+use Rattle.street_node.specs.Releases.{Crossing}
+use Rattle.street_node.proofs.BufferWalk.{times-cons, chosen-leads, taken-goes, stays, goes-if-taken}
+use Rattle.street_node.proofs.Crossings.{leads-of, crossing-goes, crossing-stays}
 
 -- of a list in which q stands once, what stands at q alone
 module _ (h : Place → List Vehicle) (q : Place) (others : (p : Place) → is_place q p ≡ false → h p ≡ []) where
@@ -77,49 +79,40 @@ module _ (m : Traffic) (to : Place) where
   abbrev front_enters : Option Queued → List Vehicle
   front_enters o = option_map_or (λ q. on_next_link (link_at m.network to.link).limit q.vehicle ∷ []) o []
 
-  not_chosen : (from : Place) (xs : List Vehicle) → (takes (giver m to) from ≡ true → ⊥) → (if takes (giver m to) from then xs else []) ≡ []
-  not_chosen from xs never = elim (cases_Bool (takes (giver m to) from)) as (λ _. (if takes (giver m to) from then xs else []) ≡ []) [
-    | inl chosen ↦ absurd (never chosen)
-    | inr e ↦ cond-false _ _ _ e
-  ]
+  not_chosen : (from : Place) (xs : List Vehicle) → (is_this from (giver m to) ≡ true → ⊥) → (if is_this from (giver m to) then xs else []) ≡ []
+  not_chosen from xs never = cond-false (is_this from (giver m to)) xs [] (false_from_ne_true (is_this from (giver m to)) never)
 
   -- what crosses from a buffer into this lane
-  pub crosses : (from : Place) → enters to (crossing m from) ≡ (if takes (giver m to) from then front_enters (front m from) else [])
-  crosses from = by_front (front m from) refl
+  pub crosses : (from : Place) → enters to (crossing m from) ≡ (if is_this from (giver m to) then front_enters (front m from) else [])
+  crosses from = elim (cases_Bool (gives m from)) as (λ _. enters to (crossing m from) ≡ (if is_this from (giver m to) then front_enters (front m from) else [])) [
+    | inl goes ↦ by_target (target m from) refl goes
+    | inr no_one ↦
+        ap (λ (o : Option Crossing). enters to (option_map (λ (c : Crossing). record { to = c.to; vehicle = c.vehicle }) o)) (crossing-stays m from no_one)
+        ∙ sym (not_chosen from (front_enters (front m from)) (λ t. both_ways (gives m from) no_one (taken-goes m to from t)))
+  ]
     where
-      either : {A : Type 0} (b : Bool) (x : A) → (if b then x else x) ≡ x
-      either true x = refl
-      either false x = refl
-
-      by_ready : (b : Bool) (o : Option Place) → option_map_or (is_place to) (if b then o else None) false ≡ true → option_map_or (is_place to) o false ≡ true
-      by_ready true o l = l
-      by_ready false o l = cc
-
-      leads-out : (q : Queued) → front m from ≡ Some q → takes (giver m to) from ≡ true → option_map_or (is_place to) (exit_lane m from q.vehicle) false ≡ true
-      leads-out q e t =
-          let leads = chosen-leads m to from t in
-          let led : option_map_or (is_place to) (if nat_le q.ready m.clock then exit_lane m from q.vehicle else None) false ≡ true = rw e at leads in
-          by_ready (nat_le q.ready m.clock) (exit_lane m from q.vehicle) led
-
-      shut_out : (b : Bool) (t : Place) (v : Vehicle) → is_place to t ≡ false → enters to (if b then Some (entry_on m.network v t) else None) ≡ []
-      shut_out true t v other = cond-false (is_place to t) (on_next_link (link_at m.network t.link).limit v ∷ []) [] other
-      shut_out false t v other = refl
-
-      let_in : (b : Bool) (v : Vehicle) → enters to (if b then Some (entry_on m.network v to) else None) ≡ (if b then on_next_link (link_at m.network to.link).limit v ∷ [] else [])
-      let_in true v = cond-true (is_place to to) (on_next_link (link_at m.network to.link).limit v ∷ []) [] (is_place-refl to)
-      let_in false v = refl
-
-      by_exit : (q : Queued) → front m from ≡ Some q → (o : Option Place) → exit_lane m from q.vehicle ≡ o →
-          enters to (option_and_then (λ t. if takes (giver m t) from then Some (entry_on m.network q.vehicle t) else None) o) ≡ (if takes (giver m to) from then on_next_link (link_at m.network to.link).limit q.vehicle ∷ [] else [])
-      by_exit q e None x = sym (not_chosen from _ (λ t. let no : false ≡ true = rw x at (leads-out q e t) in both_ways false refl no))
-      by_exit q e (Some t) x = elim (cases_Bool (is_place to t)) as (λ _. enters to (if takes (giver m t) from then Some (entry_on m.network q.vehicle t) else None) ≡ (if takes (giver m to) from then on_next_link (link_at m.network to.link).limit q.vehicle ∷ [] else [])) [
-        | inl here ↦ (let same = is_place-same to t here in rw (← same) (let_in (takes (giver m to) from) q.vehicle))
-        | inr other ↦ shut_out (takes (giver m t) from) t q.vehicle other ∙ sym (not_chosen from _ (λ c. let h : is_place to t ≡ true = rw x at (leads-out q e c) in both_ways _ other h))
-      ]
-
-      by_front : (o : Option Queued) → front m from ≡ o → enters to (option_and_then (λ q. option_and_then (λ t. if takes (giver m t) from then Some (entry_on m.network q.vehicle t) else None) (exit_lane m from q.vehicle)) o) ≡ (if takes (giver m to) from then front_enters o else [])
-      by_front None e = sym (either (takes (giver m to) from) [])
-      by_front (Some q) e = by_exit q e (exit_lane m from q.vehicle) refl
+      by_target : (o : Option Place) → target m from ≡ o → gives m from ≡ true → enters to (crossing m from) ≡ (if is_this from (giver m to) then front_enters (front m from) else [])
+      by_target None e goes = absurd (both_ways (gives m from) (stays m from e) goes)
+      by_target (Some t) e goes =
+          let led = leads-of m from t e in
+          let crossed : enters to (crossing m from) ≡ (if is_place to t then on_next_link (link_at m.network t.link).limit led.0.vehicle ∷ [] else []) =
+          ap (λ (o : Option Crossing). enters to (option_map (λ (c : Crossing). record { to = c.to; vehicle = c.vehicle }) o)) (crossing-goes m from t led.0 led.1 goes) in
+          elim (cases_Bool (is_place to t)) as (λ _. enters to (crossing m from) ≡ (if is_this from (giver m to) then front_enters (front m from) else [])) [
+            | inl here ↦ (
+                let same : to ≡ t = is_place-same to t here in
+                let chosen : is_this from (giver m to) ≡ true = ap (λ (p : Place). is_this from (giver m p)) same ∙ sym (goes-if-taken m from t e) ∙ goes in
+                crossed
+                ∙ cond-true (is_place to t) (on_next_link (link_at m.network t.link).limit led.0.vehicle ∷ []) [] here
+                ∙ ap (λ (p : Place). on_next_link (link_at m.network p.link).limit led.0.vehicle ∷ []) (sym same)
+                ∙ ap front_enters (sym led.1.front)
+                ∙ sym (cond-true (is_this from (giver m to)) (front_enters (front m from)) [] chosen))
+            | inr other ↦
+                crossed
+                ∙ cond-false (is_place to t) (on_next_link (link_at m.network t.link).limit led.0.vehicle ∷ []) [] other
+                ∙ sym (not_chosen from (front_enters (front m from)) (λ c.
+                let there : is_place to t ≡ true = sym (ap (λ (o : Option Place). option_map_or (is_place to) o false) e) ∙ chosen-leads m to from c in
+                both_ways (is_place to t) other there))
+          ]
 
   chosen-among : (from : Place) → giver m to ≡ Some from → list_any (is_place from) (places m.network) ≡ true
   unfolding giver
@@ -146,5 +139,5 @@ module _ (m : Traffic) (to : Place) where
           entries-gathered (crossing m) to from others ps
           ∙ alone (λ p. enters to (crossing m p)) from others ps (all from (chosen-among from e))
           ∙ crosses from
-          ∙ cond-true _ _ _ (ap (λ (o : Option Place). takes o from) e ∙ is_place-refl from)
+          ∙ cond-true _ _ _ (ap (λ (o : Option Place). is_this from o) e ∙ is_place-refl from)
           ∙ entered (front m from)

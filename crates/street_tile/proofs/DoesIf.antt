@@ -17,8 +17,9 @@ use Rattle.street_node.specs.Greens.{ShowsAs}
 use Rattle.street_lanes.specs.Views.{LaneView, LaneStands}
 use Rattle.street_lanes.specs.Lanes.{Lanes, IsLane, IsOf, Same, GoesIf, GoesAt, lane_of, size_of, size_on}
 use Rattle.street_lanes.specs.Whole.{IsOn}
-use Rattle.street_tile.specs.Tiles.{Part, IsTileOf, StandsFor, AreNumbers, is_own, slot_of}
-use Rattle.street_tile.specs.Walks.{AtMostOnce}
+use Rattle.street_net.specs.Slots.{slot_of}
+use Rattle.street_tile.specs.Tiles.{Part, IsTileOf, StandsFor, AreNumbers, is_own}
+use Rattle.street_node.specs.Walks.{AtMostOnce}
 use Rattle.street_tile.specs.Commands.{at_place, planned, DoesIf, Does}
 use Rattle.street_tile.proofs.SameLanes.{same-none, same-long, even-of}
 use Rattle.street_tile.proofs.SameTile.{at-view}

@@ -26,9 +26,10 @@ use Rattle.street_lanes.specs.Views.{LaneView, LaneStands}
 use Rattle.street_lanes.specs.Lanes.{IsLane, AllLanes, fresh_on}
 use Rattle.street_lanes.specs.Whole.{LanesStand}
 use Rattle.street_tile.specs.Halves.{vehicle_in}
-use Rattle.street_tile.specs.Tiles.{IsRoads, ShowSignals, is_own, slot_of}
-use Rattle.street_tile.specs.Walks.{AtMostOnce}
-use Rattle.street_tile.proofs.TileReleases.{slot-apart}
+use Rattle.street_net.specs.Slots.{slot_of}
+use Rattle.street_tile.specs.Tiles.{IsRoads, ShowSignals, is_own}
+use Rattle.street_node.specs.Walks.{AtMostOnce}
+use Rattle.street_node.proofs.Mouths.{slot-apart}
 use Rattle.street_tile.proofs.Numbers.{alone-at}
 
 -- ---- a network without a fault

@@ -13,10 +13,11 @@ use Rattle.street_base.proofs.ReleaseLemmas.{is_place-same, is_place-refl}
 use Rattle.street_lanes.specs.Views.{LaneView, LaneStands}
 use Rattle.street_lanes.specs.Lanes.{Lanes, IsLane, AllLanes, Others, lane_of, place_at}
 use Rattle.street_lanes.specs.Whole.{LanesStand}
-use Rattle.street_tile.specs.Tiles.{IsRoads, mouth, slot_of}
+use Rattle.street_net.specs.Slots.{mouth, slot_of}
+use Rattle.street_tile.specs.Tiles.{IsRoads}
 use Rattle.street_tile.proofs.SameLanes.{there-at}
-use Rattle.street_tile.proofs.TileReleases.{slot-apart}
-use Rattle.street_tile.proofs.OwnLanes.{at-any}
+use Rattle.street_node.proofs.Mouths.{slot-apart}
+use Rattle.street_node.proofs.BufferWalk.{at-any}
 
 -- what the mouth of a lane is to be: whatever the lanes before k stand for at its place, this tells whether cell 0 is free
 abbrev pub IsFreeIn : List Place → Lanes → ℕ → Place → Bool → Type 0

@@ -1,12 +1,11 @@
 -- Tiles in a row: each lane is one tile's.
 use Rattle.std.proofs.Common.{◌≡◌, ℕ, suc, ◌+◌, ◌<◌, ◌≤◌, Bool, true, false, List, [], ◌∷◌, ◌++◌, length, get_or, refl, sym, ◌∙◌, ap, subst, arith, inl, inr}
-use Rattle.std.specs.Prelude.{Option, Some, None, IsSome, slice_get, filter_map, option_to_list, ◌&&◌, nat_le, nat_lt}
+use Rattle.std.specs.Prelude.{Option, Some, None, IsSome, slice_get, filter_map, option_to_list, ◌&&◌, nat_le, nat_lt, ◌==◌}
 use Rattle.std.specs.Option.{option_map_or}
 use Rattle.std.specs.List.{list_any}
 use Rattle.std.proofs.lemmas.Bool.{cases_lt, le-leb, lt-leb, lt-ltb, le-ltb}
 use Rattle.std.proofs.lemmas.List.Sums.{sum_by-append}
 use Rattle.std.proofs.lemmas.List.Elements.{filter_map-append}
-use Rattle.std.specs.Prelude.{◌==◌}
 use Rattle.std.proofs.lemmas.List.Quantifiers.{position-Some}
 use Rattle.street_base.specs.declared.net.NodeSpec.{NodeSpec}
 use Rattle.street_base.specs.declared.net.NetSpec.{NetSpec}
@@ -19,10 +18,11 @@ use Rattle.street_base.proofs.PlaceOnceLemmas.{places-once}
 use Rattle.street_lanes.specs.Lanes.{IsLane}
 use Rattle.street_tile.specs.Halves.{Transfer, crossing, entry_in}
 use Rattle.street_tile.specs.Tiles.{Part, IsRoads, is_own}
-use Rattle.street_tile.specs.Walks.{times}
+use Rattle.street_node.specs.Walks.{times}
 use Rattle.street_tile.specs.HandOvers.{all_handed, all_places}
 use Rattle.street_tile.proofs.Rows.{InRow, AreInRow}
-use Rattle.street_tile.proofs.OwnLanes.{times-filter, gated, lane-of}
+use Rattle.street_node.proofs.LaneWalk.{times-filter, gated}
+use Rattle.street_tile.proofs.OwnLanes.{lane-of}
 use Rattle.street_tile.proofs.Crossings.{crossings-enter}
 
 -- ---- each lane once

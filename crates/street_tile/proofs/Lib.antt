@@ -1,7 +1,6 @@
 pub mod SameLanes
 pub mod Each
 pub mod Rows
-pub mod Walks
 pub mod Crossings
 pub mod OwnLanes
 mod Pairs

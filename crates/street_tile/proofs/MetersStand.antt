@@ -26,7 +26,7 @@ use Rattle.street_lanes.specs.Detectors.{Detectors, cleared, watch_of, triple_of
 use Rattle.street_tile.specs.Tiles.{Part, IsBare, AreBare, AreDue, sizes_of}
 use Rattle.street_tile.specs.TileDetectors.{no_detectors, detectors_at, bare, KeepMeters, HaveNoted, detectors_on, MetersStand}
 use Rattle.street_tile.proofs.SameLanes.{even-of}
-use Rattle.street_tile.proofs.OwnLanes.{filter-holds}
+use Rattle.street_node.proofs.LaneWalk.{filter-holds}
 
 -- ---- how many cells the lanes have
 
@@ -54,10 +54,6 @@ module _ (net : NetSpec) (own : Lanes) (of : IsOf net own) (detectors : List Det
       let first : (get_or detectors n d).size ≡ cells_on net (place_at own n) = sym (get_or-map (λ (g : Detectors). g.size) detectors n d 0 (omega arith)) ∙ ap (λ xs. get_or xs n 0) sized ∙ get_or-map (cells_on net) own.places n no_place 0 h in
       let second : size_of (lane_of own n) ≡ size_on net (place_at own n) = sym (get_or-map size_of own.lanes n _ (0, 0) (omega arith)) ∙ ap (λ xs. get_or xs n (0, 0)) of.sized ∙ get_or-map (size_on net) own.places n no_place (0, 0) h in
       first ∙ sym (ap (λ (s : ℕ × ℕ). s.0) second)
-
-pub map-twice : {A B C : Type 0} (f : B → C) (g : A → B) (xs : List A) → map f (map g xs) ≡ map (λ x. f (g x)) xs
-map-twice f g [] = refl
-map-twice {C = C} f g (x ∷ xs) = ap (λ (ys : List C). f (g x) ∷ ys) (map-twice f g xs)
 
 -- ---- no detectors
 

@@ -13,12 +13,12 @@ use Rattle.street_base.proofs.ReleaseLemmas.{is_place-refl, is_place-swap}
 use Rattle.street_lanes.specs.Lanes.{IsLane}
 use Rattle.street_tile.specs.Halves.{Transfer, entry_in}
 use Rattle.street_tile.specs.Tiles.{Part, SameTile, Each, is_own, own_places, nobody}
-use Rattle.street_tile.specs.Walks.{times, AtMostOnce}
+use Rattle.street_node.specs.Walks.{times, AtMostOnce}
 use Rattle.street_tile.specs.HandOvers.{all_handed, received, Awaits, moved_at, IsMoved}
 use Rattle.street_tile.proofs.Rows.{InRow, AreInRow}
-use Rattle.street_tile.proofs.Walks.{times-cons, once-rest}
-use Rattle.street_tile.proofs.OwnLanes.{at-any, times-filter}
-use Rattle.street_tile.proofs.PublishedView.{none-times, all_handed-push}
+use Rattle.street_node.proofs.BufferWalk.{times-cons, once-rest, none-times, at-any}
+use Rattle.street_node.proofs.LaneWalk.{times-filter}
+use Rattle.street_tile.proofs.PublishedView.{all_handed-push}
 use Rattle.std.proofs.lemmas.List.Elements.{All-take}
 use Rattle.street_tile.proofs.PhasesOfAll.{tiles-of}
 use Rattle.street_tile.proofs.SameTile.{same-moved}

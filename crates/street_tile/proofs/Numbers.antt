@@ -11,10 +11,10 @@ use Rattle.street_base.proofs.ReleaseLemmas.{is_place-refl}
 use Rattle.street_base.proofs.PlaceLemmas.{places-listed}
 use Rattle.street_base.proofs.PlaceOnceLemmas.{places-once}
 use Rattle.street_lanes.specs.Lanes.{IsLane}
-use Rattle.street_tile.specs.Tiles.{Part, IsTileOf, AreNumbers, is_own, slot_of}
-use Rattle.street_tile.specs.Walks.{AtMostOnce}
-use Rattle.street_tile.proofs.Walks.{times-cons, times-at, once-rest}
-use Rattle.street_tile.proofs.OwnLanes.{at-any}
+use Rattle.street_net.specs.Slots.{slot_of}
+use Rattle.street_tile.specs.Tiles.{Part, IsTileOf, AreNumbers, is_own}
+use Rattle.street_node.specs.Walks.{AtMostOnce}
+use Rattle.street_node.proofs.BufferWalk.{times-cons, times-at, once-rest, at-any}
 use Rattle.street_tile.proofs.PublishedView.{any-at}
 use Rattle.street_tile.proofs.MovedHandOvers.{own-listed}
 

@@ -6,7 +6,10 @@ use Rattle.std.proofs.lemmas.Bool.{cases_Bool}
 use Rattle.street_base.specs.declared.net.NetSpec.{NetSpec}
 use Rattle.street_base.specs.Network.{Place, link_at}
 use Rattle.street_tile.specs.Tiles.{ArePairs, nth, beside, lanes_beside, is_own, own_places}
-use Rattle.street_tile.proofs.OwnLanes.{row_of}
+
+-- the lanes of a link
+abbrev row_of : NetSpec → ℕ → List Place
+row_of net i = map (λ k. record { link = i; lane = k }) (range_with_len 0 (link_at net i).lanes)
 
 module _ (net : NetSpec) where
   pairs-none : ArePairs net []

@@ -13,13 +13,16 @@ use Rattle.street_lanes.specs.Lanes.{Lanes, AllLanes, Same, place_at}
 use Rattle.street_lanes.specs.Whole.{IsOn, LanesStand, LanesGo, AllFree}
 use Rattle.street_lanes.specs.Detectors.{Detectors}
 use Rattle.street_tile.specs.Halves.{Transfer, vehicle_in, crossing, let_go, placed, placed_lane}
-use Rattle.street_tile.specs.Tiles.{Part, IsTileOf, StandsFor, Shows, ShowSignals, ArePairs, mouth, nobody, is_own}
+use Rattle.street_net.specs.Slots.{mouth}
+use Rattle.street_tile.specs.Tiles.{Part, IsTileOf, StandsFor, Shows, ShowSignals, ArePairs, nobody, is_own}
 use Rattle.street_tile.specs.TileDetectors.{KeepMeters, HaveWatched}
 use Rattle.street_tile.specs.Phases.{LanePhase, MotionPhase, ReleasePhase, EnterPhase}
-use Rattle.street_tile.specs.Walks.{IsWalk, IsReleasing}
+use Rattle.street_node.specs.Walks.{IsWalk}
+use Rattle.street_tile.specs.Walks.{IsReleasing}
 use Rattle.street_tile.proofs.SameLanes.{place-is}
 use Rattle.street_tile.proofs.Each.{lane_at-entered}
-use Rattle.street_tile.proofs.OwnLanes.{own-lanes, own-walk, filter-holds}
+use Rattle.street_node.proofs.LaneWalk.{filter-holds}
+use Rattle.street_tile.proofs.OwnLanes.{own-lanes, own-walk}
 use Rattle.street_tile.proofs.Pairs.{own-pairs}
 use Rattle.street_tile.proofs.MetersStand.{keep-sizes}
 

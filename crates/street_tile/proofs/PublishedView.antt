@@ -1,24 +1,23 @@
 -- The view, tile after tile.
-use Rattle.std.proofs.Common.{◌≡◌, ℕ, zero, suc, ◌+◌, ◌*◌, ◌<◌, ◌≤◌, Bool, true, false, List, [], ◌∷◌, ◌++◌, length, take, get_or, refl, sym, ◌∙◌, ap, arith, inl, inr}
+use Rattle.std.proofs.Common.{◌≡◌, ℕ, zero, suc, ◌+◌, ◌*◌, ◌<◌, ◌≤◌, Bool, true, false, List, [], ◌∷◌, ◌++◌, length, take, get_or, sym, ◌∙◌, ap, arith, inl, inr}
 use Rattle.std.specs.Prelude.{Some, slice_get, ◌||◌}
 use Rattle.std.specs.List.{list_any}
-use Rattle.std.proofs.lemmas.Bool.{cases_Bool, both_ways, or_cases, or_left, true_from_ne_false}
+use Rattle.std.proofs.lemmas.Bool.{cases_Bool, or_cases, true_from_ne_false}
 use Rattle.std.proofs.lemmas.List.{take_more, take_all, append_assoc, append-nil}
 use Rattle.std.proofs.lemmas.List.Folds.{list_any-append}
 use Rattle.street_base.specs.declared.net.NetSpec.{NetSpec}
 use Rattle.street_base.specs.Network.{Place, is_place}
 use Rattle.street_base.specs.Lane.{is_free}
 use Rattle.street_base.specs.State.{Traffic, lane_at}
-use Rattle.street_base.specs.Census.{one_if}
 use Rattle.street_base.proofs.ReleaseLemmas.{is_place-same}
 use Rattle.street_base.proofs.PlaceLemmas.{places-listed}
 use Rattle.street_lanes.specs.Lanes.{IsLane}
 use Rattle.street_tile.specs.Halves.{Transfer}
-use Rattle.street_tile.specs.Tiles.{Part, IsRoads, StandsFor, AllStand, Shows, mouth}
-use Rattle.street_tile.specs.Walks.{times}
+use Rattle.street_net.specs.Slots.{mouth}
+use Rattle.street_tile.specs.Tiles.{Part, IsRoads, StandsFor, AllStand, Shows}
 use Rattle.street_tile.specs.HandOvers.{all_places, all_handed}
 use Rattle.street_tile.proofs.Rows.{AreInRow}
-use Rattle.street_tile.proofs.Walks.{times-cons}
+use Rattle.street_node.proofs.BufferWalk.{none-times}
 use Rattle.street_tile.proofs.LaneOwners.{tiles-once}
 
 pub all_places-push : (xs : List Part) (x : Part) → all_places (xs ++ x ∷ []) ≡ x.own.places ++ all_places xs
@@ -34,16 +33,6 @@ any-at q [] e = cc
 any-at q (p ∷ ps) e = elim (or_cases (is_place q p) (list_any (is_place q) ps) e) as (λ _. (j : ℕ) × (slice_get (p ∷ ps) j ≡ Some q)) [
   | inl here ↦ (zero, ap (λ (x : Place). Some x) (sym (is_place-same q p here)))
   | inr on ↦ (let rest = any-at q ps on in (suc rest.0, rest.1))
-]
-
-pub none-times : (q : Place) (ps : List Place) → list_any (is_place q) ps ≡ false → times q ps ≡ 0
-none-times q [] e = refl
-none-times q (p ∷ ps) e = elim (cases_Bool (is_place q p)) as (λ _. times q (p ∷ ps) ≡ 0) [
-  | inl here ↦ absurd (both_ways (list_any (is_place q) (p ∷ ps)) e (or_left (is_place q p) (list_any (is_place q) ps) here))
-  | inr other ↦ (
-      let away : list_any (is_place q) ps ≡ false = rw other at e in
-      let none : one_if (is_place q p) ≡ 0 = ap one_if other in
-      omega (arith, times-cons q p ps, none, none-times q ps away))
 ]
 
 -- each lane of the network is some tile's

@@ -1,13 +1,13 @@
 -- The release phase in two halves: fronts are let go, and who was let go is placed.
 -- Between them a vehicle is in no lane: it is handed over.
 -- Source: releases are this profile.
-use Rattle.std.specs.Prelude.{List, map, filter, drop, Bool, false, Option, Some, None, option_map, option_and_then, slice_get, if◌then◌else◌}
-use Rattle.std.specs.Option.{option_map_or}
+use Rattle.std.specs.Prelude.{List, map, filter, drop, Option, option_map, slice_get, if◌then◌else◌}
 use Rattle.street_base.specs.declared.net.NetSpec.{NetSpec}
 use Rattle.street_base.specs.Vehicle.{Vehicle}
 use Rattle.street_base.specs.Network.{Place, is_place, link_at}
 use Rattle.street_base.specs.State.{Traffic, LaneState, each_lane}
-use Rattle.street_base.specs.Release.{front, exit_lane, giver, gives, on_next_link, with_entry}
+use Rattle.street_base.specs.Release.{gives, on_next_link, with_entry}
+use Rattle.street_node.specs.Releases.{crossing as crosses}
 
 -- a vehicle on its way into a lane
 pub record Transfer : Type 0 where
@@ -18,21 +18,13 @@ pub record Transfer : Type 0 where
 abbrev pub vehicle_in : Option Transfer → Option Vehicle
 vehicle_in entry = option_map (λ e. e.vehicle) entry
 
--- a buffer is chosen by an entrance
-abbrev pub takes : Option Place → Place → Bool
-takes chosen from = option_map_or (is_place from) chosen false
-
 -- a vehicle as it enters a lane
 abbrev pub entry_on : NetSpec → Vehicle → Place → Transfer
 entry_on net v to = record { to = to; vehicle = on_next_link (link_at net to.link).limit v }
 
--- whereto this front of a buffer is let go, if its exit lane takes it from there
-abbrev pub crossing_of : Traffic → Place → Vehicle → Option Transfer
-crossing_of m from v = option_and_then (λ to. if takes (giver m to) from then Some (entry_on m.network v to) else None) (exit_lane m from v)
-
 -- who is let go of a buffer, and whereto
 abbrev pub crossing : Traffic → Place → Option Transfer
-crossing m from = option_and_then (λ q. crossing_of m from q.vehicle) (front m from)
+crossing m from = option_map (λ c. record { to = c.to; vehicle = c.vehicle }) (crosses m from)
 
 -- those who enter a lane, of a list of entries
 abbrev pub entries_to : Place → List Transfer → List Vehicle

@@ -6,6 +6,7 @@ pub mod TileDetectors
 pub mod Parts
 pub mod Phases
 pub mod Walks
+pub mod Entries
 pub mod HandOvers
 pub mod Commands
 pub mod Hinted

@@ -1,10 +1,19 @@
--- What motion on a tile's lanes reads of the step.
-use Rattle.std.specs.Prelude.{◌≡◌, ◌+◌, length, true}
+-- What motion on a tile's lanes reads of the step, and what it does.
+use Rattle.std.specs.Prelude.{◌≡◌, ℕ, ◌+◌, ◌<◌, ◌≤◌, List, ◌++◌, length, map, filter_map, slice_get, Bool, true, false, Option, Some}
+use Rattle.street_base.specs.Limits.{last_clock}
 use Rattle.street_base.specs.Network.{Place}
-use Rattle.street_base.specs.State.{Traffic}
-use Rattle.street_lanes.specs.Whole.{IsOn}
+use Rattle.street_base.specs.Lane.{is_free}
+use Rattle.street_base.specs.State.{Traffic, lane_at}
+use Rattle.street_base.specs.Step.{driven, driven_lane, arrival, leaver_of}
+use Rattle.street_net.specs.Slots.{mouth}
+use Rattle.street_lanes.specs.Views.{LaneStands}
+use Rattle.street_lanes.specs.Lanes.{Lanes, Same, Others, IsOf, lane_of, place_at}
+use Rattle.street_lanes.specs.Whole.{IsOn, LanesStand}
+use Rattle.street_lanes.specs.Motion.{cells_on}
+use Rattle.street_lanes.specs.Detectors.{Detectors, watch_of}
 use Rattle.street_tile.specs.declared.lanes.MotionStep.{MotionStep}
-use Rattle.street_tile.specs.Tiles.{ShowSignals, is_own}
+use Rattle.street_tile.specs.Tiles.{IsRoads, ShowSignals, AreBare, is_own, sizes_of}
+use Rattle.street_tile.specs.TileDetectors.{KeepMeters, HaveWatched}
 
 -- traffic of the step: of its network, at its clock, with signals as its plans show them
 pub record IsOfStep (step : MotionStep) (m : Traffic) : Type 0 where
@@ -15,3 +24,49 @@ pub record IsOfStep (step : MotionStep) (m : Traffic) : Type 0 where
 -- the lane runs to a node of those whose plans the step has
 abbrev pub HasPlanFor : MotionStep → Place → Type 0
 HasPlanFor step p = is_own step.net.now step.low (step.low + length step.signals.now) p ≡ true
+
+-- ---- one lane
+
+-- lane n of these was driven: whatever it stood for in traffic of the step, it then stands for what motion makes of it, and who
+-- arrived is told; the others are as they were
+pub record DrivesLane (step : MotionStep) (n : ℕ) (old new : Lanes) (told : Option ℕ) : Type 0 where
+  pub same : Same old new
+  pub others : Others n old new
+  pub room : old.room ≤ new.room
+  pub stands : (m : Traffic) → IsOfStep step m → LaneStands (lane_of old n) (lane_at m (place_at old n))
+      → LaneStands (lane_of new n) (driven_lane m (place_at old n) (lane_at m (place_at old n)))
+  pub arrived : (m : Traffic) → IsOfStep step m → LaneStands (lane_of old n) (lane_at m (place_at old n)) → told ≡ arrival (leaver_of m (place_at old n))
+
+-- and the watches of its detectors have seen it, where any was placed
+pub record WatchesLane (step : MotionStep) (n : ℕ) (own : Lanes) (old new : Detectors) : Type 0 where
+  pub meters : new ≡ record old { watches = new.watches }
+  pub bare : step.has_meters ≡ false → new ≡ old
+  pub watched : (m : Traffic) → IsOfStep step m → LaneStands (lane_of own n) (lane_at m (place_at own n)) → new.watches ≡ map (watch_of m (place_at own n)) old.meters
+
+-- ---- all lanes of a tile
+
+-- these are lanes of the step's network, their links run to nodes whose plans it has, and these are their detectors
+pub record MayDrive (step : MotionStep) (own : Lanes) (detectors : List Detectors) : Type 0 where
+  pub of : IsOf step.net.now own
+  pub roads : IsRoads step.net.now
+  pub in_time : step.clock ≤ last_clock
+  pub nodes : (n : ℕ) → n < length own.places → HasPlanFor step (place_at own n)
+  pub sized : sizes_of detectors ≡ map (cells_on step.net.now) own.places
+  pub bare : step.has_meters ≡ false → AreBare detectors
+
+-- all were driven, and the numbers of those who arrived stand behind those before
+pub record DrivesLanes (step : MotionStep) (old new : Lanes) (before after : List ℕ) : Type 0 where
+  pub same : Same old new
+  pub room : old.room ≤ new.room
+  pub stand : (m : Traffic) → IsOfStep step m → LanesStand old.places old.lanes m → LanesStand new.places new.lanes (driven m)
+  pub arrived : (m : Traffic) → IsOfStep step m → LanesStand old.places old.lanes m → after ≡ before ++ filter_map (λ p. arrival (leaver_of m p)) old.places
+
+-- and the watches of their detectors have seen it, where any was placed
+pub record WatchLanes (step : MotionStep) (own : Lanes) (old new : List Detectors) : Type 0 where
+  pub meters : KeepMeters old new
+  pub bare : step.has_meters ≡ false → new ≡ old
+  pub watched : (m : Traffic) → IsOfStep step m → LanesStand own.places own.lanes m → HaveWatched m own.places new
+
+-- the mouths of these lanes tell whether their cells 0 are free
+abbrev pub ShowLanes : Lanes → List Bool → Type 0
+ShowLanes own mouths = (m : Traffic) → LanesStand own.places own.lanes m → (j : ℕ) (p : Place) → slice_get own.places j ≡ Some p → mouth mouths p ≡ is_free (lane_at m p).track 0

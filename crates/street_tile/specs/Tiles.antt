@@ -11,6 +11,7 @@ use Rattle.street_base.specs.Lane.{is_free}
 use Rattle.street_base.specs.Network.{Place, link_at, node_of, turn, places}
 use Rattle.street_base.specs.Signal.{SignalPlan}
 use Rattle.street_base.specs.State.{Traffic, lane_at}
+use Rattle.street_net.specs.Slots.{slot_of, mouth}
 use Rattle.street_lanes.specs.Lanes.{Lanes, IsOf, Same, no_place}
 use Rattle.street_lanes.specs.Whole.{IsOn, LanesStand}
 use Rattle.street_lanes.specs.Motion.{PlanStands, cells_on}
@@ -30,13 +31,6 @@ pub record IsRoads (net : NetSpec) : Type 0 where
   pub joined : (from : Place) (next : ℕ) (t : TurnSpec) → turn net from next ≡ Some t → (link_at net from.link).to ≡ (link_at net next).from
 
 -- ---- the view
-
--- a view has two mouths for each link, one a lane
-abbrev pub slot_of : Place → ℕ
-slot_of p = 2 * p.link + p.lane
-
-abbrev pub mouth : List Bool → Place → Bool
-mouth mouths p = slice_index_or mouths (slot_of p) false
 
 -- the view shows of each lane whether its cell 0 is free
 abbrev pub Shows : NetSpec → List Bool → Traffic → Type 0

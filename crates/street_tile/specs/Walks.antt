@@ -1,27 +1,18 @@
--- The order of a tile's walk over its buffers, against the choice by entrance.
+-- A tile's walk over its buffers.
 -- Source: releases are this profile.
-use Rattle.std.specs.Prelude.{◌≡◌, ℕ, ◌≤◌, List, Bool, true, Some, find, sum_by, slice_get}
+use Rattle.std.specs.Prelude.{◌≡◌, ℕ, ◌≤◌, List, [], ◌∷◌, ◌++◌, Bool, true, false, Option, Some, IsSome, slice_get, slice_set}
 use Rattle.street_base.specs.declared.net.NetSpec.{NetSpec}
-use Rattle.street_base.specs.Network.{Place, is_place, places}
-use Rattle.street_base.specs.State.{Traffic}
-use Rattle.street_base.specs.Census.{one_if}
-use Rattle.street_base.specs.Release.{may_give}
-use Rattle.street_lanes.specs.Lanes.{Lanes}
+use Rattle.street_base.specs.Network.{Place}
+use Rattle.street_base.specs.Vehicle.{next_link}
+use Rattle.street_base.specs.State.{Traffic, LaneState, Queued, lane_at}
+use Rattle.street_base.specs.Release.{target}
+use Rattle.street_net.specs.Slots.{slot_of, mouth}
+use Rattle.street_node.specs.Walks.{IsWalk}
+use Rattle.street_lanes.specs.Views.{LaneStands, without_front}
+use Rattle.street_lanes.specs.Lanes.{Lanes, GoesAt, lane_of, place_at}
 use Rattle.street_lanes.specs.Whole.{LanesStand, IsOn}
+use Rattle.street_tile.specs.Halves.{Transfer, entry_on}
 use Rattle.street_tile.specs.Tiles.{Shows}
-
--- how often a lane stands in a list
-abbrev pub times : Place → List Place → ℕ
-times q ps = sum_by (λ p. one_if (is_place q p)) ps
-
-abbrev pub AtMostOnce : List Place → Type 0
-AtMostOnce ps = (q : Place) → times q ps ≤ 1
-
--- the order of a walk over buffers: each at most once; and for a lane to which one of them leads, the first is that of the whole network
-pub record IsWalk (m : Traffic) (ps : List Place) : Type 0 where
-  pub once : AtMostOnce ps
-  pub firsts : (k : ℕ) (to from : Place) → slice_get ps k ≡ Some from → may_give m to from ≡ true
-      → find (may_give m to) ps ≡ find (may_give m to) (places m.network)
 
 -- what a tile's lanes and the view show as the releases begin
 pub record IsReleasing (net : NetSpec) (clock : ℕ) (own : Lanes) (mouths : List Bool) (m : Traffic) : Type 0 where
@@ -30,3 +21,22 @@ pub record IsReleasing (net : NetSpec) (clock : ℕ) (own : Lanes) (mouths : Lis
   pub walk : IsWalk m own.places
   pub stand : LanesStand own.places own.lanes m
   pub shows : Shows net mouths m
+
+-- in traffic of the network at this clock the front of buffer n may go there
+abbrev pub Targets : NetSpec → ℕ → Lanes → ℕ → Option Place → Type 0
+Targets net clock own n to = (m : Traffic) → m.network ≡ net → m.clock ≡ clock → LaneStands (lane_of own n) (lane_at m (place_at own n)) → to ≡ target m (place_at own n)
+
+-- buffer n stands for a queue with this front
+pub record HasFront (own : Lanes) (n : ℕ) (q : Queued) : Type 0 where
+  pub lane : LaneState
+  pub stands : LaneStands (lane_of own n) lane
+  pub first : slice_get lane.queue 0 ≡ Some q
+
+-- a front that finds the mouth shut stays, and nothing changes; else buffer n loses it, it is handed over as it enters the lane, and
+-- the mouth closes behind it
+pub record ReleasesFront (net : NetSpec) (n : ℕ) (to : Place) (old new : Lanes) (open_old open_new : List Bool) (before after : List Transfer) : Type 0 where
+  pub shut : mouth open_old to ≡ false → (new ≡ old) × (open_new ≡ open_old) × (after ≡ before)
+  pub goes : mouth open_old to ≡ true → GoesAt n without_front old new
+  pub mouths : mouth open_old to ≡ true → (q : Queued) → HasFront old n q → open_new ≡ slice_set open_old (slot_of to) false
+  pub handed : mouth open_old to ≡ true → (q : Queued) → HasFront old n q → IsSome (next_link q.vehicle) → after ≡ before ++ entry_on net q.vehicle to ∷ []
+  pub room : old.room ≤ new.room

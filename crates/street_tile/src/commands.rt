@@ -1,7 +1,7 @@
 //! Commands that name one lane or one node.
 //!
 //! Source: this profile.
-ghost use Rattle.std.specs.Prelude.{◌≡◌, ◌<◌, ◌≤◌, length, Some, true, false, slice_get, IfOk, OnOk, OnErr};
+ghost use Rattle.std.specs.Prelude.{◌≡◌, ◌<◌, ◌≤◌, length, Some, true, slice_get, IfOk, OnOk, OnErr};
 ghost use Rattle.street_base.specs.declared.net.NetSpec.{NetSpec};
 ghost use Rattle.street_base.specs.Network.{link_at};
 ghost use Rattle.street_base.specs.Signal.{SignalPlan as PlanSeen};
@@ -20,10 +20,9 @@ ghost use Rattle.street_tile.specs.Tiles.{IsTileOf, StandsFor, is_own};
 ghost use Rattle.street_tile.specs.Commands.{at_place, planned, DoesIf, Does, KeepsAll};
 
 use crate::tile::Tile;
-use crate::view::slot;
 use std::alloc::Global;
 use street_base::{Car, CellNo, NodeIx, Reply, Starved};
-use street_net::{LaneId, Network};
+use street_net::{LaneId, Network, slot};
 use street_node::SignalPlan;
 
 impl Tile {
@@ -67,55 +66,30 @@ impl Tile {
         self.signals[at] = Some(plan);
     }
 
-    /// Closes cells of an own lane, and tells how many of its cells are closed then.
+    /// Closes cells of an own lane, or opens them, and tells how many of its cells are closed then.
     ///
     /// # Errors
     /// Memory was refused; the tile is as it was.
-    pub fn close(
+    pub fn set_closed(
         &mut self,
         net: &Network,
         at: LaneId,
         first: CellNo,
         last: CellNo,
+        closed: bool,
     ) -> Result<u64, Starved>
         requires tile { IsTileOf net.now self.old }
         requires lane { IsLane net.now (place_of at) }
         requires own { is_own net.now self.old.low self.old.high (place_of at) ≡ true }
         requires order { first ≤ last }
         requires within { last < (link_at net.now at.link).length }
-        ensures closes { OnOk result (Does net.now (at_place (place_of at) (with_marks true first last)) self.old self.new) }
+        ensures marks { OnOk result (Does net.now (at_place (place_of at) (with_marks closed first last)) self.old self.new) }
         ensures count { IfOk result (λ count. (m : Traffic) → IsOn net.now m → StandsFor self.old m
-            → count ≡ closed_after true first last (lane_at m (place_of at))) }
+            → count ≡ closed_after closed first last (lane_at m (place_of at))) }
         ensures starved { OnErr result (KeepsAll self.old self.new) }
     {
         let lane = self.number(net, at);
-        self.own.close(lane, first, last)?;
-        Ok(self.own.closed_cells(lane))
-    }
-
-    /// Opens cells of an own lane again, and tells how many of its cells are closed then.
-    ///
-    /// # Errors
-    /// Memory was refused; the tile is as it was.
-    pub fn reopen(
-        &mut self,
-        net: &Network,
-        at: LaneId,
-        first: CellNo,
-        last: CellNo,
-    ) -> Result<u64, Starved>
-        requires tile { IsTileOf net.now self.old }
-        requires lane { IsLane net.now (place_of at) }
-        requires own { is_own net.now self.old.low self.old.high (place_of at) ≡ true }
-        requires order { first ≤ last }
-        requires within { last < (link_at net.now at.link).length }
-        ensures opens { OnOk result (Does net.now (at_place (place_of at) (with_marks false first last)) self.old self.new) }
-        ensures count { IfOk result (λ count. (m : Traffic) → IsOn net.now m → StandsFor self.old m
-            → count ≡ closed_after false first last (lane_at m (place_of at))) }
-        ensures starved { OnErr result (KeepsAll self.old self.new) }
-    {
-        let lane = self.number(net, at);
-        self.own.reopen(lane, first, last)?;
+        self.own.set_closed(lane, first, last, closed)?;
         Ok(self.own.closed_cells(lane))
     }
 

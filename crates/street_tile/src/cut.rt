@@ -1,23 +1,22 @@
 //! Tiles of a network, with nobody on them.
 //!
 //! Source: this profile.
-ghost use Rattle.std.specs.Prelude.{◌≡◌, ℕ, ◌+◌, ◌*◌, ◌/◌, ◌<◌, ◌≤◌, ◌++◌, [], length, map, replicate, min, vec_capacity, None, IfOk, OnOk};
+ghost use Rattle.std.specs.Prelude.{◌≡◌, ◌+◌, ◌*◌, ◌/◌, ◌<◌, ◌≤◌, ◌++◌, [], length, map, replicate, min, vec_capacity, None, IfOk, OnOk};
 ghost use Rattle.std.specs.List.{All, range_with_len};
 ghost use Rattle.street_base.specs.Machine.{loaded};
 ghost use Rattle.street_net.specs.Tables.{place_of};
 ghost use Rattle.street_lanes.specs.Lanes.{AllLanes, IsOf, fresh};
 ghost use Rattle.street_tile.specs.Tiles.{IsTileOf, IsIdle, StandsFor, AreTiles, AreNumbers, own_places};
 ghost use Rattle.street_tile.specs.TileDetectors.{bare, MetersStand, AllMetersStand};
-ghost use Rattle.street_tile.specs.Walks.{AtMostOnce};
+ghost use Rattle.street_node.specs.Walks.{AtMostOnce};
 
 use crate::comers::Comers;
 use crate::hand_over::HandOver;
 use crate::tile::Tile;
-use crate::view::slot;
 use std::alloc::{AllocError, Global};
 use street_base::{CarNo, CellNo, LaneNo, LinkIx, Starved, Step};
 use street_lanes::{Detectors, Lanes};
-use street_net::{LaneId, Network};
+use street_net::{LaneId, Network, slot};
 use street_node::SignalPlan;
 
 /// Adds the lanes of a link to a list.

@@ -1,25 +1,19 @@
 //! Lane changes and motion on a tile's own lanes.
 //!
 //! Source: the order of the phases is this profile.
-ghost use Rattle.std.specs.Prelude.{◌≡◌, ℕ, ◌+◌, ◌*◌, ◌<◌, ◌≤◌, length, map, ◌++◌, filter_map, true, false, IsTrue, ◌↔◌, vec_len, vec_capacity, slice_get, Some};
+ghost use Rattle.std.specs.Prelude.{◌≡◌, ◌+◌, ◌*◌, ◌<◌, ◌≤◌, length, false, IsTrue, ◌↔◌, vec_len, vec_capacity, Some};
 ghost use Rattle.street_base.specs.Limits.{last_clock};
-ghost use Rattle.street_base.specs.Network.{Place, link_at};
-ghost use Rattle.street_base.specs.Lane.{is_free};
-ghost use Rattle.street_base.specs.State.{Traffic, lane_at};
-ghost use Rattle.street_base.specs.Step.{changed, driven, driven_lane, arrival, leaver_of};
-ghost use Rattle.street_lanes.specs.Views.{LaneStands};
-ghost use Rattle.street_lanes.specs.Lanes.{Same, Others, IsOf, lane_of, place_at};
+ghost use Rattle.street_base.specs.Network.{link_at};
+ghost use Rattle.street_base.specs.State.{Traffic};
+ghost use Rattle.street_base.specs.Step.{changed};
+ghost use Rattle.street_lanes.specs.Lanes.{Same, IsOf, lane_of, place_at};
 ghost use Rattle.street_lanes.specs.Whole.{IsOn, LanesStand};
-ghost use Rattle.street_lanes.specs.Motion.{cells_on};
-ghost use Rattle.street_lanes.specs.Detectors.{watch_of};
-ghost use Rattle.street_tile.specs.Tiles.{IsRoads, ArePairs, IsBare, AreBare, mouth, sizes_of};
-ghost use Rattle.street_tile.specs.Motion.{IsOfStep, HasPlanFor};
-ghost use Rattle.street_tile.specs.TileDetectors.{KeepMeters, HaveWatched};
+ghost use Rattle.street_tile.specs.Tiles.{IsRoads, ArePairs, IsBare};
+ghost use Rattle.street_tile.specs.Motion.{HasPlanFor, DrivesLane, WatchesLane, MayDrive, DrivesLanes, WatchLanes, ShowLanes};
 
-use crate::view::slot;
 use street_base::{CarNo, Step};
 use street_lanes::{Detectors, Lanes};
-use street_net::Network;
+use street_net::{Network, slot};
 use street_node::{Signal, SignalPlan};
 
 /// Whether lane `n` of these is lane 0 of a link of two lanes; lane `n + 1` is then the link's other lane.
@@ -75,20 +69,8 @@ fn drive_lane(
     requires node { HasPlanFor step.now (place_at own.old n) }
     requires size { detectors.old.size ≡ length (lane_of own.old n).track.cells }
     requires bare { step.now.has_meters ≡ false → IsBare detectors.old }
-    ensures same { Same own.old own.new }
-    ensures stands { (m : Traffic) → IsOfStep step.now m
-        → LaneStands (lane_of own.old n) (lane_at m (place_at own.old n))
-        → LaneStands (lane_of own.new n) (driven_lane m (place_at own.old n) (lane_at m (place_at own.old n))) }
-    ensures arrived { (m : Traffic) → IsOfStep step.now m
-        → LaneStands (lane_of own.old n) (lane_at m (place_at own.old n))
-        → result ≡ arrival (leaver_of m (place_at own.old n)) }
-    ensures others { Others n own.old own.new }
-    ensures room { own.old.room ≤ own.new.room }
-    ensures meters { detectors.new ≡ record detectors.old { watches = detectors.new.watches } }
-    ensures bare { step.now.has_meters ≡ false → detectors.new ≡ detectors.old }
-    ensures watched { (m : Traffic) → IsOfStep step.now m
-        → LaneStands (lane_of own.old n) (lane_at m (place_at own.old n))
-        → detectors.new.watches ≡ map (watch_of m (place_at own.old n)) detectors.old.meters }
+    ensures drives { DrivesLane step.now n own.old own.new result }
+    ensures watches { WatchesLane step.now n own.old detectors.old detectors.new }
 {
     let node = step.net.end_of(own.at(n).link);
     let signal = Signal::new(step.signals, node.position() - step.low);
@@ -108,29 +90,13 @@ pub(crate) fn drive_lanes(
     arrived: &mut Vec<CarNo>,
     mouths: &mut [bool],
 )
-    requires of { IsOf step.now.net.now own.old }
-    requires in_time { step.now.clock ≤ last_clock }
-    requires nodes { (n : ℕ) → n < length own.old.places → HasPlanFor step.now (place_at own.old n) }
-    requires sized { sizes_of detectors.old ≡ map (cells_on step.now.net.now) own.old.places }
-    requires bare { step.now.has_meters ≡ false → AreBare detectors.old }
+    requires ready { MayDrive step.now own.old detectors.old }
     requires room { vec_len arrived.old + length own.old.places ≤ vec_capacity arrived.old }
-    requires roads { IsRoads step.now.net.now }
     requires wide { length mouths.old ≡ 2 * length step.now.net.now.links }
-    ensures same { Same own.old own.new }
-    ensures room { own.old.room ≤ own.new.room }
-    ensures stand { (m : Traffic) → IsOfStep step.now m
-        → LanesStand own.old.places own.old.lanes m → LanesStand own.new.places own.new.lanes (driven m) }
-    ensures arrived { (m : Traffic) → IsOfStep step.now m
-        → LanesStand own.old.places own.old.lanes m
-        → arrived.new.items ≡ arrived.old.items ++ filter_map (λ p. arrival (leaver_of m p)) own.old.places }
+    ensures drives { DrivesLanes step.now own.old own.new arrived.old.items arrived.new.items }
+    ensures watches { WatchLanes step.now own.old detectors.old detectors.new }
     ensures capacity { vec_capacity arrived.old ≤ vec_capacity arrived.new }
-    ensures meters { KeepMeters detectors.old detectors.new }
-    ensures bare { step.now.has_meters ≡ false → detectors.new ≡ detectors.old }
-    ensures watched { (m : Traffic) → IsOfStep step.now m
-        → LanesStand own.old.places own.old.lanes m → HaveWatched m own.old.places detectors.new }
-    ensures shown { (m : Traffic) → LanesStand own.new.places own.new.lanes m → (j : ℕ)
-        → (p : Place) → slice_get own.new.places j ≡ Some p
-        → mouth mouths.new p ≡ is_free (lane_at m p).track 0 }
+    ensures shown { ShowLanes own.new mouths.new }
 {
     for n in 0..own.len() {
         let at = own.at(n);

@@ -1,10 +1,10 @@
 //! Tiles: blocks of nodes with all lanes of the links that run to them, and one step of all tiles.
 //!
-//! Each phase of a tile reads and writes its own lanes alone, so the tiles of a network run a phase side by side. [`step_all`]
-//! lends the tiles to threads phase by phase. Between the phases the thread that calls for the step publishes which lanes are
-//! open ([`View`]), and moves vehicles from the tile that let them go to the tile that owns their next lane ([`HandOver`]).
-//! [`step_by`] is the same step with so many threads at most, and lends them the tiles three times: phases between which no
-//! tile needs another's are one part.
+//! Each phase of a tile reads and writes its own lanes alone, so the tiles of a network run a phase side by side. [`step_by`] makes
+//! a step with so many threads at most: it lends them the tiles three times, since phases between which no tile needs another's
+//! are one part. Between the parts the thread that calls for the step publishes which lanes are open ([`View`]), and moves
+//! vehicles from the tile that let them go to the tile that owns their next lane ([`HandOver`]). [`step_all`] is the same step
+//! phase by phase, for a caller that watches each; both promise `Steps`.
 #![tactic(auto)]
 
 mod comers;

@@ -1,15 +1,16 @@
 //! What a tile found of its own lanes' mouths, as the view shows it.
 //!
 //! Source: this profile.
-ghost use Rattle.std.specs.Prelude.{◌≡◌, ℕ, ◌*◌, ◌<◌, length, false, slice_get, Some};
+ghost use Rattle.std.specs.Prelude.{◌≡◌, ℕ, ◌*◌, length, false, slice_get, Some};
 ghost use Rattle.std.specs.List.{list_any};
 ghost use Rattle.street_base.specs.Network.{Place, is_place};
 ghost use Rattle.street_lanes.specs.Lanes.{IsLane, AllLanes};
-ghost use Rattle.street_tile.specs.Tiles.{IsRoads, mouth};
+ghost use Rattle.street_net.specs.Slots.{mouth};
+ghost use Rattle.street_tile.specs.Tiles.{IsRoads};
 
-use crate::view::{View, slot};
+use crate::view::View;
 use street_lanes::Lanes;
-use street_net::Network;
+use street_net::{Network, slot};
 
 /// Copies the mouth of each of these lanes from a list of mouths into the view.
 pub(crate) fn copy_lanes(own: &Lanes, net: &Network, mouths: &[bool], view: &mut View)

@@ -1,33 +1,27 @@
 //! Releases from a tile's own buffers.
 //!
 //! Source: this profile.
-ghost use Rattle.std.specs.Prelude.{◌≡◌, ◌≢◌, ℕ, ◌+◌, ◌*◌, ◌<◌, ◌≤◌, length, List, [], ◌∷◌, ◌++◌, true, false, Some, None, option_map, filter_map, slice_get, slice_set, vec_len, vec_capacity, IsSome, IfSome};
-ghost use Rattle.street_base.specs.Network.{link_at};
-ghost use Rattle.street_base.specs.State.{Traffic, LaneState, Queued, lane_at};
+ghost use Rattle.std.specs.Prelude.{◌≡◌, ◌+◌, ◌*◌, ◌<◌, ◌≤◌, length, ◌++◌, false, Some, option_map, filter_map, vec_len, vec_capacity, IsSome, IfSome};
+ghost use Rattle.street_base.specs.State.{Traffic, Queued};
 ghost use Rattle.street_base.specs.Vehicle.{next_link};
-ghost use Rattle.street_base.specs.Limits.{most_plan};
-ghost use Rattle.street_base.specs.Release.{target, on_next_link};
 ghost use Rattle.street_net.specs.Tables.{place_of as named};
-ghost use Rattle.street_lanes.specs.Views.{LaneStands, without_front};
-ghost use Rattle.street_lanes.specs.Lanes.{IsLane, AllLanes, Same, GoesAt, lane_of, place_at};
+ghost use Rattle.street_lanes.specs.Views.{without_front};
+ghost use Rattle.street_lanes.specs.Lanes.{IsLane, AllLanes, Same, GoesAt};
 ghost use Rattle.street_lanes.specs.Whole.{LanesStand};
 ghost use Rattle.street_tile.specs.Halves.{crossing, let_go, entry_on};
-ghost use Rattle.street_tile.specs.Tiles.{IsRoads, mouth, slot_of};
-ghost use Rattle.street_tile.specs.Walks.{IsReleasing};
+ghost use Rattle.street_tile.specs.Tiles.{IsRoads};
+ghost use Rattle.street_tile.specs.Walks.{IsReleasing, Targets, HasFront, ReleasesFront};
 
 use crate::hand_over::HandOver;
-use crate::view::slot;
 use street_base::Step;
 use street_lanes::Lanes;
-use street_net::{LaneId, Network};
+use street_net::{LaneId, Network, slot};
 
 /// The lane that the front of a buffer would enter now, if it is ready and has a turn.
 fn candidate(own: &Lanes, net: &Network, n: usize, clock: Step) -> Option<LaneId>
     requires lane { n < length own.now.lanes }
     requires roads { IsRoads net.now }
-    ensures goes { (m : Traffic) → m.network ≡ net.now → m.clock ≡ clock
-        → LaneStands (lane_of own.now n) (lane_at m (place_at own.now n))
-        → option_map named result ≡ target m (place_at own.now n) }
+    ensures goes { Targets net.now clock own.now n (option_map named result) }
     ensures inside { IfSome result (λ to. IsLane net.now (named to)) }
 {
     let next = own.next_of_front(n, clock)?;
@@ -44,10 +38,8 @@ fn hand_over(own: &mut Lanes, net: &Network, n: usize, to: LaneId) -> Option<Han
     requires lane { n < length own.old.lanes }
     requires there { IsLane net.now (named to) }
     ensures goes { GoesAt n without_front own.old own.new }
-    ensures entry { (s : LaneState) → LaneStands (lane_of own.old n) s
-        → (q : Queued) → slice_get s.queue 0 ≡ Some q → IsSome (next_link q.vehicle) → result ≡ Some (entry_on net.now q.vehicle (named to)) }
-    ensures some { (s : LaneState) → LaneStands (lane_of own.old n) s
-        → (q : Queued) → slice_get s.queue 0 ≡ Some q → IsSome result }
+    ensures entry { (q : Queued) → HasFront own.old n q → IsSome (next_link q.vehicle) → result ≡ Some (entry_on net.now q.vehicle (named to)) }
+    ensures some { (q : Queued) → HasFront own.old n q → IsSome result }
     ensures room { own.old.room ≤ own.new.room }
 {
     let mut car = own.let_go(n)?;
@@ -72,16 +64,7 @@ fn release_front(
     requires there { IsLane net.now (named to) }
     requires wide { length mouths.old ≡ 2 * length net.now.links }
     requires room { vec_len handed.old < vec_capacity handed.old }
-    ensures shut { mouth mouths.old (named to) ≡ false → (own.new ≡ own.old)
-        × (mouths.new ≡ mouths.old) × (handed.new.items ≡ handed.old.items) }
-    ensures goes { mouth mouths.old (named to) ≡ true → GoesAt n without_front own.old own.new }
-    ensures mouths { mouth mouths.old (named to) ≡ true → (s : LaneState)
-        → (q : Queued) → LaneStands (lane_of own.old n) s → slice_get s.queue 0 ≡ Some q
-        → mouths.new ≡ slice_set mouths.old (slot_of (named to)) false }
-    ensures handed { mouth mouths.old (named to) ≡ true → (s : LaneState) → (q : Queued)
-        → LaneStands (lane_of own.old n) s → slice_get s.queue 0 ≡ Some q → IsSome (next_link q.vehicle)
-        → handed.new.items ≡ handed.old.items ++ entry_on net.now q.vehicle (named to) ∷ [] }
-    ensures lanes { own.old.room ≤ own.new.room }
+    ensures front { ReleasesFront net.now n (named to) own.old own.new mouths.old mouths.new handed.old.items handed.new.items }
     ensures grown { vec_len handed.new ≤ vec_len handed.old + 1 }
     ensures kept { vec_capacity handed.old ≤ vec_capacity handed.new }
 {

@@ -1,7 +1,7 @@
 //! One step of all tiles, phase by phase, each phase by a worker for each tile.
 //!
 //! Source: this profile, whose five phases a step has in this order.
-ghost use Rattle.std.specs.Prelude.{◌≡◌, ℕ, ◌+◌, ◌*◌, ◌<◌, ◌≤◌, length, List, [], ◌∷◌, ◌++◌, slice_index_or, true};
+ghost use Rattle.std.specs.Prelude.{◌≡◌, ◌+◌, ◌*◌, ◌<◌, ◌≤◌, length, List, [], ◌∷◌, ◌++◌, slice_index_or, true};
 ghost use Rattle.std.specs.List.{All};
 ghost use Rattle.street_base.specs.Limits.{last_clock};
 ghost use Rattle.street_base.specs.State.{Traffic};

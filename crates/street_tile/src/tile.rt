@@ -1,13 +1,14 @@
 //! A tile and its phases.
 //!
 //! Source: the order of the phases is this profile.
-ghost use Rattle.std.specs.Prelude.{◌≡◌, ℕ, ◌+◌, ◌*◌, ◌<◌, ◌≤◌, length, List, [], ◌∷◌, ◌++◌, Some, None, option_to_list, map, slice_get, true, false, IsTrue, ◌↔◌, OnOk, OnErr};
+ghost use Rattle.std.specs.Prelude.{◌≡◌, ℕ, ◌+◌, ◌*◌, ◌<◌, ◌≤◌, length, List, [], ◌∷◌, ◌++◌, Some, None, option_to_list, map, slice_get, true, false, IsTrue, ◌↔◌, OnOk};
 ghost use Rattle.std.specs.List.{list_any};
 ghost use Rattle.street_base.specs.Limits.{last_clock};
 ghost use Rattle.street_base.specs.Network.{Place, is_place};
 ghost use Rattle.street_lanes.specs.Lanes.{IsLane};
 ghost use Rattle.street_tile.specs.Halves.{Transfer, entry_in};
-ghost use Rattle.street_tile.specs.Tiles.{IsTileOf, IsPrepared, is_own, mouth};
+ghost use Rattle.street_net.specs.Slots.{mouth};
+ghost use Rattle.street_tile.specs.Tiles.{IsTileOf, IsPrepared, is_own};
 ghost use Rattle.street_tile.specs.Phases.{LanePhase, MotionPhase, ReleasePhase, EnterPhase, MeterPhase};
 ghost use Rattle.street_tile.specs.HandOvers.{Awaits};
 
@@ -18,11 +19,11 @@ use crate::lanes::{MotionStep, change_lanes, drive_lanes};
 use crate::meters::note_lanes;
 use crate::mouths::copy_lanes;
 use crate::release::release_lanes;
-use crate::view::{View, slot};
+use crate::view::View;
 use std::marker::Model;
 use street_base::{CarNo, Starved, Step};
 use street_lanes::{Detectors, Lanes};
-use street_net::Network;
+use street_net::{Network, slot};
 use street_node::SignalPlan;
 
 /// A block of nodes with all lanes of the links that run to them, and the vehicles there.

@@ -1,12 +1,12 @@
 //! Which lanes are open, as all tiles see it.
-ghost use Rattle.std.specs.Prelude.{◌≡◌, ◌+◌, ◌*◌, ◌<◌, length, slice_set, IfOk};
+ghost use Rattle.std.specs.Prelude.{◌≡◌, ◌*◌, ◌<◌, length, slice_set, IfOk};
 ghost use Rattle.street_net.specs.Tables.{place_of};
-ghost use Rattle.street_tile.specs.Tiles.{slot_of};
+ghost use Rattle.street_net.specs.Slots.{slot_of};
 
 use std::alloc::Global;
 use std::marker::Model;
-use street_base::{LaneNo, LinkIx, Starved};
-use street_net::{LaneId, Network};
+use street_base::Starved;
+use street_net::{LaneId, Network, slot};
 
 /// For each lane of a network whether its cell 0 is empty and not closed, two entries a link. Contracts see the list.
 pub struct View {
@@ -25,14 +25,6 @@ impl Model for View {
     ghost Value = { List Bool };
 
     ghost view = { λ v. v.mouths.items };
-}
-
-/// Where a lane stands in a list of two lanes a link.
-pub(crate) fn slot(link: LinkIx, lane: LaneNo) -> usize
-    requires { 2 * link + lane < 65536 }
-    ensures { result ≡ 2 * link + lane }
-{
-    2 * link.position() + usize::from(lane)
 }
 
 impl View {

@@ -1,5 +1,5 @@
 //! Calls of the lanes of a tile; the expected values are reckoned by hand.
-ghost use Rattle.std.specs.Prelude.{◌≡◌, ◌<◌, ◌≤◌, ◌+◌, ◌∷◌, [], length, IfOk};
+ghost use Rattle.std.specs.Prelude.{◌≡◌, ◌<◌, ◌+◌, ◌∷◌, [], length, IfOk};
 ghost use Rattle.street_lanes.specs.Lists.{HasShortPlan};
 
 use std::alloc::{AllocError, Global};
@@ -227,9 +227,9 @@ fn check_closed(rt: &impl Abort, lanes: &Lanes, closed: u64, is_open: bool) {
 fn close_and_reopen(rt: &impl Abort, lanes: &mut Lanes) -> Result<(), Fail> {
     assert!(rt; lanes.len() == 1);
     assert!(rt; lanes.length(0) == 5);
-    lanes.close(0, 0, 1)?;
+    lanes.set_closed(0, 0, 1, true)?;
     check_closed(rt, lanes, 2, false);
-    lanes.reopen(0, 0, 0)?;
+    lanes.set_closed(0, 0, 0, false)?;
     check_closed(rt, lanes, 1, true);
     Ok(())
 }

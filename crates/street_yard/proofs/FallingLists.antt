@@ -1,19 +1,20 @@
 -- Where the keys of a falling list are.
-use Rattle.std.proofs.Common.{◌≡◌, ◌≢◌, ℕ, ◌-◌, ◌<◌, ◌≤◌, true, false, cond, List, [], ◌∷◌, ◌++◌, length, Option, Some, None, IsSome, refl, sym, ap, subst, ◌∙◌, inl, inr, arith}
-use Rattle.std.specs.Prelude.{◌==◌}
+use Rattle.std.proofs.Common.{◌≡◌, ◌≢◌, ℕ, ◌-◌, ◌<◌, ◌≤◌, true, false, cond, List, [], ◌∷◌, ◌++◌, length, Option, Some, None, refl, sym, ap, subst, ◌∙◌, inl, inr, arith}
+use Rattle.std.specs.Prelude.{◌==◌, replicate}
 use Rattle.std.specs.Option.{option_map, option_and_then, unwrap_or}
 use Rattle.std.proofs.lemmas.Bool.{cases_Bool, cases_eq, cases_lt, cond-true, cond-false, eq-eqb, ne_eqb}
-use Rattle.std.proofs.lemmas.List.{get_or_past}
+use Rattle.std.proofs.lemmas.List.{get_or_past, get_or-replicate, length-replicate}
 use Rattle.std.proofs.lemmas.List.FromFn.{get_or-map-range_with_len, length-map-range_with_len, fill_by_all}
 use Rattle.street_base.specs.declared.car.Car.{Car}
-use Rattle.street_yard.specs.Yard.{YardEntry, Yard, list_at, entry_at, car_of, Has, IsWhole}
+use Rattle.street_yard.specs.Yard.{Yard, list_at, entry_at, car_of, Has, IsWhole}
 use Rattle.street_base.specs.Vehicle.{Vehicle, vehicle_of}
 use Rattle.street_base.specs.Lane.{vehicle_at, rear, is_covered}
 use Rattle.street_base.specs.Apart.{AreDisjoint}
+use Rattle.street_base.proofs.ApartLemmas.{nobody-apart}
 use Rattle.street_base.proofs.CoverLemmas.{rear-le, covered-run, covered-by}
 use Rattle.street_yard.specs.Listed.{cell_at, rear_at, vehicle_with, key_at, seen_at, cells_at, IsFalling, IsLane, AllAbove}
 use Rattle.street_yard.proofs.Keys.{has-later}
-use Rattle.street_yard.proofs.YardLemmas.{on_has_entry}
+use Rattle.street_yard.proofs.YardLemmas.{some_car, on_has_entry}
 
 module _ (cell : ℕ → ℕ) where
   pub falling-below : (bound : ℕ) (xs : List ℕ) (x : ℕ) → IsFalling cell bound xs → bound ≤ x → key_at cell xs x ≡ None
@@ -70,14 +71,10 @@ module _ (y : Yard) (n count : ℕ) (whole : IsWhole y) (falls : IsFalling (cell
     | inr h ↦ get_or_past (cells_at y n count) x None (rw cells-length h) ∙ sym (ap (option_and_then (vehicle_with y)) (falling-below (cell_at y) count (list_at y n) x falls h))
   ]
 
-  car_there : (o : Option YardEntry) → IsSome o → (c : Car) × (option_map (λ (e : YardEntry). e.car) o ≡ Some c)
-  car_there None h = absurd (cc)
-  car_there (Some e) h = (e.car, refl)
-
   pub seen-key : (x k : ℕ) → key_at (cell_at y) (list_at y n) x ≡ Some k → (v : Vehicle) × (vehicle_with y k ≡ Some v) × (vehicle_at (cells_at y n count) x ≡ Some v)
   seen-key x k e =
       let at = key_at-is (cell_at y) (list_at y n) x k e in
-      let car = car_there (entry_at y k) (on_has_entry y k n (whole.names k n at.1)) in
+      let car = some_car (entry_at y k) (on_has_entry y k n (whole.names k n at.1)) in
       let v : vehicle_with y k ≡ Some (vehicle_of car.0) = ap (option_map vehicle_of) car.1 in
       (vehicle_of car.0, v, cells-read x ∙ ap (option_and_then (vehicle_with y)) e ∙ v)
 
@@ -183,3 +180,24 @@ module _ (old new : Yard) (n : ℕ) (same_list : list_at new n ≡ list_at old n
     falls = subst (IsFalling (cell_at new) count) (sym same_list) (falling-agree (cell_at old) (cell_at new) count (list_at old n) same_cell lane.falls);
     disjoint = subst AreDisjoint (sym (cells-agree count)) lane.disjoint;
   }
+
+-- ---- longer, and empty
+
+-- a key that lies below all of a falling list comes behind them
+pub falling-push : (f : ℕ → ℕ) (bound : ℕ) (xs : List ℕ) (x : ℕ) → IsFalling f bound xs → AllAbove f (f x) xs → f x < bound → IsFalling f bound (xs ++ x ∷ [])
+falling-push f bound [] x falls above low = (low, tt)
+falling-push f bound (y ∷ ys) x falls above low = (falls.0, falling-push f (f y) ys x falls.1 above.1 above.0)
+
+pub no-cells : (y : Yard) (list count : ℕ) → list_at y list ≡ [] → cells_at y list count ≡ replicate count None
+unfolding cells_at
+no-cells y list count none = sym (fill_by_all (seen_at y list) (replicate count None) count None (length-replicate count None) (λ k h. get_or-replicate count k None None h ∙ sym (ap (λ l. seen_in l k) none)))
+  where
+    seen_in : List ℕ → ℕ → Option Vehicle
+    seen_in l k = option_and_then (vehicle_with y) (key_at (cell_at y) l k)
+
+-- an empty list stands for a lane with nobody in its cells
+pub nobody-lane : (y : Yard) (list count : ℕ) → list_at y list ≡ [] → IsLane y list count
+nobody-lane y list count empty = record {
+  falls = subst (IsFalling (cell_at y) count) (sym empty) tt;
+  disjoint = subst AreDisjoint (sym (no-cells y list count empty)) (nobody-apart count);
+}

@@ -1,16 +1,11 @@
 -- A car takes another key.
-use Rattle.std.proofs.Common.{◌≡◌, ◌≢◌, ℕ, zero, suc, ◌+◌, ◌<◌, false, List, [], ◌∷◌, ◌++◌, length, get_or, set, IsSome, IsSomeAnd, Option, Some, None, refl, sym, ap, subst, ◌∙◌, inl, inr, arith}
+use Rattle.std.proofs.Common.{◌≡◌, ◌≢◌, ℕ, zero, suc, ◌+◌, ◌<◌, false, List, [], ◌∷◌, ◌++◌, length, get_or, set, IsSomeAnd, Option, Some, None, refl, sym, ap, subst, ◌∙◌, inl, inr, arith}
 use Rattle.std.specs.Option.{option_map, option_and_then}
 use Rattle.std.proofs.lemmas.List.{append_assoc, get_or-set_other, length-set}
 use Rattle.street_base.specs.declared.car.Car.{Car}
 use Rattle.street_yard.specs.Yard.{YardEntry, Yard, list_at, entry_at, car_of, list_on, list_set, without, put_behind, last_or, Has, Away, IsApart, IsLoose, IsOnList, IsAhead, IsWhole, Updates, Renews}
 use Rattle.street_yard.proofs.Keys.{has-away, snoc_cases, last_or-push, put_behind-last}
-use Rattle.street_yard.proofs.YardLemmas.{entry-kept_set, entry-kept_set_other, car_of-list_set, parts_apart, split-within, without-is, list-written}
-
-pub entry-gone : (es : List (Option YardEntry)) (k : ℕ) → get_or (set es k None) k None ≡ None
-entry-gone [] k = refl
-entry-gone (e ∷ es) zero = refl
-entry-gone (e ∷ es) (suc k) = entry-gone es k
+use Rattle.street_yard.proofs.YardLemmas.{entry-gone, entry-kept_set, entry-kept_set_other, car_of-list_set, parts_apart, split-within, without-is, list-written}
 
 set-again : (xs : List (List ℕ)) (i : ℕ) (a b : List ℕ) → set (set xs i a) i b ≡ set xs i b
 set-again [] i a b = refl

@@ -1,14 +1,30 @@
 -- What every caller of a yard needs, over what contracts see.
 use Rattle.std.proofs.Common.{◌≡◌, ◌≢◌, ℕ, zero, suc, ◌<◌, ◌≤◌, Bool, false, cond, eqb, List, [], ◌∷◌, ◌++◌, length, get_or, set, IsSome, IsSomeAnd, Option, Some, None, refl, sym, ap, subst, ◌∙◌, inl, inr, arith, eq-eqb}
+use Rattle.std.specs.Prelude.{filter_map}
 use Rattle.std.specs.Option.{option_map, option_and_then, unwrap_or}
 use Rattle.std.proofs.lemmas.Bool.{cases_eq}
 use Rattle.std.proofs.lemmas.List.{get_or-set_same, get_or-set_other}
 use Rattle.street_base.specs.declared.car.Car.{Car}
-use Rattle.street_yard.specs.Yard.{YardEntry, Yard, list_at, entry_at, car_of, mark_of, list_on, kept_set, list_set, car_set, mark_set, without, first_or, Away, IsApart, IsLoose, IsWhole}
+use Rattle.street_yard.specs.Yard.{YardEntry, Yard, list_at, entry_at, car_of, mark_of, list_on, kept_set, list_set, car_set, mark_set, without, first_or, Has, Away, IsApart, IsLoose, IsWhole}
 use Rattle.street_yard.specs.Listed.{cell_at, AllAbove}
-use Rattle.street_yard.proofs.Keys.{Away-append, IsApart-split, listed_within, without-split}
+use Rattle.street_yard.proofs.Keys.{has-later, Away-append, IsApart-split, listed_within, without-split}
 
 -- a change of one key's entry
+
+pub entry-gone : (es : List (Option YardEntry)) (k : ℕ) → get_or (set es k None) k None ≡ None
+entry-gone [] k = refl
+entry-gone (e ∷ es) zero = refl
+entry-gone (e ∷ es) (suc k) = entry-gone es k
+
+-- an entry that is there has a car
+pub some_car : (o : Option YardEntry) → IsSome o → (c : Car) × (option_map (λ (e : YardEntry). e.car) o ≡ Some c)
+some_car None h = absurd (cc)
+some_car (Some e) h = (e.car, refl)
+
+-- what is read of the keys of a list
+pub mapped-same : {A : Type 0} (f g : ℕ → Option A) (xs : List ℕ) → ((x : ℕ) → Has xs x → f x ≡ g x) → filter_map f xs ≡ filter_map g xs
+mapped-same f g [] same = refl
+mapped-same f g (x ∷ xs) same = rw (same x ([], xs, refl), mapped-same f g xs (λ z h. same z (has-later x z xs h))) refl
 
 pub entry-kept_set : (es : List (Option YardEntry)) (k : ℕ) (f : YardEntry → YardEntry) → get_or (kept_set es k f) k None ≡ option_map f (get_or es k None)
 entry-kept_set [] k f = refl

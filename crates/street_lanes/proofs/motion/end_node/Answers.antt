@@ -1,5 +1,5 @@
 use Rattle.std.proofs.Common.{◌∙◌}
-use Rattle.street_lanes.proofs.Fresh.{get-some}
+use Rattle.std.proofs.lemmas.Option.{slice_get-get_or}
 use Rattle.street_lanes.proofs.Residences.{residence-within}
 use Rattle.street_lanes.proofs.motion.end_node.Goals as goal
 
@@ -10,4 +10,4 @@ pub bounds-as_slice-position : goal.bounds-as_slice-position
 bounds-as_slice-position c = rw (c.as_slice.ensures, c.spec.ensures.value, c.position.ensures) c.end_of.ensures.within
 
 pub returns-clause-node : goal.returns-clause-node
-returns-clause-node c = c.end_of.ensures.node ∙ rw (c.as_slice.ensures, c.spec.ensures.value, c.position.ensures) (get-some c.args.net.now.nodes c.end_of.result _ c.end_of.ensures.within)
+returns-clause-node c = c.end_of.ensures.node ∙ rw (c.as_slice.ensures, c.spec.ensures.value, c.position.ensures) (slice_get-get_or c.args.net.now.nodes c.end_of.result _ c.end_of.ensures.within)

@@ -5,7 +5,8 @@ use Rattle.std.proofs.lemmas.List.{append-nil, append_assoc, length-map, length-
 use Rattle.street_base.specs.Network.{link_at}
 use Rattle.street_net.specs.Tables.{place_of as lane_of, in_places}
 use Rattle.street_node.specs.Buffers.{queue_of}
-use Rattle.street_node.specs.Releases.{lane_to, slot_of, mouth, way_out, IsFront, SendsOn, Sends}
+use Rattle.street_net.specs.Slots.{slot_of, mouth}
+use Rattle.street_node.specs.Releases.{lane_to, way_out, IsFront, SendsOn, Sends}
 use Rattle.street_node.specs.declared.release.Released.{Released}
 use Rattle.street_net.specs.declared.lanes.LaneId.{LaneId}
 use Rattle.street_node.proofs.Queues.{head-on}
@@ -67,21 +68,21 @@ loop-k-preserved c =
                 elim (cases_Bool (mouth c.loop-k.mouths (lane_to r))) [
                   | inl is_open ↦ (
                     d.0 ++ r ∷ [],
-                    e.told is_open ∙ ap (λ (xs : List Released). xs ++ r ∷ []) d.1 ∙ append_assoc c.args.released.now.items d.0 (r ∷ []),
-                    subst (λ (ms : List Bool). AreDone c.args.network.now faultless c.args.node c.args.step (map (λ n. n.0) c.args.lists.now) apart one_each c.args.yard.now c.args.mouths.now wide (c.loop-k.k + 1) w.release_front.new.yard ms (d.0 ++ r ∷ [])) (sym (e.closes is_open))
+                    e.front.told is_open ∙ ap (λ (xs : List Released). xs ++ r ∷ []) d.1 ∙ append_assoc c.args.released.now.items d.0 (r ∷ []),
+                    subst (λ (ms : List Bool). AreDone c.args.network.now faultless c.args.node c.args.step (map (λ n. n.0) c.args.lists.now) apart one_each c.args.yard.now c.args.mouths.now wide (c.loop-k.k + 1) w.release_front.new.yard ms (d.0 ++ r ∷ [])) (sym (e.front.closes is_open))
                         (done-sent c.args.network.now faultless c.args.node c.args.step (map (λ n. n.0) c.args.lists.now) apart one_each c.args.yard.now c.args.mouths.now wide c.loop-k.k c.loop-k.yard w.release_front.new.yard c.loop-k.mouths d.0 _ r d.2 at way is_open c.loop-k.invariant.wide
                         (subst (λ n. IsFront c.args.network.now c.loop-k.yard (lane_of c.index-lanes-k.result) n r) named w.in-Some.ensures.front)
-                        (subst (λ n. SendsOn c.loop-k.yard w.release_front.new.yard n r.key.0 (link_at c.args.network.now r.turn.next).limit) named (e.goes is_open))),
+                        (subst (λ n. SendsOn c.loop-k.yard w.release_front.new.yard n r.key.0 (link_at c.args.network.now r.turn.next).limit) named (e.front.goes is_open))),
                   )
-                  | inr is_shut ↦ (let kept = e.shut is_shut in (
+                  | inr is_shut ↦ (let kept = e.front.shut is_shut in (
                     d.0,
                     kept.2 ∙ d.1,
                     rw (kept.0, kept.1) (done-shut c.args.network.now faultless c.args.node c.args.step (map (λ n. n.0) c.args.lists.now) apart one_each c.args.yard.now c.args.mouths.now wide c.loop-k.k c.loop-k.yard c.loop-k.mouths d.0 _ r d.2 at way is_shut),
                   ))
                 ];
             wide = elim (cases_Bool (mouth c.loop-k.mouths (lane_to r))) [
-              | inl is_open ↦ ap length (e.closes is_open) ∙ length-set c.loop-k.mouths (slot_of (lane_to r)) false ∙ c.loop-k.invariant.wide
-              | inr is_shut ↦ ap length (e.shut is_shut).1 ∙ c.loop-k.invariant.wide
+              | inl is_open ↦ ap length (e.front.closes is_open) ∙ length-set c.loop-k.mouths (slot_of (lane_to r)) false ∙ c.loop-k.invariant.wide
+              | inr is_shut ↦ ap length (e.front.shut is_shut).1 ∙ c.loop-k.invariant.wide
             ];
             room = omega (arith, h, c.loop-k.invariant.room, e.grown, e.capacity);
             kept = omega (arith, c.loop-k.invariant.kept, e.capacity);

@@ -12,13 +12,8 @@ use Rattle.street_yard.specs.Yard.{YardEntry, Yard, list_at, entry_at, car_of, l
 use Rattle.street_yard.specs.Listed.{cell_at, rear_at, vehicle_with, key_at, seen_at, cells_at, AllAbove, IsFalling, IsLane}
 use Rattle.street_yard.proofs.Keys.{has-later}
 use Rattle.street_yard.proofs.YardLemmas.{AllAbove-lower, AllAbove-push, car_of-list_set, cell_is, list-written}
-use Rattle.street_yard.proofs.FallingLists.{falling-agree, found-agree, key_at-drop, key_at-is, cells-read, stands-key, rear-under}
+use Rattle.street_yard.proofs.FallingLists.{falling-push, falling-agree, found-agree, key_at-drop, key_at-is, cells-read, stands-key, rear-under}
 use Rattle.street_part_tests.proofs.motion.put.Goals as goal
-
--- a key that lies below all of a falling list comes behind them
-falling-push : (f : ℕ → ℕ) (bound : ℕ) (xs : List ℕ) (x : ℕ) → IsFalling f bound xs → AllAbove f (f x) xs → f x < bound → IsFalling f bound (xs ++ x ∷ [])
-falling-push f bound [] x falls above within = (within, tt)
-falling-push f bound (u ∷ xs) x falls above within = (falls.0, falling-push f (f u) xs x falls.1 above.1 above.0)
 
 above-agree : (f g : ℕ → ℕ) (cell : ℕ) (xs : List ℕ) → ((k : ℕ) → Has xs k → f k ≡ g k) → AllAbove f cell xs → AllAbove g cell xs
 above-agree f g cell [] same above = tt

@@ -6,7 +6,7 @@ use Rattle.std.proofs.lemmas.Option.{slice_get-map, slice_get-get_or, slice_get_
 use Rattle.street_base.specs.Network.{Place}
 use Rattle.street_net.specs.declared.lanes.LaneId.{LaneId}
 use Rattle.street_net.specs.Tables.{place_of}
-use Rattle.street_tile.specs.Tiles.{slot_of}
+use Rattle.street_net.specs.Slots.{slot_of}
 use Rattle.street_tile.proofs.EmptyTile.{numbered-more}
 use Rattle.street_tile.proofs.cut.numbers_of.Goals as goal
 

@@ -2,7 +2,7 @@ use Rattle.std.proofs.Common.{◌≡◌, ℕ, ◌*◌, ◌<◌, length, map, get
 use Rattle.std.specs.Prelude.{Some, slice_get}
 use Rattle.street_base.specs.Network.{Place}
 use Rattle.street_net.specs.Tables.{place_of}
-use Rattle.street_tile.specs.Tiles.{slot_of}
+use Rattle.street_net.specs.Slots.{slot_of}
 use Rattle.street_tile.proofs.cut.numbers_of.Given as goal
 
 abbrev pub invariant-loop-n : goal.invariant-loop-n

@@ -5,7 +5,7 @@ use Rattle.std.proofs.lemmas.Option.{slice_get_within}
 use Rattle.street_base.specs.Network.{Place}
 use Rattle.street_net.specs.Tables.{place_of}
 use Rattle.street_lanes.specs.Lanes.{place_at}
-use Rattle.street_tile.specs.Tiles.{mouth, slot_of}
+use Rattle.street_net.specs.Slots.{mouth, slot_of}
 use Rattle.street_tile.proofs.SameLanes.{place-is}
 use Rattle.street_tile.proofs.HeldMouths.{IsHeld, slot-inside, shown-start, shown-next}
 use Rattle.street_tile.proofs.mouths.copy_lanes.Goals as goal
@@ -14,7 +14,9 @@ pub loop-n-init : goal.loop-n-init
 loop-n-init c = λ roads there. shown-start c.args.net.now roads c.args.own.now.places there (IsHeld c.args.mouths.now) c.args.view.now c.requires.wide
 
 pub slot-requires : goal.slot-requires
-slot-requires c = subst (λ (p : Place). slot_of p < 65536) (sym c.at-at.ensures) (slot-inside c.args.net.now c.requires.roads c.args.own.now c.requires.there c.loop-n.n (omega arith)).0
+slot-requires c =
+    let small : slot_of (place_of c.at-at.result) < 65536 = subst (λ (p : Place). slot_of p < 65536) (sym c.at-at.ensures) (slot-inside c.args.net.now c.requires.roads c.args.own.now c.requires.there c.loop-n.n (omega arith)).0 in
+    omega arith
 
 pub bounds-mouths-slot : goal.bounds-mouths-slot
 bounds-mouths-slot c =

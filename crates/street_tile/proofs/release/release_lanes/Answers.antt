@@ -8,10 +8,12 @@ use Rattle.street_net.specs.Tables.{place_of}
 use Rattle.street_lanes.specs.Views.{LaneStands}
 use Rattle.street_lanes.specs.Lanes.{Lanes, lane_of, place_at}
 use Rattle.street_tile.specs.Halves.{Transfer}
-use Rattle.street_tile.specs.Tiles.{IsRoads, mouth}
+use Rattle.street_net.specs.Slots.{mouth}
+use Rattle.street_tile.specs.Tiles.{IsRoads}
 use Rattle.street_tile.specs.Walks.{IsReleasing}
 use Rattle.street_tile.proofs.SameLanes.{same-none, same-then, same-long}
-use Rattle.street_tile.proofs.TileReleases.{IsReleased, leads-of, released-start, released-here, released-none, released-shut, released-goes, released-lanes, released-handed}
+use Rattle.street_node.proofs.Crossings.{leads-of}
+use Rattle.street_tile.proofs.TileReleases.{IsReleased, released-start, released-here, released-none, released-shut, released-goes, released-lanes, released-handed}
 use Rattle.street_tile.proofs.release.release_lanes.Goals as goal
 use Rattle.street_tile.proofs.release.release_lanes.Goals.{in-Some, in_default}
 
@@ -62,10 +64,10 @@ loop-n-preserved c =
           let e = w.release_front.ensures in
           rw (w.own-is, w.mouths-is, w.handed-is) (record {
             same = elim (cases_Bool (mouth c.loop-n.mouths (place_of w.in-Some.to))) [
-              | inl is_open ↦ same-then c.args.own.now c.loop-n.own w.release_front.new.own c.loop-n.invariant.same (e.goes is_open).same
-              | inr is_shut ↦ rw (e.shut is_shut).0 c.loop-n.invariant.same
+              | inl is_open ↦ same-then c.args.own.now c.loop-n.own w.release_front.new.own c.loop-n.invariant.same (e.front.goes is_open).same
+              | inr is_shut ↦ rw (e.front.shut is_shut).0 c.loop-n.invariant.same
             ];
-            room = omega (arith, c.loop-n.invariant.room, e.lanes);
+            room = omega (arith, c.loop-n.invariant.room, e.front.room);
             left = omega (arith, c.loop-n.invariant.left, e.grown, e.kept);
             kept = omega (arith, c.loop-n.invariant.kept, e.kept);
             released = λ roads even m r.
@@ -75,12 +77,12 @@ loop-n-preserved c =
                 elim (cases_Bool (mouth c.loop-n.mouths (place_of w.in-Some.to))) [
                   | inl is_open ↦ (
                       let lead = leads-of m (place_at c.args.own.now c.loop-n.n) (place_of w.in-Some.to) leads in
-                      rw (e.mouths is_open (lane_at m (place_at c.args.own.now c.loop-n.n)) lead.0 (here c roads even m r) lead.1.front)
+                      rw (e.front.mouths is_open lead.0 (record { lane = lane_at m (place_at c.args.own.now c.loop-n.n); stands = here c roads even m r; first = lead.1.front }))
                       (released-goes c.args.net.now roads c.args.clock c.args.own.now even c.args.mouths.now c.args.handed.now.items m r c.loop-n.n c.loop-n.own c.loop-n.mouths c.loop-n.handed.items (within c roads even m r) (so_far c roads even m r) (place_of w.in-Some.to) leads inside
-                      w.release_front.new.own w.release_front.new.handed.items (omega (arith, c.requires.wide)) is_open (e.goes is_open)
-                      (λ q l. e.handed is_open (lane_at m (place_at c.args.own.now c.loop-n.n)) q (here c roads even m r) l.front l.next)))
+                      w.release_front.new.own w.release_front.new.handed.items (omega (arith, c.requires.wide)) is_open (e.front.goes is_open)
+                      (λ q l. e.front.handed is_open q (record { lane = lane_at m (place_at c.args.own.now c.loop-n.n); stands = here c roads even m r; first = l.front }) l.next)))
                   | inr is_shut ↦ (
-                      let kept = e.shut is_shut in
+                      let kept = e.front.shut is_shut in
                       rw (kept.0, kept.1, kept.2)
                       (released-shut c.args.net.now roads c.args.clock c.args.own.now even c.args.mouths.now c.args.handed.now.items m r c.loop-n.n c.loop-n.own c.loop-n.mouths c.loop-n.handed.items (within c roads even m r) (so_far c roads even m r) (place_of w.in-Some.to) leads inside is_shut))
                 ];

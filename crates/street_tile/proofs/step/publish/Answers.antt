@@ -2,7 +2,8 @@ use Rattle.std.proofs.Common.{◌≡◌, get_or, subst, sym, ap, arith, false, �
 use Rattle.std.specs.Prelude.{Some, slice_get}
 use Rattle.std.specs.List.{list_any}
 use Rattle.street_base.specs.Network.{is_place}
-use Rattle.street_tile.specs.Tiles.{Part, IsTileOf, mouth}
+use Rattle.street_net.specs.Slots.{mouth}
+use Rattle.street_tile.specs.Tiles.{Part, IsTileOf}
 use Rattle.street_tile.proofs.Rows.{in-row, roads-of}
 use Rattle.street_tile.proofs.PublishedView.{published-start, published-next, published-all}
 use Rattle.street_tile.proofs.step.publish.Goals as goal

@@ -1,6 +1,6 @@
 use Rattle.std.proofs.Common.{arith}
 use Rattle.street_tile.proofs.Rows.{in-row, roads-of}
-use Rattle.street_tile.proofs.BetweenPhases.{tiles-each, tiles-lanes, tiles-motion, tiles-release, tiles-move, tiles-enter, tiles-meter, in-time-lanes, shown-motion, stand-motion, release-lanes, in-time, whole-step}
+use Rattle.street_tile.proofs.BetweenPhases.{tiles-each, tiles-lanes, tiles-motion, tiles-release, tiles-move, tiles-enter, in-time-lanes, shown-motion, stand-motion, release-lanes, in-time, whole-step}
 use Rattle.street_tile.proofs.step.step_all.Goals as goal
 
 pub all_motion-requires-clause-tiles : goal.all_motion-requires-clause-tiles

@@ -1,4 +1,4 @@
-use Rattle.std.proofs.Common.{◌≡◌, length, arith}
+use Rattle.std.proofs.Common.{arith}
 use Rattle.street_tile_tests.proofs.PreparedTiles.{tiles-kept, idle-kept, prepared-kept, new-stand}
 use Rattle.street_tile_tests.proofs.steps.step.Goals as goal
 

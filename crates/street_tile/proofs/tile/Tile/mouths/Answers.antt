@@ -6,7 +6,8 @@ use Rattle.street_base.specs.Network.{is_place}
 use Rattle.street_base.proofs.PlaceLemmas.{places-listed}
 use Rattle.street_base.proofs.PlaceOnceLemmas.{places-once}
 use Rattle.street_tile.specs.Inside.{seen}
-use Rattle.street_tile.specs.Tiles.{Part, IsTileOf, is_own, mouth}
+use Rattle.street_net.specs.Slots.{mouth}
+use Rattle.street_tile.specs.Tiles.{Part, IsTileOf, is_own}
 use Rattle.street_tile.proofs.Phases.{tile-lanes}
 use Rattle.street_tile.proofs.LaneOwners.{all-own}
 use Rattle.street_tile.proofs.MovedHandOvers.{own-listed}

@@ -13,7 +13,7 @@ use Rattle.street_lanes.specs.Whole.{LanesStand}
 use Rattle.street_lanes.specs.Motion.{cells_on}
 use Rattle.street_tile.specs.Halves.{vehicle_in}
 use Rattle.street_tile.specs.Tiles.{ShowSignals, AreNumbers, AreBare, AreDue, own_places, sizes_of}
-use Rattle.street_tile.specs.Walks.{AtMostOnce}
+use Rattle.street_node.specs.Walks.{AtMostOnce}
 use Rattle.street_tile.proofs.OwnLanes.{own-lanes, own-once}
 use Rattle.street_tile.proofs.EmptyTile.{faultless-roads, loaded-lanes, loaded-clock, loaded-signals, nobody-comes}
 use Rattle.street_tile.proofs.MetersStand.{bare-sizes, bare-all, bare-due, bare-stand}

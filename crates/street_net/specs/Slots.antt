@@ -1,0 +1,12 @@
+-- Lists with two entries for each link of a network, one a lane.
+-- Source: this profile.
+use Rattle.std.specs.Prelude.{ℕ, ◌+◌, ◌*◌, List, Bool, false, slice_index_or}
+use Rattle.street_base.specs.Network.{Place}
+
+-- where a lane stands
+abbrev pub slot_of : Place → ℕ
+slot_of p = 2 * p.link + p.lane
+
+-- of a list of mouths, that of a lane
+abbrev pub mouth : List Bool → Place → Bool
+mouth mouths p = slice_index_or mouths (slot_of p) false

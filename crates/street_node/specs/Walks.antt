@@ -1,0 +1,28 @@
+-- A walk over buffers, against the choice by entrance.
+-- Source: releases are this profile.
+use Rattle.std.specs.Prelude.{◌≡◌, ℕ, ◌≤◌, List, Bool, true, not, ◌&&◌, Some, find, sum_by, slice_get, take}
+use Rattle.std.specs.List.{list_any}
+use Rattle.street_base.specs.Network.{Place, is_place, places}
+use Rattle.street_base.specs.Lane.{is_free}
+use Rattle.street_base.specs.State.{Traffic, lane_at}
+use Rattle.street_base.specs.Census.{one_if}
+use Rattle.street_base.specs.Release.{may_give}
+use Rattle.street_net.specs.Slots.{mouth}
+
+-- how often a lane stands in a list
+abbrev pub times : Place → List Place → ℕ
+times q ps = sum_by (λ p. one_if (is_place q p)) ps
+
+abbrev pub AtMostOnce : List Place → Type 0
+AtMostOnce ps = (q : Place) → times q ps ≤ 1
+
+-- the order of a walk over buffers: each at most once; and for a lane to which one of them leads, the first is that of the whole network
+pub record IsWalk (m : Traffic) (ps : List Place) : Type 0 where
+  pub once : AtMostOnce ps
+  pub firsts : (k : ℕ) (to from : Place) → slice_get ps k ≡ Some from → may_give m to from ≡ true
+      → find (may_give m to) ps ≡ find (may_give m to) (places m.network)
+
+-- after the first k buffers of a walk the mouth of each lane of these is open if its cell 0 is free, and none of those buffers is
+-- ready to go there
+abbrev pub AreShut : Traffic → (Place → Type 0) → List Place → ℕ → List Bool → Type 0
+AreShut m Among ps k mouths = (p : Place) → Among p → mouth mouths p ≡ is_free (lane_at m p).track 0 && not (list_any (may_give m p) (take k ps))
