@@ -42,8 +42,8 @@ closing-marks first last old new h x = h x ∙ by_closing (is_in old x) (is_betw
 pub opening-marks : (first last : ℕ) (old new : List Stretch) → ((x : ℕ) → is_in new x ≡ (is_in old x && not (is_between first last x))) → Marks false first last old new
 opening-marks first last old new h x = h x ∙ by_opening (is_in old x) (is_between first last x)
 
-pub within-marked : (closed : Bool) (old new : List Stretch) (first last count : ℕ) → Marks closed first last old new → last < count → IsWithin old count → IsWithin new count
-within-marked true old new first last count marks low inside = IsWithin-closed old new first last count (λ x. marks x ∙ sym (by_closing (is_in old x) (is_between first last x))) low inside
+pub within-marked : (closed : Bool) (old new : List Stretch) (first last count : ℕ) → Marks closed first last old new → (closed ≡ true → last < count) → IsWithin old count → IsWithin new count
+within-marked true old new first last count marks low inside = IsWithin-closed old new first last count (λ x. marks x ∙ sym (by_closing (is_in old x) (is_between first last x))) (low refl) inside
 within-marked false old new first last count marks low inside = IsWithin-opened old new first last count (λ x. marks x ∙ sym (by_opening (is_in old x) (is_between first last x))) inside
 
 -- the marks of the cells are those of the definition

@@ -1,7 +1,7 @@
 //! Commands that name one lane or one node.
 //!
 //! Source: this profile.
-ghost use Rattle.std.specs.Prelude.{◌≡◌, ◌<◌, ◌≤◌, length, Some, true, slice_get, IfOk, OnOk, OnErr};
+ghost use Rattle.std.specs.Prelude.{◌≡◌, ◌<◌, ◌≤◌, length, Some, true, false, slice_get, IfOk, OnOk, OnErr};
 ghost use Rattle.street_base.specs.declared.net.NetSpec.{NetSpec};
 ghost use Rattle.street_base.specs.Network.{link_at};
 ghost use Rattle.street_base.specs.Signal.{SignalPlan as PlanSeen};
@@ -66,6 +66,58 @@ impl Tile {
         self.signals[at] = Some(plan);
     }
 
+    /// Closes cells of an own lane, and tells how many of its cells are closed then.
+    ///
+    /// # Errors
+    /// Memory was refused; the tile is as it was.
+    pub fn close(
+        &mut self,
+        net: &Network,
+        at: LaneId,
+        first: CellNo,
+        last: CellNo,
+    ) -> Result<u64, Starved>
+        requires tile { IsTileOf net.now self.old }
+        requires lane { IsLane net.now (place_of at) }
+        requires own { is_own net.now self.old.low self.old.high (place_of at) ≡ true }
+        requires order { first ≤ last }
+        requires within { last < (link_at net.now at.link).length }
+        ensures marks { OnOk result (Does net.now (at_place (place_of at) (with_marks true first last)) self.old self.new) }
+        ensures count { IfOk result (λ count. (m : Traffic) → IsOn net.now m → StandsFor self.old m
+            → count ≡ closed_after true first last (lane_at m (place_of at))) }
+        ensures starved { OnErr result (KeepsAll self.old self.new) }
+    {
+        let lane = self.number(net, at);
+        self.own.set_closed(lane, first, last, true)?;
+        Ok(self.own.closed_cells(lane))
+    }
+
+    /// Opens cells of an own lane again, and tells how many of its cells are closed then.
+    ///
+    /// # Errors
+    /// Memory was refused; the tile is as it was.
+    pub fn reopen(
+        &mut self,
+        net: &Network,
+        at: LaneId,
+        first: CellNo,
+        last: CellNo,
+    ) -> Result<u64, Starved>
+        requires tile { IsTileOf net.now self.old }
+        requires lane { IsLane net.now (place_of at) }
+        requires own { is_own net.now self.old.low self.old.high (place_of at) ≡ true }
+        requires order { first ≤ last }
+        requires within { last < (link_at net.now at.link).length }
+        ensures marks { OnOk result (Does net.now (at_place (place_of at) (with_marks false first last)) self.old self.new) }
+        ensures count { IfOk result (λ count. (m : Traffic) → IsOn net.now m → StandsFor self.old m
+            → count ≡ closed_after false first last (lane_at m (place_of at))) }
+        ensures starved { OnErr result (KeepsAll self.old self.new) }
+    {
+        let lane = self.number(net, at);
+        self.own.set_closed(lane, first, last, false)?;
+        Ok(self.own.closed_cells(lane))
+    }
+
     /// Closes cells of an own lane, or opens them, and tells how many of its cells are closed then.
     ///
     /// # Errors
@@ -88,9 +140,10 @@ impl Tile {
             → count ≡ closed_after closed first last (lane_at m (place_of at))) }
         ensures starved { OnErr result (KeepsAll self.old self.new) }
     {
-        let lane = self.number(net, at);
-        self.own.set_closed(lane, first, last, closed)?;
-        Ok(self.own.closed_cells(lane))
+        if closed {
+            return self.close(net, at, first, last);
+        }
+        self.reopen(net, at, first, last)
     }
 
     /// All of an own lane.

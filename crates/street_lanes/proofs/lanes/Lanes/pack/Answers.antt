@@ -1,4 +1,4 @@
-use Rattle.std.proofs.Common.{◌≡◌, ap, subst, ◌∙◌}
+use Rattle.std.proofs.Common.{ap, subst, ◌∙◌}
 use Rattle.street_yard.specs.Yard.{Yard}
 use Rattle.street_rule.specs.Odds.{Odds}
 use Rattle.street_lanes.specs.Lists.{Packs}
