@@ -74,7 +74,7 @@ pub(crate) fn call_with_memory<R: Threads + Wait + Sync>(
     engine: &mut Engine<Unwatched>,
     command: &Command,
 ) -> Result<Reply, Stop> {
-    let (reply, outcome) = engine.apply_by_team(rt, command);
+    let (reply, outcome) = engine.apply(rt, command);
     match outcome {
         Outcome::Whole => Ok(reply),
         _ => Err(Stop::OutOfMemory),
@@ -91,7 +91,7 @@ pub(crate) fn call<R: Threads + Wait + Sync>(
     met: &mut Met,
 ) -> Result<Answer, Stop> {
     let before = counts(rt, engine)?;
-    let (reply, outcome) = engine.apply_by_team(rt, command);
+    let (reply, outcome) = engine.apply(rt, command);
     match outcome {
         Outcome::Whole => Ok(Answer::Whole(reply)),
         Outcome::Starved => {
