@@ -19,12 +19,6 @@ use Rattle.street_tile.specs.TileDetectors.{MetersStand, detectors_at, detectors
 use Rattle.street_engine.specs.declared.sites.DetectorSite.{DetectorSite}
 use Rattle.street_engine.specs.Sites.{IsDetectorSite, AreDetectorSites}
 
--- a tile with the same detectors on the same lanes, of traffic with the same ones
-pub same-meters : (x y : Part) (m n : Traffic) → y.own.places ≡ x.own.places → y.detectors ≡ x.detectors → n.detectors ≡ m.detectors → MetersStand x m → MetersStand y n
-same-meters x y m n places kept detectors stand k p at =
-    subst (λ gs. MetersStandFor (detectors_at gs k).meters (detectors_on p n.detectors)) (sym kept)
-    (subst (λ ds. MetersStandFor (detectors_at x.detectors k).meters (detectors_on p ds)) (sym detectors) (stand k p (ap (λ (ps : List Place). slice_get ps k) (sym places) ∙ at)))
-
 -- ---- each detector is another, where it was
 
 module _ (f : Detector → Detector) (stays : (d : Detector) → (f d).place ≡ d.place) where

@@ -62,11 +62,11 @@ module _ (s : StreetsView) (link lane cell period : ℕ) where
   as-closure : (m : Traffic) → closure_refusal link lane cell cell m ≡ first_of (cell_tests m)
   as-closure m = let e : nat_lt cell cell ≡ false = le-ltb cell cell (omega arith) in rw e refl
 
-  pub meter-refused : (q : Refusal) → ((m : Traffic) → m.network ≡ s.network → closure_refusal link lane cell cell m ≡ Some q) → Serves (Some s) (PlaceMeter link lane cell period) (Refused q) Whole (Some s)
+  pub meter-refused : (q : Refusal) → ((m : Traffic) → m.network ≡ s.tiles.network → closure_refusal link lane cell cell m ≡ Some q) → Serves (Some s) (PlaceMeter link lane cell period) (Refused q) Whole (Some s)
   meter-refused q refused = streets-refused s (PlaceMeter link lane cell period) q (λ m stands.
       first-stays (cell_tests m) (later m) q (sym (as-closure m) ∙ refused m (same-network s m stands)))
 
-  module _ (passed : (m : Traffic) → m.network ≡ s.network → closure_refusal link lane cell cell m ≡ None) where
+  module _ (passed : (m : Traffic) → m.network ≡ s.tiles.network → closure_refusal link lane cell cell m ≡ None) where
     reaches : (m : Traffic) → StreetsStandFor s m → place_refusal link lane cell period m ≡ first_of (later m)
     reaches m stands = first-passes (cell_tests m) (later m) (sym (as-closure m) ∙ passed m (same-network s m stands))
 
@@ -88,7 +88,7 @@ module _ (s : StreetsView) (link lane cell period : ℕ) where
         pub meter-starved : StreetsGo (λ m. m) s t → Serves (Some s) (PlaceMeter link lane cell period) StarvedReply Starved (Some t)
         meter-starved keeps = streets-starved s (PlaceMeter link lane cell period) t (λ m stands. subst MayStarveUnder (sym (accepted m stands)) tt) keeps
 
-        pub meter-done : (at : Place) (first steps number : ℕ) → at ≡ named_lane s.network link lane → first ≡ cell → steps ≡ period → number ≡ length s.sites → StreetsGo (λ m. metered m at first steps) s t → Serves (Some s) (PlaceMeter link lane cell period) (Placed number) Whole (Some t)
+        pub meter-done : (at : Place) (first steps number : ℕ) → at ≡ named_lane s.tiles.network link lane → first ≡ cell → steps ≡ period → number ≡ length s.sites → StreetsGo (λ m. metered m at first steps) s t → Serves (Some s) (PlaceMeter link lane cell period) (Placed number) Whole (Some t)
         meter-done at first steps number place first_is steps_is number_is goes =
             streets-done s (PlaceMeter link lane cell period) t (Placed number) (λ m. metered m (named_lane m.network link lane) cell period) (λ m. refl)
             (λ m stands.

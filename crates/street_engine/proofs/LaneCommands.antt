@@ -20,20 +20,20 @@ use Rattle.street_engine.proofs.Serves.{same-network, streets-refused, streets-s
 
 module _ (s : StreetsView) (link lane : ℕ) where
   -- the lane that the machine names
-  named-as : (at : Place) → at ≡ named_lane s.network link lane → (m : Traffic) → StreetsStandFor s m → at ≡ named_lane m.network link lane
+  named-as : (at : Place) → at ≡ named_lane s.tiles.network link lane → (m : Traffic) → StreetsStandFor s m → at ≡ named_lane m.network link lane
   named-as at place m stands = place ∙ ap (λ (net : NetSpec). named_lane net link lane) (sym (same-network s m stands))
 
   -- ---- cells
 
   module _ (first last : ℕ) (closed : Bool) where
-    pub closing-refused : (q : Refusal) → ((m : Traffic) → m.network ≡ s.network → closure_refusal link lane first last m ≡ Some q) → Serves (Some s) (closing closed link lane first last) (Refused q) Whole (Some s)
+    pub closing-refused : (q : Refusal) → ((m : Traffic) → m.network ≡ s.tiles.network → closure_refusal link lane first last m ≡ Some q) → Serves (Some s) (closing closed link lane first last) (Refused q) Whole (Some s)
     closing-refused q refused = streets-refused s (closing closed link lane first last) q (λ m stands. refusal-of closed m ∙ refused m (same-network s m stands))
       where
         refusal-of : (b : Bool) (m : Traffic) → refusal (Some m) (closing b link lane first last) ≡ closure_refusal link lane first last m
         refusal-of true m = refl
         refusal-of false m = refl
 
-    module _ (passed : (m : Traffic) → m.network ≡ s.network → closure_refusal link lane first last m ≡ None) (t : StreetsView) where
+    module _ (passed : (m : Traffic) → m.network ≡ s.tiles.network → closure_refusal link lane first last m ≡ None) (t : StreetsView) where
       accepted : (m : Traffic) → StreetsStandFor s m → closure_refusal link lane first last m ≡ None
       accepted m stands = passed m (same-network s m stands)
 
@@ -44,7 +44,7 @@ module _ (s : StreetsView) (link lane : ℕ) where
           by_closed true = streets-starved s (CloseLane link lane first last) t (λ m stands. subst MayStarveUnder (sym (accepted m stands)) tt) keeps
           by_closed false = streets-starved s (ReopenLane link lane first last) t (λ m stands. subst MayStarveUnder (sym (accepted m stands)) tt) keeps
 
-      module _ (at : Place) (low high count : ℕ) (place : at ≡ named_lane s.network link lane) (low_is : low ≡ first) (high_is : high ≡ last) where
+      module _ (at : Place) (low high count : ℕ) (place : at ≡ named_lane s.tiles.network link lane) (low_is : low ≡ first) (high_is : high ≡ last) where
         goes-as : StreetsGo (with_closure closed at low high) s t → StreetsGo (λ m. with_closure closed (named_lane m.network link lane) first last m) s t
         goes-as goes = λ m stands.
             subst (λ (p : Place). StreetsStandFor t (with_closure closed p first last m)) (named-as at place m stands)
@@ -68,15 +68,15 @@ module _ (s : StreetsView) (link lane : ℕ) where
 
   -- ---- a lane
 
-  pub lane-refused : (q : Refusal) → ((m : Traffic) (rest : List (Bool × Refusal)) → m.network ≡ s.network → first_of (lane_tests link lane m ++ rest) ≡ Some q) → Serves (Some s) (AskLane link lane) (Refused q) Whole (Some s)
+  pub lane-refused : (q : Refusal) → ((m : Traffic) (rest : List (Bool × Refusal)) → m.network ≡ s.tiles.network → first_of (lane_tests link lane m ++ rest) ≡ Some q) → Serves (Some s) (AskLane link lane) (Refused q) Whole (Some s)
   lane-refused q refused = streets-refused s (AskLane link lane) q (λ m stands. refused m [] (same-network s m stands))
 
-  module _ (passed : (m : Traffic) (rest : List (Bool × Refusal)) → m.network ≡ s.network → first_of (lane_tests link lane m ++ rest) ≡ first_of rest) where
+  module _ (passed : (m : Traffic) (rest : List (Bool × Refusal)) → m.network ≡ s.tiles.network → first_of (lane_tests link lane m ++ rest) ≡ first_of rest) where
     there : (m : Traffic) → StreetsStandFor s m → lane_refusal link lane m ≡ None
     there m stands = passed m [] (same-network s m stands)
 
     pub lane-starved : Serves (Some s) (AskLane link lane) StarvedReply Starved (Some s)
     lane-starved = streets-starving s (AskLane link lane) (λ m stands. subst MayStarveUnder (sym (there m stands)) tt)
 
-    pub lane-shown : (at : Place) (reply : Reply) → at ≡ named_lane s.network link lane → ((m : Traffic) → StreetsStandFor s m → reply ≡ shown_lane (lane_at m at)) → Serves (Some s) (AskLane link lane) reply Whole (Some s)
+    pub lane-shown : (at : Place) (reply : Reply) → at ≡ named_lane s.tiles.network link lane → ((m : Traffic) → StreetsStandFor s m → reply ≡ shown_lane (lane_at m at)) → Serves (Some s) (AskLane link lane) reply Whole (Some s)
     lane-shown at reply place shown = streets-told s (AskLane link lane) reply (λ m. refl) (λ m stands. (there m stands, shown m stands ∙ ap (λ (p : Place). shown_lane (lane_at m p)) (named-as at place m stands)))

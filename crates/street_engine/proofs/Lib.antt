@@ -9,15 +9,6 @@ pub mod SignalCommand
 pub mod EnterCommand
 pub mod DetectorCommands
 mod AreSites
-mod Together
-mod LaneUpdate
-mod SignalPlans
-mod Sums
-mod Ones
-mod TakenOut
-mod PlacedDetector
-mod Seen
-mod LaneCounts
 mod Arrivals
 mod AreComing
 mod StepArrivals

@@ -49,7 +49,7 @@ some-stands s m stands = stands
 module _ (s : StreetsView) (m : Traffic) (stands : StreetsStandFor s m) where
   pub same-network : m.network ≡ s.network
   unfolding StreetsStandFor
-  same-network = stands.tiles.on.network
+  same-network = stands.tiles.lanes.on.network
 
   pub same-clock : m.clock ≡ s.clock
   unfolding StreetsStandFor

@@ -32,26 +32,26 @@ judged : Option ℕ → Option ℕ → Option Refusal
 judged found fault = first_of ((not (is_some found), NoNode) ∷ (is_some fault, BadSignal (unwrap_or fault 0)) ∷ [])
 
 module _ (s : StreetsView) (node offset : ℕ) (phases : List PhaseSpec) where
-  refusal-as : (found fault : Option ℕ) → node_of s.network node ≡ found → signal_fault s.network node offset phases ≡ fault → (m : Traffic) → StreetsStandFor s m → signal_refusal node offset phases m ≡ judged found fault
+  refusal-as : (found fault : Option ℕ) → node_of s.tiles.network node ≡ found → signal_fault s.tiles.network node offset phases ≡ fault → (m : Traffic) → StreetsStandFor s m → signal_refusal node offset phases m ≡ judged found fault
   unfolding judged
   refusal-as found fault a b m stands =
       ap (λ (net : NetSpec). judged (node_of net node) (signal_fault net node offset phases)) (same-network s m stands)
-      ∙ ap (λ (o : Option ℕ). judged o (signal_fault s.network node offset phases)) a
+      ∙ ap (λ (o : Option ℕ). judged o (signal_fault s.tiles.network node offset phases)) a
       ∙ ap (λ (o : Option ℕ). judged found o) b
 
-  pub no-node : node_of s.network node ≡ None → Serves (Some s) (Signal node offset phases) (Refused NoNode) Whole (Some s)
+  pub no-node : node_of s.tiles.network node ≡ None → Serves (Some s) (Signal node offset phases) (Refused NoNode) Whole (Some s)
   unfolding judged
-  no-node none = streets-refused s (Signal node offset phases) NoNode (refusal-as None (signal_fault s.network node offset phases) none refl)
+  no-node none = streets-refused s (Signal node offset phases) NoNode (refusal-as None (signal_fault s.tiles.network node offset phases) none refl)
 
-  module _ (position : ℕ) (found : node_of s.network node ≡ Some position) where
-    fault-as : signal_fault s.network (node_id s.network position) offset phases ≡ signal_fault s.network node offset phases
-    fault-as = ap (λ n. signal_fault s.network n offset phases) (same-node s.network node position found)
+  module _ (position : ℕ) (found : node_of s.tiles.network node ≡ Some position) where
+    fault-as : signal_fault s.tiles.network (node_id s.tiles.network position) offset phases ≡ signal_fault s.tiles.network node offset phases
+    fault-as = ap (λ n. signal_fault s.tiles.network n offset phases) (same-node s.tiles.network node position found)
 
-    pub bad-signal : (at : ℕ) → signal_fault s.network (node_id s.network position) offset phases ≡ Some at → Serves (Some s) (Signal node offset phases) (Refused (BadSignal at)) Whole (Some s)
+    pub bad-signal : (at : ℕ) → signal_fault s.tiles.network (node_id s.tiles.network position) offset phases ≡ Some at → Serves (Some s) (Signal node offset phases) (Refused (BadSignal at)) Whole (Some s)
     unfolding judged
     bad-signal at fault = streets-refused s (Signal node offset phases) (BadSignal at) (refusal-as (Some position) (Some at) found (sym fault-as ∙ fault))
 
-    module _ (faultless : signal_fault s.network (node_id s.network position) offset phases ≡ None) where
+    module _ (faultless : signal_fault s.tiles.network (node_id s.tiles.network position) offset phases ≡ None) where
       accepted : (m : Traffic) → StreetsStandFor s m → signal_refusal node offset phases m ≡ None
       unfolding judged
       accepted = refusal-as (Some position) None found (sym fault-as ∙ faultless)
@@ -59,7 +59,7 @@ module _ (s : StreetsView) (node offset : ℕ) (phases : List PhaseSpec) where
       pub signal-starved : Serves (Some s) (Signal node offset phases) StarvedReply Starved (Some s)
       signal-starved = streets-starving s (Signal node offset phases) (λ m stands. subst MayStarveUnder (sym (accepted m stands)) tt)
 
-      pub signal-done : (t : StreetsView) (plan : SignalPlan) (told : ℕ) → told ≡ cycle plan → ShowsAs plan (plan_of s.network offset phases) → ((id : ℕ) (other : SignalPlan) → node_of s.network id ≡ Some position → ShowsAs plan other → StreetsGo (λ m. signalled m id other) s t) → Serves (Some s) (Signal node offset phases) (Signalled told) Whole (Some t)
+      pub signal-done : (t : StreetsView) (plan : SignalPlan) (told : ℕ) → told ≡ cycle plan → ShowsAs plan (plan_of s.tiles.network offset phases) → ((id : ℕ) (other : SignalPlan) → node_of s.tiles.network id ≡ Some position → ShowsAs plan other → StreetsGo (λ m. signalled m id other) s t) → Serves (Some s) (Signal node offset phases) (Signalled told) Whole (Some t)
       signal-done t plan told told_is shows goes = streets-done s (Signal node offset phases) t (Signalled told) (λ m. signalled m node (plan_of m.network offset phases)) (λ m. refl)
-          (λ m stands. subst (λ (net : NetSpec). StreetsStandFor t (signalled m node (plan_of net offset phases))) (sym (same-network s m stands)) (goes node (plan_of s.network offset phases) found shows m stands))
+          (λ m stands. subst (λ (net : NetSpec). StreetsStandFor t (signalled m node (plan_of net offset phases))) (sym (same-network s m stands)) (goes node (plan_of s.tiles.network offset phases) found shows m stands))
           (λ m stands. (accepted m stands, ap (λ n. Signalled n) (told_is ∙ shows.cycle_is ∙ ap (λ (net : NetSpec). cycle (plan_of net offset phases)) (sym (same-network s m stands)))))

@@ -19,7 +19,8 @@ use Rattle.street_base.proofs.ArrivalLemmas.{arrived, driven-lanes}
 use Rattle.street_tile.specs.Tiles.{Part, AreTiles, Each}
 use Rattle.street_tile.specs.HandOvers.{all_places}
 use Rattle.street_tile.proofs.Rows.{in-row, roads-of}
-use Rattle.street_engine.specs.Ends.{AreComing, all_arrived}
+use Rattle.street_tile.specs.Together.{all_arrived}
+use Rattle.street_engine.specs.Ends.{AreComing}
 use Rattle.street_engine.proofs.Sums.{tiles-sums}
 use Rattle.street_engine.proofs.AreComing.{often}
 use Rattle.street_engine.proofs.Arrivals.{with_arrivals-same}

@@ -6,7 +6,6 @@ use Rattle.street_base.specs.declared.reply.End.{End}
 use Rattle.street_base.specs.Limits.{most_vehicles}
 use Rattle.street_base.specs.Census.{has_ended, one_if}
 use Rattle.street_base.specs.Shown.{has_arrived, was_taken}
-use Rattle.street_tile.specs.Tiles.{Part}
 
 -- what contracts see: how each vehicle ended, if it did, and for how many more numbers there is room
 pub record EndsView : Type 0 where
@@ -22,8 +21,3 @@ pub record AreCounted (ends : List (Option End)) (arrived taken : ℕ) : Type 0 
 -- these numbers were given, and each is that of one vehicle which has not ended
 abbrev pub AreComing : List ℕ → List (Option End) → Type 0
 AreComing numbers ends = (n : ℕ) → count_by (λ k. k == n) numbers + has_ended n ends ≤ one_if (nat_lt n (length ends))
-
--- the numbers that tiles hold of those who arrived, those of the last tile first
-abbrev pub all_arrived : List Part → List ℕ
-all_arrived [] = []
-all_arrived (x ∷ xs) = all_arrived xs ++ x.arrived

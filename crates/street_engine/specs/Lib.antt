@@ -1,5 +1,4 @@
 pub mod Refines
-pub mod Together
 pub mod Sites
 pub mod Streets
 pub mod Ends

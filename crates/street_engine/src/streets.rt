@@ -16,13 +16,12 @@ ghost use Rattle.street_net.specs.Refused.{TellsFault};
 ghost use Rattle.street_node.specs.Greens.{ShowsAs};
 ghost use Rattle.street_lanes.specs.Lanes.{IsLane};
 ghost use Rattle.street_tile.specs.Tiles.{IsPrepared};
-ghost use Rattle.street_engine.specs.Streets.{StreetsStandFor, StreetsGo, IsKept};
-ghost use Rattle.street_engine.specs.Ran.{streets_of};
+ghost use Rattle.street_engine.specs.Streets.{StreetsStandFor, StreetsGo};
 
+use crate::arrivals::note_arrivals;
 use crate::ends::Ends;
 use crate::sites::DetectorSite;
-use crate::teams::{Moving, run_with_locks};
-use crate::{detectors, lanes, step_parts, vehicles};
+use crate::teams::run_with_locks;
 use std::alloc::Global;
 use std::marker::{Brand, Model};
 use std::sync::Wait;
@@ -32,8 +31,8 @@ use street_base::{
 };
 use street_net::{LaneId, NetFault, Network};
 use street_node::SignalPlan;
-use street_team::locks;
-use street_tile::{Gate, Hints, Tile, View, step_by};
+use street_team::{Team, locks};
+use street_tile::{Course, Gate, Tile, TileWork, Tiles};
 
 /// For how many steps what the gate said of threads holds.
 const STEPS_BETWEEN_COUNTS: u64 = 16;
@@ -41,42 +40,33 @@ const STEPS_BETWEEN_COUNTS: u64 = 16;
 /// How often a step lends the tiles.
 const LENDINGS: usize = 3;
 
-/// A loaded network, its clock, its tiles, how each vehicle ended, on which link it was last put, and where each detector is.
+/// The tiles of a loaded network, their clock, how each vehicle ended, and where each detector is.
 pub struct Streets {
-    network: Network,
+    tiles: Tiles,
     clock: Step,
-    tiles: Vec<Tile>,
-    view: View,
     ends: Ends,
-    hints: Hints,
     sites: Vec<DetectorSite>,
 }
 
 impl Drop for Streets {
     fn drop(self) {
         let Streets {
-            network: _,
-            clock: _,
             tiles: _,
-            view: _,
+            clock: _,
             ends: _,
-            hints: _,
             sites: _,
         } = self;
     }
 }
 
 impl Model for Streets {
-    ghost use Rattle.std.specs.Prelude.{length};
-    ghost use Rattle.street_engine.specs.Streets.{StreetsView, IsKept};
+    ghost use Rattle.street_engine.specs.Streets.{StreetsView, IsKept, streets_of};
 
     ghost Value = { StreetsView };
 
-    ghost view = { λ s. record { network = s.network; sites = s.sites.items; clock = s.clock; tiles = s.tiles.items; ends = s.ends.ends } };
+    ghost view = { λ s. streets_of s.tiles s.sites.items s.clock s.ends.ends };
 
-    ghost invariant = { λ s. IsKept
-        (record { network = s.network; sites = s.sites.items; clock = s.clock; tiles = s.tiles.items; ends = s.ends.ends })
-        (length s.view) };
+    ghost invariant = { λ s. IsKept (streets_of s.tiles s.sites.items s.clock s.ends.ends) };
 }
 
 impl Streets {
@@ -88,33 +78,34 @@ impl Streets {
         requires some { 1 ≤ workers }
         requires few { workers ≤ 64 }
         ensures stands { IfOk result (λ streets. StreetsStandFor streets (loaded net.now)) }
-        ensures tiles { IfOk result (λ streets. length streets.tiles ≡ min workers (length net.now.nodes)) }
+        ensures tiles { IfOk result (λ streets. length streets.tiles.tiles ≡ min workers (length net.now.nodes)) }
         ensures faultless { OnOk result (network_fault net.now ≡ None) }
         ensures fault { IfErr result (TellsFault (network_fault net.now)) }
     {
         let network = Network::build(alloc, net)?;
-        let Ok(tiles) = Tile::cut(alloc, &network, workers) else {
-            return Err(NetFault::Starved);
-        };
-        let Ok(view) = View::new(alloc, &network) else {
+        let Ok(tiles) = Tiles::new(alloc, network, workers) else {
             return Err(NetFault::Starved);
         };
         Ok(Streets {
-            network,
-            clock: net.start as Step,
             tiles,
-            view,
+            clock: net.start as Step,
             ends: Ends::new(alloc),
-            hints: Hints::new(alloc),
             sites: Vec::new(alloc),
         })
     }
 
     /// The network.
     pub fn network(&self) -> &Network
-        ensures { result.now ≡ self.now.network }
+        ensures { result.now ≡ self.now.tiles.network }
     {
-        &self.network
+        self.tiles.network()
+    }
+
+    /// How many tiles there are, 1 to 64.
+    pub(crate) fn tiles(&self) -> usize
+        ensures { result ≡ length self.now.tiles.tiles }
+    {
+        self.tiles.len()
     }
 
     /// The clock.
@@ -153,11 +144,11 @@ impl Streets {
         size: Size,
     ) -> Result<(), Starved>
         requires some { 0 < length plan }
-        requires links { (ids : List ℕ) × (plan ≡ plan_links self.old.network ids) }
+        requires links { (ids : List ℕ) × (plan ≡ plan_links self.old.tiles.network ids) }
         requires short { length plan ≤ most_plan }
-        requires lane { lane < (link_at self.old.network (slice_index_or plan 0 0)).lanes }
+        requires lane { lane < (link_at self.old.tiles.network (slice_index_or plan 0 0)).lanes }
         requires few { length self.old.ends < most_vehicles }
-        ensures waits { OnOk result ((ids : List ℕ) → plan ≡ plan_links self.old.network ids
+        ensures waits { OnOk result ((ids : List ℕ) → plan ≡ plan_links self.old.tiles.network ids
             → StreetsGo (λ m. entered m ids lane depart size) self.old self.new) }
         ensures starved { OnErr result (StreetsGo (λ m. m) self.old self.new) }
     {
@@ -175,20 +166,18 @@ impl Streets {
             size,
         };
         self.ends.reserve()?;
-        self.hints.reserve()?;
-        lanes::admit(&self.network, &mut self.tiles, at, car)?;
+        self.tiles.admit(at, car)?;
         self.ends.give();
-        self.hints.give(at.link);
         Ok(())
     }
 
     /// A node has this signal plan from the next step on. Takes no memory.
     pub fn set_signal(&mut self, node: NodeIx, plan: SignalPlan)
-        requires { node < length self.old.network.nodes }
-        ensures { (id : ℕ) → (other : PlanSeen) → node_of self.old.network id ≡ Some node → ShowsAs plan other
+        requires { node < length self.old.tiles.network.nodes }
+        ensures { (id : ℕ) → (other : PlanSeen) → node_of self.old.tiles.network id ≡ Some node → ShowsAs plan other
             → StreetsGo (λ m. signalled m id other) self.old self.new }
     {
-        lanes::set_signal(&self.network, &mut self.tiles, node, plan);
+        self.tiles.set_signal(node, plan);
     }
 
     /// Closes cells of a lane, or opens them, and tells how many of its cells are closed then.
@@ -202,14 +191,14 @@ impl Streets {
         last: CellNo,
         closed: bool,
     ) -> Result<u64, Starved>
-        requires lane { IsLane self.old.network (place_of at) }
+        requires lane { IsLane self.old.tiles.network (place_of at) }
         requires order { first ≤ last }
-        requires within { last < (link_at self.old.network at.link).length }
+        requires within { last < (link_at self.old.tiles.network at.link).length }
         ensures marks { OnOk result (StreetsGo (with_closure closed (place_of at) first last) self.old self.new) }
         ensures count { IfOk result (λ count. (m : Traffic) → StreetsStandFor self.old m → count ≡ closed_after closed first last (lane_at m (place_of at))) }
         ensures starved { OnErr result (StreetsGo (λ m. m) self.old self.new) }
     {
-        lanes::set_closed(&self.network, &mut self.tiles, at, first, last, closed)
+        self.tiles.set_closed(at, first, last, closed)
     }
 
     /// Takes a vehicle out that has not ended, wherever it is. Takes no memory.
@@ -218,8 +207,7 @@ impl Streets {
         requires going { slice_index_or self.old.ends number None ≡ None }
         ensures { StreetsGo (λ m. taken_out m number) self.old self.new }
     {
-        let hint = self.hints.get(number);
-        vehicles::take_out(&self.network, &mut self.tiles, hint, number);
+        self.tiles.take_out(number);
         self.ends.take(number, self.clock);
     }
 
@@ -230,13 +218,7 @@ impl Streets {
     pub fn find(&self, alloc: Global, number: CarNo) -> Result<Option<Whereabouts>, Starved>
         ensures { IfOk result (λ found. (m : Traffic) → StreetsStandFor self.now m → found ≡ seen m number) }
     {
-        vehicles::find(
-            alloc,
-            &self.network,
-            &self.tiles,
-            self.hints.get(number),
-            number,
-        )
+        self.tiles.find(alloc, number)
     }
 
     /// All of a lane.
@@ -244,10 +226,10 @@ impl Streets {
     /// # Errors
     /// Memory for the lists was refused.
     pub fn lane(&self, alloc: Global, at: LaneId) -> Result<Reply, Starved>
-        requires { IsLane self.now.network (place_of at) }
+        requires { IsLane self.now.tiles.network (place_of at) }
         ensures { IfOk result (λ reply. (m : Traffic) → StreetsStandFor self.now m → reply ≡ shown_lane (lane_at m (place_of at))) }
     {
-        lanes::lane(alloc, &self.network, &self.tiles, at)
+        self.tiles.lane(alloc, at)
     }
 
     /// How many detectors stand.
@@ -269,8 +251,8 @@ impl Streets {
         cell: CellNo,
         period: u32,
     ) -> Result<usize, Starved>
-        requires lane { IsLane self.old.network (place_of at) }
-        requires cell { cell < (link_at self.old.network at.link).length }
+        requires lane { IsLane self.old.tiles.network (place_of at) }
+        requires cell { cell < (link_at self.old.tiles.network at.link).length }
         requires some { 1 ≤ period }
         requires short { period ≤ most_period }
         requires few { length self.old.sites < most_detectors }
@@ -281,14 +263,9 @@ impl Streets {
         let LaneId { link, lane } = at;
         let detector = self.sites.len();
         self.sites.reserve(1)?;
-        let number = detectors::place(
-            alloc,
-            &self.network,
-            &mut self.tiles,
-            LaneId { link, lane },
-            cell,
-            period,
-        )?;
+        let number = self
+            .tiles
+            .place_meter(alloc, LaneId { link, lane }, cell, period)?;
         self.sites.push_reserved(DetectorSite {
             at: LaneId { link, lane },
             number,
@@ -305,9 +282,7 @@ impl Streets {
             → found ≡ option_map shown_rows (slice_get m.detectors number)) }
     {
         match self.sites.get(number) {
-            Some(site) => {
-                detectors::read(alloc, &self.network, &self.tiles, site.at, site.number)
-            }
+            Some(site) => self.tiles.read_meter(alloc, site.at, site.number),
             None => Ok(None),
         }
     }
@@ -317,7 +292,7 @@ impl Streets {
         ensures { (m : Traffic) → StreetsStandFor self.now m → result ≡ census m }
     {
         let admitted = u64::from(self.ends.len());
-        let sizes = vehicles::sizes(&self.network, &self.tiles);
+        let sizes = self.tiles.sizes();
         Reply::Census {
             admitted,
             arrived: u64::from(self.ends.arrived()),
@@ -333,12 +308,13 @@ impl Streets {
     ///
     /// # Errors
     /// Memory was refused.
-    fn prepare(&mut self) -> Result<(), Starved>
-        ensures prepared { OnOk result (All IsPrepared self.new.tiles) }
+    pub(crate) fn prepare(&mut self) -> Result<(), Starved>
+        ensures prepared { OnOk result (All IsPrepared self.new.tiles.tiles) }
+        ensures network { self.new.tiles.network ≡ self.old.tiles.network }
         ensures clock { self.new.clock ≡ self.old.clock }
         ensures kept { StreetsGo (λ m. m) self.old self.new }
     {
-        step_parts::prepare(&self.network, &mut self.tiles)
+        self.tiles.prepare()
     }
 
     /// How many vehicles are in cells.
@@ -347,7 +323,7 @@ impl Streets {
     {
         // Its clause `few` bounds the sums.
         let _admitted = self.ends.len();
-        vehicles::sizes(&self.network, &self.tiles).cells
+        self.tiles.sizes().cells
     }
 
     /// How many threads the next step takes, after so many others of the same advance that took so many: one for each tile
@@ -370,21 +346,30 @@ impl Streets {
     /// One step, by so many threads at most. Takes no memory.
     fn step<R: Threads + Sync, G: Gate + Sync>(&mut self, rt: &R, gate: &G, threads: usize)
         requires some { 0 < threads }
-        requires prepared { All IsPrepared self.old.tiles }
+        requires prepared { All IsPrepared self.old.tiles.tiles }
         requires in_time { self.old.clock < last_clock }
         ensures clock { self.new.clock ≡ self.old.clock + 1 }
         ensures step { StreetsGo step self.old self.new }
     {
-        step_by(
-            rt,
-            &self.network,
-            &mut self.tiles,
-            &mut self.view,
-            &mut self.hints,
-            gate,
-            threads,
-        );
-        step_parts::note_arrivals(&mut self.tiles, &mut self.ends, self.clock);
+        self.tiles.step(rt, gate, threads);
+        note_arrivals(&mut self.tiles, &mut self.ends, self.clock);
+        self.clock += 1;
+    }
+
+    /// One step by a team. Takes no memory.
+    pub(crate) fn step_by_team<G: Gate + Sync, K: Course, R: Wait>(
+        &mut self,
+        team: &mut Team<'_, '_, '_, '_, Tile, TileWork<'_, G, K>, R>,
+    )
+        requires team { self.old.tiles.network ≡ K.net }
+        requires prepared { All IsPrepared self.old.tiles.tiles }
+        requires in_time { self.old.clock < last_clock }
+        ensures network { self.new.tiles.network ≡ self.old.tiles.network }
+        ensures clock { self.new.clock ≡ self.old.clock + 1 }
+        ensures step { StreetsGo step self.old self.new }
+    {
+        self.tiles.step_by_team(team);
+        note_arrivals(&mut self.tiles, &mut self.ends, self.clock);
         self.clock += 1;
     }
 
@@ -443,55 +428,6 @@ impl Streets {
         (streets, made)
     }
 
-    /// The network, and all else.
-    fn into_parts(self) -> (Network, Moving)
-        ensures streets { self ≡ streets_of result.0 result.1.sites.items result.1.clock result.1.tiles.items result.1.ends.ends }
-        ensures kept { IsKept self (length result.1.view) }
-    {
-        let Streets {
-            network,
-            clock,
-            tiles,
-            view,
-            ends,
-            hints,
-            sites,
-        } = self;
-        let moving = Moving {
-            clock,
-            tiles,
-            view,
-            ends,
-            hints,
-            sites,
-        };
-        (network, moving)
-    }
-
-    /// Of a network and all else.
-    fn of_parts(network: Network, moving: Moving) -> Streets
-        requires kept { IsKept (streets_of network moving.sites.items moving.clock moving.tiles.items moving.ends.ends) (length moving.view) }
-        ensures streets { result ≡ streets_of network moving.sites.items moving.clock moving.tiles.items moving.ends.ends }
-    {
-        let Moving {
-            clock,
-            tiles,
-            view,
-            ends,
-            hints,
-            sites,
-        } = moving;
-        Streets {
-            network,
-            clock,
-            tiles,
-            view,
-            ends,
-            hints,
-            sites,
-        }
-    }
-
     /// So many steps by a team: what it leaves, and how many were made, which is none where memory for the team was refused.
     fn team_steps<R: Threads + Wait + Sync, G: Gate + Sync>(
         self,
@@ -511,11 +447,12 @@ impl Streets {
         let Ok(known) = locks::<Tile>(alloc, LENDINGS * tiles * count as usize) else {
             return (self, 0);
         };
-        let (network, moving) = self.into_parts();
-        let (moving, made) = run_with_locks::<Brand, Brand, G, R>(
-            rt, alloc, gate, &known, &network, moving, count, threads,
-        );
-        (Streets::of_parts(network, moving), made)
+        let Ok(network) = self.tiles.share_network() else {
+            return (self, 0);
+        };
+        run_with_locks::<Brand, Brand, G, R>(
+            rt, alloc, gate, &known, &network, self, count, threads,
+        )
     }
 
     /// How many threads stay for the next steps: the caller's alone where there is one tile, or the gate does not share them.

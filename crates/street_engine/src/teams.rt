@@ -1,36 +1,22 @@
 //! Steps by a team: workers that stay for so many steps of an advance.
-ghost use Rattle.std.specs.Prelude.{◌≡◌, ℕ, ◌+◌, ◌^◌, ◌<◌, ◌≤◌, length, slice_get, Some, OnOk};
+ghost use Rattle.std.specs.Prelude.{◌≡◌, ℕ, ◌+◌, ◌^◌, ◌<◌, ◌≤◌, slice_get, Some, OnOk};
 ghost use Rattle.std.specs.List.{All};
 ghost use Rattle.street_base.specs.Limits.{last_clock};
-ghost use Rattle.street_base.specs.Step.{step, steps};
 ghost use Rattle.street_tile.specs.Tiles.{IsPrepared};
-ghost use Rattle.street_engine.specs.Streets.{StreetsView, IsKept};
-ghost use Rattle.street_engine.specs.Ran.{HaveRun, streets_of};
+ghost use Rattle.street_engine.specs.Streets.{StreetsView};
+ghost use Rattle.street_engine.specs.Ran.{HaveRun};
 
-use crate::ends::Ends;
-use crate::sites::DetectorSite;
-use crate::step_parts::{note_arrivals, prepare};
+use crate::Streets;
 use std::alloc::Global;
 use std::marker::{Brand, Model, PhantomData};
 use std::snapshot::Snapshot;
 use std::sync::{OnceLock, Wait};
 use std::thread;
 use std::thread::Threads;
-use street_base::{Starved, Step};
+use street_base::Starved;
 use street_net::Network;
 use street_team::{Shared, Team, start};
-use street_tile::{Course, Gate, Hints, Tile, TileWork, View, step_with};
-
-/// Loaded streets without their network.
-#[derive(Drop)]
-pub(crate) struct Moving {
-    pub(crate) clock: Step,
-    pub(crate) tiles: Vec<Tile>,
-    pub(crate) view: View,
-    pub(crate) ends: Ends,
-    pub(crate) hints: Hints,
-    pub(crate) sites: Vec<DetectorSite>,
-}
+use street_tile::{Course, Gate, Tile, TileWork};
 
 /// The streets with which a team begins, and how many steps it makes at most.
 pub(crate) trait Begun {
@@ -43,10 +29,9 @@ impl Begun for Brand {
     ghost use Rattle.std.specs.Prelude.{[]};
 
     ghost begun = { record {
-      network = record { nodes = []; links = []; turns = []; zone = 0; change = 0; dawdle = 0; seed = 0; start = 0 };
+      tiles = record { network = record { nodes = []; links = []; turns = []; zone = 0; change = 0; dawdle = 0; seed = 0; start = 0 }; tiles = [] };
       sites = [];
       clock = 0;
-      tiles = [];
       ends = [];
     } };
 
@@ -57,100 +42,71 @@ impl Begun for Brand {
 /// what its closure returns where that holds what the threads borrow.
 #[derive(Drop)]
 pub(crate) struct Ran<B: Begun> {
-    moving: Moving,
+    streets: Streets,
     made: u64,
     of: PhantomData<B>,
 }
 
 impl<B: Begun> Model for Ran<B> {
-    ghost use Rattle.std.specs.Prelude.{length};
-    ghost use Rattle.street_engine.specs.Ran.{RanView, HaveRun, streets_of};
+    ghost use Rattle.street_engine.specs.Ran.{RanView, HaveRun};
 
     ghost Value = { RanView };
 
-    ghost view = { λ r. record {
-      streets = streets_of B.begun.network r.moving.sites.items r.moving.clock r.moving.tiles.items r.moving.ends.ends;
-      mouths = length r.moving.view;
-      made = r.made;
-    } };
+    ghost view = { λ r. record { streets = r.streets; made = r.made } };
 
-    ghost invariant = { λ r. HaveRun B.begun B.most (record {
-      streets = streets_of B.begun.network r.moving.sites.items r.moving.clock r.moving.tiles.items r.moving.ends.ends;
-      mouths = length r.moving.view;
-      made = r.made;
-    }) };
+    ghost invariant = { λ r. HaveRun B.begun B.most r.streets r.made };
 }
 
 impl<B: Begun> Ran<B> {
     /// Before the first step.
-    fn new(moving: Moving) -> Self
-        requires begun { streets_of B.begun.network moving.sites.items moving.clock moving.tiles.items moving.ends.ends ≡ B.begun }
-        requires kept { IsKept B.begun (length moving.view) }
+    fn new(streets: Streets) -> Self
+        requires { streets ≡ B.begun }
         ensures { result.made ≡ 0 }
     {
         Ran {
-            moving,
+            streets,
             made: 0,
             of: PhantomData,
         }
     }
 
-    /// What steps change, as the team left it, and how many steps it has made.
-    pub(crate) fn into_parts(self) -> (Moving, u64)
+    /// The streets as the team left them, and how many steps it has made.
+    pub(crate) fn into_parts(self) -> (Streets, u64)
         ensures made { result.1 ≡ self.made }
-        ensures ran { HaveRun B.begun B.most (record {
-          streets = streets_of B.begun.network result.0.sites.items result.0.clock result.0.tiles.items result.0.ends.ends;
-          mouths = length result.0.view;
-          made = result.1;
-        }) }
+        ensures ran { HaveRun B.begun B.most result.0 result.1 }
     {
         let Ran {
-            moving,
+            streets,
             made,
             of: _,
         } = self;
-        (moving, made)
+        (streets, made)
     }
 
     /// Takes the memory for a step.
     ///
     /// # Errors
     /// Memory was refused.
-    fn prepare(&mut self, net: &Network) -> Result<(), Starved>
-        requires net { net.now ≡ B.begun.network }
-        ensures prepared { OnOk result (All IsPrepared self.new.streets.tiles) }
-        ensures clock { self.new.streets.clock ≡ self.old.streets.clock }
+    fn prepare(&mut self) -> Result<(), Starved>
+        ensures prepared { OnOk result (All IsPrepared self.new.streets.tiles.tiles) }
         ensures made { self.new.made ≡ self.old.made }
     {
-        prepare(net, &mut self.moving.tiles)
+        self.streets.prepare()
     }
 
     /// One step by a team.
     fn step<G: Gate + Sync, K: Course, R: Wait>(
         &mut self,
         team: &mut Team<'_, '_, '_, '_, Tile, TileWork<'_, G, K>, R>,
-        net: &Network,
     )
-        requires team { net.now ≡ K.net }
-        requires net { net.now ≡ B.begun.network }
-        requires prepared { All IsPrepared self.old.streets.tiles }
-        requires in_time { self.old.streets.clock < last_clock }
+        requires team { B.begun.tiles.network ≡ K.net }
+        requires prepared { All IsPrepared self.old.streets.tiles.tiles }
+        requires in_time { B.begun.clock + B.most ≤ last_clock }
         requires more { self.old.made < B.most }
         requires fits { B.most < 2 ^ 64 }
-        ensures clock { self.new.streets.clock ≡ self.old.streets.clock + 1 }
         ensures made { self.new.made ≡ self.old.made + 1 }
     {
-        let Moving {
-            clock,
-            tiles,
-            view,
-            ends,
-            hints,
-            sites: _,
-        } = &mut self.moving;
-        step_with(team, net, tiles, view, hints);
-        note_arrivals(tiles, ends, *clock);
-        *clock += 1;
+        self.streets.step_by_team(team);
         self.made += 1;
     }
 }
@@ -158,23 +114,20 @@ impl<B: Begun> Ran<B> {
 /// So many steps by a team, or fewer where memory was refused for one.
 fn run<G: Gate + Sync, K: Course, B: Begun, R: Wait>(
     team: &mut Team<'_, '_, '_, '_, Tile, TileWork<'_, G, K>, R>,
-    net: &Network,
-    moving: Moving,
+    streets: Streets,
     count: u64,
 ) -> Ran<B>
-    requires team { net.now ≡ K.net }
-    requires net { net.now ≡ B.begun.network }
-    requires begun { streets_of B.begun.network moving.sites.items moving.clock moving.tiles.items moving.ends.ends ≡ B.begun }
-    requires kept { IsKept B.begun (length moving.view) }
-    requires in_time { moving.clock + count ≤ last_clock }
+    requires team { B.begun.tiles.network ≡ K.net }
+    requires begun { streets ≡ B.begun }
+    requires in_time { B.begun.clock + count ≤ last_clock }
     requires most { count ≡ B.most }
 {
-    let mut ran = Ran::<B>::new(moving);
+    let mut ran = Ran::<B>::new(streets);
     for _ in 0..count {
-        if ran.prepare(net).is_err() {
+        if ran.prepare().is_err() {
             return ran;
         }
-        ran.step(team, net);
+        ran.step(team);
     }
     ran
 }
@@ -190,17 +143,14 @@ fn run_in_scope<
     rt: &R,
     shared: &Shared<'a, '_, Tile, TileWork<'_, G, K>>,
     locks: &'a [OnceLock<Snapshot<Tile>>],
-    net: &Network,
-    moving: Moving,
+    streets: Streets,
     count: u64,
     threads: usize,
 ) -> Ran<B>
     requires locks { (k : ℕ) (l : _) → slice_get locks.now k ≡ Some l → l.id ≡ K.lock k }
-    requires team { net.now ≡ K.net }
-    requires net { net.now ≡ B.begun.network }
-    requires begun { streets_of B.begun.network moving.sites.items moving.clock moving.tiles.items moving.ends.ends ≡ B.begun }
-    requires kept { IsKept B.begun (length moving.view) }
-    requires in_time { moving.clock + count ≤ last_clock }
+    requires team { B.begun.tiles.network ≡ K.net }
+    requires begun { streets ≡ B.begun }
+    requires in_time { B.begun.clock + count ≤ last_clock }
     requires most { count ≡ B.most }
 {
     thread::scope(
@@ -208,13 +158,12 @@ fn run_in_scope<
         rt,
         move |scope| -> Ran<B>
             requires { ((k : ℕ) (l : _) → slice_get locks.now k ≡ Some l → l.id ≡ K.lock k)
-                × (net.now ≡ K.net) × (net.now ≡ B.begun.network)
-                × (streets_of B.begun.network moving.sites.items moving.clock moving.tiles.items moving.ends.ends ≡ B.begun)
-                × IsKept B.begun (length moving.view) × (moving.clock + count ≤ last_clock) × (count ≡ B.most) }
+                × (B.begun.tiles.network ≡ K.net) × (streets ≡ B.begun)
+                × (B.begun.clock + count ≤ last_clock) × (count ≡ B.most) }
         {
-            let here = start(scope, rt, shared, moving.tiles.len(), threads);
+            let here = start(scope, rt, shared, streets.tiles(), threads);
             let mut team = Team::new(rt, shared, locks, here);
-            let ran = run(&mut team, net, moving, count);
+            let ran = run(&mut team, streets, count);
             shared.end();
             ran
         },
@@ -233,26 +182,21 @@ pub(crate) fn run_with_locks<
     gate: &G,
     locks: &[OnceLock<Snapshot<Tile>>],
     net: &Network,
-    moving: Moving,
+    streets: Streets,
     count: u64,
     threads: usize,
-) -> (Moving, u64)
+) -> (Streets, u64)
     requires locks { (k : ℕ) (l : _) → slice_get locks.now k ≡ Some l → l.id ≡ K.lock k }
-    requires team { net.now ≡ K.net }
-    requires net { net.now ≡ B.begun.network }
-    requires begun { streets_of B.begun.network moving.sites.items moving.clock moving.tiles.items moving.ends.ends ≡ B.begun }
-    requires kept { IsKept B.begun (length moving.view) }
-    requires in_time { moving.clock + count ≤ last_clock }
+    requires net { net.now ≡ K.net }
+    requires team { B.begun.tiles.network ≡ K.net }
+    requires begun { streets ≡ B.begun }
+    requires in_time { B.begun.clock + count ≤ last_clock }
     requires most { count ≡ B.most }
-    ensures ran { HaveRun B.begun B.most (record {
-      streets = streets_of B.begun.network result.0.sites.items result.0.clock result.0.tiles.items result.0.ends.ends;
-      mouths = length result.0.view;
-      made = result.1;
-    }) }
+    ensures ran { HaveRun B.begun B.most result.0 result.1 }
 {
     let work = TileWork::<G, K>::new(net, gate);
-    let Ok(shared) = Shared::new(alloc, &work, moving.tiles.len()) else {
-        return (moving, 0);
+    let Ok(shared) = Shared::new(alloc, &work, streets.tiles()) else {
+        return (streets, 0);
     };
-    run_in_scope::<G, K, B, R>(rt, &shared, locks, net, moving, count, threads).into_parts()
+    run_in_scope::<G, K, B, R>(rt, &shared, locks, streets, count, threads).into_parts()
 }

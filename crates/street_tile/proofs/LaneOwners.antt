@@ -1,5 +1,5 @@
 -- Tiles in a row: each lane is one tile's.
-use Rattle.std.proofs.Common.{◌≡◌, ℕ, suc, ◌+◌, ◌<◌, ◌≤◌, Bool, true, false, List, [], ◌∷◌, ◌++◌, length, get_or, refl, sym, ◌∙◌, ap, subst, arith, inl, inr}
+use Rattle.std.proofs.Common.{◌≡◌, ℕ, suc, ◌+◌, ◌*◌, ◌/◌, ◌<◌, ◌≤◌, Bool, true, false, List, [], ◌∷◌, ◌++◌, length, get_or, refl, sym, ◌∙◌, ap, subst, arith, inl, inr}
 use Rattle.std.specs.Prelude.{Option, Some, None, IsSome, slice_get, filter_map, option_to_list, ◌&&◌, nat_le, nat_lt, ◌==◌}
 use Rattle.std.specs.Option.{option_map_or}
 use Rattle.std.specs.List.{list_any}
@@ -17,7 +17,7 @@ use Rattle.street_base.specs.Release.{entering}
 use Rattle.street_base.proofs.PlaceOnceLemmas.{places-once}
 use Rattle.street_lanes.specs.Lanes.{IsLane}
 use Rattle.street_tile.specs.Halves.{Transfer, crossing, entry_in}
-use Rattle.street_tile.specs.Tiles.{Part, IsRoads, is_own}
+use Rattle.street_tile.specs.Tiles.{Part, IsRoads, AreTiles, is_own}
 use Rattle.street_node.specs.Walks.{times}
 use Rattle.street_tile.specs.HandOvers.{all_handed, all_places}
 use Rattle.street_tile.proofs.Rows.{InRow, AreInRow}
@@ -103,3 +103,19 @@ entries-are net roads m on xs row p =
     first : (o : Option Vehicle) → slice_get (option_to_list o) 0 ≡ o
     first None = refl
     first (Some v) = refl
+
+-- the tile with the share of a node, of k tiles
+pub share-holds : (net : NetSpec) (xs : List Part) → AreTiles net xs → (k i node : ℕ) → k ≡ length xs → i < k → i * length net.nodes / k ≤ node → node < (i + 1) * length net.nodes / k → (d : Part) → ((get_or xs i d).low ≤ node) × (node < (get_or xs i d).high)
+share-holds net xs tiles k i node count h low high d =
+    let is = tiles.shares i d (omega arith) in
+    let above : i * length net.nodes / length xs ≤ node = subst (λ (n : ℕ). i * length net.nodes / n ≤ node) count low in
+    let below : node < (i + 1) * length net.nodes / length xs = subst (λ (n : ℕ). node < (i + 1) * length net.nodes / n) count high in
+    ((let a = is.low in omega arith), (let a = is.high in omega arith))
+
+-- it owns the lanes of the links that run to that node
+pub share-owns : (net : NetSpec) (xs : List Part) → AreTiles net xs → (k i node : ℕ) (p : Place) → k ≡ length xs → i < k → i * length net.nodes / k ≤ node → node < (i + 1) * length net.nodes / k
+    → node_of net (link_at net p.link).to ≡ Some node → (d : Part) → is_own net (get_or xs i d).low (get_or xs i d).high p ≡ true
+share-owns net xs tiles k i node p count h low high at d =
+    let x : Part = get_or xs i d in
+    let holds = share-holds net xs tiles k i node count h low high d in
+    rw (at, le-leb x.low node holds.0) (lt-ltb node x.high holds.1)

@@ -28,3 +28,13 @@ pub mod BetweenPhases
 pub mod Lent
 mod KeepsHints
 mod Looked
+pub mod Together
+mod LaneUpdate
+mod SignalPlans
+pub mod Sums
+pub mod Ones
+mod TakenOut
+mod PlacedDetector
+mod Seen
+mod LaneCounts
+mod NextArrival

@@ -11,3 +11,4 @@ pub mod HandOvers
 pub mod Commands
 pub mod Hinted
 pub mod Steps
+pub mod Together

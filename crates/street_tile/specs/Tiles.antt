@@ -131,6 +131,10 @@ AreBare detectors = All IsBare detectors
 abbrev pub nobody : Part → List (Option Vehicle)
 nobody x = map (λ p. None) x.own.places
 
+-- nobody is on the way from it or to it
+abbrev pub IsStill : Part → Type 0
+IsStill x = (x.handed ≡ []) × (x.coming ≡ nobody x)
+
 -- between steps nobody is on the way, and who arrived was taken note of
 pub record IsIdle (x : Part) : Type 0 where
   pub handed : x.handed ≡ []

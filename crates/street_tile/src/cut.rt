@@ -14,7 +14,7 @@ use crate::comers::Comers;
 use crate::hand_over::HandOver;
 use crate::tile::Tile;
 use std::alloc::{AllocError, Global};
-use street_base::{CarNo, CellNo, LaneNo, LinkIx, Starved, Step};
+use street_base::{CarNo, CellNo, LaneNo, LinkIx, NodeIx, Starved, Step};
 use street_lanes::{Detectors, Lanes};
 use street_net::{LaneId, Network, slot};
 use street_node::SignalPlan;
@@ -187,6 +187,19 @@ fn tables_of(
     let moving = nobody_moves(alloc, own.len())?;
     let plans = nones(alloc, nodes)?;
     Ok((slots, moving, plans))
+}
+
+/// Which of so many tiles owns a node: the inverse of [`Tile::cut`].
+pub(crate) fn owner(net: &Network, count: usize, node: NodeIx) -> usize
+    requires some { 0 < count }
+    requires few { count ≤ length net.now.nodes }
+    requires node { node < length net.now.nodes }
+    ensures inside { result < count }
+    ensures low { result * length net.now.nodes / count ≤ node }
+    ensures high { node < (result + 1) * length net.now.nodes / count }
+{
+    let nodes = net.spec().nodes.as_slice().len();
+    ((node.position() + 1) * count - 1) / nodes
 }
 
 impl Tile {

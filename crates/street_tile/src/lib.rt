@@ -22,6 +22,9 @@ mod release;
 mod step;
 mod tile;
 mod tile_work;
+mod tiles;
+mod tiles_steps;
+mod tiles_vehicles;
 mod vehicles;
 mod view;
 
@@ -31,6 +34,7 @@ pub use hints::Hints;
 pub use lendings::step_by;
 pub use step::step_all;
 pub use tile::Tile;
-pub use tile_work::{Course, TileWork, step_with};
+pub use tile_work::{Course, TileWork};
+pub use tiles::Tiles;
 pub use vehicles::TileSizes;
 pub use view::View;

@@ -14,6 +14,7 @@ ghost use Rattle.street_tile.specs.HandOvers.{Awaits, IsMoved, all_handed, recei
 ghost use Rattle.street_tile.specs.Hinted.{KeepsHints};
 ghost use Rattle.street_tile.specs.Steps.{MayStep, Steps};
 
+use crate::cut::owner;
 use crate::{Gate, Hints, Tile, View};
 use std::thread;
 use std::thread::Threads;
@@ -179,8 +180,8 @@ pub(crate) fn publish(net: &Network, tiles: &[Tile], view: &mut View)
     }
 }
 
-/// Which of so many tiles owns a lane: that of the node to which its link runs. Of one tile, without a look at the network.
-fn owner(net: &Network, tiles: &[Tile], to: LaneId) -> usize
+/// Which of the tiles owns a lane: that of the node to which its link runs. Of one tile, without a look at the network.
+fn tile_of(net: &Network, tiles: &[Tile], to: LaneId) -> usize
     requires tiles { AreTiles net.now tiles.now }
     requires lane { IsLane net.now (place_of to) }
     ensures inside { result < length tiles.now }
@@ -190,9 +191,7 @@ fn owner(net: &Network, tiles: &[Tile], to: LaneId) -> usize
     if tiles.len() == 1 {
         return 0;
     }
-    let nodes = net.spec().nodes.as_slice().len();
-    let node = net.end_of(to.link).position();
-    ((node + 1) * tiles.len() - 1) / nodes
+    owner(net, tiles.len(), net.end_of(to.link))
 }
 
 /// The last hand-over of a tile is moved to the tile that owns its lane.
@@ -208,7 +207,7 @@ fn move_one(net: &Network, tiles: &mut [Tile], hints: &mut Hints, i: usize)
 {
     if let Some(hand_over) = tiles[i].next_hand_over() {
         hints.follow(&hand_over);
-        let j = owner(net, tiles, hand_over.to());
+        let j = tile_of(net, tiles, hand_over.to());
         tiles[j].bring(net, hand_over);
     }
 }

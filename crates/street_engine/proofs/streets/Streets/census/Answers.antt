@@ -1,29 +1,28 @@
-use Rattle.std.proofs.Common.{List, length, sym, ◌∙◌, ap, subst, arith}
+use Rattle.std.proofs.Common.{length, ◌∙◌, ap, arith}
 use Rattle.std.specs.List.{count_by}
 use Rattle.street_base.specs.Shown.{has_arrived, was_taken}
-use Rattle.street_tile.specs.Tiles.{Part, AllStand}
-use Rattle.street_engine.proofs.StreetsStandFor.{view, traffic-of, census-is}
+use Rattle.street_engine.specs.Streets.{streets_of}
+use Rattle.street_engine.proofs.StreetsStandFor.{traffic-of, census-is}
 use Rattle.street_engine.proofs.streets.Streets.census.Goals as goal
 
-pub sizes-sizes-requires-clause-stand : goal.sizes-sizes-requires-clause-stand
-sizes-sizes-requires-clause-stand c =
+pub sizes-sizes-requires : goal.sizes-sizes-requires
+sizes-sizes-requires c =
     let s = c.self.inside in
     let m = c.self.invariant.some.0 in
     let t = c.self.invariant.some.1 in
     let long = ap length t.ends in
     let few = c.len.ensures.few in
-    (m, subst (λ (ts : List Part). AllStand s.network ts m) (sym c.deref.ensures.value) t.tiles, t.sound, omega arith)
+    (m, t.tiles, t.sound, omega arith)
 
 pub returns : goal.returns
 returns c = λ m stands.
     let s = c.self.inside in
-    let t = traffic-of (view s.network s.sites.items s.clock s.tiles.items s.ends.ends) c.args.self.now m c.self.view_is stands in
-    let tiles : AllStand s.network c.deref.result.now m = subst (λ (ts : List Part). AllStand s.network ts m) (sym c.deref.ensures.value) t.tiles in
+    let t = traffic-of (streets_of s.tiles s.sites.items s.clock s.ends.ends) c.args.self.now m c.self.view_is stands in
     census-is m c.from-admitted.result c.from.result c.sizes-sizes.result.buffers c.sizes-sizes.result.cells c.from-2.result c.from-3.result c.sizes-sizes.result.waiting
     (c.from-admitted.ensures ∙ c.len.ensures.count ∙ ap length t.ends)
     (c.from.ensures ∙ c.arrived.ensures ∙ ap (count_by has_arrived) t.ends)
-    (c.sizes-sizes.ensures.buffers m tiles)
-    (c.sizes-sizes.ensures.cells m tiles)
+    (c.sizes-sizes.ensures.buffers m t.tiles)
+    (c.sizes-sizes.ensures.cells m t.tiles)
     (c.from-2.ensures ∙ t.clock)
     (c.from-3.ensures ∙ c.taken.ensures ∙ ap (count_by was_taken) t.ends)
-    (c.sizes-sizes.ensures.waiting m tiles)
+    (c.sizes-sizes.ensures.waiting m t.tiles)

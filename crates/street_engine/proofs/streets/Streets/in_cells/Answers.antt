@@ -1,19 +1,19 @@
-use Rattle.std.proofs.Common.{List, length, sym, ap, subst, arith}
-use Rattle.street_tile.specs.Tiles.{Part, AllStand}
-use Rattle.street_engine.proofs.StreetsStandFor.{view, traffic-of}
+use Rattle.std.proofs.Common.{length, ap, arith}
+use Rattle.street_engine.specs.Streets.{streets_of}
+use Rattle.street_engine.proofs.StreetsStandFor.{traffic-of}
 use Rattle.street_engine.proofs.streets.Streets.in_cells.Goals as goal
 
-pub sizes-requires-clause-stand : goal.sizes-requires-clause-stand
-sizes-requires-clause-stand c =
+pub sizes-requires : goal.sizes-requires
+sizes-requires c =
     let s = c.self.inside in
     let m = c.self.invariant.some.0 in
     let t = c.self.invariant.some.1 in
     let long = ap length t.ends in
     let few = c.len-admitted.ensures.few in
-    (m, subst (λ (ts : List Part). AllStand s.network ts m) (sym c.deref.ensures.value) t.tiles, t.sound, omega arith)
+    (m, t.tiles, t.sound, omega arith)
 
 pub returns : goal.returns
 returns c = λ m stands.
     let s = c.self.inside in
-    let t = traffic-of (view s.network s.sites.items s.clock s.tiles.items s.ends.ends) c.args.self.now m c.self.view_is stands in
-    c.sizes.ensures.cells m (subst (λ (ts : List Part). AllStand s.network ts m) (sym c.deref.ensures.value) t.tiles)
+    let t = traffic-of (streets_of s.tiles s.sites.items s.clock s.ends.ends) c.args.self.now m c.self.view_is stands in
+    c.sizes.ensures.cells m t.tiles

@@ -1,6 +1,5 @@
 use Rattle.std.proofs.Common.{slice_get}
 use Rattle.std.specs.Option.{option_map_or}
-use Rattle.street_engine.specs.Ran.{streets_of}
 use Rattle.street_engine.proofs.streets.Streets.team_steps.Given as goal
 
 -- the network, and the locks that were made
@@ -9,4 +8,4 @@ ghosts-run_with_locks-K-Course g a = record { net = a.net.now; lock = λ k. opti
 
 -- the streets as they begin
 abbrev pub ghosts-run_with_locks-B-Begun : goal.ghosts-run_with_locks-B-Begun
-ghosts-run_with_locks-B-Begun g a = record { begun = streets_of a.net.now a.moving.sites.items a.moving.clock a.moving.tiles.items a.moving.ends.ends; most = a.count }
+ghosts-run_with_locks-B-Begun g a = record { begun = a.streets; most = a.count }

@@ -1,4 +1,0 @@
-use Rattle.street_engine.proofs.vehicles.find_near.Given as goal
-
-abbrev pub invariant-loop-lane : goal.invariant-loop-lane
-invariant-loop-lane l = Unit {0}

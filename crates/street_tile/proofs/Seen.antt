@@ -1,0 +1,154 @@
+-- Where a number is, in whatever order the tiles are asked.
+use Rattle.std.proofs.Common.{◌≡◌, ℕ, suc, ◌+◌, ◌<◌, Bool, true, false, List, [], ◌∷◌, length, get_or, refl, sym, ◌∙◌, ap, subst, arith, inl, inr}
+use Rattle.std.specs.Prelude.{Option, Some, None, find, position, filter_map, slice_get, ◌==◌}
+use Rattle.std.specs.List.{sum_by, list_any, position_or_len}
+use Rattle.std.proofs.lemmas.Bool.{cases_Bool, cases_lt, cond-true, cond-false, or_cases, or_left, or_right, lt-leb}
+use Rattle.std.proofs.lemmas.List.Folds.{list_any-append}
+use Rattle.std.proofs.lemmas.List.Sums.{sum_by-cons, sum_by-set, passes_at_first}
+use Rattle.street_base.specs.declared.net.NetSpec.{NetSpec}
+use Rattle.street_base.specs.declared.reply.Whereabouts.{Whereabouts}
+use Rattle.street_base.specs.Network.{Place, is_place, places}
+use Rattle.street_base.specs.Vehicle.{Vehicle}
+use Rattle.street_base.specs.State.{Traffic, LaneState, Queued, Waiting, lane_at}
+use Rattle.street_base.specs.Apart.{weight}
+use Rattle.street_base.specs.Census.{in_lane, IsWhole, IsSound}
+use Rattle.street_base.specs.Machine.{is_number, seen_in, seen}
+use Rattle.street_base.proofs.ReleaseLemmas.{is_place-same, is_place-refl}
+use Rattle.street_lanes.specs.Lanes.{IsLane}
+use Rattle.street_lanes.specs.Whole.{IsOn}
+use Rattle.street_tile.specs.Tiles.{Part, IsTileOf, AreTiles, AllStand, StandsFor, is_own}
+use Rattle.street_tile.specs.Commands.{HaveNot, HaveAtMostOne, Finds}
+use Rattle.street_tile.specs.HandOvers.{all_places}
+use Rattle.street_tile.specs.Together.{tiles_of, TilesStandFor}
+use Rattle.street_tile.proofs.OwnLanes.{lane-of}
+use Rattle.street_tile.proofs.Rows.{in-row, roads-of}
+use Rattle.street_tile.proofs.PublishedView.{any-at, some-tile}
+use Rattle.street_tile.proofs.PhasesOfAll.{tiles-of}
+use Rattle.street_tile.proofs.NumberOnce.{own-number}
+use Rattle.street_tile.proofs.Ones.{on-one, have-one}
+use Rattle.street_tile.proofs.TakenOut.{own-at, not-at}
+
+-- ---- where a lane has it not, nothing is seen of it there
+
+find-none : {A : Type 0} (test : A → Bool) (f : A → ℕ) → ((x : A) → test x ≡ true → f x ≡ 1) → (xs : List A) → sum_by f xs ≡ 0 → find test xs ≡ None
+find-none test f one [] z = refl
+find-none test f one (x ∷ xs) z =
+    let cons = sum_by-cons f x xs in
+    let rest : sum_by f xs ≡ 0 = omega arith in
+    elim (cases_Bool (test x)) as (λ _. find test (x ∷ xs) ≡ None) [
+      | inl t ↦ absurd (let h = one x t in omega arith)
+      | inr t ↦ cond-false _ _ _ t ∙ find-none test f one xs rest
+    ]
+
+module _ (net : NetSpec) (place : Place) (car : ℕ) where
+  one-cell : (o : Option Vehicle) → is_number net place car o ≡ true → weight car o ≡ 1
+  one-cell None e = cc
+  one-cell (Some v) e = cond-true _ _ _ e
+
+  no-cell : (cells : List (Option Vehicle)) → sum_by (weight car) cells ≡ 0 → position (is_number net place car) cells ≡ None
+  no-cell cells z =
+      let test : Option Vehicle → Bool = is_number net place car in
+      let at = position_or_len test cells in
+      elim (cases_lt at (length cells)) as (λ _. position test cells ≡ None) [
+        | inl within ↦ absurd (
+            let found : test (get_or cells at None) ≡ true = passes_at_first test cells None within in
+            let one = one-cell (get_or cells at None) found in
+            let split = sum_by-set (weight car) cells at None None within in
+            omega arith)
+        | inr past ↦ cond-false _ _ _ (lt-leb (suc at) (length cells) (omega arith))
+      ]
+
+  pub zero-unseen : (lane : LaneState) → in_lane car lane ≡ 0 → seen_in net place car lane ≡ None
+  unfolding seen_in
+  zero-unseen lane z =
+      let cells = no-cell lane.track.cells (omega arith) in
+      let queue = find-none (λ (q : Queued). q.vehicle.number == car) (λ q. weight car (Some q.vehicle)) (λ q t. cond-true _ _ _ t) lane.queue (omega arith) in
+      let waiting = find-none (λ (w : Waiting). w.vehicle.number == car) (λ w. weight car (Some w.vehicle)) (λ w t. cond-true _ _ _ t) lane.waiting (omega arith) in
+      rw (cells, queue, waiting) refl
+
+  pub seen-some : (lane : LaneState) (w : Whereabouts) → seen_in net place car lane ≡ Some w → 0 < in_lane car lane
+  seen-some lane w e = elim (cases_lt 0 (in_lane car lane)) as (λ _. 0 < in_lane car lane) [
+    | inl some ↦ some
+    | inr none ↦ absurd (let unseen = zero-unseen lane (omega arith) in let bad : ◌≡◌ {A = Option Whereabouts} None (Some w) = sym unseen ∙ e in cc)
+  ]
+
+-- ---- the first of all lanes
+
+first-only : (h : Place → Option Whereabouts) (ps : List Place) (p : Place) (w : Whereabouts) → list_any (is_place p) ps ≡ true → h p ≡ Some w → ((q : Place) → list_any (is_place q) ps ≡ true → is_place p q ≡ false → h q ≡ None) → slice_get (filter_map h ps) 0 ≡ Some w
+first-only h [] p w among is none = cc
+first-only h (r ∷ ps) p w among is none = elim (cases_Bool (is_place p r)) as (λ _. slice_get (filter_map h (r ∷ ps)) 0 ≡ Some w) [
+  | inl here ↦ (let hr : h r ≡ Some w = ap h (sym (is_place-same p r here)) ∙ is in rw hr refl)
+  | inr on ↦ (
+      let hr : h r ≡ None = none r (or_left (is_place r r) _ (is_place-refl r)) on in
+      let rest : list_any (is_place p) ps ≡ true = rw on at among in
+      rw hr (first-only h ps p w rest is (λ q a ne. none q (or_right (is_place q r) _ a) ne)))
+]
+
+all-none : (h : Place → Option Whereabouts) (ps : List Place) → ((q : Place) → list_any (is_place q) ps ≡ true → h q ≡ None) → slice_get (filter_map h ps) 0 ≡ None
+all-none h [] none = refl
+all-none h (r ∷ ps) none =
+    let hr : h r ≡ None = none r (or_left (is_place r r) _ (is_place-refl r)) in
+    rw hr (all-none h ps (λ q a. none q (or_right (is_place q r) _ a)))
+
+-- ---- asked tile by tile
+
+-- a lane of one of the tiles
+tile-with : (p : Place) (xs : List Part) → list_any (is_place p) (all_places xs) ≡ true → (k : ℕ) × (k < length xs) × ((d : Part) → list_any (is_place p) (get_or xs k d).own.places ≡ true)
+tile-with p [] e = cc
+tile-with p (x ∷ xs) e = elim (or_cases (list_any (is_place p) (all_places xs)) (list_any (is_place p) x.own.places) (sym (list_any-append (is_place p) (all_places xs) x.own.places) ∙ e)) as (λ _. (k : ℕ) × (k < length (x ∷ xs)) × ((d : Part) → list_any (is_place p) (get_or (x ∷ xs) k d).own.places ≡ true)) [
+  | inl later ↦ (let r = tile-with p xs later in let h = r.1 in (suc r.0, omega arith, r.2))
+  | inr here ↦ (0, omega arith, λ d. here)
+]
+
+module _ (net : NetSpec) (xs : List Part) (tiles : AreTiles net xs) (number : ℕ) where
+  -- a tile's lanes have it at most once
+  pub one-at : (m : Traffic) → IsSound m → AllStand net xs m → (i : ℕ) (x : Part) → i < length xs → x ≡ get_or xs i x → HaveAtMostOne x.own.places m number
+  one-at m sound s i x h is = have-one net x number m (subst (IsTileOf net) (sym is) (tiles-of net 0 (length net.nodes) xs (in-row net xs tiles) i x h)) s.on sound.whole
+
+  -- one tile has found it
+  pub found-seen : (m : Traffic) → IsSound m → AllStand net xs m → (i : ℕ) (d : Part) (w : Whereabouts) → i < length xs → Finds net (get_or xs i d).own.places m number (Some w) → seen m number ≡ Some w
+  unfolding seen
+  found-seen m sound s i d w h found =
+      let p = found.1 in
+      let of_p = own-at net (get_or xs i d) (tiles-of net 0 (length net.nodes) xs (in-row net xs tiles) i d h) found.0 p found.2 in
+      let net_is = s.on.network in
+      let among : list_any (is_place p) (places m.network) ≡ true = subst (λ (n : NetSpec). list_any (is_place p) (places n) ≡ true) (sym net_is) of_p.0 in
+      let is : seen_in m.network p number (lane_at m p) ≡ Some w = subst (λ (n : NetSpec). seen_in n p number (lane_at m p) ≡ Some w) (sym net_is) found.3 in
+      let some = seen-some net p number (lane_at m p) w found.3 in
+      first-only (λ q. seen_in m.network q number (lane_at m q)) (places m.network) p w among is (λ q a ne. zero-unseen m.network q number (lane_at m q) (on-one m sound.formed sound.whole number p q ne among a some))
+
+  -- a lane of one tile has it
+  pub found-on-seen : (m : Traffic) → IsSound m → AllStand net xs m → (i : ℕ) (d : Part) (p : Place) (w : Whereabouts) → i < length xs → IsLane net p → is_own net (get_or xs i d).low (get_or xs i d).high p ≡ true → ◌≡◌ {A = Option Whereabouts} (Some w) (seen_in net p number (lane_at m p)) → ◌≡◌ {A = Option Whereabouts} (Some w) (seen m number)
+  found-on-seen m sound s i d p w h there own is =
+      let at = own-number net (get_or xs i d) p (tiles-of net 0 (length net.nodes) xs (in-row net xs tiles) i d h) there own in
+      sym (found-seen m sound s i d w h (at.0, p, at.1, sym is))
+
+  -- one more tile has it not
+  pub not-next : (i : ℕ) (x : Part) → i < length xs → x ≡ get_or xs i x → ((k : ℕ) (d : Part) → k < i → (m : Traffic) → IsWhole m → TilesStandFor (tiles_of net xs) m → HaveNot (get_or xs k d).own.places m number)
+      → ((m : Traffic) → IsOn net m → StandsFor x m → HaveAtMostOne x.own.places m number → HaveNot x.own.places m number)
+      → (k : ℕ) (d : Part) → k < i + 1 → (m : Traffic) → IsWhole m → TilesStandFor (tiles_of net xs) m → HaveNot (get_or xs k d).own.places m number
+  not-next i x h is before here k d l m whole s =
+      let none : (m : Traffic) → IsOn net m → StandsFor (get_or xs i x) m → HaveAtMostOne (get_or xs i x).own.places m number → HaveNot (get_or xs i x).own.places m number = subst (λ (t : Part). (m : Traffic) → IsOn net m → StandsFor t m → HaveAtMostOne t.own.places m number → HaveNot t.own.places m number) is here in
+      elim (cases_lt k i) as (λ _. HaveNot (get_or xs k d).own.places m number) [
+        | inl earlier ↦ before k d earlier m whole s
+        | inr last ↦ (
+            let same : k ≡ i = omega arith in
+            subst (λ (j : ℕ). HaveNot (get_or xs j d).own.places m number) (sym same) (not-at net number xs i x tiles h none m whole s d))
+      ]
+
+  -- no tile has it
+  pub nowhere-seen : (m : Traffic) → AllStand net xs m → ((k : ℕ) (d : Part) → k < length xs → HaveNot (get_or xs k d).own.places m number) → seen m number ≡ None
+  unfolding seen
+  nowhere-seen m s none = all-none (λ q. seen_in m.network q number (lane_at m q)) (places m.network) unseen
+    where
+      first-part : (ys : List Part) → 0 < length ys → Part
+      first-part [] h = absurd (omega arith)
+      first-part (y ∷ ys) h = y
+
+      unseen : (q : Place) → list_any (is_place q) (places m.network) ≡ true → seen_in m.network q number (lane_at m q) ≡ None
+      unseen q a =
+          let there : list_any (is_place q) (places net) ≡ true = subst (λ (n : NetSpec). list_any (is_place q) (places n) ≡ true) s.on.network a in
+          let tile = tile-with q xs (some-tile net (roads-of net xs tiles) xs (in-row net xs tiles) q (lane-of net q there)) in
+          let d : Part = first-part xs tiles.some in
+          let at = any-at q (get_or xs tile.0 d).own.places (tile.2 d) in
+          zero-unseen m.network q number (lane_at m q) (none tile.0 d tile.1 at.0 q at.1)

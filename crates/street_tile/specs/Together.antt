@@ -1,0 +1,86 @@
+-- All tiles of a network together, between two steps, and what a call does to them.
+-- Source: this profile.
+use Rattle.std.specs.Prelude.{◌≡◌, ◌*◌, ◌<◌, ◌≤◌, ◌++◌, ◌∷◌, ℕ, List, [], length, true, slice_index_or, slice_set}
+use Rattle.std.specs.List.{All}
+use Rattle.street_base.specs.declared.net.NetSpec.{NetSpec}
+use Rattle.street_base.specs.Network.{Place}
+use Rattle.street_base.specs.State.{Traffic}
+use Rattle.street_base.specs.Census.{IsWhole}
+use Rattle.street_tile.specs.Commands.{HaveNot}
+use Rattle.street_tile.specs.Tiles.{Part, IsStill, IsPrepared, Each, AreTiles, AllStand, is_own}
+use Rattle.street_tile.specs.TileDetectors.{AllMetersStand}
+
+-- what contracts see: the network, and its tiles
+pub record TilesView : Type 0 where
+  pub network : NetSpec
+  pub tiles : List Part
+
+abbrev pub tiles_of : NetSpec → List Part → TilesView
+tiles_of net xs = record { network = net; tiles = xs }
+
+-- what is kept between calls: the tiles are the network's, at most one a worker, nobody is on the way between them, and there is a
+-- view of its lanes
+pub record AreKept (net : NetSpec) (xs : List Part) (mouths : ℕ) : Type 0 where
+  pub tiles : AreTiles net xs
+  pub few : length xs ≤ 64
+  pub still : All IsStill xs
+  pub wide : mouths ≡ 2 * length net.links
+
+-- they stand for the traffic, each at its own lanes and nodes, and so do their detectors
+pub record TilesStandFor (x : TilesView) (m : Traffic) : Type 0 where
+  pub lanes : AllStand x.network x.tiles m
+  pub meters : AllMetersStand x.tiles m
+
+-- no tile holds the number of somebody who arrived
+abbrev pub NobodyArrived : TilesView → Type 0
+NobodyArrived x = All (λ t. t.arrived ≡ []) x.tiles
+
+-- whatever traffic they stood for, if P held of that, they then stand for f of it; nobody arrives by that
+pub record TilesGo (P : Traffic → Type 0) (f : Traffic → Traffic) (x y : TilesView) : Type 0 where
+  pub network : y.network ≡ x.network
+  pub long : length y.tiles ≡ length x.tiles
+  pub nobody : NobodyArrived x → NobodyArrived y
+  pub goes : (m : Traffic) → P m → TilesStandFor x m → TilesStandFor y (f m)
+
+-- they stand for what they stood for
+abbrev pub TilesKeep : TilesView → TilesView → Type 0
+TilesKeep x y = TilesGo (λ m. Unit {0}) (λ m. m) x y
+
+-- tile i owns the lanes of a link
+abbrev pub OwnsLink : TilesView → ℕ → ℕ → Type 0
+OwnsLink x i link = (d : Part) (p : Place) → p.link ≡ link → is_own x.network (slice_index_or x.tiles i d).low (slice_index_or x.tiles i d).high p ≡ true
+
+-- nobody of this number is on the lanes of tile i, in whatever traffic the tiles stand for
+abbrev pub TileHasNot : TilesView → ℕ → ℕ → Type 0
+TileHasNot x i number = (m : Traffic) → IsWhole m → TilesStandFor x m → (d : Part) → HaveNot (slice_index_or x.tiles i d).own.places m number
+
+-- tile i has room for a step, and the others are as they were
+pub record PreparesOne (i : ℕ) (xs ys : List Part) : Type 0 where
+  pub here : (d : Part) → IsPrepared (slice_index_or ys i d)
+  pub others : (k : ℕ) (d : Part) → (k ≡ i → ⊥) → slice_index_or ys k d ≡ slice_index_or xs k d
+
+-- the numbers of those who arrived that tiles hold, those of the last tile first
+abbrev pub all_arrived : List Part → List ℕ
+all_arrived [] = []
+all_arrived (x ∷ xs) = all_arrived xs ++ x.arrived
+
+-- only who arrived on a tile is another
+abbrev pub SameButArrived : Part → Part → Type 0
+SameButArrived x y = y ≡ record x { arrived = y.arrived }
+
+-- the last number of those who arrived is taken
+pub record TakesArrival (number : ℕ) (x y : TilesView) : Type 0 where
+  pub network : y.network ≡ x.network
+  pub long : length y.tiles ≡ length x.tiles
+  pub tiles : Each SameButArrived x.tiles y.tiles
+  pub rest : all_arrived x.tiles ≡ all_arrived y.tiles ++ number ∷ []
+
+-- the last number of those who arrived on tile i is taken
+pub record TakesArrivalOf (i number : ℕ) (x y : TilesView) : Type 0 where
+  pub network : y.network ≡ x.network
+  pub old : Part
+  pub new : Part
+  pub at : (d : Part) → slice_index_or x.tiles i d ≡ old
+  pub tiles : y.tiles ≡ slice_set x.tiles i new
+  pub same : SameButArrived old new
+  pub rest : old.arrived ≡ new.arrived ++ number ∷ []

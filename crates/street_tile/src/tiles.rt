@@ -1,0 +1,254 @@
+//! All tiles of a network between two steps.
+//!
+//! A command that names a node or a lane is done by the tile that owns it, and the others stay as they are. A vehicle is sought on
+//! the lanes of the link on which it was last put, and then in all tiles.
+//!
+//! Source: this profile.
+ghost use Rattle.std.specs.Prelude.{◌≡◌, ◌+◌, ◌<◌, ◌≤◌, length, min, option_map, slice_get, IfOk, OnOk, OnErr};
+ghost use Rattle.street_base.specs.Census.{in_lane, IsSound};
+ghost use Rattle.street_base.specs.Closing.{with_marks};
+ghost use Rattle.street_base.specs.Effects.{metered};
+ghost use Rattle.street_base.specs.Limits.{last_clock, most_period, most_vehicles};
+ghost use Rattle.street_base.specs.Machine.{loaded, with_waiting, closed_after, seen};
+ghost use Rattle.street_base.specs.Network.{link_at};
+ghost use Rattle.street_base.specs.Shown.{shown_lane, shown_rows, in_cells, in_buffers, in_wait};
+ghost use Rattle.street_base.specs.Signal.{SignalPlan as PlanSeen};
+ghost use Rattle.street_base.specs.State.{Traffic, lane_at};
+ghost use Rattle.street_net.specs.Tables.{place_of};
+ghost use Rattle.street_node.specs.Greens.{ShowsAs};
+ghost use Rattle.street_lanes.specs.Lanes.{IsLane};
+ghost use Rattle.street_lanes.specs.Lists.{HasShortPlan};
+ghost use Rattle.street_lanes.specs.Views.{waiting_of};
+ghost use Rattle.street_tile.specs.Commands.{at_place, planned};
+ghost use Rattle.street_tile.specs.TileDetectors.{detectors_on};
+ghost use Rattle.street_tile.specs.Together.{TilesStandFor, TilesGo, TilesKeep, NobodyArrived, OwnsLink};
+
+use crate::cut::owner;
+use crate::{Hints, Tile, TileSizes, View};
+use std::alloc::Global;
+use std::marker::Model;
+use std::sync::Arc;
+use street_base::{Car, CellNo, LinkIx, NodeIx, Reply, Starved};
+use street_net::{LaneId, Network};
+use street_node::SignalPlan;
+
+/// A network, its tiles, which of its lanes are open, and where each vehicle was last put.
+pub struct Tiles {
+    pub(crate) network: Arc<Network, Global>,
+    pub(crate) tiles: Vec<Tile>,
+    pub(crate) view: View,
+    pub(crate) hints: Hints,
+}
+
+impl Drop for Tiles {
+    fn drop(self) {
+        let Tiles {
+            network: _,
+            tiles: _,
+            view: _,
+            hints: _,
+        } = self;
+    }
+}
+
+impl Model for Tiles {
+    ghost use Rattle.std.specs.Prelude.{length};
+    ghost use Rattle.street_tile.specs.Together.{TilesView, AreKept};
+
+    ghost Value = { TilesView };
+
+    ghost view = { λ s. record { network = s.network.value; tiles = s.tiles.items } };
+
+    ghost invariant = { λ s. AreKept s.network.value s.tiles.items (length s.view) };
+}
+
+impl Tiles {
+    /// The tiles of a network with no vehicle, for so many workers, 1 to 64.
+    ///
+    /// # Errors
+    /// Memory was refused.
+    pub fn new(alloc: Global, network: Network, workers: usize) -> Result<Tiles, Starved>
+        requires some { 1 ≤ workers }
+        requires few { workers ≤ 64 }
+        ensures network { IfOk result (λ tiles. tiles.network ≡ network) }
+        ensures count { IfOk result (λ tiles. length tiles.tiles ≡ min workers (length network.nodes)) }
+        ensures nobody { IfOk result NobodyArrived }
+        ensures stand { IfOk result (λ tiles. TilesStandFor tiles (loaded network)) }
+    {
+        // Its clause `faultless` is what the traffic of a network with nobody on it rests on.
+        let _spec = network.spec();
+        let tiles = Tile::cut(alloc, &network, workers)?;
+        let view = View::new(alloc, &network)?;
+        let network = Arc::new(alloc, network)?;
+        Ok(Tiles {
+            network,
+            tiles,
+            view,
+            hints: Hints::new(alloc),
+        })
+    }
+
+    /// The network.
+    pub fn network(&self) -> &Network
+        ensures { result.now ≡ self.now.network }
+    {
+        &self.network
+    }
+
+    /// The network, to be shared with who works for the tiles.
+    ///
+    /// # Errors
+    /// It is shared too often.
+    pub fn share_network(&self) -> Result<Arc<Network, Global>, Starved>
+        ensures { IfOk result (λ network. network.value ≡ self.now.network) }
+    {
+        Ok(Arc::try_clone(&self.network)?)
+    }
+
+    /// How many tiles there are, 1 to 64.
+    pub fn len(&self) -> usize
+        ensures len { result ≡ length self.now.tiles }
+        ensures some { 0 < result }
+        ensures few { result ≤ 64 }
+    {
+        self.tiles.len()
+    }
+
+    /// The tile that owns the lanes of a link: that of the node to which the link runs.
+    pub(crate) fn owner_of(&self, link: LinkIx) -> usize
+        requires { link < length self.now.network.links }
+        ensures inside { result < length self.now.tiles }
+        ensures own { OwnsLink self.now result link }
+    {
+        owner(&self.network, self.tiles.len(), self.network.end_of(link))
+    }
+
+    /// One more vehicle, whose number is the next and nowhere on the lane, waits there.
+    ///
+    /// # Errors
+    /// Memory was refused; the tiles stand for what they stood for.
+    pub fn admit(&mut self, at: LaneId, car: Car) -> Result<(), Starved>
+        requires lane { IsLane self.old.network (place_of at) }
+        requires short { HasShortPlan car }
+        ensures waits { OnOk result (TilesGo (λ m. in_lane car.number (lane_at m (place_of at)) ≡ 0)
+            (at_place (place_of at) (with_waiting (waiting_of car))) self.old self.new) }
+        ensures starved { OnErr result (TilesKeep self.old self.new) }
+    {
+        let link = at.link;
+        let i = self.owner_of(link);
+        self.hints.reserve()?;
+        self.tiles[i].admit(&self.network, at, car)?;
+        self.hints.give(link);
+        Ok(())
+    }
+
+    /// A node has this signal plan from the next step on. Takes no memory.
+    pub fn set_signal(&mut self, node: NodeIx, plan: SignalPlan)
+        requires { node < length self.old.network.nodes }
+        ensures { (other : PlanSeen) → ShowsAs plan other
+            → TilesGo (λ m. node < length m.signals) (planned node other) self.old self.new }
+    {
+        let i = owner(&self.network, self.tiles.len(), node);
+        self.tiles[i].set_signal(node, plan);
+    }
+
+    /// Closes cells of a lane, or opens them, and tells how many of its cells are closed then.
+    ///
+    /// # Errors
+    /// Memory was refused; the tiles stand for what they stood for.
+    pub fn set_closed(
+        &mut self,
+        at: LaneId,
+        first: CellNo,
+        last: CellNo,
+        closed: bool,
+    ) -> Result<u64, Starved>
+        requires lane { IsLane self.old.network (place_of at) }
+        requires order { first ≤ last }
+        requires within { last < (link_at self.old.network at.link).length }
+        ensures marks { OnOk result (TilesGo (λ m. Unit) (at_place (place_of at) (with_marks closed first last)) self.old self.new) }
+        ensures count { IfOk result (λ count. (m : Traffic) → TilesStandFor self.old m
+            → count ≡ closed_after closed first last (lane_at m (place_of at))) }
+        ensures starved { OnErr result (TilesKeep self.old self.new) }
+    {
+        let i = self.owner_of(at.link);
+        self.tiles[i].set_closed(&self.network, at, first, last, closed)
+    }
+
+    /// All of a lane.
+    ///
+    /// # Errors
+    /// Memory for the lists was refused.
+    pub fn lane(&self, alloc: Global, at: LaneId) -> Result<Reply, Starved>
+        requires { IsLane self.now.network (place_of at) }
+        ensures { IfOk result (λ reply. (m : Traffic) → TilesStandFor self.now m → reply ≡ shown_lane (lane_at m (place_of at))) }
+    {
+        let i = self.owner_of(at.link);
+        self.tiles[i].lane(alloc, &self.network, at)
+    }
+
+    /// One more detector stands in a cell of a lane, with a period of 1 to 100,000 steps. Answers its number among the detectors
+    /// of the lane.
+    ///
+    /// # Errors
+    /// Memory was refused; the tiles stand for what they stood for.
+    pub fn place_meter(
+        &mut self,
+        alloc: Global,
+        at: LaneId,
+        cell: CellNo,
+        period: u32,
+    ) -> Result<usize, Starved>
+        requires stand { (m : Traffic) × TilesStandFor self.old m × (m.clock ≤ last_clock) }
+        requires lane { IsLane self.old.network (place_of at) }
+        requires cell { cell < (link_at self.old.network at.link).length }
+        requires some { 1 ≤ period }
+        requires short { period ≤ most_period }
+        ensures placed { OnOk result (TilesGo (λ m. Unit) (λ m. metered m (place_of at) cell period) self.old self.new) }
+        ensures number { IfOk result (λ number. (m : Traffic) → TilesStandFor self.old m
+            → number ≡ length (detectors_on (place_of at) m.detectors)) }
+        ensures starved { OnErr result (TilesKeep self.old self.new) }
+    {
+        let i = self.owner_of(at.link);
+        self.tiles[i].place_meter(alloc, &self.network, at, cell, period)
+    }
+
+    /// The rows of a detector by its number among those of a lane, if there is one. Takes memory for the list of rows.
+    ///
+    /// # Errors
+    /// Memory for the list was refused.
+    pub fn read_meter(
+        &self,
+        alloc: Global,
+        at: LaneId,
+        number: usize,
+    ) -> Result<Option<Reply>, Starved>
+        requires { IsLane self.now.network (place_of at) }
+        ensures { IfOk result (λ found. (m : Traffic) → TilesStandFor self.now m
+            → found ≡ option_map shown_rows (slice_get (detectors_on (place_of at) m.detectors) number)) }
+    {
+        let i = self.owner_of(at.link);
+        self.tiles[i].read_meter(alloc, &self.network, at, number)
+    }
+
+    /// How many vehicles are on the lanes of all tiles; looks at no lane.
+    pub fn sizes(&self) -> TileSizes
+        requires { (m : Traffic) × TilesStandFor self.now m × IsSound m × (length m.ends ≤ most_vehicles) }
+        ensures cells { (m : Traffic) → TilesStandFor self.now m → result.cells ≡ in_cells m }
+        ensures buffers { (m : Traffic) → TilesStandFor self.now m → result.buffers ≡ in_buffers m }
+        ensures waiting { (m : Traffic) → TilesStandFor self.now m → result.waiting ≡ in_wait m }
+    {
+        let mut all = TileSizes {
+            cells: 0,
+            buffers: 0,
+            waiting: 0,
+        };
+        for i in 0..self.tiles.len() {
+            let own = self.tiles[i].sizes();
+            all.cells += own.cells;
+            all.buffers += own.buffers;
+            all.waiting += own.waiting;
+        }
+        all
+    }
+}

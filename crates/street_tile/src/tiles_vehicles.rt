@@ -1,0 +1,121 @@
+//! Commands that name a vehicle: the lanes of the link are asked on which it was last put, and then all tiles.
+//!
+//! Source: this profile.
+ghost use Rattle.std.specs.Prelude.{◌≡◌, ℕ, ◌<◌, length, true, false, IsSome, IfOk};
+ghost use Rattle.street_base.specs.Census.{IsSound, IsWhole};
+ghost use Rattle.street_base.specs.Machine.{seen};
+ghost use Rattle.street_base.specs.State.{Traffic};
+ghost use Rattle.street_net.specs.Tables.{place_of};
+ghost use Rattle.street_lanes.specs.Lanes.{IsLane};
+ghost use Rattle.street_tile.specs.Commands.{without};
+ghost use Rattle.street_tile.specs.Together.{TilesStandFor, TilesGo, TileHasNot};
+
+use crate::tiles::Tiles;
+use std::alloc::Global;
+use street_base::{CarNo, LaneNo, LinkIx, Starved, Whereabouts};
+use street_net::LaneId;
+
+impl Tiles {
+    /// How many lanes a link has; none of a position past the last link.
+    fn lanes_of(&self, link: LinkIx) -> LaneNo
+        ensures { (lane : ℕ) → lane < result → IsLane self.now.network (record { link = link; lane = lane }) }
+    {
+        match self.network.spec().links.as_slice().get(link.position()) {
+            Some(it) => it.lanes as LaneNo,
+            None => 0,
+        }
+    }
+
+    /// Takes a vehicle out of a lane, and tells whether it was there.
+    fn take_on(&mut self, at: LaneId, number: CarNo) -> bool
+        requires { IsLane self.old.network (place_of at) }
+        ensures taken { result ≡ true → TilesGo IsWhole (without number) self.old self.new }
+        ensures kept { result ≡ false → self.new ≡ self.old }
+    {
+        let i = self.owner_of(at.link);
+        self.tiles[i]
+            .take_out_on(&self.network, at, number)
+            .is_some()
+    }
+
+    /// Takes a vehicle out of the lanes of a link, and tells whether it was there.
+    fn take_near(&mut self, link: LinkIx, number: CarNo) -> bool
+        ensures taken { result ≡ true → TilesGo IsWhole (without number) self.old self.new }
+        ensures kept { result ≡ false → self.new ≡ self.old }
+    {
+        for lane in 0..self.lanes_of(link) {
+            if self.take_on(LaneId { link, lane }, number) {
+                return true;
+            }
+        }
+        false
+    }
+
+    /// Takes a vehicle out of a tile, and tells whether it was there.
+    fn take_at(&mut self, i: usize, number: CarNo) -> bool
+        requires { i < length self.old.tiles }
+        ensures taken { result ≡ true → TilesGo IsWhole (without number) self.old self.new }
+        ensures kept { result ≡ false → self.new ≡ self.old }
+        ensures nowhere { result ≡ false → TileHasNot self.old i number }
+    {
+        self.tiles[i].take_out(&self.network, number).is_some()
+    }
+
+    /// Takes a vehicle out, wherever it is. Takes no memory.
+    pub fn take_out(&mut self, number: CarNo)
+        ensures { TilesGo IsWhole (without number) self.old self.new }
+    {
+        if let Some(link) = self.hints.get(number)
+            && self.take_near(link, number)
+        {
+            return;
+        }
+        for i in 0..self.len() {
+            if self.take_at(i, number) {
+                return;
+            }
+        }
+    }
+
+    /// Where a vehicle is on the lanes of a link, if it is there.
+    ///
+    /// # Errors
+    /// Memory for the plan was refused.
+    fn find_near(
+        &self,
+        alloc: Global,
+        link: LinkIx,
+        number: CarNo,
+    ) -> Result<Option<Whereabouts>, Starved>
+        ensures { IfOk result (λ found. IsSome found → (m : Traffic) → IsSound m → TilesStandFor self.now m → found ≡ seen m number) }
+    {
+        for lane in 0..self.lanes_of(link) {
+            let at = LaneId { link, lane };
+            let i = self.owner_of(link);
+            if let Some(found) = self.tiles[i].find_on(alloc, &self.network, at, number)? {
+                return Ok(Some(found));
+            }
+        }
+        Ok(None)
+    }
+
+    /// Where a vehicle is that has not ended. Takes memory for the plan that it answers.
+    ///
+    /// # Errors
+    /// Memory for the plan was refused.
+    pub fn find(&self, alloc: Global, number: CarNo) -> Result<Option<Whereabouts>, Starved>
+        ensures { IfOk result (λ found. (m : Traffic) → IsSound m → TilesStandFor self.now m → found ≡ seen m number) }
+    {
+        if let Some(link) = self.hints.get(number)
+            && let Some(found) = self.find_near(alloc, link, number)?
+        {
+            return Ok(Some(found));
+        }
+        for i in 0..self.tiles.len() {
+            if let Some(found) = self.tiles[i].find(alloc, &self.network, number)? {
+                return Ok(Some(found));
+            }
+        }
+        Ok(None)
+    }
+}
