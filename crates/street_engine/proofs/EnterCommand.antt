@@ -22,7 +22,7 @@ module _ (s : StreetsView) (plan : List ℕ) (lane depart size : ℕ) where
   pub too-many : most_vehicles ≤ length s.ends → Serves (Some s) (Enter plan lane depart size) (Refused TooMany) Whole (Some s)
   too-many full = streets-refused s (Enter plan lane depart size) TooMany (λ m stands. let e = le-leb most_vehicles (length m.ends) (omega (arith, full, many m stands)) in rw e refl)
 
-  module _ (few : length s.ends < most_vehicles) (refusal : Option Refusal) (told_is : (m : Traffic) → m.network ≡ s.network → length m.ends < most_vehicles → refusal ≡ enter_refusal plan lane depart size m) where
+  module _ (few : length s.ends < most_vehicles) (refusal : Option Refusal) (told_is : (m : Traffic) → m.network ≡ s.tiles.network → length m.ends < most_vehicles → refusal ≡ enter_refusal plan lane depart size m) where
     told-of : (m : Traffic) → StreetsStandFor s m → refusal ≡ enter_refusal plan lane depart size m
     told-of m stands = told_is m (same-network s m stands) (omega (arith, few, many m stands))
 

@@ -9,7 +9,7 @@ use Rattle.street_engine.proofs.StreetsStandFor.{steps-last}
 -- memory for a step was asked for
 pub run-prepared : (begun : StreetsView) (most : ℕ) (x y : StreetsView) (made : ℕ) → HaveRun begun most x made → y.tiles.network ≡ x.tiles.network → y.clock ≡ x.clock → StreetsGo (λ m. m) x y → HaveRun begun most y made
 run-prepared begun most x y made run network clock kept = record {
-  most = run.most;
+  within = run.within;
   network = network ∙ run.network;
   clock = clock ∙ run.clock;
   stands = λ m s. kept (steps made m) (run.stands m s);
@@ -18,7 +18,7 @@ run-prepared begun most x y made run network clock kept = record {
 -- a step is one more of those that were made
 pub run-stepped : (begun : StreetsView) (most : ℕ) (x y : StreetsView) (made : ℕ) → HaveRun begun most x made → made < most → y.tiles.network ≡ x.tiles.network → y.clock ≡ x.clock + 1 → StreetsGo step x y → HaveRun begun most y (made + 1)
 run-stepped begun most x y made run more network clock went = record {
-  most = omega (arith, more);
+  within = omega (arith, more);
   network = network ∙ run.network;
   clock = (let c = run.clock in omega (arith, c, clock));
   stands = λ m s. subst (StreetsStandFor y) (sym (steps-last made m)) (went (steps made m) (run.stands m s));

@@ -47,7 +47,7 @@ unfolding StandsFor
 some-stands s m stands = stands
 
 module _ (s : StreetsView) (m : Traffic) (stands : StreetsStandFor s m) where
-  pub same-network : m.network ≡ s.network
+  pub same-network : m.network ≡ s.tiles.network
   unfolding StreetsStandFor
   same-network = stands.tiles.lanes.on.network
 

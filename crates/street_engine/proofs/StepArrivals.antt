@@ -21,7 +21,7 @@ use Rattle.street_tile.specs.HandOvers.{all_places}
 use Rattle.street_tile.proofs.Rows.{in-row, roads-of}
 use Rattle.street_tile.specs.Together.{all_arrived}
 use Rattle.street_engine.specs.Ends.{AreComing}
-use Rattle.street_engine.proofs.Sums.{tiles-sums}
+use Rattle.street_tile.proofs.Sums.{tiles-sums}
 use Rattle.street_engine.proofs.AreComing.{often}
 use Rattle.street_engine.proofs.Arrivals.{with_arrivals-same}
 use Rattle.street_base.proofs.StepLemmas.{changed-whole}

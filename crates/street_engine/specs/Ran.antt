@@ -10,7 +10,7 @@ pub record RanView : Type 0 where
 
 -- so many steps, of at most these, lead from these streets to those
 pub record HaveRun (begun : StreetsView) (most : ℕ) (streets : StreetsView) (made : ℕ) : Type 0 where
-  pub most : made ≤ most
+  pub within : made ≤ most
   pub network : streets.tiles.network ≡ begun.tiles.network
   pub clock : streets.clock ≡ begun.clock + made
   pub stands : StreetsGo (steps made) begun streets

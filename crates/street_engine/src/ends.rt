@@ -6,10 +6,15 @@ ghost use Rattle.std.specs.List.{count_by};
 ghost use Rattle.street_base.specs.declared.reply.End.TheVariants.{Arrived, Taken};
 ghost use Rattle.street_base.specs.Limits.{most_vehicles};
 ghost use Rattle.street_base.specs.Shown.{has_arrived, was_taken};
+ghost use Rattle.street_base.specs.Step.{with_arrivals};
+ghost use Rattle.street_tile.specs.Tiles.{Each};
+ghost use Rattle.street_tile.specs.Together.{all_arrived};
+ghost use Rattle.street_engine.specs.Ends.{AreComing};
 
 use std::alloc::Global;
 use std::marker::Model;
 use street_base::{CarNo, End, Starved, Step};
+use street_tile::Tiles;
 
 /// How each vehicle ended, if it did, by the numbers given so far; how many have arrived, and how many were taken out.
 #[derive(Drop)]
@@ -115,5 +120,18 @@ impl Ends {
             step: u64::from(clock),
         });
         self.taken += 1;
+    }
+}
+
+/// Takes note of all who arrived.
+pub(crate) fn note_arrivals(tiles: &mut Tiles, ends: &mut Ends, clock: Step)
+    requires { AreComing (all_arrived tiles.old.tiles) ends.old.ends }
+    ensures network { tiles.new.network ≡ tiles.old.network }
+    ensures long { length tiles.new.tiles ≡ length tiles.old.tiles }
+    ensures tiles { Each (λ x y. y ≡ record x { arrived = [] }) tiles.old.tiles tiles.new.tiles }
+    ensures ends { ends.new.ends ≡ with_arrivals clock (all_arrived tiles.old.tiles) ends.old.ends }
+{
+    while let Some(number) = tiles.next_arrival() {
+        ends.arrive(number, clock);
     }
 }

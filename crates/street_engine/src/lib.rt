@@ -7,7 +7,6 @@
 //! is, behind contracts that name the machine alone.
 #![tactic(auto)]
 
-mod arrivals;
 mod clock_commands;
 mod commands;
 mod detector_commands;

@@ -18,8 +18,7 @@ ghost use Rattle.street_lanes.specs.Lanes.{IsLane};
 ghost use Rattle.street_tile.specs.Tiles.{IsPrepared};
 ghost use Rattle.street_engine.specs.Streets.{StreetsStandFor, StreetsGo};
 
-use crate::arrivals::note_arrivals;
-use crate::ends::Ends;
+use crate::ends::{Ends, note_arrivals};
 use crate::sites::DetectorSite;
 use crate::teams::run_with_locks;
 use std::alloc::Global;

@@ -9,15 +9,15 @@ use Rattle.street_engine.specs.Streets.{StreetsView, IsKept, StreetsGo, streets_
 use Rattle.street_engine.proofs.StreetsStandFor.{keeps-stands, metered-stands, kept-goes, goes-with, always-err}
 use Rattle.street_engine.proofs.streets.Streets.place_meter.Goals as goal
 
-pub place_meter-number-requires-clause-stand : goal.place_meter-number-requires-clause-stand
-place_meter-number-requires-clause-stand c =
+pub place_meter-requires-clause-stand : goal.place_meter-requires-clause-stand
+place_meter-requires-clause-stand c =
     let t = c.self.invariant.some.1 in
     (c.self.invariant.some.0, t.tiles, omega (arith, c.self.invariant.in_time, t.clock))
 
 pub invariant_of-self-in_err-number : goal.invariant_of-self-in_err-number
 invariant_of-self-in_err-number c =
     let s = c.self.inside in
-    let y = c.place_meter-number.new.self in
+    let y = c.place_meter.new.self in
     let kept = c.in_err-number.ensures.starved in
     subst (λ (ss : List DetectorSite). IsKept (streets_of y ss s.clock s.ends.ends)) (sym c.reserve.ensures.items)
     (kept-goes (λ m. Unit {0}) (λ m. m) (λ m. m) s.sites.items s.sites.items s.clock s.tiles y s.ends.ends s.ends.ends c.self.invariant kept (keeps-stands s.sites.items s.clock s.tiles y s.ends.ends kept))
@@ -25,14 +25,14 @@ invariant_of-self-in_err-number c =
 pub returns-in_err-number-clause-starved : goal.returns-in_err-number-clause-starved
 returns-in_err-number-clause-starved c =
     let s = c.self.inside in
-    let y = c.place_meter-number.new.self in
+    let y = c.place_meter.new.self in
     let goes : StreetsGo (λ m. m) c.args.self.now (streets_of y s.sites.items s.clock s.ends.ends) = goes-with (λ m. m) (streets_of s.tiles s.sites.items s.clock s.ends.ends) (streets_of y s.sites.items s.clock s.ends.ends) c.args.self.now c.self.view_is (keeps-stands s.sites.items s.clock s.tiles y s.ends.ends c.in_err-number.ensures.starved) in
     always-err _ c.from_residual-in_err-number.result (subst (λ (ss : List DetectorSite). StreetsGo (λ m. m) c.args.self.now (streets_of y ss s.clock s.ends.ends)) (sym c.reserve.ensures.items) goes)
 
 pub invariant_of-self-2 : goal.invariant_of-self-2
 invariant_of-self-2 c =
     let s = c.self.inside in
-    let y = c.place_meter-number.new.self in
+    let y = c.place_meter.new.self in
     let f : Traffic → Traffic = λ m. metered m (place_of c.args.at) c.args.cell c.args.period in
     let site : DetectorSite = record { at = c.args.at; number = c.in_ok-number.number } in
     let pushed : c.push_reserved.new.self.items ≡ s.sites.items ++ site ∷ [] = c.push_reserved.ensures.items ∙ ap (λ (ss : List DetectorSite). ss ++ site ∷ []) c.reserve.ensures.items in
@@ -45,7 +45,7 @@ invariant_of-self-2 c =
 pub returns-clause-placed : goal.returns-clause-placed
 returns-clause-placed c =
     let s = c.self.inside in
-    let y = c.place_meter-number.new.self in
+    let y = c.place_meter.new.self in
     let f : Traffic → Traffic = λ m. metered m (place_of c.args.at) c.args.cell c.args.period in
     let site : DetectorSite = record { at = c.args.at; number = c.in_ok-number.number } in
     let pushed : c.push_reserved.new.self.items ≡ s.sites.items ++ site ∷ [] = c.push_reserved.ensures.items ∙ ap (λ (ss : List DetectorSite). ss ++ site ∷ []) c.reserve.ensures.items in

@@ -10,7 +10,7 @@ use Rattle.street_engine.proofs.StreetsStandFor.{step-coming, step-stands, step-
 use Rattle.street_engine.proofs.streets.Streets.step.Goals as goal
 
 pub step-requires-clause-stand : goal.step-requires-clause-stand
-step-requires-clause-stand g c =
+step-requires-clause-stand g c κs within =
     let s = c.self.inside in
     let early : s.clock < last_clock = subst (λ (v : StreetsView). v.clock < last_clock) (sym c.self.view_is) c.requires.in_time in
     let stood = c.self.invariant.some.1 in

@@ -3,7 +3,7 @@ use Rattle.street_base.specs.Step.{with_arrivals}
 use Rattle.street_tile.specs.Tiles.{Each}
 use Rattle.street_tile.specs.Together.{all_arrived, SameButArrived}
 use Rattle.street_engine.specs.Ends.{AreComing}
-use Rattle.street_engine.proofs.arrivals.note_arrivals.Given as goal
+use Rattle.street_engine.proofs.ends.note_arrivals.Given as goal
 
 abbrev pub invariant-loop-number : goal.invariant-loop-number
 invariant-loop-number l = record {

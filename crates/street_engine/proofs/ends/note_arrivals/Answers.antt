@@ -9,7 +9,7 @@ use Rattle.street_tile.specs.Together.{TilesView, all_arrived}
 use Rattle.street_engine.specs.Ends.{AreComing}
 use Rattle.street_engine.proofs.Arrivals.{with_arrivals-append, with_arrivals-none, with_arrivals-one}
 use Rattle.street_engine.proofs.AreComing.{last-going, rest-coming}
-use Rattle.street_engine.proofs.arrivals.note_arrivals.Goals as goal
+use Rattle.street_engine.proofs.ends.note_arrivals.Goals as goal
 
 -- where no tile holds a number, none is held
 none-held : (xs : List Part) → ((k : ℕ) (d : Part) → k < length xs → (get_or xs k d).arrived ≡ []) → all_arrived xs ≡ []
@@ -43,7 +43,13 @@ pub loop-number-smaller : goal.loop-number-smaller
 loop-number-smaller c = omega (arith, ap length c.in-Some.ensures.some.rest, length-append (all_arrived c.next_arrival.new.self.tiles) (c.in-Some.number ∷ []))
 
 pub returns-clause-tiles : goal.returns-clause-tiles
-returns-clause-tiles c = ?
+returns-clause-tiles c = λ k d h.
+    let long = c.loop-number.invariant.long in
+    let none = c.next_arrival.ensures.none c.in_default.is k d (omega arith) in
+    let kept = c.next_arrival.ensures.kept c.in_default.is in
+    ap (λ (v : TilesView). get_or v.tiles k d) kept ∙ c.loop-number.invariant.same k d h ∙ ap (λ (ns : List ℕ). record (get_or c.args.tiles.now.tiles k d) { arrived = ns }) none
 
 pub returns-clause-ends : goal.returns-clause-ends
-returns-clause-ends c = ?
+returns-clause-ends c =
+    let empty : all_arrived c.loop-number.tiles.tiles ≡ [] = none-held c.loop-number.tiles.tiles (c.next_arrival.ensures.none c.in_default.is) in
+    sym (with_arrivals-none c.args.clock c.loop-number.ends.ends) ∙ ap (λ (ns : List ℕ). with_arrivals c.args.clock ns c.loop-number.ends.ends) (sym empty) ∙ c.loop-number.invariant.ends
