@@ -350,6 +350,11 @@ impl Streets {
         vehicles::sizes(&self.network, &self.tiles).cells
     }
 
+    /// Whether the workers share the next step, as the gate says of the vehicles in cells: never where there is one tile.
+    fn are_shared<G: Gate>(&self, gate: &G) -> bool {
+        self.tiles.len() > 1 && gate.shares(self.in_cells(), vehicles::fullest(&self.tiles))
+    }
+
     /// How many threads the next step takes, after so many others of the same advance that took so many: one for each tile
     /// where the gate lets the workers share it, else the caller's alone. The gate is asked once in 16 steps, in which traffic
     /// changes little.
@@ -360,9 +365,8 @@ impl Streets {
         if done % STEPS_BETWEEN_COUNTS != 0 {
             return before;
         }
-        let tiles = self.tiles.len();
-        if tiles > 1 && gate.shares(self.in_cells()) {
-            return tiles;
+        if self.are_shared(gate) {
+            return self.tiles.len().max(1);
         }
         1
     }
@@ -492,7 +496,8 @@ impl Streets {
         }
     }
 
-    /// So many steps by a team: what it leaves, and how many were made, which is none where memory for the team was refused.
+    /// So many steps by a team of the caller and so many threads: what it leaves, and how many were made, which is none where memory
+    /// for the team was refused.
     fn team_steps<R: Threads + Wait + Sync, G: Gate + Sync>(
         self,
         rt: &R,
@@ -502,13 +507,13 @@ impl Streets {
         threads: usize,
     ) -> (Streets, u64)
         requires few { count ≤ 16 }
+        requires threads { threads ≤ 64 }
         requires in_time { self.clock + count ≤ last_clock }
         ensures most { result.1 ≤ count }
         ensures clock { result.0.clock ≡ self.clock + result.1 }
         ensures steps { StreetsGo (steps result.1) self result.0 }
     {
-        let tiles = self.tiles.len();
-        let Ok(known) = locks::<Tile>(alloc, LENDINGS * tiles * count as usize) else {
+        let Ok(known) = locks::<Tile>(alloc, LENDINGS * threads * count as usize) else {
             return (self, 0);
         };
         let (network, moving) = self.into_parts();
@@ -519,10 +524,11 @@ impl Streets {
     }
 
     /// How many threads stay for the next steps: the caller's alone where there is one tile, or the gate does not share them.
-    fn staying<G: Gate>(&self, gate: &G) -> usize {
-        let tiles = self.tiles.len();
-        if tiles > 1 && gate.shares(self.in_cells()) {
-            tiles.min(gate.processors())
+    fn staying<G: Gate>(&self, gate: &G) -> usize
+        ensures { result ≤ 64 }
+    {
+        if self.are_shared(gate) {
+            self.tiles.len().min(gate.processors())
         } else {
             1
         }
@@ -545,7 +551,7 @@ impl Streets {
     {
         let threads = self.staying(gate);
         if threads > 1 {
-            let (left, made) = self.team_steps(rt, alloc, gate, count, threads);
+            let (left, made) = self.team_steps(rt, alloc, gate, count, threads - 1);
             if made > 0 {
                 return (left, made);
             }

@@ -18,7 +18,7 @@ use std::thread;
 use std::thread::Threads;
 use street_base::{Starved, Step};
 use street_net::Network;
-use street_team::{Shared, Team, start};
+use street_team::{Block, Shared, Team, blocks, join_all, start};
 use street_tile::{Course, Gate, Hints, Tile, TileWork, View, step_with};
 
 /// Loaded streets without their network.
@@ -179,7 +179,7 @@ fn run<G: Gate + Sync, K: Course, B: Begun, R: Wait>(
     ran
 }
 
-/// So many steps by so many threads, which stay for all of them and are started in a scope.
+/// So many steps by the caller and so many threads, which stay for all of them and are started in a scope.
 fn run_in_scope<
     'a,
     G: Gate + Sync,
@@ -188,8 +188,10 @@ fn run_in_scope<
     R: Threads + Wait + Sync,
 >(
     rt: &R,
+    alloc: Global,
     shared: &Shared<'a, '_, Tile, TileWork<'_, G, K>>,
-    locks: &'a [OnceLock<Snapshot<Tile>>],
+    spare: Vec<Block<Tile>>,
+    locks: &'a [OnceLock<Snapshot<Block<Tile>>>],
     net: &Network,
     moving: Moving,
     count: u64,
@@ -212,10 +214,11 @@ fn run_in_scope<
                 × (streets_of B.begun.network moving.sites.items moving.clock moving.tiles.items moving.ends.ends ≡ B.begun)
                 × IsKept B.begun (length moving.view) × (moving.clock + count ≤ last_clock) × (count ≡ B.most) }
         {
-            let here = start(scope, rt, shared, moving.tiles.len(), threads);
-            let mut team = Team::new(rt, shared, locks, here);
+            let started = start(scope, rt, alloc, shared, threads);
+            let mut team = Team::new(rt, shared, locks, spare, started.len());
             let ran = run(&mut team, net, moving, count);
             shared.end();
+            join_all(rt, started);
             ran
         },
     )
@@ -231,7 +234,7 @@ pub(crate) fn run_with_locks<
     rt: &R,
     alloc: Global,
     gate: &G,
-    locks: &[OnceLock<Snapshot<Tile>>],
+    locks: &[OnceLock<Snapshot<Block<Tile>>>],
     net: &Network,
     moving: Moving,
     count: u64,
@@ -251,8 +254,15 @@ pub(crate) fn run_with_locks<
     }) }
 {
     let work = TileWork::<G, K>::new(net, gate);
-    let Ok(shared) = Shared::new(alloc, &work, moving.tiles.len()) else {
+    let Ok(shared) = Shared::new(alloc, &work, threads) else {
         return (moving, 0);
     };
-    run_in_scope::<G, K, B, R>(rt, &shared, locks, net, moving, count, threads).into_parts()
+    let most = moving.tiles.len() / threads.saturating_add(1) + 1;
+    let Ok(spare) = blocks(alloc, threads, most, moving.view.len()) else {
+        return (moving, 0);
+    };
+    run_in_scope::<G, K, B, R>(
+        rt, alloc, &shared, spare, locks, net, moving, count, threads,
+    )
+    .into_parts()
 }

@@ -162,3 +162,12 @@ pub(crate) fn sizes(net: &Network, tiles: &[Tile]) -> TileSizes
     }
     all
 }
+
+/// How many vehicles are in cells of the tile that has most of them; looks at no lane.
+pub(crate) fn fullest(tiles: &[Tile]) -> u64 {
+    let mut most = 0;
+    for tile in tiles {
+        most = most.max(tile.sizes().cells);
+    }
+    most
+}

@@ -27,4 +27,3 @@ pub mod NumberOnce
 pub mod BetweenPhases
 pub mod Lent
 mod KeepsHints
-mod Looked
