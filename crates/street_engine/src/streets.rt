@@ -30,7 +30,7 @@ use street_base::{
 };
 use street_net::{LaneId, NetFault, Network};
 use street_node::SignalPlan;
-use street_team::{Team, locks};
+use street_team::{Block, Team, locks};
 use street_tile::{Course, Gate, Tile, TileWork, Tiles};
 
 /// For how many steps what the gate said of threads holds.
@@ -100,11 +100,16 @@ impl Streets {
         self.tiles.network()
     }
 
-    /// How many tiles there are, 1 to 64.
-    pub(crate) fn tiles(&self) -> usize
-        ensures { result ≡ length self.now.tiles.tiles }
-    {
-        self.tiles.len()
+    /// Blocks in which a team of so many threads lends the tiles.
+    ///
+    /// # Errors
+    /// Memory was refused.
+    pub(crate) fn blocks(
+        &self,
+        alloc: Global,
+        threads: usize,
+    ) -> Result<Vec<Block<Tile>>, Starved> {
+        self.tiles.blocks(alloc, threads)
     }
 
     /// The clock.
@@ -325,6 +330,11 @@ impl Streets {
         self.tiles.sizes().cells
     }
 
+    /// Whether the workers share the next step, as the gate says of the vehicles in cells: never where there is one tile.
+    fn are_shared<G: Gate>(&self, gate: &G) -> bool {
+        self.tiles.len() > 1 && gate.shares(self.in_cells(), self.tiles.fullest())
+    }
+
     /// How many threads the next step takes, after so many others of the same advance that took so many: one for each tile
     /// where the gate lets the workers share it, else the caller's alone. The gate is asked once in 16 steps, in which traffic
     /// changes little.
@@ -335,9 +345,8 @@ impl Streets {
         if done % STEPS_BETWEEN_COUNTS != 0 {
             return before;
         }
-        let tiles = self.tiles.len();
-        if tiles > 1 && gate.shares(self.in_cells()) {
-            return tiles;
+        if self.are_shared(gate) {
+            return self.tiles.len().max(1);
         }
         1
     }
@@ -427,7 +436,8 @@ impl Streets {
         (streets, made)
     }
 
-    /// So many steps by a team: what it leaves, and how many were made, which is none where memory for the team was refused.
+    /// So many steps by a team of the caller and so many threads: what it leaves, and how many were made, which is none where memory
+    /// for the team was refused.
     fn team_steps<R: Threads + Wait + Sync, G: Gate + Sync>(
         self,
         rt: &R,
@@ -437,13 +447,13 @@ impl Streets {
         threads: usize,
     ) -> (Streets, u64)
         requires few { count ≤ 16 }
+        requires threads { threads ≤ 64 }
         requires in_time { self.clock + count ≤ last_clock }
         ensures most { result.1 ≤ count }
         ensures clock { result.0.clock ≡ self.clock + result.1 }
         ensures steps { StreetsGo (steps result.1) self result.0 }
     {
-        let tiles = self.tiles.len();
-        let Ok(known) = locks::<Tile>(alloc, LENDINGS * tiles * count as usize) else {
+        let Ok(known) = locks::<Tile>(alloc, LENDINGS * threads * count as usize) else {
             return (self, 0);
         };
         let Ok(network) = self.tiles.share_network() else {
@@ -455,10 +465,11 @@ impl Streets {
     }
 
     /// How many threads stay for the next steps: the caller's alone where there is one tile, or the gate does not share them.
-    fn staying<G: Gate>(&self, gate: &G) -> usize {
-        let tiles = self.tiles.len();
-        if tiles > 1 && gate.shares(self.in_cells()) {
-            tiles.min(gate.processors())
+    fn staying<G: Gate>(&self, gate: &G) -> usize
+        ensures { result ≤ 64 }
+    {
+        if self.are_shared(gate) {
+            self.tiles.len().min(gate.processors())
         } else {
             1
         }
@@ -481,7 +492,7 @@ impl Streets {
     {
         let threads = self.staying(gate);
         if threads > 1 {
-            let (left, made) = self.team_steps(rt, alloc, gate, count, threads);
+            let (left, made) = self.team_steps(rt, alloc, gate, count, threads - 1);
             if made > 0 {
                 return (left, made);
             }

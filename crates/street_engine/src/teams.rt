@@ -15,7 +15,7 @@ use std::thread;
 use std::thread::Threads;
 use street_base::Starved;
 use street_net::Network;
-use street_team::{Shared, Team, start};
+use street_team::{Block, Shared, Team, join_all, start};
 use street_tile::{Course, Gate, Tile, TileWork};
 
 /// The streets with which a team begins, and how many steps it makes at most.
@@ -132,7 +132,7 @@ fn run<G: Gate + Sync, K: Course, B: Begun, R: Wait>(
     ran
 }
 
-/// So many steps by so many threads, which stay for all of them and are started in a scope.
+/// So many steps by the caller and so many threads, which stay for all of them and are started in a scope.
 fn run_in_scope<
     'a,
     G: Gate + Sync,
@@ -141,8 +141,10 @@ fn run_in_scope<
     R: Threads + Wait + Sync,
 >(
     rt: &R,
+    alloc: Global,
     shared: &Shared<'a, '_, Tile, TileWork<'_, G, K>>,
-    locks: &'a [OnceLock<Snapshot<Tile>>],
+    spare: Vec<Block<Tile>>,
+    locks: &'a [OnceLock<Snapshot<Block<Tile>>>],
     streets: Streets,
     count: u64,
     threads: usize,
@@ -161,10 +163,11 @@ fn run_in_scope<
                 × (B.begun.tiles.network ≡ K.net) × (streets ≡ B.begun)
                 × (B.begun.clock + count ≤ last_clock) × (count ≡ B.most) }
         {
-            let here = start(scope, rt, shared, streets.tiles(), threads);
-            let mut team = Team::new(rt, shared, locks, here);
+            let started = start(scope, rt, alloc, shared, threads);
+            let mut team = Team::new(rt, shared, locks, spare, started.len());
             let ran = run(&mut team, streets, count);
             shared.end();
+            join_all(rt, started);
             ran
         },
     )
@@ -180,7 +183,7 @@ pub(crate) fn run_with_locks<
     rt: &R,
     alloc: Global,
     gate: &G,
-    locks: &[OnceLock<Snapshot<Tile>>],
+    locks: &[OnceLock<Snapshot<Block<Tile>>>],
     net: &Network,
     streets: Streets,
     count: u64,
@@ -195,8 +198,13 @@ pub(crate) fn run_with_locks<
     ensures ran { HaveRun B.begun B.most result.0 result.1 }
 {
     let work = TileWork::<G, K>::new(net, gate);
-    let Ok(shared) = Shared::new(alloc, &work, streets.tiles()) else {
+    let Ok(shared) = Shared::new(alloc, &work, threads) else {
         return (streets, 0);
     };
-    run_in_scope::<G, K, B, R>(rt, &shared, locks, streets, count, threads).into_parts()
+    let Ok(spare) = streets.blocks(alloc, threads) else {
+        return (streets, 0);
+    };
+    run_in_scope::<G, K, B, R>(
+        rt, alloc, &shared, spare, locks, streets, count, threads,
+    ).into_parts()
 }

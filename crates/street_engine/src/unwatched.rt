@@ -11,7 +11,8 @@ const LEAST_STAYING: u64 = 1_500;
 /// A gate that nobody watches. Workers share a step where there is enough to do.
 #[derive(Drop)]
 pub struct Unwatched {
-    /// From how many vehicles in cells on workers share a step: 0 is always.
+    /// From how many vehicles in cells on workers share a step, if half as many are in other tiles than the fullest: 0 is
+    /// always.
     pub from: u64,
     /// How many threads at most stay for the steps of an advance.
     pub processors: usize,
@@ -36,8 +37,9 @@ impl Unwatched {
 }
 
 impl Gate for Unwatched {
-    fn shares(&self, vehicles: u64) -> bool {
-        vehicles >= self.from
+    // Only what lies in other tiles than the fullest is spared, so half of the bound has to: as of two tiles that have the same.
+    fn shares(&self, vehicles: u64, fullest: u64) -> bool {
+        vehicles >= self.from && vehicles.saturating_sub(fullest) >= self.from / 2
     }
 
     fn processors(&self) -> usize {

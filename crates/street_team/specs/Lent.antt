@@ -1,10 +1,18 @@
 -- What is said of items that are lent.
-use Rattle.std.specs.Prelude.{ℕ, ◌<◌, List, length, slice_index_or}
+use Rattle.std.specs.Prelude.{ℕ, ◌≡◌, ◌+◌, ◌<◌, List, Bool, length, slice_index_or}
 
--- each of these items may be worked on, as item number i of this part
-abbrev pub AllMay : {T : Type 0} → (ℕ → ℕ → T → Type 0) → ℕ → List T → Type 0
-AllMay {T} may part xs = (i : ℕ) (d : T) → i < length xs → may part i (slice_index_or xs i d)
+-- each of these items may be worked on, as item number i of this part, while this is shown
+abbrev pub AllMay : {T : Type 0} → (ℕ → ℕ → List Bool → T → Type 0) → ℕ → List Bool → List T → Type 0
+AllMay {T} may part shown xs = (i : ℕ) (d : T) → i < length xs → may part i shown (slice_index_or xs i d)
 
--- each of these items was worked on, as item number i of this part
-abbrev pub EachDoes : {T : Type 0} → (ℕ → ℕ → T → T → Type 0) → ℕ → List T → List T → Type 0
-EachDoes {T} does part xs ys = (i : ℕ) (d : T) → i < length xs → does part i (slice_index_or xs i d) (slice_index_or ys i d)
+-- each of these items was worked on, as item number i of this part, while this was shown
+abbrev pub EachDoes : {T : Type 0} → (ℕ → ℕ → List Bool → T → T → Type 0) → ℕ → List Bool → List T → List T → Type 0
+EachDoes {T} does part shown xs ys = (i : ℕ) (d : T) → i < length xs → does part i shown (slice_index_or xs i d) (slice_index_or ys i d)
+
+-- each of these items may be worked on, of which the last is number first, and the one before it the next
+abbrev pub BackMay : {T : Type 0} → (ℕ → ℕ → List Bool → T → Type 0) → ℕ → ℕ → List Bool → List T → Type 0
+BackMay {T} may part first shown xs = (j k : ℕ) (d : T) → j + k + 1 ≡ length xs → may part (first + k) shown (slice_index_or xs j d)
+
+-- each of these items was worked on, of which the last is number first, and the one before it the next
+abbrev pub BackDoes : {T : Type 0} → (ℕ → ℕ → List Bool → T → T → Type 0) → ℕ → ℕ → List Bool → List T → List T → Type 0
+BackDoes {T} does part first shown xs ys = (j k : ℕ) (d : T) → j + k + 1 ≡ length xs → does part (first + k) shown (slice_index_or xs j d) (slice_index_or ys j d)

@@ -1,92 +1,114 @@
 //! Items on their way to a worker and back.
-ghost use Rattle.std.specs.Prelude.{◌≡◌, IfSome};
+ghost use Rattle.std.specs.Prelude.{◌≡◌, ◌+◌, ◌<◌, ◌^◌, IfSome, vec_len, length};
+ghost use Rattle.street_team.specs.Lent.{BackMay, BackDoes};
 
+use crate::block::Block;
 use crate::work::Work;
 use std::marker::{Model, PhantomData};
 use std::snapshot::Snapshot;
 use std::sync::OnceToken;
 
-/// An item that a worker is to work on, with a token of the lock that shows what the item was.
+/// Items that a worker is to work on, with a token of the lock that shows what they were.
 #[derive(Drop)]
 pub struct Errand<'a, T: Drop, W: Work<T>> {
     at: usize,
     part: u32,
-    number: usize,
-    item: T,
-    was: OnceToken<'a, Snapshot<T>>,
+    first: usize,
+    block: Block<T>,
+    was: OnceToken<'a, Snapshot<Block<T>>>,
     of: PhantomData<W>,
 }
 
 impl<'a, T: Drop, W: Work<T>> Model for Errand<'a, T, W> {
-    ghost use Rattle.std.specs.Prelude.{◌≡◌, ℕ};
+    ghost use Rattle.std.specs.Prelude.{◌≡◌, ℕ, ◌+◌, ◌<◌, ◌^◌, vec_len};
+    ghost use Rattle.street_team.specs.Lent.{BackMay};
 
     ghost Value = { ℕ };
 
     ghost view = { λ e. e.at };
 
-    ghost invariant = { λ e. (e.was.of ≡ W.lock e.at) × (e.was.value.value ≡ e.item) × W.may e.part e.number e.item };
+    ghost invariant = { λ e. (e.was.of ≡ W.lock e.at) × (e.was.value.value ≡ e.block)
+        × (e.first + vec_len e.block.items < 2 ^ 64)
+        × BackMay W.may e.part e.first e.block.shown.items e.block.items.items };
 }
 
-/// An item that a worker has worked on.
+/// Items that a worker has worked on.
 #[derive(Drop)]
 pub struct Done<'a, T: Drop, W: Work<T>> {
     at: usize,
     part: u32,
-    number: usize,
-    item: T,
-    was: OnceToken<'a, Snapshot<T>>,
+    first: usize,
+    block: Block<T>,
+    was: OnceToken<'a, Snapshot<Block<T>>>,
     of: PhantomData<W>,
 }
 
 impl<'a, T: Drop, W: Work<T>> Model for Done<'a, T, W> {
-    ghost use Rattle.std.specs.Prelude.{◌≡◌, ℕ};
+    ghost use Rattle.std.specs.Prelude.{◌≡◌, ℕ, vec_len};
+    ghost use Rattle.street_team.specs.Lent.{BackDoes};
 
     ghost Value = { ℕ };
 
     ghost view = { λ d. d.at };
 
-    ghost invariant = { λ d. (d.was.of ≡ W.lock d.at) × W.does d.part d.number d.was.value.value d.item };
+    ghost invariant = { λ d. (d.was.of ≡ W.lock d.at) × (vec_len d.block.items ≡ vec_len d.was.value.value.items)
+        × BackDoes W.does d.part d.first d.was.value.value.shown.items d.was.value.value.items.items d.block.items.items };
+}
+
+/// Works on items of which the last is number `first`.
+fn work_on<T: Drop, W: Work<T>>(work: &W, part: u32, first: usize, shown: &[bool], items: &mut [T])
+    requires small { first + length items.old < 2 ^ 64 }
+    requires may { BackMay W.may part first shown.now items.old }
+    ensures long { length items.new ≡ length items.old }
+    ensures does { BackDoes W.does part first shown.now items.old items.new }
+{
+    let last = items.len();
+    for at in 0..items.len() {
+        work.work(part, first + (last - at - 1), shown, &mut items[at]);
+    }
 }
 
 impl<'a, T: Drop, W: Work<T>> Errand<'a, T, W> {
-    /// An item that is lent.
+    /// Items that are lent.
     pub(crate) fn new(
         at: usize,
         part: u32,
-        number: usize,
-        item: T,
-        was: OnceToken<'a, Snapshot<T>>,
+        first: usize,
+        block: Block<T>,
+        was: OnceToken<'a, Snapshot<Block<T>>>,
     ) -> Self
         requires lock { was.of ≡ W.lock at }
-        requires same { was.value.value ≡ item }
-        requires may { W.may part number item }
+        requires same { was.value.value ≡ block }
+        requires small { first + vec_len block.items < 2 ^ 64 }
+        requires may { BackMay W.may part first block.shown.items block.items.items }
     {
         Errand {
             at,
             part,
-            number,
-            item,
+            first,
+            block,
             was,
             of: PhantomData,
         }
     }
 
-    /// The item worked on.
+    /// The items worked on.
     pub(crate) fn run(self, work: &W) -> Done<'a, T, W> {
         let Errand {
             at,
             part,
-            number,
-            mut item,
+            first,
+            block,
             was,
             of,
         } = self;
-        work.work(part, number, &mut item);
+        let Block { shown, mut items } = block;
+        work_on(work, part, first, &shown, &mut items);
         Done {
             at,
             part,
-            number,
-            item,
+            first,
+            block: Block { shown, items },
             was,
             of,
         }
@@ -94,29 +116,30 @@ impl<'a, T: Drop, W: Work<T>> Errand<'a, T, W> {
 }
 
 impl<'a, T: Drop, W: Work<T>> Done<'a, T, W> {
-    /// The item, if it is that of this errand.
-    pub(crate) fn into_item(
+    /// The items, if they are those of this errand.
+    pub(crate) fn into_block(
         self,
         at: usize,
         part: u32,
-        number: usize,
-        was: &OnceToken<'a, Snapshot<T>>,
-    ) -> Option<T>
+        first: usize,
+        was: &OnceToken<'a, Snapshot<Block<T>>>,
+    ) -> Option<Block<T>>
         requires { was.now.of ≡ W.lock at }
-        ensures { IfSome result (λ item. W.does part number was.now.value.value item) }
+        ensures len { IfSome result (λ block. vec_len block.items ≡ vec_len was.now.value.value.items) }
+        ensures does { IfSome result (λ block. BackDoes W.does part first was.now.value.value.shown.items was.now.value.value.items.items block.items.items) }
     {
-        if self.at != at || self.part != part || self.number != number {
+        if self.at != at || self.part != part || self.first != first {
             return None;
         }
         self.was.agrees(was);
         let Done {
             at: _,
             part: _,
-            number: _,
-            item,
+            first: _,
+            block,
             was: _,
             of: _,
         } = self;
-        Some(item)
+        Some(block)
     }
 }

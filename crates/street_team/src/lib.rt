@@ -1,6 +1,7 @@
 //! Workers that stay: threads that a caller lends items to, again and again, and that wait in between.
 #![tactic(auto)]
 
+mod block;
 mod errand;
 mod shared;
 mod team;
@@ -9,7 +10,8 @@ mod tests;
 mod waits;
 mod work;
 
+pub use block::{Block, blocks};
 pub use errand::{Done, Errand};
-pub use shared::{Shared, start};
+pub use shared::{Shared, join_all, start};
 pub use team::{Team, locks};
 pub use work::Work;

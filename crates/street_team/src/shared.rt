@@ -7,16 +7,17 @@ use crate::work::Work;
 use std::alloc::{AllocError, Global};
 use std::sync::atomic::{AtomicU64, Ordering};
 use std::sync::{Mutex, Wait};
-use std::thread::{Scope, Threads};
+use std::thread::{JoinHandle, Scope, Threads};
 
-/// Where the item of a number is put: for a worker, and back for who lent it.
+/// Where the items of a thread are put: for it, and back for who lent them.
 #[derive(Drop)]
 struct Tray<'a, T: Drop, W: Work<T>> {
     lent: Mutex<Option<Errand<'a, T, W>>>,
     done: Mutex<Option<Done<'a, T, W>>>,
 }
 
-/// What the threads of a team share: what they do, a tray for each item, how often all were lent, and how often some came back.
+/// What the threads of a team share: what they do, a tray for each of them, how often all were lent something, and how often some
+/// came back.
 #[derive(Drop)]
 pub struct Shared<'a, 'w, T: Drop, W: Work<T>> {
     pub(crate) work: &'w W,
@@ -27,7 +28,7 @@ pub struct Shared<'a, 'w, T: Drop, W: Work<T>> {
 }
 
 impl<'a, 'w, T: Drop, W: Work<T>> Shared<'a, 'w, T, W> {
-    /// For so many items, of which none is lent.
+    /// For so many threads, to which nothing is lent.
     ///
     /// # Errors
     /// Memory was refused.
@@ -50,7 +51,7 @@ impl<'a, 'w, T: Drop, W: Work<T>> Shared<'a, 'w, T, W> {
         })
     }
 
-    /// Puts an errand on its tray.
+    /// Puts an errand on the tray of a thread.
     pub(crate) fn put<R: Wait>(&self, rt: &R, number: usize, errand: Errand<'a, T, W>) {
         if let Some(tray) = self.trays.get(number) {
             let mut lent = tray.lent.lock(rt);
@@ -69,24 +70,24 @@ impl<'a, 'w, T: Drop, W: Work<T>> Shared<'a, 'w, T, W> {
         self.lent.go_on();
     }
 
-    /// Takes what came back for a number.
+    /// Takes what came back from a thread.
     pub(crate) fn take<R: Wait>(&self, rt: &R, number: usize) -> Option<Done<'a, T, W>> {
         let tray = self.trays.get(number)?;
         let mut done = tray.done.lock(rt);
         done.take()
     }
 
-    /// How often an item came back.
+    /// How often something came back.
     pub(crate) fn returned(&self) -> u64 {
         self.back.count()
     }
 
-    /// Waits until an item came back after this count, or returns sooner.
+    /// Waits until something came back after this count, or returns sooner.
     pub(crate) fn wait_for_return<R: Wait>(&self, rt: &R, seen: u64) {
         self.back.wait(rt, seen);
     }
 
-    /// Works on the item of a number, where it was lent.
+    /// Works on what was lent to the thread of a number, and puts it back; or there was nothing.
     fn run<R: Wait>(&self, rt: &R, number: usize) {
         let Some(tray) = self.trays.get(number) else {
             return;
@@ -95,8 +96,8 @@ impl<'a, 'w, T: Drop, W: Work<T>> Shared<'a, 'w, T, W> {
             return;
         };
         let done = errand.run(self.work);
-        let mut back = tray.done.lock(rt);
-        *back = Some(done);
+        put_back(rt, &tray.done, done);
+        self.back.go_on();
     }
 }
 
@@ -106,8 +107,13 @@ fn taken<R: Wait, X>(rt: &R, lock: &Mutex<Option<X>>) -> Option<X> {
     guard.take()
 }
 
-/// Starts threads that stay, so many with the caller's own at most, and shares so many items out among them: tells how many of
-/// the first items are the caller's own. Where a thread is refused, its items and those before them are.
+/// Puts something behind a lock, which is open again then.
+fn put_back<R: Wait, X: Drop>(rt: &R, lock: &Mutex<Option<X>>, back: X) {
+    let mut guard = lock.lock(rt);
+    *guard = Some(back);
+}
+
+/// Starts so many threads that stay, or fewer where one or memory is refused.
 pub fn start<
     's,
     'a: 's,
@@ -119,22 +125,24 @@ pub fn start<
 >(
     scope: &'s Scope<'s, E>,
     rt: &'s R,
+    alloc: Global,
     shared: &'s Shared<'a, 'w, T, W>,
-    count: usize,
     threads: usize,
-) -> usize {
-    let mut here = count;
-    for back in 1..threads {
-        let first = here - here / (threads - back + 1);
-        if !start_one(scope, rt, shared, first, here) {
-            return here;
-        }
-        here = first;
+) -> Vec<JoinHandle<()>> {
+    let mut started = Vec::new(alloc);
+    if started.reserve(threads).is_err() {
+        return started;
     }
-    here
+    for number in 0..threads {
+        let Some(thread) = start_one(scope, rt, shared, number) else {
+            return started;
+        };
+        started.push_reserved(thread);
+    }
+    started
 }
 
-/// Starts a thread for the items from `first` up to `end`: tells whether it was started.
+/// Starts the thread of a number, or none.
 fn start_one<
     's,
     'a: 's,
@@ -147,18 +155,23 @@ fn start_one<
     scope: &'s Scope<'s, E>,
     rt: &'s R,
     shared: &'s Shared<'a, 'w, T, W>,
-    first: usize,
-    end: usize,
-) -> bool {
-    scope.spawn(move || serve(rt, shared, first, end)).is_ok()
+    number: usize,
+) -> Option<JoinHandle<()>> {
+    scope.spawn(move || serve(rt, shared, number)).ok()
 }
 
-/// A worker's life: whenever the items were lent it works on those from `first` up to `end`, until the team ends.
+/// Waits until threads that are to end have ended, and have given back all memory that they were started with.
+pub fn join_all<R: Threads>(rt: &R, threads: Vec<JoinHandle<()>>) {
+    for thread in threads {
+        thread.join(rt);
+    }
+}
+
+/// The life of the worker of a number: whenever something was lent it works on what lies on its tray, until the team ends.
 pub fn serve<'a, 'w, T: Drop, W: Work<T>, R: Wait>(
     rt: &R,
     shared: &Shared<'a, 'w, T, W>,
-    first: usize,
-    end: usize,
+    number: usize,
 ) {
     let mut seen = 0;
     for _ in rt.forever() {
@@ -170,10 +183,7 @@ pub fn serve<'a, 'w, T: Drop, W: Work<T>, R: Wait>(
             shared.lent.wait(rt, seen);
         } else {
             seen = count;
-            for number in first..end {
-                shared.run(rt, number);
-            }
-            shared.back.go_on();
+            shared.run(rt, number);
         }
     }
 }

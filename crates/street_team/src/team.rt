@@ -1,7 +1,8 @@
 //! Lending items to the workers.
-ghost use Rattle.std.specs.Prelude.{◌≡◌, ℕ, ◌+◌, length, vec_len, vec_capacity, slice_get, Some, MatchResult};
-ghost use Rattle.street_team.specs.Lent.{AllMay, EachDoes};
+ghost use Rattle.std.specs.Prelude.{◌≡◌, ℕ, ◌+◌, ◌<◌, length, vec_len, vec_capacity, slice_get, slice_index_or, Some, None, IfSome};
+ghost use Rattle.street_team.specs.Lent.{AllMay, EachDoes, BackDoes};
 
+use crate::block::Block;
 use crate::errand::Errand;
 use crate::shared::Shared;
 use crate::work::Work;
@@ -13,7 +14,10 @@ use std::sync::{OnceLock, OnceToken, Wait};
 ///
 /// # Errors
 /// Memory was refused.
-pub fn locks<T>(alloc: Global, count: usize) -> Result<Vec<OnceLock<Snapshot<T>>>, AllocError> {
+pub fn locks<T: Drop>(
+    alloc: Global,
+    count: usize,
+) -> Result<Vec<OnceLock<Snapshot<Block<T>>>>, AllocError> {
     let mut locks = Vec::with_capacity(alloc, count)?;
     for _ in 0..count {
         locks.push_reserved(OnceLock::new());
@@ -21,13 +25,14 @@ pub fn locks<T>(alloc: Global, count: usize) -> Result<Vec<OnceLock<Snapshot<T>>
     Ok(locks)
 }
 
-/// Who lends items to workers: those from `here` on, while there are locks; the others it works on itself.
+/// Who lends items to so many threads, a block of them to each while there are locks and blocks; the others it works on itself.
 pub struct Team<'a, 'r, 'w, 's, T: Drop, W: Work<T>, R: Wait> {
     rt: &'r R,
     shared: &'s Shared<'a, 'w, T, W>,
-    locks: &'a [OnceLock<Snapshot<T>>],
+    locks: &'a [OnceLock<Snapshot<Block<T>>>],
+    spare: Vec<Block<T>>,
     used: usize,
-    here: usize,
+    threads: usize,
     ghost known: { (k : ℕ) (l : _) → slice_get locks.now k ≡ Some l → l.id ≡ W.lock k },
 }
 
@@ -37,19 +42,21 @@ impl<'a, 'r, 'w, 's, T: Drop, W: Work<T>, R: Wait> Drop for Team<'a, 'r, 'w, 's,
             rt: _,
             shared: _,
             locks: _,
+            spare: _,
             used: _,
-            here: _,
+            threads: _,
         } = self;
     }
 }
 
 impl<'a, 'r, 'w, 's, T: Drop, W: Work<T>, R: Wait> Team<'a, 'r, 'w, 's, T, W, R> {
-    /// A team whose workers have the items from `here` on.
+    /// A team of the caller and so many threads, which were started.
     pub fn new(
         rt: &'r R,
         shared: &'s Shared<'a, 'w, T, W>,
-        locks: &'a [OnceLock<Snapshot<T>>],
-        here: usize,
+        locks: &'a [OnceLock<Snapshot<Block<T>>>],
+        spare: Vec<Block<T>>,
+        threads: usize,
     ) -> Self
         requires { (k : ℕ) (l : _) → slice_get locks.now k ≡ Some l → l.id ≡ W.lock k }
     {
@@ -57,94 +64,130 @@ impl<'a, 'r, 'w, 's, T: Drop, W: Work<T>, R: Wait> Team<'a, 'r, 'w, 's, T, W, R>
             rt,
             shared,
             locks,
+            spare,
             used: 0,
-            here,
+            threads,
         }
     }
 
-    /// Each item is worked on: by its worker, or here.
-    pub fn lend(&mut self, part: u32, items: &mut Vec<T>)
-        requires may { AllMay W.may part items.old.items }
+    /// Each item is worked on while this is shown: by a thread of the team, or here.
+    pub fn lend(&mut self, part: u32, shown: &[bool], items: &mut Vec<T>)
+        requires may { AllMay W.may part shown.now items.old.items }
         ensures len { vec_len items.new ≡ vec_len items.old }
-        ensures does { EachDoes W.does part items.old.items items.new.items }
+        ensures does { EachDoes W.does part shown.now items.old.items items.new.items }
     {
-        self.lend_all(part, items);
-        self.used = self.used.saturating_add(items.len());
+        self.lend_to(self.threads, part, shown, items);
+        self.used = self.used.saturating_add(self.threads);
     }
 
-    /// Puts the last item on its way, then the others, and waits for it, or works on it here. Once all are on their way the
-    /// workers begin.
-    fn lend_all(&self, part: u32, items: &mut Vec<T>)
-        requires may { AllMay W.may part items.old.items }
+    /// Puts a block of the last items on its way to the last of so many threads, then others to those before it, and waits for it.
+    /// Once all are on their way the workers begin, and the items that are left are worked on here.
+    fn lend_to(&mut self, threads: usize, part: u32, shown: &[bool], items: &mut Vec<T>)
+        requires may { AllMay W.may part shown.now items.old.items }
         ensures len { vec_len items.new ≡ vec_len items.old }
         ensures capacity { vec_capacity items.new ≡ vec_capacity items.old }
-        ensures does { EachDoes W.does part items.old.items items.new.items }
+        ensures does { EachDoes W.does part shown.now items.old.items items.new.items }
     {
-        let Some(item) = items.pop() else {
+        let Some(number) = threads.checked_sub(1) else {
             self.shared.begin();
+            work_here(self.shared.work, part, shown, items);
             return;
         };
-        let number = items.len();
         let at = self.used.saturating_add(number);
-        match self.send(at, part, number, item) {
-            Ok(was) => {
-                self.lend_all(part, items);
-                let item = self.receive(at, part, number, &was);
-                items.push_reserved(item);
-            }
-            Err(again) => {
-                let mut item = again;
-                self.lend_all(part, items);
-                self.shared.work.work(part, number, &mut item);
-                items.push_reserved(item);
-            }
+        let sent = self.send(at, number, part, shown, items);
+        self.lend_to(number, part, shown, items);
+        if let Some((first, was)) = sent {
+            let mut block = self.receive(at, number, part, first, &was);
+            block.empty_into(items);
+            self.keep(block);
         }
     }
 
-    /// Lends an item to the worker of its number: what shows what it was, or the item where it cannot be lent.
+    /// Lends the last items to the thread of a number: what number the first of them has, and what shows what they were. Where there
+    /// is no lock or no room they stay.
     fn send(
-        &self,
+        &mut self,
         at: usize,
-        part: u32,
         number: usize,
-        item: T,
-    ) -> Result<OnceToken<'a, Snapshot<T>>, T>
-        requires { W.may part number item }
-        ensures { MatchResult result
-            (λ token. (token.of ≡ W.lock at) × (token.value.value ≡ item))
-            (λ again. again ≡ item) }
+        part: u32,
+        shown: &[bool],
+        items: &mut Vec<T>,
+    ) -> Option<(usize, OnceToken<'a, Snapshot<Block<T>>>)>
+        requires may { AllMay W.may part shown.now items.old.items }
+        ensures capacity { vec_capacity items.new ≡ vec_capacity items.old }
+        ensures rest { (i : ℕ) (d : T) → i < vec_len items.new → slice_index_or items.new.items i d ≡ slice_index_or items.old.items i d }
+        ensures none { result ≡ None → vec_len items.new ≡ vec_len items.old }
+        ensures lock { IfSome result (λ r. r.1.of ≡ W.lock at) }
+        ensures first { IfSome result (λ r. r.0 ≡ vec_len items.new) }
+        ensures len { IfSome result (λ r. vec_len items.new + vec_len r.1.value.value.items ≡ vec_len items.old) }
+        ensures shown { IfSome result (λ r. r.1.value.value.shown.items ≡ shown.now) }
+        ensures back { IfSome result (λ r. (j k : ℕ) (d : T) → j + k + 1 ≡ vec_len r.1.value.value.items
+            → slice_index_or r.1.value.value.items.items j d ≡ slice_index_or items.old.items (vec_len items.new + k) d) }
     {
-        if number < self.here {
-            return Err(item);
+        let lock = self.locks.get(at)?;
+        let mut block = self.spare.pop()?;
+        let few = items.len() / number.saturating_add(2);
+        let from = items.len() - few;
+        if !block.fill(shown, items, from) {
+            self.keep(block);
+            return None;
         }
-        let Some(lock) = self.locks.get(at) else {
-            return Err(item);
-        };
-        match lock.set(self.rt, Snapshot::of(&item)) {
+        let first = items.len();
+        match lock.set(self.rt, Snapshot::of(&block)) {
             Ok(token) => {
                 let own = token.again();
-                self.shared.put(self.rt, number, Errand::new(at, part, number, item, token));
-                Ok(own)
+                let errand = Errand::new(at, part, first, block, token);
+                self.shared.put(self.rt, number, errand);
+                Some((first, own))
             }
-            Err(_) => Err(item),
+            Err(_) => {
+                block.empty_into(items);
+                self.keep(block);
+                None
+            }
         }
     }
 
-    /// Waits for an item that was lent.
-    fn receive(&self, at: usize, part: u32, number: usize, was: &OnceToken<'a, Snapshot<T>>) -> T
+    /// Keeps a block for another errand.
+    fn keep(&mut self, block: Block<T>) {
+        // It has the place from which it was taken.
+        let _ = self.spare.push(block);
+    }
+
+    /// Waits for items that were lent to the thread of a number.
+    fn receive(
+        &self,
+        at: usize,
+        number: usize,
+        part: u32,
+        first: usize,
+        was: &OnceToken<'a, Snapshot<Block<T>>>,
+    ) -> Block<T>
         requires { was.now.of ≡ W.lock at }
-        ensures { W.does part number was.now.value.value result }
+        ensures len { vec_len result.items ≡ vec_len was.now.value.value.items }
+        ensures does { BackDoes W.does part first was.now.value.value.shown.items was.now.value.value.items.items result.items.items }
     {
         for _ in self.rt.forever() {
             let returned = self.shared.returned();
             if let Some(done) = self.shared.take(self.rt, number) {
-                if let Some(item) = done.into_item(at, part, number, was) {
-                    return item;
+                if let Some(block) = done.into_block(at, part, first, was) {
+                    return block;
                 }
             } else {
                 self.shared.wait_for_return(self.rt, returned);
             }
         }
         unreachable!()
+    }
+}
+
+/// Each item is worked on by the caller, while this is shown.
+fn work_here<T, W: Work<T>>(work: &W, part: u32, shown: &[bool], items: &mut [T])
+    requires may { AllMay W.may part shown.now items.old }
+    ensures long { length items.new ≡ length items.old }
+    ensures does { EachDoes W.does part shown.now items.old items.new }
+{
+    for number in 0..items.len() {
+        work.work(part, number, shown, &mut items[number]);
     }
 }

@@ -1,7 +1,7 @@
 //! Numbers that a team adds to.
 ghost use Rattle.std.specs.Prelude.{◌≡◌, ℕ, ◌+◌, ◌<◌, length, slice_get, slice_index_or, List, Some, IfOk};
 
-use super::{Shared, Team, Work, locks, start};
+use super::{Block, Shared, Team, Work, blocks, join_all, locks, start};
 use std::alloc::{AllocError, Global};
 use std::marker::{Brand, Model, PhantomData};
 use std::snapshot::Snapshot;
@@ -34,11 +34,11 @@ impl<K: Course> Work<u32> for Adding<K> {
 
     ghost lock = { K.lock };
 
-    ghost may = { λ part number x. x < 1000 };
+    ghost may = { λ part number shown x. x < 1000 };
 
-    ghost does = { λ part number x y. y ≡ x + 1 };
+    ghost does = { λ part number shown x y. y ≡ x + 1 };
 
-    fn work(&self, part: u32, number: usize, item: &mut u32) {
+    fn work(&self, part: u32, number: usize, shown: &[bool], item: &mut u32) {
         *item += 1;
     }
 }
@@ -87,15 +87,17 @@ fn add_all<K: Course, R: Wait>(
     requires small { (i : ℕ) (d : ℕ) → i < length K.begun → slice_index_or K.begun i d < 1000 }
 {
     let mut items = items;
-    team.lend(0, &mut items);
+    team.lend(0, &[true], &mut items);
     Added::new(items)
 }
 
-/// One more each, by so many threads.
+/// One more each, by the caller and so many threads.
 fn add_with<'a, K: Course + Send + Sync, R: Threads + Wait + Sync>(
     rt: &R,
+    alloc: Global,
     shared: &Shared<'a, '_, u32, Adding<K>>,
-    locks: &'a [OnceLock<Snapshot<u32>>],
+    spare: Vec<Block<u32>>,
+    locks: &'a [OnceLock<Snapshot<Block<u32>>>],
     items: Vec<u32>,
     threads: usize,
 ) -> Added<K>
@@ -111,10 +113,11 @@ fn add_with<'a, K: Course + Send + Sync, R: Threads + Wait + Sync>(
                 × (items.items ≡ K.begun)
                 × ((i : ℕ) (d : ℕ) → i < length K.begun → slice_index_or K.begun i d < 1000) }
         {
-            let here = start(scope, rt, shared, items.len(), threads);
-            let mut team = Team::new(rt, shared, locks, here);
+            let started = start(scope, rt, alloc, shared, threads);
+            let mut team = Team::new(rt, shared, locks, spare, started.len());
             let added = add_all(&mut team, items);
             shared.end();
+            join_all(rt, started);
             added
         },
     )
@@ -124,7 +127,7 @@ fn add_with<'a, K: Course + Send + Sync, R: Threads + Wait + Sync>(
 fn add_by<K: Course + Send + Sync, R: Threads + Wait + Sync>(
     rt: &R,
     alloc: Global,
-    locks: &[OnceLock<Snapshot<u32>>],
+    locks: &[OnceLock<Snapshot<Block<u32>>>],
     items: Vec<u32>,
     threads: usize,
 ) -> Result<Vec<u32>, AllocError>
@@ -134,8 +137,9 @@ fn add_by<K: Course + Send + Sync, R: Threads + Wait + Sync>(
     ensures { IfOk result (λ ys. (i : ℕ) (d : ℕ) → i < length K.begun → slice_index_or ys.items i d ≡ slice_index_or K.begun i d + 1) }
 {
     let work = Adding::<K> { of: PhantomData };
-    let shared = Shared::new(alloc, &work, items.len())?;
-    Ok(add_with(rt, &shared, locks, items, threads).into_items())
+    let shared = Shared::new(alloc, &work, threads)?;
+    let spare = blocks(alloc, threads, items.len(), 1)?;
+    Ok(add_with(rt, alloc, &shared, spare, locks, items, threads).into_items())
 }
 
 fn add<R: Threads + Wait + Sync>(
@@ -147,7 +151,7 @@ fn add<R: Threads + Wait + Sync>(
     requires small { (i : ℕ) (d : ℕ) → i < length items.items → slice_index_or items.items i d < 1000 }
     ensures { IfOk result (λ ys. (i : ℕ) (d : ℕ) → i < length items.items → slice_index_or ys.items i d ≡ slice_index_or items.items i d + 1) }
 {
-    let all = locks::<u32>(alloc, items.len())?;
+    let all = locks::<u32>(alloc, threads)?;
     add_by::<Brand, R>(rt, alloc, &all, items, threads)
 }
 

@@ -27,7 +27,6 @@ pub mod NumberOnce
 pub mod BetweenPhases
 pub mod Lent
 mod KeepsHints
-mod Looked
 pub mod Together
 mod LaneUpdate
 mod SignalPlans

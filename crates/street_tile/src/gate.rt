@@ -11,9 +11,9 @@ pub trait Gate {
     /// After it.
     fn leave(&self, worker: u32, phase: u32, tile: &Tile) {}
 
-    /// Whether the workers share a step, each on a thread of its own, while so many vehicles are in cells; else the calling
-    /// thread runs all tiles in turn. The step is the same.
-    fn shares(&self, vehicles: u64) -> bool {
+    /// Whether the workers share a step, on threads of their own, while so many vehicles are in cells, and so many of these in
+    /// the tile that has most of them; else the calling thread runs all tiles in turn. The step is the same.
+    fn shares(&self, vehicles: u64, fullest: u64) -> bool {
         true
     }
 

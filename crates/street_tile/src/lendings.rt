@@ -33,14 +33,21 @@ pub(crate) fn drive<G: Gate>(net: &Network, worker: u32, tile: &mut Tile, gate: 
     gate.leave(worker, 1, tile);
 }
 
-/// Phase 2 of a tile that holds the view.
-pub(crate) fn release<G: Gate>(net: &Network, worker: u32, tile: &mut Tile, gate: &G)
+/// Phase 2 of a tile, by these mouths.
+pub(crate) fn release<G: Gate>(
+    net: &Network,
+    worker: u32,
+    mouths: &[bool],
+    tile: &mut Tile,
+    gate: &G,
+)
     requires tile { IsTileOf net.now tile.old }
     requires empty { tile.old.handed ≡ [] }
-    ensures { ReleasePhase net.now tile.old.mouths tile.old tile.new }
+    requires wide { length mouths.now ≡ 2 * length net.now.links }
+    ensures { ReleasePhase net.now mouths.now tile.old tile.new }
 {
     gate.arrive(worker, 2, tile);
-    tile.release_as_held(net);
+    tile.release_by(net, mouths);
     gate.leave(worker, 2, tile);
 }
 

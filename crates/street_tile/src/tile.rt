@@ -142,30 +142,17 @@ impl Tile {
         requires view { length view.now ≡ 2 * length net.now.links }
         ensures { ReleasePhase net.now view.now self.old self.new }
     {
-        self.mouths.copy_from_slice(view.mouths());
-        release_lanes(
-            &mut self.own,
-            net,
-            self.clock,
-            &mut self.mouths,
-            &mut self.handed,
-        );
+        self.release_by(net, view.mouths());
     }
 
-    /// Takes over what the view shows of all mouths. Takes no memory.
-    pub(crate) fn look(&mut self, view: &View)
-        requires { length view.now ≡ 2 * self.old.links }
-        ensures { self.new ≡ record self.old { mouths = view.now } }
-    {
-        self.mouths.copy_from_slice(view.mouths());
-    }
-
-    /// As [`phase_release`](Self::phase_release), by what the tile holds of mouths. Takes no memory.
-    pub(crate) fn release_as_held(&mut self, net: &Network)
+    /// As [`phase_release`](Self::phase_release), by these mouths. Takes no memory.
+    pub(crate) fn release_by(&mut self, net: &Network, mouths: &[bool])
         requires tile { IsTileOf net.now self.old }
         requires empty { self.old.handed ≡ [] }
-        ensures { ReleasePhase net.now self.old.mouths self.old self.new }
+        requires wide { length mouths.now ≡ 2 * length net.now.links }
+        ensures { ReleasePhase net.now mouths.now self.old self.new }
     {
+        self.mouths.copy_from_slice(mouths);
         release_lanes(
             &mut self.own,
             net,

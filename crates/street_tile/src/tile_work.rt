@@ -64,14 +64,14 @@ impl<'b, G: Gate + Sync, K: Course> Work<Tile> for TileWork<'b, G, K> {
 
     ghost lock = { K.lock };
 
-    ghost may = { λ part number tile. (number < 64) × MayWork K.net part tile };
+    ghost may = { λ part number shown tile. (number < 64) × MayWork K.net part shown tile };
 
-    ghost does = { λ part number x y. DoesWork K.net part x y };
+    ghost does = { λ part number shown x y. DoesWork K.net part shown x y };
 
-    fn work(&self, part: u32, number: usize, item: &mut Tile) {
+    fn work(&self, part: u32, number: usize, shown: &[bool], item: &mut Tile) {
         match part {
             0 => drive(self.net, number as u32, item, self.gate),
-            1 => release(self.net, number as u32, item, self.gate),
+            1 => release(self.net, number as u32, shown, item, self.gate),
             _ => settle(self.net, number as u32, item, self.gate),
         }
     }
@@ -91,17 +91,7 @@ fn drive_with<G: Gate + Sync, K: Course, R: Wait>(
     ensures len { length tiles.new.items ≡ length tiles.old.items }
     ensures each { Each (Then (LanePhase net.now) (MotionPhase net.now)) tiles.old.items tiles.new.items }
 {
-    team.lend(0, tiles);
-}
-
-/// Each tile takes over the view.
-fn look_all(tiles: &mut [Tile], view: &View)
-    requires { All (λ x. length view.now ≡ 2 * x.links) tiles.old }
-    ensures { Each (λ x y. y ≡ record x { mouths = view.now }) tiles.old tiles.new }
-{
-    for i in 0..tiles.len() {
-        tiles[i].look(view);
-    }
+    team.lend(0, &[], tiles);
 }
 
 /// Phase 2 of all tiles.
@@ -119,8 +109,7 @@ fn release_with<G: Gate + Sync, K: Course, R: Wait>(
     ensures len { length tiles.new.items ≡ length tiles.old.items }
     ensures each { Each (ReleasePhase net.now view.now) tiles.old.items tiles.new.items }
 {
-    look_all(tiles, view);
-    team.lend(1, tiles);
+    team.lend(1, view.mouths(), tiles);
 }
 
 /// Phases 3 and 4 of all tiles.
@@ -137,7 +126,7 @@ fn settle_with<G: Gate + Sync, K: Course, R: Wait>(
     ensures len { length tiles.new.items ≡ length tiles.old.items }
     ensures each { Each (Then (EnterPhase net.now) (MeterPhase net.now)) tiles.old.items tiles.new.items }
 {
-    team.lend(2, tiles);
+    team.lend(2, &[], tiles);
 }
 
 /// Each tile shows its mouths.

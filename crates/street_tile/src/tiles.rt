@@ -31,6 +31,7 @@ use std::sync::Arc;
 use street_base::{Car, CellNo, LinkIx, NodeIx, Reply, Starved};
 use street_net::{LaneId, Network};
 use street_node::SignalPlan;
+use street_team::{Block, blocks};
 
 /// A network, its tiles, which of its lanes are open, and where each vehicle was last put.
 pub struct Tiles {
@@ -250,5 +251,23 @@ impl Tiles {
             all.waiting += own.waiting;
         }
         all
+    }
+
+    /// How many vehicles are in cells of the tile that has most of them; looks at no lane.
+    pub fn fullest(&self) -> u64 {
+        let mut most = 0;
+        for tile in &self.tiles {
+            most = most.max(tile.sizes().cells);
+        }
+        most
+    }
+
+    /// Blocks in which a team of so many threads lends the tiles: for each as many as are its own, and for what they are shown.
+    ///
+    /// # Errors
+    /// Memory was refused.
+    pub fn blocks(&self, alloc: Global, threads: usize) -> Result<Vec<Block<Tile>>, Starved> {
+        let most = self.tiles.len() / threads.saturating_add(1) + 1;
+        Ok(blocks(alloc, threads, most, self.view.len())?)
     }
 }

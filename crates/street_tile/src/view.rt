@@ -40,6 +40,13 @@ impl View {
         Ok(View { mouths })
     }
 
+    /// How many lanes there are, two a link.
+    pub fn len(&self) -> usize
+        ensures { result ≡ length self.now }
+    {
+        self.mouths.len()
+    }
+
     /// All mouths.
     pub(crate) fn mouths(&self) -> &[bool]
         ensures { result.now ≡ self.now }

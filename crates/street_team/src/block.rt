@@ -1,0 +1,72 @@
+//! Items that are lent together.
+ghost use Rattle.std.specs.Prelude.{◌≡◌, ℕ, ◌+◌, ◌<◌, ◌≤◌, true, false, vec_len, vec_capacity, slice_index_or};
+
+use std::alloc::{AllocError, Global};
+
+/// Items on their way to one worker or back, the last of them first, and what is shown to it.
+#[derive(Drop)]
+pub struct Block<T: Drop> {
+    pub(crate) shown: Vec<bool>,
+    pub(crate) items: Vec<T>,
+}
+
+/// So many blocks, each with room for so many items and for so much that is shown.
+///
+/// # Errors
+/// Memory was refused.
+pub fn blocks<T: Drop>(
+    alloc: Global,
+    count: usize,
+    items: usize,
+    shown: usize,
+) -> Result<Vec<Block<T>>, AllocError> {
+    let mut blocks = Vec::with_capacity(alloc, count)?;
+    for _ in 0..count {
+        blocks.push_reserved(Block {
+            shown: Vec::with_capacity(alloc, shown)?,
+            items: Vec::with_capacity(alloc, items)?,
+        });
+    }
+    Ok(blocks)
+}
+
+impl<T: Drop> Block<T> {
+    /// Shows this, and takes the last items down to number `first`, or fewer where there is no room for them. Tells whether all
+    /// is shown; else it takes none.
+    pub(crate) fn fill(&mut self, shown: &[bool], items: &mut Vec<T>, first: usize) -> bool
+        ensures shown { result ≡ true → self.new.shown.items ≡ shown.now }
+        ensures none { result ≡ false → vec_len items.new ≡ vec_len items.old }
+        ensures len { vec_len items.new + vec_len self.new.items ≡ vec_len items.old }
+        ensures capacity { vec_capacity items.new ≡ vec_capacity items.old }
+        ensures front { (i : ℕ) (d : T) → i < vec_len items.new → slice_index_or items.new.items i d ≡ slice_index_or items.old.items i d }
+        ensures back { (j k : ℕ) (d : T) → j + k + 1 ≡ vec_len self.new.items
+            → slice_index_or self.new.items.items j d ≡ slice_index_or items.old.items (vec_len items.new + k) d }
+    {
+        self.items.clear();
+        self.shown.clear();
+        if self.shown.extend_from_slice(shown).is_err() {
+            return false;
+        }
+        let count = items.len().saturating_sub(first).min(self.items.capacity());
+        for _ in 0..count {
+            let item = items.take_last();
+            self.items.push_reserved(item);
+        }
+        true
+    }
+
+    /// Gives its items back behind the others, for which they have room.
+    pub(crate) fn empty_into(&mut self, items: &mut Vec<T>)
+        requires { vec_len items.old + vec_len self.old.items ≤ vec_capacity items.old }
+        ensures len { vec_len items.new ≡ vec_len items.old + vec_len self.old.items }
+        ensures capacity { vec_capacity items.new ≡ vec_capacity items.old }
+        ensures front { (i : ℕ) (d : T) → i < vec_len items.old → slice_index_or items.new.items i d ≡ slice_index_or items.old.items i d }
+        ensures back { (j k : ℕ) (d : T) → j + k + 1 ≡ vec_len self.old.items
+            → slice_index_or items.new.items (vec_len items.old + k) d ≡ slice_index_or self.old.items.items j d }
+    {
+        for _ in 0..self.items.len() {
+            let item = self.items.take_last();
+            items.push_reserved(item);
+        }
+    }
+}
