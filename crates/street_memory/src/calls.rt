@@ -14,6 +14,28 @@ pub(crate) enum Stop {
     Wrong(&'static str),
 }
 
+/// How the steps of an advance are made where several workers share them.
+#[derive(Clone, Copy, Debug, PartialEq, Eq)]
+pub(crate) enum Way {
+    /// On threads that are started for each part of a step.
+    Lent,
+    /// By a team, whose threads stay for several steps.
+    Team,
+}
+
+/// What a command answers.
+pub(crate) fn apply<R: Threads + Wait + Sync>(
+    rt: &R,
+    engine: &mut Engine<Unwatched>,
+    way: Way,
+    command: &Command,
+) -> (Reply, Outcome) {
+    match way {
+        Way::Lent => engine.apply(rt, command),
+        Way::Team => engine.apply_by_team(rt, command),
+    }
+}
+
 /// How often a command was starved, and an advance stopped short.
 #[derive(Clone, Copy, Debug, PartialEq, Eq)]
 pub(crate) struct Met {
@@ -72,9 +94,10 @@ fn may_starve(command: &Command, want: &str) -> bool {
 pub(crate) fn call_with_memory<R: Threads + Wait + Sync>(
     rt: &R,
     engine: &mut Engine<Unwatched>,
+    way: Way,
     command: &Command,
 ) -> Result<Reply, Stop> {
-    let (reply, outcome) = engine.apply(rt, command);
+    let (reply, outcome) = apply(rt, engine, way, command);
     match outcome {
         Outcome::Whole => Ok(reply),
         _ => Err(Stop::OutOfMemory),
@@ -86,12 +109,13 @@ pub(crate) fn call_with_memory<R: Threads + Wait + Sync>(
 pub(crate) fn call<R: Threads + Wait + Sync>(
     rt: &R,
     engine: &mut Engine<Unwatched>,
+    way: Way,
     command: &Command,
     want: &str,
     met: &mut Met,
 ) -> Result<Answer, Stop> {
     let before = counts(rt, engine)?;
-    let (reply, outcome) = engine.apply(rt, command);
+    let (reply, outcome) = apply(rt, engine, way, command);
     match outcome {
         Outcome::Whole => Ok(Answer::Whole(reply)),
         Outcome::Starved => {
@@ -100,7 +124,7 @@ pub(crate) fn call<R: Threads + Wait + Sync>(
             if counts(rt, engine)? != before {
                 return Err(Stop::Wrong("a starved command changed something"));
             }
-            Ok(Answer::Whole(call_with_memory(rt, engine, command)?))
+            Ok(Answer::Whole(call_with_memory(rt, engine, way, command)?))
         }
         Outcome::Short(made) => {
             met.short = met.short.saturating_add(1);

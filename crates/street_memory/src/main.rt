@@ -15,7 +15,7 @@ mod sessions;
 mod steps;
 mod texts;
 
-use calls::Met;
+use calls::{Met, Way};
 use desks::two_callers;
 use parts::parts_without;
 use served::{Wrong, serve_session};
@@ -36,23 +36,45 @@ fn report<R: Print>(rt: &R, name: &str, told: Result<bool, &'static str>) -> io:
     Ok(told.is_ok())
 }
 
-/// Serves each session, and reports whether it was answered as it should be. Whether all were.
-fn serve_all<R: Threads + Wait + Sync + Print + Eprint + AllocGlobal>(rt: &R) -> io::Result<bool> {
+/// Serves each session in one way, by a team those of several workers, and reports whether it was answered as it should be. Whether
+/// all were.
+fn serve_sessions<R: Threads + Wait + Sync + Print + AllocGlobal>(
+    rt: &R,
+    way: Way,
+    met: &mut Met,
+) -> io::Result<bool> {
     let mut all = true;
+    for session in &SESSIONS {
+        let by = match way {
+            Way::Lent => "",
+            Way::Team if session.workers > 1 => ", by a team",
+            Way::Team => continue,
+        };
+        match serve_session(rt, rt.alloc(), session, way, met) {
+            Ok(true) => println!(rt; "{}{by}: as it should be", session.name)?,
+            Ok(false) => {
+                println!(rt;
+                    "{}{by}: as far as it should be without memory",
+                    session.name
+                )?
+            }
+            Err(Wrong { line, why }) => {
+                all = false;
+                println!(rt; "{}{by}: line {line}: {why}", session.name)?;
+            }
+        }
+    }
+    Ok(all)
+}
+
+/// Serves each session, and all else, and reports whether it was answered as it should be. Whether all was.
+fn serve_all<R: Threads + Wait + Sync + Print + Eprint + AllocGlobal>(rt: &R) -> io::Result<bool> {
     let mut met = Met {
         starved: 0,
         short: 0,
     };
-    for session in &SESSIONS {
-        match serve_session(rt, rt.alloc(), session, &mut met) {
-            Ok(true) => println!(rt; "{}: as it should be", session.name)?,
-            Ok(false) => println!(rt; "{}: as far as it should be without memory", session.name)?,
-            Err(Wrong { line, why }) => {
-                all = false;
-                println!(rt; "{}: line {line}: {why}", session.name)?;
-            }
-        }
-    }
+    let mut all = serve_sessions(rt, Way::Lent, &mut met)?;
+    all &= serve_sessions(rt, Way::Team, &mut met)?;
     let parts = match parts_without(rt.alloc()) {
         Some(false) => Err("answered otherwise"),
         parts => Ok(parts.is_some()),

@@ -1,6 +1,6 @@
 //! A session from its lines to its replies, while at most one request for memory is refused.
 
-use crate::calls::{Answer, Met, Stop, call, call_with_memory, go_on_without};
+use crate::calls::{Answer, Met, Stop, Way, call, call_with_memory, go_on_without};
 use crate::sessions::Session;
 use crate::texts::{is_line, read, text_of};
 use std::alloc::Global;
@@ -26,7 +26,7 @@ fn answer_with_memory<R: Threads + Wait + Sync>(
     line: &str,
 ) -> Result<Vec<u8>, Stop> {
     let command = read(alloc, line)?;
-    let reply = call_with_memory(rt, engine, &command)?;
+    let reply = call_with_memory(rt, engine, Way::Lent, &command)?;
     text_of(alloc, &reply)
 }
 
@@ -41,9 +41,9 @@ fn engine_with_memory<R: Threads + Wait + Sync>(
     let mut engine = Engine::new(alloc, 1, Unwatched::new());
     for (line, _want) in session.lines.iter().take(at) {
         let command = read(alloc, line)?;
-        let _reply = call_with_memory(rt, &mut engine, &command)?;
+        let _reply = call_with_memory(rt, &mut engine, Way::Lent, &command)?;
     }
-    let _reply = call_with_memory(rt, &mut engine, &Command::Advance { steps })?;
+    let _reply = call_with_memory(rt, &mut engine, Way::Lent, &Command::Advance { steps })?;
     Ok(engine)
 }
 
@@ -72,6 +72,7 @@ fn answer<R: Threads + Wait + Sync>(
     alloc: Global,
     engine: &mut Engine<Unwatched>,
     session: &Session,
+    way: Way,
     at: usize,
     met: &mut Met,
 ) -> Result<Reply, Stop> {
@@ -79,12 +80,12 @@ fn answer<R: Threads + Wait + Sync>(
         return Err(Stop::Wrong("no line"));
     };
     let command = read(alloc, line)?;
-    match call(rt, engine, &command, want, met)? {
+    match call(rt, engine, way, &command, want, met)? {
         Answer::Whole(reply) => Ok(reply),
         Answer::Short { made, rest } => {
             let mut other = engine_with_memory(rt, alloc, session, at, made)?;
             compare_lanes(rt, alloc, engine, &mut other, session.lanes)?;
-            call_with_memory(rt, engine, &Command::Advance { steps: rest })
+            call_with_memory(rt, engine, way, &Command::Advance { steps: rest })
         }
     }
 }
@@ -95,10 +96,11 @@ fn serve_line<R: Threads + Wait + Sync>(
     alloc: Global,
     engine: &mut Engine<Unwatched>,
     session: &Session,
+    way: Way,
     at: usize,
     met: &mut Met,
 ) -> Result<(), Stop> {
-    let reply = answer(rt, alloc, engine, session, at, met)?;
+    let reply = answer(rt, alloc, engine, session, way, at, met)?;
     let text = text_of(alloc, &reply)?;
     match session.lines.get(at) {
         Some((_line, want)) if is_line(text.as_slice(), want) => Ok(()),
@@ -112,6 +114,7 @@ pub(crate) fn serve_session<R: Threads + Wait + Sync>(
     rt: &R,
     alloc: Global,
     session: &Session,
+    way: Way,
     met: &mut Met,
 ) -> Result<bool, Wrong> {
     // Steps are shared however few the vehicles are, so that threads are started while requests are refused.
@@ -121,7 +124,7 @@ pub(crate) fn serve_session<R: Threads + Wait + Sync>(
     };
     let mut engine = Engine::new(alloc, session.workers.clamp(1, 64), gate);
     for at in 0..session.lines.len() {
-        let stop = match serve_line(rt, alloc, &mut engine, session, at, met) {
+        let stop = match serve_line(rt, alloc, &mut engine, session, way, at, met) {
             Ok(()) => continue,
             Err(Stop::OutOfMemory) => go_on_without(rt, &mut engine),
             Err(wrong) => Err(wrong),

@@ -1,7 +1,7 @@
 //! Steps and commands of an engine that take no memory. All that they need is taken before the first of them, so where every
 //! request from then on is refused, each is done without memory; it is answered as it should be whatever is refused.
 
-use crate::calls::{Stop, call_with_memory, go_on_without};
+use crate::calls::{Stop, Way, apply, call_with_memory, go_on_without};
 use crate::texts::read;
 use std::alloc::Global;
 use std::sync::Wait;
@@ -22,21 +22,21 @@ const SHORT: &str = r#"{"cmd":"enter","plan":[10],"lane":0,"depart":0}"#;
 
 const LONG: &str = r#"{"cmd":"enter","plan":[10,20],"lane":0,"depart":0}"#;
 
-/// An engine in which a vehicle has departed, on this way, and another waits.
+/// An engine in which a vehicle with this plan has departed, and another waits.
 fn begun<R: Threads + Wait + Sync>(
     rt: &R,
     alloc: Global,
     workers: u32,
-    way: &str,
+    plan: &str,
 ) -> Result<Engine<Unwatched>, Stop> {
     let gate = Unwatched {
         from: 0,
-        processors: 1,
+        processors: 4,
     };
     let mut engine = Engine::new(alloc, workers.clamp(1, 64), gate);
-    for line in [LOAD, way, LATE, r#"{"cmd":"advance","steps":1}"#] {
+    for line in [LOAD, plan, LATE, r#"{"cmd":"advance","steps":1}"#] {
         let command = read(alloc, line)?;
-        let _reply = call_with_memory(rt, &mut engine, &command)?;
+        let _reply = call_with_memory(rt, &mut engine, Way::Lent, &command)?;
     }
     Ok(engine)
 }
@@ -45,10 +45,11 @@ fn begun<R: Threads + Wait + Sync>(
 fn are_made<R: Threads + Wait + Sync>(
     rt: &R,
     engine: &mut Engine<Unwatched>,
+    way: Way,
     steps: u64,
     end: u64,
 ) -> bool {
-    let (reply, outcome) = engine.apply(rt, &Command::Advance { steps });
+    let (reply, outcome) = apply(rt, engine, way, &Command::Advance { steps });
     match reply {
         Reply::Clock { clock } => outcome == Outcome::Whole && clock == end,
         _ => false,
@@ -87,10 +88,11 @@ fn is_named(refusal: &Refusal) -> bool {
 fn go_on<R: Threads + Wait + Sync>(
     rt: &R,
     engine: Engine<Unwatched>,
+    way: Way,
     steps: u64,
 ) -> Result<(), &'static str> {
     let mut engine = EngineSession::new(rt, engine).into_engine();
-    if !are_made(rt, &mut engine, steps, steps.saturating_add(1)) {
+    if !are_made(rt, &mut engine, way, steps, steps.saturating_add(1)) {
         return Err("steps were not made");
     }
     if !has_arrived(rt, &mut engine) || !is_refused(rt, &mut engine) {
@@ -103,15 +105,19 @@ fn go_on<R: Threads + Wait + Sync>(
 }
 
 /// One worker and both links, so that a vehicle goes from one lane to another; three workers and one link, so that each step is
-/// shared by threads. Whether memory was there for the begin of both; or what is wrong.
+/// shared by threads, in both ways: the steps of a team for which there is no memory are made without one. Whether memory was there for the begin of both; or what is wrong.
 pub(crate) fn steps_without<R: Threads + Wait + Sync>(
     rt: &R,
     alloc: Global,
 ) -> Result<bool, &'static str> {
-    for (workers, way, steps) in [(1, LONG, 20), (3, SHORT, 8)] {
-        let begun = begun(rt, alloc, workers, way).or_else(|_| begun(rt, alloc, workers, way));
+    for (workers, plan, steps, way) in [
+        (1, LONG, 20, Way::Lent),
+        (3, SHORT, 8, Way::Lent),
+        (3, SHORT, 8, Way::Team),
+    ] {
+        let begun = begun(rt, alloc, workers, plan).or_else(|_| begun(rt, alloc, workers, plan));
         match begun {
-            Ok(engine) => go_on(rt, engine, steps)?,
+            Ok(engine) => go_on(rt, engine, way, steps)?,
             Err(Stop::Wrong(why)) => return Err(why),
             Err(Stop::OutOfMemory) => return Ok(false),
         }

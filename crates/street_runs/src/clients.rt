@@ -19,7 +19,7 @@ use crate::outputs::{STANDARD_INPUT, STANDARD_OUTPUT, keep_tape, pass_on, write_
 use crate::{Fault, Options};
 use std::alloc::Global;
 use std::fs::File;
-use std::io::{Read, Write};
+use std::io::{BufWriter, Read, Write};
 use std::rt::Files;
 use std::sync::Wait;
 use std::thread::Threads;
@@ -41,8 +41,11 @@ pub fn serve_input<'a, R: Threads + Wait + Sync + Input + Print + AllocGlobal + 
     requires { IsInRange options.now }
 {
     let alloc = rt.alloc();
+    let Ok(output) = BufWriter::new(alloc, io::writer(rt)) else {
+        return Err(Starved.into());
+    };
     let mut reader = Counted::new(rt.reader());
-    let mut writer = Counted::new(io::writer(rt));
+    let mut writer = Counted::new(output);
     let (run, desk, pass) = serve_alone(
         rt,
         alloc,
@@ -55,6 +58,8 @@ pub fn serve_input<'a, R: Threads + Wait + Sync + Input + Print + AllocGlobal + 
         Ok(_tally) => Ok(()),
         Err(fault) => Err(Fault::of_run(fault.kind, STANDARD_INPUT, STANDARD_OUTPUT)),
     };
+    // After a fault it holds the replies to the lines that came in the last read.
+    let _ = writer.flush();
     let taped = keep_tape(rt, alloc, desk, pass, options.tape);
     served.and(taped)
 }
