@@ -1,5 +1,6 @@
 """Steps shared by threads: with more vehicles in cells than a step of one thread has, the replies have equal bytes for each number
-of workers, and threads beside the first are seen at work."""
+of workers, and threads beside the first are seen at work: those that stay where a session is served, and those that are started for
+each part of a step where its tape is replayed."""
 import json
 import os
 import subprocess
@@ -8,10 +9,10 @@ import time
 import unittest
 from pathlib import Path
 
-from support import PROGRAM, needs_simulator
+from support import PROGRAM, Case, needs_simulator
 
-# Above this number of vehicles in cells a step is shared, where there are several processors (docs/LINES.md).
-SHARED_FROM = 1_500
+# Above this number of vehicles in cells a step is shared, where there are several processors, and above that a replay's (docs/LINES.md).
+SHARED_FROM, REPLAY_SHARED_FROM = 1_500, 30_000
 NODES = 512
 LANES = (0, 1)
 CELLS = 120
@@ -101,12 +102,16 @@ class Watch(threading.Thread):
                 self.seen.add(task.parent.name)
 
 
+def lines_of(commands):
+    """The text of commands, a line for each."""
+    return "".join(json.dumps(command, separators=(",", ":")) + "\n" for command in commands).encode()
+
+
 @needs_simulator
-class Workers(unittest.TestCase):
-    def served(self, workers, lines):
-        """The replies with so many workers, and how many threads were seen at work beside the first."""
-        words = [PROGRAM, "--workers", str(workers), "--calls", "200000"]
-        with subprocess.Popen(words, stdin=subprocess.PIPE, stdout=subprocess.PIPE) as process:
+class Workers(Case):
+    def run_watched(self, words, lines=b""):
+        """What the program writes, and how many threads were seen at work beside the first."""
+        with subprocess.Popen([PROGRAM, *words], stdin=subprocess.PIPE, stdout=subprocess.PIPE) as process:
             watch = Watch(process)
             watch.start()
             replies, _ = process.communicate(lines, timeout=SECONDS)
@@ -114,21 +119,27 @@ class Workers(unittest.TestCase):
         self.assertEqual(process.returncode, 0)
         return replies, len(watch.seen)
 
+    def check_shared(self, words, wanted, lines=b""):
+        """With several workers it writes what is wanted, on several threads where there are processors for them."""
+        for workers in (2, 4, 64):
+            with self.subTest(workers=workers):
+                told, threads = self.run_watched(["--workers", str(workers), *words], lines)
+                self.assertEqual(threads > 0, len(os.sched_getaffinity(0)) > 1)
+                self.assertEqual(told, wanted)
+
     def test_equal_bytes_and_more_than_one_thread(self):
-        commands = list(session_of_town())
-        lines = "".join(json.dumps(command, separators=(",", ":")) + "\n" for command in commands).encode()
-        alone, threads = self.served(1, lines)
+        commands, tape = list(session_of_town()), self.folder / "town.tape"
+        lines, words = lines_of(commands), ["--calls", "200000"]
+        alone, threads = self.run_watched([*words, "--tape", tape], lines)
         self.assertEqual(threads, 0)
         replies = [json.loads(line) for line in alone.splitlines()]
         self.assertEqual(len(replies), len(commands))
         self.assertEqual([reply for reply in replies if "error" in reply], [])
         counts = [reply["cells"] for reply in replies if "admitted" in reply]
-        self.assertGreater(min(counts), SHARED_FROM)
-        for workers in (2, 4, 64):
-            with self.subTest(workers=workers):
-                told, threads = self.served(workers, lines)
-                self.assertEqual(threads > 0, len(os.sched_getaffinity(0)) > 1)
-                self.assertEqual(told, alone)
+        self.assertGreater(min(counts), max(SHARED_FROM, REPLAY_SHARED_FROM))
+        self.check_shared(words, alone, lines)
+        # The session ends with a count, and a replay counts once more.
+        self.check_shared(["--replay", tape], alone + alone.splitlines(keepends=True)[-1])
 
 
 if __name__ == "__main__":

@@ -7,7 +7,7 @@ use Rattle.street_base.specs.State.{State}
 use Rattle.street_base.specs.Outcomes.{Allows, state_after, reply_to}
 use Rattle.street_desk.specs.declared.journal.Entry.{Entry}
 use Rattle.street_desk.specs.History.{entry, state_from, state_of, IsLegalFrom, AllBelow, calls_of, IsHistory}
-use Rattle.street_desk.specs.Passes.{DeskView, PassView, Answered as IsAnswered, Filled}
+use Rattle.street_desk.specs.Passes.{DeskView, PassView, Answered as IsAnswered, Filled, Finished}
 use Rattle.street_stream.specs.declared.tally.FaultKind.{FaultKind}
 use Rattle.street_stream.specs.declared.tally.Tally.{Tally}
 use Rattle.street_line.specs.declared.service.Served.{Served}
@@ -63,6 +63,13 @@ same_front a b rest x y front whole =
 own_is_all : (p : PassView) → IsAlone p → calls_of p.least p.seen ≡ p.seen
 own_is_all p h = rw h.least (all_own p.seen h.history.below)
 
+-- a journal that has no new calls of the one session is what its pass has seen
+pub ends_alone : (p : PassView) (journal : List Entry) → IsAlone p → Finished p journal → journal ≡ p.seen
+ends_alone p journal alone ended =
+    let below : AllBelow 1 journal = subst (λ (n : ℕ). AllBelow n journal) alone.sessions ended.is_history.below in
+    let all : calls_of p.least journal ≡ journal = rw alone.least (all_own journal below) in
+    sym all ∙ (ended.own ∙ own_is_all p alone)
+
 still_alone : (p q : PassView) → q.desk ≡ p.desk → q.least ≡ p.least → IsHistory p.desk.sessions q.seen → IsAlone p → IsAlone q
 still_alone p q desk least history h = record {
   sessions = ap (λ (d : DeskView). d.sessions) desk ∙ h.sessions;
@@ -116,6 +123,11 @@ goes_from most p (l ∷ ls) out q h alone is =
     let later : h.0.desk.calls ≡ most = ap (λ (d : DeskView). d.calls) (done_desk p (said l) h.1 h.0 h.3) ∙ is in
     let done : Done (AloneServes most) p.seen (said l) h.1 h.0.seen = subst (λ (n : ℕ). Done (AloneServes n) p.seen (said l) h.1 h.0.seen) is first.0 in
     (h.0.seen, h.1, h.2, done, goes_from most h.0 ls h.2 q h.4 first.1 later, h.5)
+
+-- and the pass is then still alone
+pub goes_still : (p : PassView) (ls : List (List ℕ)) (out : List ℕ) (q : PassView) → Goes DeskServes p ls out q → IsAlone p → IsAlone q
+goes_still p [] out q h alone = subst IsAlone (sym h.0) alone
+goes_still p (l ∷ ls) out q h alone = goes_still h.0 ls h.2 q h.4 (done_alone p (said l) h.1 h.0 h.3 alone).1
 
 pub goes_alone : (p : PassView) (ls : List (List ℕ)) (out : List ℕ) (q : PassView) → Goes DeskServes p ls out q → IsAlone p → Goes (AloneServes p.desk.calls) p.seen ls out q.seen
 goes_alone p ls out q h alone = goes_from p.desk.calls p ls out q h alone refl

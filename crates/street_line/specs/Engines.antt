@@ -4,7 +4,9 @@ use Rattle.std.specs.Prelude.{ℕ, List, [], ◌∷◌, ◌++◌}
 use Rattle.street_base.specs.declared.command.Command.{Command}
 use Rattle.street_base.specs.declared.reply.Outcome.{Outcome}
 use Rattle.street_base.specs.State.{State}
+use Rattle.street_base.specs.declared.reply.Reply.{Reply}
 use Rattle.street_base.specs.Outcomes.{Answers}
+use Rattle.street_base.specs.Run.{Runs}
 use Rattle.street_engine.specs.Refines.{EngineView, Serves}
 use Rattle.street_line.specs.declared.service.Served.{Served}
 use Rattle.street_line.specs.declared.service.Served.TheVariants.{Answered, Full}
@@ -29,3 +31,7 @@ called (calls command) = command ∷ []
 abbrev pub commands_of : List (List ℕ) → List Command
 commands_of [] = []
 commands_of (l ∷ ls) = called (said l) ++ commands_of ls
+
+-- the commands among these lines, with some answers, are a run of the machine from one state to the other
+abbrev pub AreRunOf : State → List (List ℕ) → State → Type 0
+AreRunOf old ls new = (answers : List (Reply × Outcome)) × Runs old (commands_of ls) answers new

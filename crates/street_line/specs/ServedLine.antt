@@ -2,7 +2,8 @@
 -- Source: this profile.
 use Rattle.std.specs.Prelude.{◌≡◌, List, ℕ, Bool, true, false, Option, Some, None}
 use Rattle.street_base.specs.declared.command.Command.{Command}
-use Rattle.street_stream.specs.HandledLines.{Effect}
+use Rattle.street_stream.specs.HandledLines.{Effect, Gives}
+use Rattle.street_stream.specs.declared.answer.Answer.{Answer}
 use Rattle.street_line.specs.Runs.{Said, is_call, has_reply, said, Done}
 use Rattle.street_line.specs.declared.service.Served.{Served}
 
@@ -16,6 +17,10 @@ effect_of what out = record { is_call = is_call what; reply = reply_of (has_repl
 
 abbrev pub IsAnswered : {S : Type 0} → (S → Command → Served → S → Type 0) → S → Said → Effect → S → Type 0
 IsAnswered serves old what effect new = (out : List ℕ) × Done serves old what out new × (effect ≡ effect_of what out)
+
+-- so by an answer that gives this
+abbrev pub IsAnsweredBy : {S : Type 0} → (S → Command → Served → S → Type 0) → S → Said → Answer → S → Type 0
+IsAnsweredBy serves old what answer new = (effect : Effect) × IsAnswered serves old what effect new × Gives answer effect
 
 abbrev pub IsServed : {S : Type 0} → (S → Command → Served → S → Type 0) → S → List ℕ → Effect → S → Type 0
 IsServed serves old line effect new = IsAnswered serves old (said line) effect new

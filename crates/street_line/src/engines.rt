@@ -2,13 +2,9 @@
 //!
 //! Source: this profile.
 ghost use Rattle.std.specs.Prelude.{◌≡◌, ◌≤◌, IfOk, IfErr, OnOk};
-ghost use Rattle.street_base.specs.State.{State};
 ghost use Rattle.street_stream.specs.Streams.{IsFlushed, IsFresh, IsPrompt};
 ghost use Rattle.street_stream.specs.Faults.{IsCaused};
-ghost use Rattle.street_engine.specs.Refines.{StandsFor};
-ghost use Rattle.street_line.specs.Engines.{MachineServes};
-ghost use Rattle.street_line.specs.Faults.{ServedInPart};
-ghost use Rattle.street_line.specs.Runs.{ServedWhole};
+ghost use Rattle.street_line.specs.Streams.{EngineServesAll, EngineServesFirst};
 
 use crate::runs::run_lines;
 use crate::service::{Served, Service};
@@ -86,14 +82,10 @@ pub fn run_engine<R: Threads + Sync, D: Read, W: Write>(
 ) -> Result<Tally, RunFault>
     requires reader { IsFresh reader.old }
     requires writer { IsFresh writer.old }
-    ensures served { IfOk result (λ tally. (old : State) → StandsFor session.old old
-        → (new : State) × StandsFor session.new new
-        × ServedWhole MachineServes old (D.remaining reader.old.stream) (W.contents writer.old.stream)
-        new (D.remaining reader.new.stream) (W.contents writer.new.stream) tally) }
-    ensures broken { IfErr result (λ fault. (old : State) → StandsFor session.old old
-        → (new : State) × StandsFor session.new new
-        × ServedInPart MachineServes old (D.remaining reader.old.stream) (W.contents writer.old.stream)
-        new (D.remaining reader.new.stream) (W.contents writer.new.stream) fault) }
+    ensures served { IfOk result (EngineServesAll D.remaining W.contents
+        session.old reader.old writer.old session.new reader.new writer.new) }
+    ensures broken { IfErr result (EngineServesFirst D.remaining W.contents
+        session.old reader.old writer.old session.new reader.new writer.new) }
     ensures caused { IfErr result (λ fault. IsCaused fault.kind reader.new writer.new 1000000000) }
     ensures bounded { reader.new.calls ≤ 1000000000 }
     ensures prompt { IsPrompt reader.new }

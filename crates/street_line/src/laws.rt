@@ -3,11 +3,8 @@
 //! Source: this profile.
 ghost use Rattle.std.specs.Prelude.{ℕ, List, None};
 ghost use Rattle.street_base.specs.Census.{IsSoundState};
-ghost use Rattle.street_base.specs.Run.{Runs};
 ghost use Rattle.street_base.specs.State.{State};
-ghost use Rattle.street_base.specs.declared.reply.Outcome.{Outcome};
-ghost use Rattle.street_base.specs.declared.reply.Reply.{Reply};
-ghost use Rattle.street_line.specs.Engines.{MachineServes, commands_of};
+ghost use Rattle.street_line.specs.Engines.{AreRunOf, MachineServes};
 ghost use Rattle.street_line.specs.Runs.{Goes};
 
 use street_base::census_holds;
@@ -15,8 +12,7 @@ use street_base::census_holds;
 /// What the machine says to lines is a run of the commands among them: so what holds of every run, as that a refused
 /// command changes nothing, holds of lines, and in each state that lines lead to from nothing loaded the census holds.
 pub fn lines_are_a_run()
-    ensures run { (old : State) (ls : List (List ℕ)) (out : List ℕ) (new : State) → Goes MachineServes old ls out new
-        → (answers : List (Reply × Outcome)) × Runs old (commands_of ls) answers new }
+    ensures run { (old : State) (ls : List (List ℕ)) (out : List ℕ) (new : State) → Goes MachineServes old ls out new → AreRunOf old ls new }
     ensures census { (ls : List (List ℕ)) (out : List ℕ) (new : State) → Goes MachineServes None ls out new → IsSoundState new }
 {
     census_holds();

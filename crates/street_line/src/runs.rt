@@ -4,8 +4,8 @@
 ghost use Rattle.std.specs.Prelude.{◌≡◌, ◌≤◌, IfOk, IfErr, OnOk};
 ghost use Rattle.street_stream.specs.Streams.{IsFlushed, IsFresh, IsPrompt};
 ghost use Rattle.street_stream.specs.Faults.{IsCaused};
-ghost use Rattle.street_line.specs.Faults.{ServedInPart, kind_of};
-ghost use Rattle.street_line.specs.Runs.{ServedWhole};
+ghost use Rattle.street_line.specs.Faults.{kind_of};
+ghost use Rattle.street_line.specs.Streams.{ServesAll, ServesFirst};
 
 use crate::server::LineServer;
 use crate::service::Service;
@@ -40,12 +40,10 @@ fn serve_all<S: Service, R: Read, W: Write>(
     requires reader { IsFresh reader.old }
     requires writer { IsFresh writer.old }
     ensures same_reference { server.new.service.ghost_name ≡ server.old.service.ghost_name }
-    ensures served { IfOk result (λ tally. ServedWhole S.serves server.old.service.now
-        (R.remaining reader.old.stream) (W.contents writer.old.stream) server.new.service.now
-        (R.remaining reader.new.stream) (W.contents writer.new.stream) tally) }
-    ensures broken { IfErr result (λ fault. ServedInPart S.serves server.old.service.now
-        (R.remaining reader.old.stream) (W.contents writer.old.stream) server.new.service.now
-        (R.remaining reader.new.stream) (W.contents writer.new.stream) fault) }
+    ensures served { IfOk result (ServesAll S.serves R.remaining W.contents
+        server.old.service.now reader.old writer.old server.new.service.now reader.new writer.new) }
+    ensures broken { IfErr result (ServesFirst S.serves R.remaining W.contents
+        server.old.service.now reader.old writer.old server.new.service.now reader.new writer.new) }
     ensures caused { IfErr result (λ fault. IsCaused fault.kind reader.new writer.new reads) }
     ensures bounded { reader.new.calls ≤ reads }
     ensures prompt { IsPrompt reader.new }
@@ -85,10 +83,10 @@ pub fn run_lines_within<S: Service, R: Read, W: Write>(
     requires ready { S.ready }
     requires reader { IsFresh reader.old }
     requires writer { IsFresh writer.old }
-    ensures served { IfOk result (λ tally. ServedWhole S.serves service.old (R.remaining reader.old.stream) (W.contents writer.old.stream)
-        service.new (R.remaining reader.new.stream) (W.contents writer.new.stream) tally) }
-    ensures broken { IfErr result (λ fault. ServedInPart S.serves service.old (R.remaining reader.old.stream) (W.contents writer.old.stream)
-        service.new (R.remaining reader.new.stream) (W.contents writer.new.stream) fault) }
+    ensures served { IfOk result (ServesAll S.serves R.remaining W.contents
+        service.old reader.old writer.old service.new reader.new writer.new) }
+    ensures broken { IfErr result (ServesFirst S.serves R.remaining W.contents
+        service.old reader.old writer.old service.new reader.new writer.new) }
     ensures caused { IfErr result (λ fault. IsCaused fault.kind reader.new writer.new reads) }
     ensures bounded { reader.new.calls ≤ reads }
     ensures prompt { IsPrompt reader.new }
@@ -116,10 +114,10 @@ pub fn run_lines<S: Service, R: Read, W: Write>(
     requires ready { S.ready }
     requires reader { IsFresh reader.old }
     requires writer { IsFresh writer.old }
-    ensures served { IfOk result (λ tally. ServedWhole S.serves service.old (R.remaining reader.old.stream) (W.contents writer.old.stream)
-        service.new (R.remaining reader.new.stream) (W.contents writer.new.stream) tally) }
-    ensures broken { IfErr result (λ fault. ServedInPart S.serves service.old (R.remaining reader.old.stream) (W.contents writer.old.stream)
-        service.new (R.remaining reader.new.stream) (W.contents writer.new.stream) fault) }
+    ensures served { IfOk result (ServesAll S.serves R.remaining W.contents
+        service.old reader.old writer.old service.new reader.new writer.new) }
+    ensures broken { IfErr result (ServesFirst S.serves R.remaining W.contents
+        service.old reader.old writer.old service.new reader.new writer.new) }
     ensures caused { IfErr result (λ fault. IsCaused fault.kind reader.new writer.new 1000000000) }
     ensures bounded { reader.new.calls ≤ 1000000000 }
     ensures prompt { IsPrompt reader.new }

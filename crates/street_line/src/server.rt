@@ -2,10 +2,9 @@
 //!
 //! Source: this profile.
 ghost use Rattle.std.specs.Prelude.{◌≡◌, IfOk, OnErr};
-ghost use Rattle.street_stream.specs.HandledLines.{Effect, Gives};
 ghost use Rattle.street_text.specs.LineCommands.{reading};
 ghost use Rattle.street_line.specs.Runs.{said_by};
-ghost use Rattle.street_line.specs.ServedLine.{IsAnswered};
+ghost use Rattle.street_line.specs.ServedLine.{IsAnsweredBy};
 
 use crate::answers::served_text;
 use crate::service::Service;
@@ -31,8 +30,7 @@ fn answer<S: Service>(
     line: &[u8],
 ) -> Result<Answer, Starved>
     requires ready { S.ready }
-    ensures answered { IfOk result (λ answer. (effect : Effect)
-        × IsAnswered S.serves service.old (said_by (reading line.now)) effect service.new × Gives answer effect) }
+    ensures answered { IfOk result (λ answer. IsAnsweredBy S.serves service.old (said_by (reading line.now)) answer service.new) }
     ensures starved { OnErr result (service.new ≡ service.old) }
 {
     let command = match reader.read(alloc, line) {

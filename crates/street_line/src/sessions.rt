@@ -4,9 +4,8 @@
 ghost use Rattle.std.specs.Prelude.{◌≡◌, ◌≤◌, IfOk, IfErr, OnOk};
 ghost use Rattle.street_stream.specs.Streams.{IsFlushed, IsFresh, IsPrompt};
 ghost use Rattle.street_stream.specs.Faults.{IsCaused};
-ghost use Rattle.street_line.specs.Faults.{ServedInPart};
-ghost use Rattle.street_line.specs.Runs.{ServedWhole};
-ghost use Rattle.street_line.specs.Sessions.{AloneServes, DeskServes, IsAlone};
+ghost use Rattle.street_line.specs.Sessions.{DeskServes, IsAlone};
+ghost use Rattle.street_line.specs.Streams.{AloneServesAll, AloneServesFirst, ServesAll, ServesFirst};
 
 use crate::session::DeskSession;
 use crate::{Counted, RunFault, Tally, run_lines};
@@ -15,7 +14,7 @@ use std::io::{Read, Write};
 use std::sync::Wait;
 use std::thread::Threads;
 
-/// Serves the lines of a text through a desk, beside the desk's other callers, as `run_lines` of street_line does: each
+/// Serves the lines of a text through a desk, beside the desk's other callers, as [`run_lines`] does: each
 /// command is a call of the pass, and its reply is the machine's at the point where the call stands in the desk's one
 /// history. After a fault the same holds of the lines that were served.
 ///
@@ -30,10 +29,10 @@ pub fn run_session<R: Threads + Wait + Sync, D: Read, W: Write>(
 ) -> Result<Tally, RunFault>
     requires reader { IsFresh reader.old }
     requires writer { IsFresh writer.old }
-    ensures served { IfOk result (λ tally. ServedWhole DeskServes session.old (D.remaining reader.old.stream) (W.contents writer.old.stream)
-        session.new (D.remaining reader.new.stream) (W.contents writer.new.stream) tally) }
-    ensures broken { IfErr result (λ fault. ServedInPart DeskServes session.old (D.remaining reader.old.stream) (W.contents writer.old.stream)
-        session.new (D.remaining reader.new.stream) (W.contents writer.new.stream) fault) }
+    ensures served { IfOk result (ServesAll DeskServes D.remaining W.contents
+        session.old reader.old writer.old session.new reader.new writer.new) }
+    ensures broken { IfErr result (ServesFirst DeskServes D.remaining W.contents
+        session.old reader.old writer.old session.new reader.new writer.new) }
     ensures caused { IfErr result (λ fault. IsCaused fault.kind reader.new writer.new 1000000000) }
     ensures bounded { reader.new.calls ≤ 1000000000 }
     ensures prompt { IsPrompt reader.new }
@@ -59,17 +58,15 @@ pub fn run_alone<R: Threads + Wait + Sync, D: Read, W: Write>(
     requires alone { IsAlone session.old }
     requires reader { IsFresh reader.old }
     requires writer { IsFresh writer.old }
-    ensures served { IfOk result (λ tally. ServedWhole (AloneServes session.old.desk.calls)
-        session.old.seen (D.remaining reader.old.stream) (W.contents writer.old.stream)
-        session.new.seen (D.remaining reader.new.stream) (W.contents writer.new.stream) tally) }
-    ensures broken { IfErr result (λ fault. ServedInPart (AloneServes session.old.desk.calls)
-        session.old.seen (D.remaining reader.old.stream) (W.contents writer.old.stream)
-        session.new.seen (D.remaining reader.new.stream) (W.contents writer.new.stream) fault) }
+    ensures served { IfOk result (AloneServesAll D.remaining W.contents
+        session.old reader.old writer.old session.new reader.new writer.new) }
+    ensures broken { IfErr result (AloneServesFirst D.remaining W.contents
+        session.old reader.old writer.old session.new reader.new writer.new) }
     ensures caused { IfErr result (λ fault. IsCaused fault.kind reader.new writer.new 1000000000) }
     ensures bounded { reader.new.calls ≤ 1000000000 }
     ensures prompt { IsPrompt reader.new }
     ensures flushed { OnOk result (IsFlushed writer.new) }
-    ensures same { session.new.desk ≡ session.old.desk }
+    ensures alone { (session.new.desk ≡ session.old.desk) × IsAlone session.new }
 {
     run_session(alloc, session, reader, writer)
 }

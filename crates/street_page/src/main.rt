@@ -9,8 +9,7 @@ ghost use Rattle.street_base.specs.State.{State};
 ghost use Rattle.street_stream.specs.Streams.{IsFlushed, IsFresh, IsPrompt};
 ghost use Rattle.street_stream.specs.Faults.{IsCaused};
 ghost use Rattle.street_line.specs.Engines.{MachineServes};
-ghost use Rattle.street_line.specs.Faults.{ServedInPart};
-ghost use Rattle.street_line.specs.Runs.{ServedWhole};
+ghost use Rattle.street_line.specs.Streams.{ServesAll, ServesFirst};
 
 use std::alloc::Global;
 use std::io;
@@ -43,12 +42,10 @@ fn serve<R: Threads + Sync, D: Read, W: Write>(
 ) -> Result<Tally, RunFault>
     requires reader { IsFresh reader.old }
     requires writer { IsFresh writer.old }
-    ensures served { IfOk result (λ tally. (new : State) × ServedWhole MachineServes None
-        (D.remaining reader.old.stream) (W.contents writer.old.stream)
-        new (D.remaining reader.new.stream) (W.contents writer.new.stream) tally) }
-    ensures broken { IfErr result (λ fault. (new : State) × ServedInPart MachineServes None
-        (D.remaining reader.old.stream) (W.contents writer.old.stream)
-        new (D.remaining reader.new.stream) (W.contents writer.new.stream) fault) }
+    ensures served { IfOk result (λ tally. (new : State) × ServesAll MachineServes D.remaining W.contents
+        None reader.old writer.old new reader.new writer.new tally) }
+    ensures broken { IfErr result (λ fault. (new : State) × ServesFirst MachineServes D.remaining W.contents
+        None reader.old writer.old new reader.new writer.new fault) }
     ensures caused { IfErr result (λ fault. IsCaused fault.kind reader.new writer.new 1000000000) }
     ensures prompt { IsPrompt reader.new }
     ensures flushed { OnOk result (IsFlushed writer.new) }

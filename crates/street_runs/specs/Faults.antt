@@ -1,6 +1,6 @@
 -- How the program tells its faults.
 -- Source: this profile.
-use Rattle.std.specs.Prelude.{ℕ, List}
+use Rattle.std.specs.Prelude.{◌≡◌, ◌⊎◌, ℕ, List, Option, Some}
 use Rattle.std.specs.Borrow.{Bor}
 use Rattle.street_stream.specs.declared.tally.FaultKind.{FaultKind}
 use Rattle.street_stream.specs.declared.tally.FaultKind.TheVariants as kind
@@ -26,3 +26,11 @@ abbrev pub fault_of_tape : TapeFault → Bor (List ℕ) → Bor (List ℕ) → F
 fault_of_tape tape.NotTape from to = BadTape 1
 fault_of_tape (tape.BadEntry line) from to = BadTape line
 fault_of_tape (tape.Run fault) from to = fault_of_run fault.kind from to
+
+-- a file that could not be opened, or written, is told so, or memory ran out
+abbrev pub IsFileFault : Fault → Fault → Type 0
+IsFileFault otherwise fault = (fault ≡ OutOfMemory) ⊎ (fault ≡ otherwise)
+
+-- the fault of a tape is told by its name; where none is asked for there is none
+abbrev pub IsTapeFault : Option (Bor (List ℕ)) → Fault → Type 0
+IsTapeFault asked fault = (name : Bor (List ℕ)) × (asked ≡ Some name) × IsFileFault (Write name) fault

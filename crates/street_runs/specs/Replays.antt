@@ -8,6 +8,7 @@ use Rattle.street_base.specs.Outcomes.{reply_to}
 use Rattle.street_desk.specs.declared.journal.Entry.{Entry}
 use Rattle.street_desk.specs.History.{state_of}
 use Rattle.street_engine.specs.Refines.{EngineView}
+use Rattle.street_stream.specs.declared.counted.Counted.{Counted}
 use Rattle.street_tape.specs.declared.fault.TapeFault.{TapeFault}
 use Rattle.street_tape.specs.Entries.{tape_reading}
 use Rattle.street_tape.specs.Faults.{ReplayStops, IsOfRun}
@@ -42,3 +43,13 @@ CountStops unread before left after fault =
 abbrev pub CountedStops : Option (List ℕ) → Option (List ℕ) → Option (List ℕ) → Option (List ℕ) → TapeFault → Type 0
 CountedStops unread before left after fault =
     ((view : EngineView) × ReplayStops unread before view left after fault) ⊎ CountStops unread before left after fault
+
+-- so from one counted stream to another
+module _ {D W : Type 0} (remaining : D → Option (List ℕ)) (contents : W → Option (List ℕ)) where
+  abbrev pub ReplaysAndCounts : Counted D → Counted W → Counted D → Counted W → Type 0
+  ReplaysAndCounts reader writer read written =
+      ReplaysCounted (remaining reader.stream) (contents writer.stream) (remaining read.stream) (contents written.stream)
+
+  abbrev pub ReplayOrCountStops : Counted D → Counted W → Counted D → Counted W → TapeFault → Type 0
+  ReplayOrCountStops reader writer read written fault =
+      CountedStops (remaining reader.stream) (contents writer.stream) (remaining read.stream) (contents written.stream) fault

@@ -1,6 +1,6 @@
 -- What the scripts of one desk are told, each beside the others.
 -- Source: this profile.
-use Rattle.std.specs.Prelude.{◌≡◌, ◌<◌, ℕ, List, [], length, slice_index_or, IsNone, Option}
+use Rattle.std.specs.Prelude.{◌≡◌, ◌<◌, ℕ, List, [], length, slice_index_or, IsNone, Option, Result}
 use Rattle.std.specs.Borrow.{Bor}
 use Rattle.street_desk.specs.declared.journal.Entry.{Entry}
 use Rattle.street_desk.specs.History.{BeginsWith, IsHistory}
@@ -10,7 +10,10 @@ use Rattle.street_line.specs.Runs.{Goes}
 use Rattle.street_line.specs.Sessions.{DeskServes}
 use Rattle.street_stream.specs.declared.counted.Counted.{Counted}
 use Rattle.street_stream.specs.Lines.{lines_of}
+use Rattle.street_runs.specs.declared.fault.Fault.{Fault}
+use Rattle.street_runs.specs.Ends.{IsEnded}
 use Rattle.street_runs.specs.Outputs.{IsPrinted, replies_of}
+use Rattle.street_runs.specs.Scripts.{ArePlayed}
 
 -- the replies are the whole output of the lines of a text, from the session's first call on; each is the machine's at the place of its call in the journal
 pub record IsTold (session : ℕ) (replies : List ℕ) (journal : List Entry) : Type 0 where
@@ -30,3 +33,10 @@ pub record AreTold {W : Type 0} (R : Type 0) (desk : DeskView) (names : List (Bo
   pub printed : IsPrinted before after (replies_of scripts) writer
   pub is_history : IsHistory desk.sessions journal
   pub each : (k : ℕ) (d : Script R) → k < length scripts → IsNone (slice_index_or scripts k d).fault → IsTold k (slice_index_or scripts k d).replies.items journal
+
+-- scripts that were played at a desk are told so, where the desk is ended with the pass that comes back from them
+abbrev pub PlayedAreTold : Type 0 → Type 0 → Type 0
+PlayedAreTold R W = (desk : DeskView) (names : List (Bor (List ℕ))) (before after : Option (List ℕ)) (writer : Counted W)
+    (told : Result (Unit {0}) Fault) (pass : PassView) (journal : List Entry)
+    → ArePlayed R desk names before after writer told pass → pass.desk ≡ desk → IsEnded pass journal
+    → AreTold R desk names before after writer journal

@@ -2,13 +2,12 @@
 //!
 //! Source: this profile.
 ghost use Rattle.std.specs.Io.KnownBytes.{Appends};
-ghost use Rattle.std.specs.Prelude.{◌≡◌, ◌<◌, ◌≤◌, [], All, IfOk, IfErr, IsNone, OnOk, OnErr, length, slice_index_or, vec_len};
+ghost use Rattle.std.specs.Prelude.{◌≡◌, ◌<◌, ◌≤◌, All, IfOk, IfErr, IsNone, OnOk, OnErr, length, slice_index_or, vec_len};
 ghost use Rattle.street_desk.specs.History.{BeginsWith};
 ghost use Rattle.street_desk.specs.Passes.{DeskView, Same, first_pass};
 ghost use Rattle.street_line.specs.declared.script.Script.{Script};
-ghost use Rattle.street_line.specs.Faults.{ServedInPart};
-ghost use Rattle.street_line.specs.Runs.{ServedWhole};
-ghost use Rattle.street_line.specs.Sessions.{AloneServes};
+ghost use Rattle.street_line.specs.Sessions.{IsAlone};
+ghost use Rattle.street_line.specs.Streams.{AloneServesAll, AloneServesFirst};
 ghost use Rattle.street_runs.specs.Outputs.{IsBegun, IsPrinted, TellsOutput, replies_of};
 ghost use Rattle.street_runs.specs.Scripts.{AreOpened, ArePassesFrom, ArePlayed, AreRun, IsFirstFault, Tells};
 ghost use Rattle.street_runs.specs.Words.{IsInRange};
@@ -82,15 +81,13 @@ fn serve_alone<R: Threads + Wait + Sync, D: Read, W: Write>(
     requires calls { (1 ≤ calls) × (calls ≤ 1000000) }
     requires reader { IsFresh reader.old }
     requires writer { IsFresh writer.old }
-    ensures served { IfOk result (λ r. IfOk r.0 (λ tally. ServedWhole (AloneServes calls)
-        [] (D.remaining reader.old.stream) (W.contents writer.old.stream)
-        r.2.seen (D.remaining reader.new.stream) (W.contents writer.new.stream) tally)) }
-    ensures broken { IfOk result (λ r. IfErr r.0 (λ fault. ServedInPart (AloneServes calls)
-        [] (D.remaining reader.old.stream) (W.contents writer.old.stream)
-        r.2.seen (D.remaining reader.new.stream) (W.contents writer.new.stream) fault)) }
+    ensures served { IfOk result (λ r. IfOk r.0 (AloneServesAll D.remaining W.contents
+        (first_pass r.1) reader.old writer.old r.2 reader.new writer.new)) }
+    ensures broken { IfOk result (λ r. IfErr r.0 (AloneServesFirst D.remaining W.contents
+        (first_pass r.1) reader.old writer.old r.2 reader.new writer.new)) }
     ensures caused { IfOk result (λ r. IfErr r.0 (λ fault. IsCaused fault.kind reader.new writer.new 1000000000)) }
     ensures prompt { IfOk result (λ r. IsPrompt reader.new × OnOk r.0 (IsFlushed writer.new)) }
-    ensures desk { IfOk result (λ r. r.2.desk ≡ r.1) }
+    ensures desk { IfOk result (λ r. (r.1.calls ≡ calls) × (r.2.desk ≡ r.1) × IsAlone r.2) }
     ensures starved { OnErr result ((reader.new ≡ reader.old) × (writer.new ≡ writer.old)) }
 {
     let engine = Engine::new(alloc, workers, Unwatched::staying(processors(rt)));

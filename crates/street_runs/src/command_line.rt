@@ -2,8 +2,9 @@
 //!
 //! Source: this profile.
 ghost use Rattle.std.specs.Prelude.{◌≤◌, ◌≡◌, [], IfOk, IfSome, IsNone, codes, map, option_map, unwrap_or, vec_len};
-ghost use Rattle.clap.specs.Words.{found_of, matched_of, raw_values};
-ghost use Rattle.street_runs.specs.Words.{IsInRange, StandsTogether};
+ghost use Rattle.std.specs.Str.Parse.{digits_value, without_leading_plus};
+ghost use Rattle.clap.specs.Words.{first_value, found_of, matched_of, raw_values};
+ghost use Rattle.street_runs.specs.Words.{IsFound, IsInRange, IsNumberOf, StandsTogether, TellsBad};
 
 use crate::command::streetsim;
 use crate::words::{Options, WordsFault};
@@ -26,7 +27,8 @@ const MOST_SCRIPTS: usize = 1_024;
 
 /// The number that a word says, where it is from 1 to `most`.
 fn number_of(word: &str, most: u64) -> Option<u64>
-    ensures { IfSome result (λ n. (1 ≤ n) × (n ≤ most)) }
+    ensures range { IfSome result (λ n. (1 ≤ n) × (n ≤ most)) }
+    ensures said { IfSome result (λ n. n ≡ digits_value 10 (without_leading_plus word.now)) }
 {
     match word.parse::<u64>() {
         Ok(number) if 1 <= number && number <= most => Some(number),
@@ -44,7 +46,8 @@ fn number(
     most: u64,
 ) -> Result<u64, WordsFault>
     requires { (1 ≤ default) × (default ≤ most) }
-    ensures { IfOk result (λ n. (1 ≤ n) × (n ≤ most)) }
+    ensures range { IfOk result (λ n. (1 ≤ n) × (n ≤ most)) }
+    ensures said { IfOk result (λ n. IsNumberOf (first_value (found_of matches.now) name.now) default n) }
 {
     let Some(word) = matches.get_str(name) else {
         return Ok(default);
@@ -59,7 +62,9 @@ fn number(
 }
 
 /// The fault that tells what is wrong with the words.
-fn bad_words(command: &mut Command<'_>, kind: ErrorKind, text: &str) -> WordsFault {
+fn bad_words(command: &mut Command<'_>, kind: ErrorKind, text: &str) -> WordsFault
+    ensures { TellsBad kind result }
+{
     match command.error(kind, text) {
         Ok(error) => WordsFault::Bad(error),
         Err(_) => WordsFault::Starved,
@@ -103,6 +108,7 @@ fn matched<'a>(
 ) -> Result<Options<'a>, WordsFault>
     ensures ranges { IfOk result IsInRange }
     ensures together { IfOk result StandsTogether }
+    ensures found { IfOk result (IsFound matches.now) }
 {
     let workers = number(alloc, command, matches, "workers", WORKERS, MOST_WORKERS)?;
     let calls = number(alloc, command, matches, "calls", CALLS, MOST_CALLS)?;

@@ -18,7 +18,7 @@ mod words;
 pub use clients::{serve_input, serve_scripts};
 pub use command_line::options;
 pub use fault::Fault;
-pub use laws::scripts_are_told;
+pub use laws::{input_is_taped, scripts_are_told};
 pub use outputs::STANDARD_OUTPUT;
 pub use reasons::reason;
 pub use tapes::{replay_tape, upgrade_tape};

@@ -4,7 +4,9 @@
 ghost use Rattle.std.specs.Io.KnownBytes.{Appends, Keeps};
 ghost use Rattle.std.specs.Prelude.{◌≡◌, OnOk, OnErr, IfErr};
 ghost use Rattle.street_runs.specs.Ends.{IsTaped, StopsTape, TellsWriting};
+ghost use Rattle.street_runs.specs.Faults.{IsFileFault, IsTapeFault};
 ghost use Rattle.street_runs.specs.Outputs.{IsBegun, TellsOutput};
+ghost use Rattle.street_runs.specs.declared.fault.Fault.TheVariants.{Read, Write};
 ghost use Rattle.street_stream.specs.Streams.{HasFailed, IsFlushed, IsFresh};
 ghost use Rattle.street_tape.specs.Tapes.{tape_text};
 
@@ -69,6 +71,7 @@ pub fn keep_tape<'a, R: Files<File = File>>(
     name: Option<&'a str>,
 ) -> Result<(), Fault<'a>>
     requires { pass.desk ≡ desk }
+    ensures { IfErr result (IsTapeFault name.entry) }
 {
     let Some(name) = name else {
         return Ok(());
@@ -119,17 +122,23 @@ fn write_journal<'a, W: Write>(
 }
 
 /// Makes a file to be written.
-fn create_file<'a, R: Files<File = File>>(rt: &R, name: &'a str) -> Result<File, Fault<'a>> {
+fn create_file<'a, R: Files<File = File>>(rt: &R, name: &'a str) -> Result<File, Fault<'a>>
+    ensures { IfErr result (IsFileFault (Write name.entry)) }
+{
     File::create(rt, name).map_err(|error| of_file(&error, Fault::Write(name)))
 }
 
 /// Opens a file to be read.
-pub fn open_file<'a, R: Files<File = File>>(rt: &R, name: &'a str) -> Result<File, Fault<'a>> {
+pub fn open_file<'a, R: Files<File = File>>(rt: &R, name: &'a str) -> Result<File, Fault<'a>>
+    ensures { IfErr result (IsFileFault (Read name.entry)) }
+{
     File::open(rt, name).map_err(|error| of_file(&error, Fault::Read(name)))
 }
 
 /// The fault of a file that could not be opened, perhaps because memory ran out.
-fn of_file<'a>(error: &io::Error, otherwise: Fault<'a>) -> Fault<'a> {
+fn of_file<'a>(error: &io::Error, otherwise: Fault<'a>) -> Fault<'a>
+    ensures { IsFileFault otherwise.entry result }
+{
     match error.kind() {
         io::ErrorKind::OutOfMemory => Fault::OutOfMemory,
         _ => otherwise,

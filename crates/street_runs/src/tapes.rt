@@ -4,7 +4,7 @@
 ghost use Rattle.std.specs.Prelude.{◌≤◌, IfErr, OnOk};
 ghost use Rattle.std.specs.Io.KnownBytes.{Appends};
 ghost use Rattle.street_runs.specs.Outputs.{IsBegun};
-ghost use Rattle.street_runs.specs.Replays.{ReplaysCounted, CountedStops};
+ghost use Rattle.street_runs.specs.Replays.{ReplaysAndCounts, ReplayOrCountStops};
 ghost use Rattle.street_stream.specs.Faults.{IsCausedByWriting};
 ghost use Rattle.street_stream.specs.Streams.{IsFlushed, IsFresh, IsPrompt};
 ghost use Rattle.street_tape.specs.Faults.{IsTapeCaused};
@@ -58,10 +58,8 @@ fn replay_and_count<R: Threads + Sync, D: Read, W: Write>(
     requires workers { (1 ≤ workers) × (workers ≤ 64) }
     requires reader { IsFresh reader.old }
     requires writer { IsFresh writer.old }
-    ensures counted { OnOk result (ReplaysCounted (D.remaining reader.old.stream) (W.contents writer.old.stream)
-        (D.remaining reader.new.stream) (W.contents writer.new.stream)) }
-    ensures stops { IfErr result (λ fault. CountedStops (D.remaining reader.old.stream) (W.contents writer.old.stream)
-        (D.remaining reader.new.stream) (W.contents writer.new.stream) fault) }
+    ensures counted { OnOk result (ReplaysAndCounts D.remaining W.contents reader.old writer.old reader.new writer.new) }
+    ensures stops { IfErr result (ReplayOrCountStops D.remaining W.contents reader.old writer.old reader.new writer.new) }
     ensures caused { IfErr result (λ fault. IsTapeCaused fault reader.new writer.new 1000000000) }
     ensures prompt { IsPrompt reader.new }
     ensures flushed { OnOk result (IsFlushed writer.new) }

@@ -7,3 +7,5 @@ pub mod BadTapes
 pub mod Faults
 pub mod ReplayHandler
 pub mod Upgrades
+pub mod GoodTapes
+pub mod Streams

@@ -2,7 +2,10 @@
 -- Source: this profile. Its state is what is known of the tape, and the engine.
 use Rattle.std.specs.Prelude.{◌≡◌, ℕ, ◌+◌, ◌⊎◌, List, Option, Some, None, true, false, ⊤}
 use Rattle.street_base.specs.declared.command.Command.{Command}
+use Rattle.street_base.specs.declared.command.Command.TheVariants.{Advance}
 use Rattle.street_base.specs.declared.reply.Outcome.{Outcome}
+use Rattle.street_base.specs.declared.reply.Outcome.TheVariants.{Whole}
+use Rattle.street_base.specs.declared.reply.Reply.{Reply}
 use Rattle.street_base.specs.Outcomes.{reply_to, state_after}
 use Rattle.street_base.specs.State.{State}
 use Rattle.street_desk.specs.declared.journal.Entry.{Entry}
@@ -14,7 +17,7 @@ use Rattle.street_stream.specs.declared.tally.Tally.{Tally}
 use Rattle.street_engine.specs.Refines.{EngineView, StandsFor}
 use Rattle.street_text.specs.ReplyLines.{reply_line}
 use Rattle.street_tape.specs.Faults.{HasBegun}
-use Rattle.street_tape.specs.Replies.{IsReplayable}
+use Rattle.street_tape.specs.Replies.{IsReplayable, clock_in}
 use Rattle.street_tape.specs.declared.fault.TapeFault.{TapeFault}
 use Rattle.street_tape.specs.declared.fault.TapeFault.TheVariants as fault
 use Rattle.street_tape.specs.TapeLines.{Takes, Refuses}
@@ -36,6 +39,20 @@ Applies old (Some e) effect new =
 
 abbrev pub ReplaysLine : Option Head × EngineView → List ℕ → Effect → Option Head × EngineView → Type 0
 ReplaysLine old line effect new = (call : Option Entry) × Takes old.0 line call new.0 × Applies old.1 call effect new.1
+
+-- whatever state the engine stood for, the reply is the machine's, and the engine stands for the state after the call
+abbrev pub CallGoes : EngineView → Command → Outcome → Reply → EngineView → Type 0
+CallGoes before c o reply after = (m : State) → StandsFor before m → (reply ≡ reply_to m c o) × StandsFor after (state_after m c o)
+
+-- so of an advance of which the clock alone is asked
+abbrev pub AdvanceGoes : EngineView → ℕ → Option ℕ → EngineView → Type 0
+AdvanceGoes before steps clock after =
+    (m : State) → StandsFor before m → (clock ≡ clock_in (reply_to m (Advance steps) Whole)) × StandsFor after (state_after m (Advance steps) Whole)
+
+-- so of a call that can be replayed
+abbrev pub CallReplays : EngineView → Command → Outcome → Reply → EngineView → Type 0
+CallReplays before c o reply after =
+    (m : State) → StandsFor before m → IsReplayable m c o × (reply ≡ reply_to m c o) × StandsFor after (state_after m c o)
 
 -- what a call that was not replayed leaves
 abbrev pub CallStops : State → Command → Outcome → EngineView → Stop → Type 0

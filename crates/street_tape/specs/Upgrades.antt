@@ -67,6 +67,10 @@ pub record UpgradeStops (unread before left after : Option (List ℕ)) (fault : 
 
 -- ---- the end of an upgrade
 
+-- the text was written, and its bytes counted
+abbrev pub IsKept : Tally → Option (List ℕ) → List ℕ → Option (List ℕ) → Tally → Type 0
+IsKept tally before text after all = (all ≡ with_bytes tally (length text)) × Appends before after text
+
 -- of the text only the first bytes were written, and counted
 abbrev pub CutShort : Tally → Option (List ℕ) → List ℕ → Option (List ℕ) → RunFault → Type 0
 CutShort tally before text after fault = (fault.tally ≡ with_bytes tally fault.tally.bytes) × IsPrefix before 0 text after fault.tally.bytes

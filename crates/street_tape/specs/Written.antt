@@ -1,7 +1,10 @@
--- What a fault leaves of a tape that is written.
+-- What is written of a tape.
 -- Source: this profile.
 use Rattle.std.specs.Prelude.{◌≡◌, ℕ, ◌+◌, ◌≤◌, List, length, take, Option}
 use Rattle.std.specs.Io.KnownBytes.{Appends}
+use Rattle.street_stream.specs.declared.counted.Counted.{Counted}
+use Rattle.street_stream.specs.declared.tally.FaultKind.{FaultKind}
+use Rattle.street_stream.specs.Faults.{IsCausedByWriting}
 
 -- the first bytes of the text were written, and counted
 pub record IsPrefix (before : Option (List ℕ)) (old : ℕ) (text : List ℕ) (after : Option (List ℕ)) (new : ℕ) : Type 0 where
@@ -9,3 +12,12 @@ pub record IsPrefix (before : Option (List ℕ)) (old : ℕ) (text : List ℕ) (
   pub within : sent ≤ length text
   pub written : Appends before after (take sent text)
   pub counted : new ≡ old + sent
+
+module _ {W : Type 0} (contents : W → Option (List ℕ)) where
+  -- the text is in the writer, and its bytes are counted
+  abbrev pub WritesAll : Counted W → List ℕ → Counted W → ℕ → Type 0
+  WritesAll old text new bytes = (bytes ≡ length text) × Appends (contents old.stream) (contents new.stream) text
+
+  -- the first bytes of the text are in the writer, and counted; memory or the writer was the cause
+  abbrev pub WritesFirst : Counted W → List ℕ → Counted W → ℕ → FaultKind → Type 0
+  WritesFirst old text new bytes kind = IsCausedByWriting kind new × IsPrefix (contents old.stream) 0 text (contents new.stream) bytes

@@ -4,11 +4,10 @@
 ghost use Rattle.std.specs.Prelude.{◌≡◌, ℕ, Option, IfOk, IfErr};
 ghost use Rattle.street_base.specs.declared.command.Command.TheVariants.{Advance};
 ghost use Rattle.street_base.specs.declared.reply.Outcome.TheVariants.{Whole, Short};
-ghost use Rattle.street_base.specs.Outcomes.{reply_to, state_after};
 ghost use Rattle.street_base.specs.State.{State};
 ghost use Rattle.street_engine.specs.Refines.{StandsFor};
-ghost use Rattle.street_tape.specs.ReplayHandler.{CallStops};
-ghost use Rattle.street_tape.specs.Replies.{IsReplayable, clock_in};
+ghost use Rattle.street_tape.specs.ReplayHandler.{AdvanceGoes, CallGoes, CallReplays, CallStops};
+ghost use Rattle.street_tape.specs.Replies.{clock_in};
 
 use crate::Stop;
 use std::thread::Threads;
@@ -22,8 +21,7 @@ fn call_whole<R: Threads + Sync, G: Gate + Sync + Drop>(
     engine: &mut Engine<G>,
     command: &Command,
 ) -> Result<Reply, Stop>
-    ensures done { IfOk result (λ reply. (old : State) → StandsFor engine.old old
-        → (reply ≡ reply_to old command.now Whole) × StandsFor engine.new (state_after old command.now Whole)) }
+    ensures done { IfOk result (λ reply. CallGoes engine.old command.now Whole reply engine.new) }
     ensures stops { IfErr result (λ stop. (old : State) → StandsFor engine.old old
         → CallStops old command.now Whole engine.new stop) }
 {
@@ -50,8 +48,7 @@ fn advance_whole<R: Threads + Sync, G: Gate + Sync + Drop>(
     engine: &mut Engine<G>,
     steps: u64,
 ) -> Result<Option<u64>, Stop>
-    ensures done { IfOk result (λ clock. (old : State) → StandsFor engine.old old
-        → (clock ≡ clock_in (reply_to old (Advance steps) Whole)) × StandsFor engine.new (state_after old (Advance steps) Whole)) }
+    ensures done { IfOk result (λ clock. AdvanceGoes engine.old steps clock engine.new) }
     ensures stops { IfErr result (λ stop. (old : State) → StandsFor engine.old old
         → CallStops old (Advance steps) Whole engine.new stop) }
 {
@@ -66,9 +63,7 @@ fn call_short<R: Threads + Sync, G: Gate + Sync + Drop>(
     command: &Command,
     made: u64,
 ) -> Result<Reply, Stop>
-    ensures done { IfOk result (λ reply. (old : State) → StandsFor engine.old old
-        → IsReplayable old command.now (Short made)
-        × (reply ≡ reply_to old command.now (Short made)) × StandsFor engine.new (state_after old command.now (Short made))) }
+    ensures done { IfOk result (λ reply. CallReplays engine.old command.now (Short made) reply engine.new) }
     ensures stops { IfErr result (λ stop. (old : State) → StandsFor engine.old old
         → CallStops old command.now (Short made) engine.new stop) }
 {
@@ -93,10 +88,7 @@ pub(crate) fn call_again<R: Threads + Sync, G: Gate + Sync + Drop>(
     engine: &mut Engine<G>,
     call: &Entry,
 ) -> Result<Reply, Stop>
-    ensures done { IfOk result (λ reply. (old : State) → StandsFor engine.old old
-        → IsReplayable old call.now.command call.now.outcome
-        × (reply ≡ reply_to old call.now.command call.now.outcome)
-        × StandsFor engine.new (state_after old call.now.command call.now.outcome)) }
+    ensures done { IfOk result (λ reply. CallReplays engine.old call.now.command call.now.outcome reply engine.new) }
     ensures stops { IfErr result (λ stop. (old : State) → StandsFor engine.old old
         → CallStops old call.now.command call.now.outcome engine.new stop) }
 {

@@ -1,13 +1,13 @@
 //! The tape of a journal.
 //!
 //! Source: this profile.
-ghost use Rattle.std.specs.Prelude.{◌≡◌, ◌≤◌, ◌+◌, ◌-◌, ◌^◌, ◌++◌, OnOk, IfOk, IfErr, length, take};
+ghost use Rattle.std.specs.Prelude.{◌≡◌, ◌≤◌, ◌+◌, ◌-◌, ◌^◌, ◌++◌, OnOk, OnErr, IfOk, IfErr, length, take};
 ghost use Rattle.std.specs.Io.KnownBytes.{Appends};
 ghost use Rattle.street_stream.specs.Streams.{HasFailed, IsFlushed, IsFresh};
 ghost use Rattle.street_stream.specs.Faults.{IsCausedByWriting};
 ghost use Rattle.street_stream.specs.declared.tally.FaultKind.TheVariants as kinds;
 ghost use Rattle.street_tape.specs.Tapes.{head_line, tape_text};
-ghost use Rattle.street_tape.specs.Written.{IsPrefix};
+ghost use Rattle.street_tape.specs.Written.{IsPrefix, WritesAll, WritesFirst};
 
 use crate::texts::{entry_text, head_text};
 use std::alloc::Global;
@@ -24,8 +24,8 @@ fn write_line<W: Write>(
     requires { bytes.old ≤ 2 ^ 128 - 2 ^ 64 }
     ensures written { OnOk result ((bytes.new ≡ bytes.old + length line.now)
         × Appends (W.contents writer.old.stream) (W.contents writer.new.stream) line.now) }
-    ensures part { IfErr result (λ kind. (kind ≡ kinds.Write) × HasFailed writer.new
-        × IsPrefix (W.contents writer.old.stream) bytes.old line.now (W.contents writer.new.stream) bytes.new) }
+    ensures part { OnErr result (IsPrefix (W.contents writer.old.stream) bytes.old line.now (W.contents writer.new.stream) bytes.new) }
+    ensures failed { IfErr result (λ kind. (kind ≡ kinds.Write) × HasFailed writer.new) }
 {
     match write_text(writer, line) {
         Ok(()) => {
@@ -52,11 +52,9 @@ pub fn write_lines<W: Write>(
     bytes: &mut u128,
 ) -> Result<(), FaultKind>
     requires { bytes.old ≡ 0 }
-    ensures written { OnOk result ((bytes.new ≡ length (head_line calls ++ lines.now))
-        × Appends (W.contents writer.old.stream) (W.contents writer.new.stream) (head_line calls ++ lines.now)) }
+    ensures written { OnOk result (WritesAll W.contents writer.old (head_line calls ++ lines.now) writer.new bytes.new) }
     ensures flushed { OnOk result (IsFlushed writer.new) }
-    ensures part { IfErr result (λ kind. IsCausedByWriting kind writer.new
-        × IsPrefix (W.contents writer.old.stream) 0 (head_line calls ++ lines.now) (W.contents writer.new.stream) bytes.new) }
+    ensures part { IfErr result (λ kind. WritesFirst W.contents writer.old (head_line calls ++ lines.now) writer.new bytes.new kind) }
 {
     write_line(writer, head_text(alloc, calls)?.as_slice(), bytes)?;
     write_line(writer, lines, bytes)?;
@@ -72,11 +70,9 @@ fn write_calls<W: Write>(
     bytes: &mut u128,
 ) -> Result<(), FaultKind>
     requires { bytes.old ≡ 0 }
-    ensures written { OnOk result ((bytes.new ≡ length (tape_text journal.now))
-        × Appends (W.contents writer.old.stream) (W.contents writer.new.stream) (tape_text journal.now)) }
+    ensures written { OnOk result (WritesAll W.contents writer.old (tape_text journal.now) writer.new bytes.new) }
     ensures flushed { OnOk result (IsFlushed writer.new) }
-    ensures part { IfErr result (λ kind. IsCausedByWriting kind writer.new
-        × IsPrefix (W.contents writer.old.stream) 0 (tape_text journal.now) (W.contents writer.new.stream) bytes.new) }
+    ensures part { IfErr result (λ kind. WritesFirst W.contents writer.old (tape_text journal.now) writer.new bytes.new kind) }
 {
     write_line(
         writer,
@@ -121,8 +117,7 @@ pub fn write_tape<W: Write>(
     writer: &mut Counted<W>,
 ) -> Result<u128, RunFault>
     requires writer { IsFresh writer.old }
-    ensures written { IfOk result (λ bytes. (bytes ≡ length (tape_text journal.now))
-        × Appends (W.contents writer.old.stream) (W.contents writer.new.stream) (tape_text journal.now)) }
+    ensures written { IfOk result (λ bytes. WritesAll W.contents writer.old (tape_text journal.now) writer.new bytes) }
     ensures flushed { OnOk result (IsFlushed writer.new) }
     ensures part { IfErr result (λ fault. IsPrefix (W.contents writer.old.stream) 0 (tape_text journal.now)
         (W.contents writer.new.stream) fault.tally.bytes) }

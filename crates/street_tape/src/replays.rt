@@ -6,8 +6,9 @@ ghost use Rattle.street_base.specs.State.{State};
 ghost use Rattle.street_stream.specs.Streams.{IsFlushed, IsFresh, IsPrompt};
 ghost use Rattle.street_stream.specs.HandledLines.{Effect, Gives};
 ghost use Rattle.street_engine.specs.Refines.{StandsFor};
-ghost use Rattle.street_tape.specs.Faults.{ReplaysWhole, ReplayStops, IsTapeCaused};
+ghost use Rattle.street_tape.specs.Faults.{IsTapeCaused};
 ghost use Rattle.street_tape.specs.ReplayHandler.{Applies, CallStops};
+ghost use Rattle.street_tape.specs.Streams.{ReplaysAll, ReplaysFirst};
 
 use crate::calls::call_again;
 use crate::fault::{TapeFault, check_end, fault_of};
@@ -97,10 +98,10 @@ fn replay_lines<R: Threads + Sync, D: Read, W: Write>(
     requires engine { StandsFor replayer.old.engine.now None }
     requires tape { replayer.old.tape.rest ≡ None }
     ensures same_reference { replayer.new.engine.ghost_name ≡ replayer.old.engine.ghost_name }
-    ensures replayed { IfOk result (λ tally. ReplaysWhole (D.remaining reader.old.stream) (W.contents writer.old.stream)
-        replayer.new.engine.now (D.remaining reader.new.stream) (W.contents writer.new.stream) tally) }
-    ensures stops { IfErr result (λ fault. ReplayStops (D.remaining reader.old.stream) (W.contents writer.old.stream)
-        replayer.new.engine.now (D.remaining reader.new.stream) (W.contents writer.new.stream) fault) }
+    ensures replayed { IfOk result (ReplaysAll D.remaining W.contents
+        reader.old writer.old replayer.new.engine.now reader.new writer.new) }
+    ensures stops { IfErr result (ReplaysFirst D.remaining W.contents
+        reader.old writer.old replayer.new.engine.now reader.new writer.new) }
     ensures caused { IfErr result (λ fault. IsTapeCaused fault reader.new writer.new reads) }
     ensures bounded { reader.new.calls ≤ reads }
     ensures prompt { IsPrompt reader.new }
@@ -136,10 +137,8 @@ pub fn replay_within<R: Threads + Sync, D: Read, W: Write>(
     requires reader { IsFresh reader.old }
     requires writer { IsFresh writer.old }
     requires engine { StandsFor engine.old None }
-    ensures replayed { IfOk result (λ tally. ReplaysWhole (D.remaining reader.old.stream) (W.contents writer.old.stream)
-        engine.new (D.remaining reader.new.stream) (W.contents writer.new.stream) tally) }
-    ensures stops { IfErr result (λ fault. ReplayStops (D.remaining reader.old.stream) (W.contents writer.old.stream)
-        engine.new (D.remaining reader.new.stream) (W.contents writer.new.stream) fault) }
+    ensures replayed { IfOk result (ReplaysAll D.remaining W.contents reader.old writer.old engine.new reader.new writer.new) }
+    ensures stops { IfErr result (ReplaysFirst D.remaining W.contents reader.old writer.old engine.new reader.new writer.new) }
     ensures caused { IfErr result (λ fault. IsTapeCaused fault reader.new writer.new reads) }
     ensures bounded { reader.new.calls ≤ reads }
     ensures prompt { IsPrompt reader.new }
@@ -180,10 +179,8 @@ pub fn replay<R: Threads + Sync, D: Read, W: Write>(
     requires reader { IsFresh reader.old }
     requires writer { IsFresh writer.old }
     requires engine { StandsFor engine.old None }
-    ensures replayed { IfOk result (λ tally. ReplaysWhole (D.remaining reader.old.stream) (W.contents writer.old.stream)
-        engine.new (D.remaining reader.new.stream) (W.contents writer.new.stream) tally) }
-    ensures stops { IfErr result (λ fault. ReplayStops (D.remaining reader.old.stream) (W.contents writer.old.stream)
-        engine.new (D.remaining reader.new.stream) (W.contents writer.new.stream) fault) }
+    ensures replayed { IfOk result (ReplaysAll D.remaining W.contents reader.old writer.old engine.new reader.new writer.new) }
+    ensures stops { IfErr result (ReplaysFirst D.remaining W.contents reader.old writer.old engine.new reader.new writer.new) }
     ensures caused { IfErr result (λ fault. IsTapeCaused fault reader.new writer.new 1000000000) }
     ensures bounded { reader.new.calls ≤ 1000000000 }
     ensures prompt { IsPrompt reader.new }

@@ -6,7 +6,8 @@ ghost use Rattle.std.specs.Io.KnownBytes.{Appends};
 ghost use Rattle.street_stream.specs.Streams.{IsFlushed, IsFresh};
 ghost use Rattle.street_stream.specs.Faults.{IsCausedByWriting};
 ghost use Rattle.street_tape.specs.Faults.{IsTapeCaused};
-ghost use Rattle.street_tape.specs.Upgrades.{UpgradesWhole, UpgradeStops, CutShort, with_bytes};
+ghost use Rattle.street_tape.specs.Streams.{UpgradesAll, UpgradesFirst};
+ghost use Rattle.street_tape.specs.Upgrades.{CutShort, IsKept, with_bytes};
 ghost use Rattle.street_tape.specs.Tapes.{entry_line, head_line};
 
 use crate::fault::{TapeFault, check_end, fault_of};
@@ -84,8 +85,8 @@ fn write_kept<W: Write>(
     tally: Tally,
 ) -> Result<Tally, RunFault>
     requires { tally.calls < 2 ^ 64 }
-    ensures written { IfOk result (λ all. (all ≡ with_bytes tally (length (head_line tally.calls ++ lines.now)))
-        × Appends (W.contents writer.old.stream) (W.contents writer.new.stream) (head_line tally.calls ++ lines.now)) }
+    ensures written { IfOk result (λ all. IsKept tally (W.contents writer.old.stream) (head_line tally.calls ++ lines.now)
+        (W.contents writer.new.stream) all) }
     ensures part { IfErr result (λ fault. CutShort tally (W.contents writer.old.stream) (head_line tally.calls ++ lines.now)
         (W.contents writer.new.stream) fault) }
     ensures caused { IfErr result (λ fault. IsCausedByWriting fault.kind writer.new) }
@@ -126,10 +127,8 @@ pub fn upgrade_within<D: Read, W: Write>(
 ) -> Result<Tally, TapeFault>
     requires reader { IsFresh reader.old }
     requires writer { IsFresh writer.old }
-    ensures upgraded { IfOk result (λ tally. UpgradesWhole (D.remaining reader.old.stream) (W.contents writer.old.stream)
-        (D.remaining reader.new.stream) (W.contents writer.new.stream) tally) }
-    ensures stops { IfErr result (λ fault. UpgradeStops (D.remaining reader.old.stream) (W.contents writer.old.stream)
-        (D.remaining reader.new.stream) (W.contents writer.new.stream) fault) }
+    ensures upgraded { IfOk result (UpgradesAll D.remaining W.contents reader.old writer.old reader.new writer.new) }
+    ensures stops { IfErr result (UpgradesFirst D.remaining W.contents reader.old writer.old reader.new writer.new) }
     ensures caused { IfErr result (λ fault. IsTapeCaused fault reader.new writer.new reads) }
     ensures flushed { OnOk result (IsFlushed writer.new) }
     ensures bounded { reader.new.calls ≤ reads }
@@ -173,10 +172,8 @@ pub fn upgrade<D: Read, W: Write>(
 ) -> Result<Tally, TapeFault>
     requires reader { IsFresh reader.old }
     requires writer { IsFresh writer.old }
-    ensures upgraded { IfOk result (λ tally. UpgradesWhole (D.remaining reader.old.stream) (W.contents writer.old.stream)
-        (D.remaining reader.new.stream) (W.contents writer.new.stream) tally) }
-    ensures stops { IfErr result (λ fault. UpgradeStops (D.remaining reader.old.stream) (W.contents writer.old.stream)
-        (D.remaining reader.new.stream) (W.contents writer.new.stream) fault) }
+    ensures upgraded { IfOk result (UpgradesAll D.remaining W.contents reader.old writer.old reader.new writer.new) }
+    ensures stops { IfErr result (UpgradesFirst D.remaining W.contents reader.old writer.old reader.new writer.new) }
     ensures caused { IfErr result (λ fault. IsTapeCaused fault reader.new writer.new 1000000000) }
     ensures flushed { OnOk result (IsFlushed writer.new) }
     ensures bounded { reader.new.calls ≤ 1000000000 }

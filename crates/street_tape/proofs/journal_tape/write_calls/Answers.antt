@@ -46,4 +46,5 @@ returns-in_err-write_line-2-clause-part g c =
     let line = c.as_slice-in-loop-at.ensures.value ∙ c.in_ok-entry_text.ensures in
     let p = err_from_is_err_and c.from_residual-in_err-write_line-2.result c.from_residual-in_err-write_line-2.ensures.1 in
     let part = rw line at c.in_err-write_line-2.ensures.part in
-    rw (p.1, p.2) (rw part.0 part.1, prefix_line _ _ _ _ _ (head_line (length c.args.journal.now)) c.args.journal.now c.loop-at.at c.in-Some.entry.now (sym c.in-Some.ensures) before.1 before.0 part.2)
+    let failed = c.in_err-write_line-2.ensures.failed in
+    rw (p.1, p.2) (rw failed.0 failed.1, prefix_line _ _ _ _ _ (head_line (length c.args.journal.now)) c.args.journal.now c.loop-at.at c.in-Some.entry.now (sym c.in-Some.ensures) before.1 before.0 part)

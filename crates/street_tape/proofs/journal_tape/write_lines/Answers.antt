@@ -10,8 +10,8 @@ returns-in_err-write_line-2-clause-part g c =
     let head = c.as_slice.ensures.value ∙ c.in_ok-head_text.ensures in
     let wrote = rw head at c.in_ok-write_line.ensures.written in
     let p = err_from_is_err_and c.from_residual-in_err-write_line-2.result c.from_residual-in_err-write_line-2.ensures.1 in
-    let part = c.in_err-write_line-2.ensures.part in
-    rw (p.1, p.2) (rw part.0 part.1, prefix_second _ _ _ _ _ (head_line c.args.calls) c.args.lines.now wrote.1 (omega (arith, wrote.0)) part.2)
+    let failed = c.in_err-write_line-2.ensures.failed in
+    rw (p.1, p.2) (rw failed.0 failed.1, prefix_second _ _ _ _ _ (head_line c.args.calls) c.args.lines.now wrote.1 (omega (arith, wrote.0)) c.in_err-write_line-2.ensures.part)
 
 pub returns-in_err-flush_out-clause-part : goal.returns-in_err-flush_out-clause-part
 returns-in_err-flush_out-clause-part g c =

@@ -1,0 +1,30 @@
+-- Tapes that are read from one counted stream, and what is written to another.
+-- Source: this profile.
+use Rattle.std.specs.Prelude.{ℕ, List, Option}
+use Rattle.street_engine.specs.Refines.{EngineView}
+use Rattle.street_stream.specs.declared.counted.Counted.{Counted}
+use Rattle.street_stream.specs.declared.tally.Tally.{Tally}
+use Rattle.street_tape.specs.declared.fault.TapeFault.{TapeFault}
+use Rattle.street_tape.specs.Faults.{ReplaysWhole, ReplayStops}
+use Rattle.street_tape.specs.Upgrades.{UpgradesWhole, UpgradeStops}
+
+module _ {D W : Type 0} (remaining : D → Option (List ℕ)) (contents : W → Option (List ℕ)) where
+  -- the reader was read to its end, the calls of its tape are applied, and their replies are in the writer
+  abbrev pub ReplaysAll : Counted D → Counted W → EngineView → Counted D → Counted W → Tally → Type 0
+  ReplaysAll reader writer view read written tally =
+      ReplaysWhole (remaining reader.stream) (contents writer.stream) view (remaining read.stream) (contents written.stream) tally
+
+  -- of what was read the first calls are applied, and of their replies the first bytes are in the writer
+  abbrev pub ReplaysFirst : Counted D → Counted W → EngineView → Counted D → Counted W → TapeFault → Type 0
+  ReplaysFirst reader writer view read written fault =
+      ReplayStops (remaining reader.stream) (contents writer.stream) view (remaining read.stream) (contents written.stream) fault
+
+  -- the reader was read to its end, and the tape of version 2 of its calls is in the writer
+  abbrev pub UpgradesAll : Counted D → Counted W → Counted D → Counted W → Tally → Type 0
+  UpgradesAll reader writer read written tally =
+      UpgradesWhole (remaining reader.stream) (contents writer.stream) (remaining read.stream) (contents written.stream) tally
+
+  -- of the tape of version 2 the first bytes are in the writer, and none before the other was read to its end
+  abbrev pub UpgradesFirst : Counted D → Counted W → Counted D → Counted W → TapeFault → Type 0
+  UpgradesFirst reader writer read written fault =
+      UpgradeStops (remaining reader.stream) (contents writer.stream) (remaining read.stream) (contents written.stream) fault
