@@ -1,5 +1,8 @@
 //! Tiles: blocks of nodes with all lanes of the links that run to them, and one step of all tiles.
 //!
+//! A [`Tile`] answers for its own lanes and nodes. [`Tiles`] has all tiles of a network between two steps: it gives a command to the
+//! tile that owns the lane or node, and promises what becomes of the network's traffic.
+//!
 //! Each phase of a tile reads and writes its own lanes alone, so the tiles of a network run a phase side by side. [`step_by`] makes
 //! a step with so many threads at most: it lends them the tiles three times, since phases between which no tile needs another's
 //! are one part. Between the parts the thread that calls for the step publishes which lanes are open ([`View`]), and moves
