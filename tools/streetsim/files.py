@@ -21,6 +21,7 @@ from .halves import half_file, half_folder, is_half
 GZIP = b"\x1f\x8b"  # with which a gzip file begins
 FilePath = str | os.PathLike[str]
 Value = TypeVar("Value")
+Other = TypeVar("Other")
 Number = TypeVar("Number", int, float)
 Main = Callable[[list[str]], int]  # a tool's main function: its words, and the status
 
@@ -148,6 +149,13 @@ def attribute(path: FilePath, element: Element, name: str, convert: Callable[[st
         raise Fault(f"{told(path, element)}: {name}={text!r} cannot be read") from None
 
 
+def optional(
+    path: FilePath, element: Element, name: str, convert: Callable[[str], Value], default: Other
+) -> Value | Other:
+    """An attribute that must convert where it is there."""
+    return default if element.get(name) is None else attribute(path, element, name, convert)
+
+
 def number(text: str) -> float:
     """A finite number; ValueError otherwise."""
     value = float(text)
@@ -156,16 +164,33 @@ def number(text: str) -> float:
     return value
 
 
-def at_least_zero(convert: Callable[[str], Number]) -> Callable[[str], Number]:
-    """A conversion that takes no negative number."""
+def only(convert: Callable[[str], Number], holds: Callable[[Number], bool]) -> Callable[[str], Number]:
+    """A conversion that takes only numbers for which something holds; ValueError otherwise."""
 
     def converted(text: str) -> Number:
         value = convert(text)
-        if value < 0:
+        if not holds(value):
             raise ValueError(text)
         return value
 
     return converted
+
+
+def at_least_zero(convert: Callable[[str], Number]) -> Callable[[str], Number]:
+    """A conversion that takes no negative number."""
+    return only(convert, lambda value: value >= 0)
+
+
+def above_zero(convert: Callable[[str], Number]) -> Callable[[str], Number]:
+    """A conversion that takes numbers above 0 alone."""
+    return only(convert, lambda value: value > 0)
+
+
+def filled(text: str) -> str:
+    """A text that is not empty; ValueError otherwise."""
+    if not text:
+        raise ValueError(text)
+    return text
 
 
 def seconds(text: str) -> float:

@@ -44,7 +44,6 @@ class Demand(Case):
         for rate in ('probability="0.25"', 'period="exp(0.25)"'):
             count = len(self.flow(f'begin="0" end="20000" {rate}'))
             self.assertTrue(4700 < count < 5300, count)
-        self.assertEqual(self.flow('begin="0" end="20000" probability="0"'), [])
 
     def test_depart_is_the_next_second(self):
         self.assertEqual(self.departs('<vehicle id="v" depart="3.4"><route edges="a b"/></vehicle>'), [4])
@@ -148,8 +147,7 @@ class Demand(Case):
             ),
             ('<vehicle depart="0"><route edges="a"/></vehicle>', r"r0.rou.xml: <vehicle>: no attribute 'id'"),
             ('<flow id="f" begin="0" end="9"><route edges="a"/></flow>', r"<flow 'f'>: no rate"),
-            ('<flow id="f" end="9" period="0"><route edges="a"/></flow>', r"<flow 'f'>: more than 1,000,000 vehicles"),
-            ('<flow id="f" end="9" period="-1"><route edges="a"/></flow>', r"<flow 'f'>: period='-1' cannot be read"),
+            ('<flow id="f" end="9" vehsPerHour="1e9"><route edges="a"/></flow>', r"<flow 'f'>: more than 1,000,000 vehicles"),
             ('<vehicle id="v" depart="0"><route edges="a"/></vehicle>' * 2, r"two vehicles are named 'v'"),
             ('<vehicle id="v" depart="0"><route', r"r0.rou.xml: not XML"),
             ('<vehicle id="v" depart="-5"><route edges="a"/></vehicle>', r"<vehicle 'v'>: depart='-5' cannot be read"),
@@ -164,6 +162,56 @@ class Demand(Case):
         ):
             with self.subTest(text), self.assertRaisesRegex(Fault, words):
                 self.enters(text)
+
+    def test_rates_that_sumo_refuses(self):
+        for rate, words in (
+            ('end="9" period="-1"', "period='-1' cannot be read"),
+            ('end="9" period="0"', "period='0' cannot be read"),
+            ('end="9" period="exp(0)"', r"period='exp\(0\)' cannot be read"),
+            ('end="9" period="exp(1"', r"period='exp\(1' cannot be read"),
+            ('end="9" vehsPerHour="0"', "vehsPerHour='0' cannot be read"),
+            ('end="9" perHour=""', "perHour='' cannot be read"),
+            ('end="9" probability="0"', "probability='0' cannot be read"),
+            ('end="9" probability="1.5"', "probability='1.5' cannot be read"),
+            ('end="9" period="3" vehsPerHour="60"', "period and vehsPerHour are two rates, of which a flow has one"),
+            ('end="9" number="3" period="1"', "beside period a flow has an end or a number, not both"),
+            ('begin="" end="9" period="1"', "begin='' cannot be read"),
+        ):
+            with self.subTest(rate), self.assertRaisesRegex(Fault, f"<flow 'f'>: {words}"):
+                self.enters(f'<flow id="f" {rate}><route edges="a"/></flow>')
+
+    def test_names_that_sumo_refuses(self):
+        inner = '<route edges="a"/>'
+        for text, words in (
+            (f'<vehicle id="" depart="0">{inner}</vehicle>', "<vehicle>: id='' cannot be read"),
+            (f'<flow id="" end="9" number="1">{inner}</flow>', "<flow>: id='' cannot be read"),
+            ('<route id="" edges="a"/>', "<route>: id='' cannot be read"),
+            ('<vType id=""/>', "<vType>: id='' cannot be read"),
+            (f'<vehicle id="v" type="" depart="0">{inner}</vehicle>', "<vehicle 'v'>: type='' cannot be read"),
+            (f'<vehicle id="v" depart="0">{inner}{inner}</vehicle>', "<vehicle 'v'>: a second route"),
+            ('<vType id="t"/><vType id="t" length="9"/>', "<vType 't'>: a second vehicle type of this name"),
+            ('<vType id="t"/><vTypeDistribution id="t" vTypes="t"/>', "<vTypeDistribution 't'>: a second vehicle type"),
+        ):
+            with self.subTest(text), self.assertRaisesRegex(Fault, words):
+                self.enters(text)
+
+    def test_the_usual_type_may_be_told_once(self):
+        usual = '<vType id="DEFAULT_VEHTYPE" length="12.5"/>'
+        text = f'{usual}<vehicle id="v" depart="0"><route edges="a b"/></vehicle>'
+        street, routes = self.write("x.net.xml", FORK), self.write("r.rou.xml", f"<routes>{text}</routes>")
+        _, _, commands, _ = convert(street, [], [routes], Options(), Report())
+        self.assertEqual([one["size"] for one in commands if one["cmd"] == "enter"], [2])
+        with self.assertRaisesRegex(Fault, "<vType 'DEFAULT_VEHTYPE'>: a second vehicle type of this name"):
+            self.enters(usual + usual)
+
+    def test_the_route_that_is_named_counts(self):
+        """SUMO leaves out a route that stands in a vehicle which names another one, and says so."""
+        report = Report()
+        text = '<route id="r" edges="a b"/><vehicle id="v" depart="0" route="r"><route edges="a"/></vehicle>'
+        street, routes = self.write("x.net.xml", FORK), self.write("r.rou.xml", f"<routes>{text}</routes>")
+        _, _, commands, _ = convert(street, [], [routes], Options(), report)
+        self.assertEqual([len(one["plan"]) for one in commands if one["cmd"] == "enter"], [2])
+        self.assertIn("ignored: 1 x routes in vehicles that name another one", list(report.lines()))
 
 
 if __name__ == "__main__":

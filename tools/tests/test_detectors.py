@@ -41,11 +41,14 @@ class Detectors(Case):
             ('<inductionLoop id="x" lane="a_0" pos="-76"/>', "begins at -76 m, and lane 'a_0' is 75 m long"),
             ('<e2Detector id="x" lane="a_0" pos="90" length="10"/>', "begins at 90 m, and lane 'a_0' is 75 m long"),
             ('<e2Detector id="x" lane="a_0" pos="10" endPos="90"/>', "ends at 90 m, and lane 'a_0' is 75 m long"),
+            ('<e2Detector id="x" lane="a_0" pos="50" endPos="20"/>', "ends at 20 m, and begins at 50 m"),
+            ('<e2Detector id="x" lane="a_0" pos="-20" endPos="-20"/>', "ends at 55 m, and begins at 55 m"),
         ):
             with self.subTest(told):
                 self.assertIn(told, self.run_import(f"<additional>{element}</additional>", status=2))
-        told = self.run_import('<additional><e2Detector id="x" lane="a_0" pos="10" length="90"/></additional>')
-        self.assertIn("warning: detector x reaches beyond a_0, and sees what is on that lane alone", told)
+        for place in ('pos="10" length="90"', 'pos="-15" length="20"', 'endPos="15" length="20"'):
+            told = self.run_import(f'<additional><e2Detector id="x" lane="a_0" {place}/></additional>')
+            self.assertIn("warning: detector x reaches beyond a_0, and sees what is on that lane alone", told)
         told = self.run_import('<additional><inductionLoop id="x" lane="a_7" pos="0"/></additional>')
         self.assertIn("warning: detector x lies on a_7, which is left out", told)
 
@@ -56,6 +59,10 @@ class Detectors(Case):
             (area.format('pos="15" length="15"'), [2, 3]),
             (area.format('endPos="-45" length="15"'), [2, 3]),
             (area.format('pos="-15" length="15"'), [8, 9]),
+            (area.format('pos="-15" length="20"'), [8, 9]),
+            (area.format('endPos="15" length="20"'), [0, 1]),
+            (area.format('pos="15" length="15" endPos="75"'), [2, 3]),
+            (area.format('pos="60" length="0"'), [8, 9]),
             (area.format(f'pos="60" endPos="90" {friendly}'), [8, 9]),
             (f'<e1Detector id="x" lane="a_0" pos="90" {friendly}/>', [9, 9]),
         ):

@@ -427,6 +427,7 @@ class BadInput(Commands):
             ('<trip id="t" depart="0" fromTaz="1" toTaz="2"/>', "let od2trips or duarouter choose edges"),
             ('<trip id="t" depart="0" from="in" to="out" via="far"/>', "via is not routed here"),
             ('<trip id="t" depart="soon" from="in" to="out"/>', "depart='soon' cannot be read"),
+            ('<trip id="t" type="" depart="0" from="in" to="out"/>', "<trip 't'>: type='' cannot be read"),
             ('<person id="p" depart="0"><personTrip from="in" to="out"/></person>', "persons are not routed here"),
             ('<trip id="t" depart="0"><stop lane="in_0" duration="9"/></trip>', "<trip 't'>: drives from stop to stop without from and to"),
             ('<trip id="t" depart="0" from="in" to="out"/>' * 2, "two vehicles are named 't'"),

@@ -9,7 +9,7 @@ from xml.etree import ElementTree
 from xml.sax.saxutils import quoteattr
 
 from .. import limits
-from ..files import Fault, FilePath, elements, told, whole_file
+from ..files import Fault, FilePath, elements, filled, optional, told, whole_file
 from ..sumo.demand import NOT_DRIVEN, READ, Demand, Vehicle
 from ..sumo.net import SumoNet
 from ..sumo.network import Options
@@ -78,7 +78,7 @@ class TripDemand(Demand):
         self.report.ignored["stops"] += sum(1 for _ in element.iter("stop"))
         for name in set(element.keys()) - READ - ENDS:
             self.report.ignored[f"{name} of {element.tag}s"] += 1
-        kind: Any = element.get("type")  # none until `finish` where the file has none
+        kind: Any = optional(path, element, "type", filled, None)  # none until `finish` where the file has none
         for name, depart in departures:
             self.vehicles.append(Vehicle(name, depart, ends, kind))
             self.without.add(name)

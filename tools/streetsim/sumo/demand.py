@@ -11,7 +11,7 @@ from typing import TYPE_CHECKING, Any
 from xml.etree.ElementTree import Element
 
 from .. import limits
-from ..files import Fault, FilePath, at_least_zero, attribute, elements, seconds, told
+from ..files import Fault, FilePath, at_least_zero, attribute, elements, filled, optional, seconds, told
 from .flows import departs
 from .net import SumoNet
 from .report import Report, some
@@ -83,14 +83,14 @@ class Demand:
             self.report.ignored[f"<{element.tag}> of route files"] += 1
 
     def read_route(self, path: FilePath, element: Element) -> None:
-        name = attribute(path, element, "id")
+        name = attribute(path, element, "id", filled)
         self.note_ignored(element)
         if name in self.routes or name in self.mixes:
             raise Fault(f"{told(path, element)}: a second route of this name")
         self.routes[name] = self.edges(path, element, element)
 
     def read_mix(self, path: FilePath, element: Element) -> None:
-        name = attribute(path, element, "id")
+        name = attribute(path, element, "id", filled)
         if name in self.routes or name in self.mixes:
             raise Fault(f"{told(path, element)}: a second route of this name")
         self.mixes[name] = self.mix(path, element, element, name)
@@ -130,7 +130,7 @@ class Demand:
 
     def add(self, path: FilePath, element: Element, departs: Sequence[tuple[str, float]]) -> None:
         """Vehicles of an element, one for each (name, depart)."""
-        inner, mix = element.find("route"), element.find("routeDistribution")
+        inner, mix = self.inner_route(path, element)
         if inner is None and mix is None and element.get("route") is None:
             raise Unrouted(f"{told(path, element)} {ROUTED_FIRST}")
         self.note_ignored(element)
@@ -139,12 +139,22 @@ class Demand:
             route = f"!{element.get('id')}"
             self.mixes[route] = self.mix(path, element, mix, route)
         edges = self.edges(path, element, inner) if inner is not None else None
+        kind: Any = optional(path, element, "type", filled, None)  # none until `finish` where the file has none
         for name, depart in departs:
-            kind: Any = element.get("type")  # none until `finish` where the file has none
             vehicle = Vehicle(name, depart, edges or (), kind, route)
             self.vehicles.append(vehicle)
             if edges is None:
                 self.later.append((vehicle, told(path, element)))
+
+    def inner_route(self, path: FilePath, element: Element) -> tuple[Element | None, Element | None]:
+        """The route or the distribution that stands in an element; none where its attribute names one, which then counts."""
+        routes = [inner for inner in element if inner.tag in ("route", "routeDistribution")]
+        if element.get("route") is not None:
+            self.report.ignored[f"routes in {element.tag}s that name another one"] += len(routes)
+            return None, None
+        if len(routes) > 1:
+            raise Fault(f"{told(path, element)}: a second route")
+        return element.find("route"), element.find("routeDistribution")
 
     def note_ignored(self, element: Element) -> None:
         """Counts what is not done: stops, and all attributes but those that are read."""
@@ -159,10 +169,10 @@ class Demand:
             self.report.skipped[f"depart={text!r} is no time"] += 1
         else:
             depart = attribute(path, element, "depart", at_least_zero(seconds))
-            self.add(path, element, [(attribute(path, element, "id"), depart)])
+            self.add(path, element, [(attribute(path, element, "id", filled), depart)])
 
     def read_flow(self, path: FilePath, element: Element) -> None:
-        name = attribute(path, element, "id")
+        name = attribute(path, element, "id", filled)
         self.add(
             path, element, [(f"{name}.{at}", depart) for at, depart in enumerate(departs(path, element, self.draws))]
         )

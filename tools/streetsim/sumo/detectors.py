@@ -7,7 +7,7 @@ from typing import TYPE_CHECKING
 from xml.etree.ElementTree import Element
 
 from .. import limits
-from ..files import Fault, FilePath, at_least_zero, attribute, number, seconds, told
+from ..files import Fault, FilePath, at_least_zero, attribute, number, optional, seconds, told
 from ..run.detectors import E1, E2, Detector
 
 if TYPE_CHECKING:
@@ -38,7 +38,7 @@ def read_detector(path: FilePath, element: Element, report: Report) -> SumoDetec
     if element.get("lanes"):
         report.ignored[f"<{element.tag}> over several lanes"] += 1
         return None
-    begin, end = stretch(path, element) if kind == E2 else (attribute(path, element, "pos", number), None)
+    begin, end = stretch(path, element, report) if kind == E2 else (attribute(path, element, "pos", number), None)
     friendly, goes_on = element.get("friendlyPos", "").lower() in TRUE, not element.get("endPos")
     names = [name for name in ("freq", "period") if element.get(name)]
     period = round(attribute(path, element, names[0], seconds)) if names else limits.PERIOD
@@ -48,16 +48,25 @@ def read_detector(path: FilePath, element: Element, report: Report) -> SumoDetec
     return SumoDetector(told(path, element), name, kind, lane, begin, end, min(period, limits.PERIOD), friendly, goes_on)
 
 
-def stretch(path: FilePath, element: Element) -> tuple[float, float | None]:
-    """Where an area begins and ends, of which two of its place, end and length tell both; without an end: the lane's."""
-    end = attribute(path, element, "endPos", number) if element.get("endPos") else None
-    if not element.get("length"):
+def stretch(path: FilePath, element: Element, report: Report) -> tuple[float, float | None]:
+    """Where an area begins and ends, by its place and length, else by these or its end; without both: the lane's end."""
+    end = optional(path, element, "endPos", number, None)
+    length = optional(path, element, "length", at_least_zero(number), 0.0)
+    if not length:
         return attribute(path, element, "pos", number), end
-    length = attribute(path, element, "length", at_least_zero(number))
-    begin = attribute(path, element, "pos", number) if end is None or element.get("pos") else end - length
-    if end is None and begin < 0 and begin + length >= 0:
-        return begin, None
-    return begin, begin + length if end is None else end
+    if end is None or element.get("pos") is not None:
+        begin = attribute(path, element, "pos", number)
+        if begin < 0 < begin + length:
+            tell_beyond(element.get("id"), element.get("lane"), report)
+        return begin, None if begin < 0 <= begin + length else begin + length
+    if 0 <= end < length:
+        tell_beyond(element.get("id"), element.get("lane"), report)
+    return 0.0 if 0 <= end < length else end - length, end
+
+
+def tell_beyond(name: str | None, lane: str | None, report: Report) -> None:
+    """Says that an area goes on, in SUMO, on another lane."""
+    report.warn(f"detector {name} reaches beyond {lane}, and sees what is on that lane alone")
 
 
 def placed(detectors: Iterable[SumoDetector], mapping: Map, dropped: Container[str], report: Report) -> list[Detector]:
@@ -88,8 +97,10 @@ def cells(one: SumoDetector, link: MapLink, report: Report) -> tuple[int, int]:
     if end is not None and end > link.metres + NEAR and not one.friendly:
         if not one.goes_on:
             raise Fault(f"{one.where}: ends at {one.end:g} m, and lane {one.lane!r} is {link.metres:g} m long")
-        report.warn(f"detector {one.name} reaches beyond {one.lane}, and sees what is on that lane alone")
+        tell_beyond(one.name, one.lane, report)
+    if end is not None and end <= begin:
+        raise Fault(f"{one.where}: ends at {end:g} m, and begins at {begin:g} m")
     first, _ = link.cells_between(begin, begin)
     if one.kind == E1:
         return first, first
-    return link.cells_between(begin, link.metres if end is None else max(begin, end))
+    return link.cells_between(begin, link.metres if end is None else end)

@@ -2,17 +2,16 @@
 from __future__ import annotations
 
 import math
-from collections.abc import Callable, Iterable, Iterator
+from collections.abc import Iterable, Iterator
 from itertools import count, islice, takewhile
 from random import Random
-from typing import TypeVar
 from xml.etree.ElementTree import Element
 
 from .. import limits
-from ..files import Fault, FilePath, Value, at_least_zero, attribute, number, seconds, told
+from ..files import Fault, FilePath, above_zero, at_least_zero, attribute, number, only, optional, seconds, told
 
-Other = TypeVar("Other")
 DAY = 86_400.0
+RATES = ("period", "vehsPerHour", "perHour", "probability")
 
 
 def departs(path: FilePath, element: Element, draws: Random) -> list[float]:
@@ -22,6 +21,7 @@ def departs(path: FilePath, element: Element, draws: Random) -> list[float]:
     end = optional(path, element, "end", seconds, DAY if most is None else math.inf)
     if end < begin:
         raise Fault(f"{told(path, element)}: ends at {end:g} s, before it begins at {begin:g} s")
+    refuse_two_rates(path, element)
     times = islice(moments(path, element, begin, end, most, draws), limits.VEHICLES + 1 if most is None else most)
     found = list(islice(takewhile(lambda time: time < end, times), limits.VEHICLES + 1))
     if len(found) > limits.VEHICLES:
@@ -29,10 +29,13 @@ def departs(path: FilePath, element: Element, draws: Random) -> list[float]:
     return found
 
 
-def optional(
-    path: FilePath, element: Element, name: str, convert: Callable[[str], Value], default: Other
-) -> Value | Other:
-    return attribute(path, element, name, convert) if element.get(name) else default
+def refuse_two_rates(path: FilePath, element: Element) -> None:
+    """A flow has one rate at most, and beside it an end or a number, as in SUMO."""
+    rates = [name for name in RATES if element.get(name) is not None]
+    if len(rates) > 1:
+        raise Fault(f"{told(path, element)}: {rates[0]} and {rates[1]} are two rates, of which a flow has one")
+    if rates and element.get("end") is not None and element.get("number") is not None:
+        raise Fault(f"{told(path, element)}: beside {rates[0]} a flow has an end or a number, not both")
 
 
 def moments(
@@ -40,16 +43,16 @@ def moments(
 ) -> Iterable[float]:
     """All departures that the rate of a flow gives, without regard to its end."""
     for name in ("vehsPerHour", "perHour"):
-        if element.get(name):
-            hourly = attribute(path, element, name, at_least_zero(number))
-            return (begin + at * 3600 / hourly for at in count()) if hourly else ()
-    if element.get("probability"):
-        return by_chance(begin, attribute(path, element, "probability", at_least_zero(number)), draws)
+        if element.get(name) is not None:
+            hourly = attribute(path, element, name, above_zero(number))
+            return (begin + at * 3600 / hourly for at in count())
+    if element.get("probability") is not None:
+        chance = attribute(path, element, "probability", only(number, lambda value: 0 < value <= 1))
+        return by_chance(begin, chance, draws)
     if (element.get("period") or "").startswith("exp("):
-        rate = attribute(path, element, "period", lambda text: at_least_zero(number)(text[4:].removesuffix(")")))
-        return by_rate(begin, rate, draws)
-    if element.get("period"):
-        period = attribute(path, element, "period", at_least_zero(seconds))
+        return by_rate(begin, attribute(path, element, "period", rate_of), draws)
+    if element.get("period") is not None:
+        period = attribute(path, element, "period", above_zero(seconds))
     elif most is not None and end < math.inf:
         period = max(0.0, end - begin) / max(1, most)
     else:
@@ -57,10 +60,15 @@ def moments(
     return (begin + at * period for at in count())
 
 
+def rate_of(text: str) -> float:
+    """Vehicles a second of a period exp(RATE)."""
+    if not text.endswith(")"):
+        raise ValueError(text)
+    return above_zero(number)(text.removeprefix("exp(").removesuffix(")"))
+
+
 def by_chance(begin: float, chance: float, draws: Random) -> Iterator[float]:
     """Seconds in each of which a vehicle departs by a chance; the seconds until the next are drawn at once."""
-    if chance <= 0:
-        return
     second = -1
     while True:
         waited = math.log(1 - draws.random()) / math.log(1 - chance) if chance < 1 else 0.0
@@ -73,6 +81,6 @@ def by_chance(begin: float, chance: float, draws: Random) -> Iterator[float]:
 def by_rate(begin: float, rate: float, draws: Random) -> Iterator[float]:
     """Times whose gaps are drawn with a mean of 1 / rate."""
     clock = begin
-    while rate > 0:
+    while True:
         clock += draws.expovariate(rate)
         yield clock

@@ -7,7 +7,7 @@ from dataclasses import dataclass
 from xml.etree.ElementTree import Element
 
 from .. import limits
-from ..files import Fault, FilePath, at_least_zero, attribute, number, told
+from ..files import Fault, FilePath, above_zero, at_least_zero, attribute, filled, number, optional, told
 from .report import Report, some
 
 # SUMO's vehicle classes.
@@ -79,6 +79,7 @@ class Types:
         self.kinds = {DEFAULT: Kind()}  # by name; those that files tell, and the usual one
         self.mixes: dict[str, tuple[list[str], list[float]]] = {}  # distribution: types and their weights
         self.draws = random.Random(f"types {seed}")
+        self.named: set[str] = set()  # types and distributions of the files
         self.unknown: set[str] = set()
 
     def read(self, path: FilePath, element: Element) -> None:
@@ -90,16 +91,22 @@ class Types:
     def read_type(self, path: FilePath, element: Element) -> None:
         vclass = class_of(path, element)
         length, gap = BY_CLASS.get(vclass, USUAL)
-        if element.get("length"):
-            length = attribute(path, element, "length", at_least_zero(number))
-        if element.get("minGap"):
-            gap = attribute(path, element, "minGap", at_least_zero(number))
-        speed = attribute(path, element, "maxSpeed", at_least_zero(number)) if element.get("maxSpeed") else None
-        name = attribute(path, element, "id")
+        length = optional(path, element, "length", above_zero(number), length)
+        gap = optional(path, element, "minGap", at_least_zero(number), gap)
+        speed = optional(path, element, "maxSpeed", above_zero(number), None)
+        name = self.new_name(path, element)
         self.metres[name] = length + gap
         self.kinds[name] = Kind(vclass, length, gap, speed)
         for name in set(element.keys()) - READ:
             self.report.ignored[f"{name} of vTypes"] += 1
+
+    def new_name(self, path: FilePath, element: Element) -> str:
+        """The name of a type or a distribution, which no other has."""
+        name = attribute(path, element, "id", filled)
+        if name in self.named:
+            raise Fault(f"{told(path, element)}: a second vehicle type of this name")
+        self.named.add(name)
+        return name
 
     def read_mix(self, path: FilePath, element: Element) -> None:
         names, weights = (element.get("vTypes") or "").split(), []
@@ -114,7 +121,7 @@ class Types:
             weights += attribute(path, inner, "probability", weights_of) if inner.get("probability") else [1.0]
         if not names or sum(weights) <= 0:
             raise Fault(f"{told(path, element)}: a distribution without a type")
-        self.mixes[attribute(path, element, "id")] = names, weights
+        self.mixes[self.new_name(path, element)] = names, weights
 
     def drawn(self, name: str | None) -> str:
         """The type that a vehicle has: the one that is named, or one of the distribution that is named."""
