@@ -5,6 +5,7 @@ import json
 import os
 import signal
 import subprocess
+import time
 import unittest
 import xml.etree.ElementTree as ElementTree
 from array import array
@@ -464,14 +465,16 @@ class BadInput(Commands):
             with self.subTest(told):
                 self.check_refused(told, *words)
         self.check_refused("--share: '2' is not 0 to 1", "--share", 2)
+        _, said = self.tool("route", status=2)
+        self.assertIn("the following arguments are required: net, --trips, -o/--output, --out (", said)
 
 
 class Ends(Commands):
-    def begun(self, *more, until="0: mean trip"):
-        """A search that has ended an iteration."""
+    def begun(self, *more, until="0: mean trip", alone=False):
+        """A search that has ended an iteration. alone: in a process group of its own."""
         self.given(lit((15, "G"), (45, "r")), flow(720, 3600))
         words = [TOOLS / "streetsim-route", *self.words("--gap", 0, *more)]
-        search = subprocess.Popen(list(map(str, words)), stdout=subprocess.PIPE, stderr=subprocess.PIPE, text=True)
+        search = subprocess.Popen(list(map(str, words)), stdout=subprocess.PIPE, stderr=subprocess.PIPE, text=True, start_new_session=alone)
         while not (line := search.stderr.readline()).startswith(until):
             self.assertNotEqual(line, "", f"ended before {until!r}")
         return search
@@ -512,6 +515,15 @@ class Ends(Commands):
         search = self.begun(*self.WORKS, "--iterations", 1, until="knowing 0, 0: mean trip")
         os.kill(search.pid, signal.SIGTERM)
         search.communicate(timeout=60)
+        self.assertNotEqual(search.returncode, 0)
+        self.assertEqual([path for path in self.folder.iterdir() if path.name.startswith(("out", ".out"))], [])
+
+    def test_a_signal_to_all_its_processes(self):
+        """As `timeout` and batch systems send it, here while the check runs wait for the one process: each is more than a pipe holds."""
+        search = self.begun("--iterations", 0, "--check", "101-130", alone=True)
+        time.sleep(0.5)
+        os.killpg(search.pid, signal.SIGTERM)
+        search.communicate(timeout=120)
         self.assertNotEqual(search.returncode, 0)
         self.assertEqual([path for path in self.folder.iterdir() if path.name.startswith(("out", ".out"))], [])
 

@@ -208,6 +208,7 @@ knowing = 0.5
         given = {name: self.write(f"{name}.rou.xml", f"<routes>{text}</routes>") for name, text in (("gap", gap), ("other", ONE))}
         for words, told in (
             (("--knowing", 0.5), "--knowing is of road works: give --close too"),
+            ((*self.WORKS, "--knowing", ","), "--knowing: ',' names no share"),
             (("--close", "none_0:1-2:3-4"), "the map has no lane 'none_0'"),
             (("--close", "short_0:100-400:3-4"), "the lane ends at 300 m"),
             (("--close", "short_0:100-200:9-900", "--until", 800, "--sign", "none"), "--sign: the network has no edge 'none'"),

@@ -39,7 +39,7 @@ def parser() -> argparse.ArgumentParser:
         "seeds that the search did not see how much that is.",
     )
     made.add_argument("net", help="the network (.net.xml, .net.xml.gz)")
-    made.add_argument("additional", nargs="*", help="additional files with signal programs and vehicle types")
+    made.add_argument("additional", nargs="*", default=[], help="additional files with signal programs and vehicle types")
     made.add_argument(
         "--trips", required=True, nargs="+", metavar="FILE", help="trips, flows with from and to, and vehicles, whose routes are first ways"
     )
@@ -96,7 +96,9 @@ def add_works(made: argparse.ArgumentParser) -> None:
 
 
 def shares_of(text: str) -> list[float]:
-    return list(dict.fromkeys(share_of(part) for part in listed(text)))
+    if shares := list(dict.fromkeys(map(share_of, listed(text)))):
+        return shares
+    raise argparse.ArgumentTypeError(f"{text!r} names no share")
 
 
 def share_of(text: str) -> float:
