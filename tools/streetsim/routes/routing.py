@@ -20,7 +20,7 @@ from ..study.seeds import seeds_of
 from ..study.sessions import digest_of
 from ..sumo.importing import add_options, options_of
 from ..sumo.report import Report
-from .diverting import SHARES, Diverted, check_works, closing_of, diverted, give_ways, placed, share_rows
+from .diverting import SHARES, Diverted, check_works, closing_of, diverted, give_ways, placed, share_rows, within_gap
 from .loading import Town, read_town
 from .pictures import draw
 from .results import FLOWS, NAME, figures, flow_rows, write_results
@@ -252,6 +252,8 @@ def tell(job: Job, one: Diverted, before: Diverted) -> int:
     label = f"{one.label}: " * (one.share is not None)
     if is_still(one.search) and one.judged.gap > job.words.gap:
         print(f"warning: {label}the gap does not fall any more: the least was seen in iteration {one.search.best.number}", file=sys.stderr)
+    if one is not before and (why := within_gap(one, before)):
+        print(f"warning: {label}{why}", file=sys.stderr)
     mean, runs, missed = fmean(one.means()), len(one.judged.outcomes), missing(job, one, before)
     print(
         f"{label}mean trip {mean:.1f} s{f' ({mean - fmean(before.means()):+.1f} s by the works)' * bool(label)}, "
