@@ -5,22 +5,31 @@ import json
 import os
 import signal
 import subprocess
+import time
 import unittest
+import unittest.mock
 import xml.etree.ElementTree as ElementTree
 from array import array
+from collections import Counter
 from types import SimpleNamespace
 
 from clusters import ClusterCase, needs_distributed
 from support import DATA, PROGRAM, SCENARIOS, TOOLS, Case, lane, needs_simulator, needs_sumo_tools, net
+from streetsim.files import Fault
 from streetsim.routes.costs import Costs, Table, costs_of, flat_costs, nothing_observed
 from streetsim.routes.diverting import Diverted
 from streetsim.routes.graph import END, Graph
+from streetsim.routes.loading import read_town
 from streetsim.routes.passes import Passes, Sight
 from streetsim.routes.router import FAR, Found, Router, Wish, parts_of
-from streetsim.routes.search import changes, gap_of, is_still, steps_of
+from streetsim.routes.search import Asked, Search, Seen, changes, gap_of, give, is_still, paths_after, steps_of
 from streetsim.routes.seconds import reds
+from streetsim.routes.trips import Trip, read_trips
+from streetsim.routes.watching import Ground, watched
 from streetsim.run.mapping import Map, MapLink, read_map
 from streetsim.run.runs import read_run
+from streetsim.sumo.network import Options
+from streetsim.sumo.report import Report
 
 # From a to d by b or by c; from b to c as well. Nobody may go from c to d's twin e.
 GRAPH = Graph("abcde", [("a", "b"), ("a", "c"), ("b", "d"), ("c", "d"), ("b", "e")], {name: (name, name + "'") for name in "abcde"})
@@ -110,6 +119,60 @@ class Seconds(unittest.TestCase):
         self.assertEqual([[one.trip for one in step] for step in steps_of(found, 0.8, 4)], [[1, 3, 4], [1, 4], [1]])
         self.assertAlmostEqual(gap_of(found), 70.4 / 500)
         self.assertEqual(gap_of([]), 0.0)
+
+
+class Stepping(Search):
+    """A search of 100 trips whose iterations show given gaps, and trips that did not arrive. The best way of each trip is the number of
+    the iteration, or less 1 where that was taken back; its own is half as long again."""
+
+    def __init__(self, *seen):
+        trips = [Trip(str(at), 0.0, 0, 3, "", (100,), 0.0) for at in range(100)]
+        super().__init__(None, None, trips, None, lambda _: False)
+        self.given = iter(enumerate(seen))
+
+    def best_of(self, _, steps):
+        number, (gap, lacking) = next(self.given)
+        ways = [(path, 0.0) for path in paths_after(self.trips, steps[0])]
+        give(self.trips, ways)
+        outcome = SimpleNamespace(mean=100.0, arrived=100 - lacking, rescues=0, calls=0, processor=0.0)
+        self.number = number - 1
+        return Seen(ways, [outcome], None, self.ways_of(number), [], gap, lacking), 0
+
+    def searched(self, _):
+        return self.ways_of(self.number)
+
+    def ways_of(self, number):
+        return [Found(at, (number,), 100.0, 150.0) for at in range(100)]
+
+    def improved(self, iterations, gap=0.0):
+        """For each iteration how many change, and whether it was taken back; and how many trips have which way in the end."""
+        self.improve(Asked(iterations, gap, 0.4, range(1, 2)))
+        return [(one.changed, one.taken_back) for one in self.iterations], Counter(trip.path[0] for trip in self.trips)
+
+
+class Steps(unittest.TestCase):
+    def test_a_step_that_is_taken_back(self):
+        """7 is more than 1.3 times 5, and 6 is not. Those who change are a tenth fewer each time, and half as many after a step that was
+        taken back, which begins at the ways of the least gap."""
+        search = Stepping((10, 0), (5, 0), (7, 0), (6, 0), (4, 0))
+        expected = [(40, False), (36, False), (16, True), (16, False), (0, False)], {3: 16, 0: 24, 100: 60}
+        self.assertEqual(search.improved(4), expected)
+        self.assertEqual(search.best.number, 4)
+
+    def test_the_least_gap_is_kept(self):
+        search = Stepping((5, 0), (4, 0), (4.5, 0))
+        self.assertEqual(search.improved(2), ([(40, False), (36, False), (0, False)], {0: 40, 100: 60}))
+        self.assertEqual(search.best.number, 1)
+
+    def test_more_who_arrive_are_better_than_a_smaller_gap(self):
+        search = Stepping((1, 3), (9, 0), (8, 1))
+        self.assertEqual(search.improved(2)[0], [(40, False), (36, False), (0, True)])
+        self.assertEqual(search.best.number, 1)
+
+    def test_a_search_ends_at_half_the_gap_asked_for(self):
+        """By its own seed the gap is too good."""
+        search = Stepping((10, 0), (5, 0), (4, 0), (1, 0))
+        self.assertEqual(search.improved(3, gap=8)[0], [(40, False), (36, False), (0, False)])
 
 
 class Doubts(unittest.TestCase):
@@ -418,6 +481,44 @@ class Imports(Case):
         self.assertIn("2 vehicles, 2 arrived", told)
 
 
+@needs_simulator
+class Looking(Case):
+    """A tenth of the town's vehicles, by all lanes each minute where a run has calls for that, and else by those on their way."""
+
+    def setUp(self):
+        super().setUp()
+        with gzip.open(DATA / "town.rou.xml.gz") as file:
+            vehicles = list(ElementTree.parse(file).getroot().iter("vehicle"))[::10]
+        rows = "".join(ElementTree.tostring(one, encoding="unicode") for one in vehicles)
+        routes = self.write("x.rou.xml", f"<routes>{rows}</routes>")
+        self.town = read_town(str(DATA / "town.net.xml.gz"), (), Options(), Report())
+        self.trips = read_trips([routes], self.town.net, self.town.graph, self.town.types, self.town.options, Report()).all
+        self.loaded = self.town.loaded(self.trips)
+
+    def seen(self, calls):
+        ground = Ground(PROGRAM, None, self.town.graph, 300, 10_800)
+        with unittest.mock.patch("streetsim.client.most_calls", return_value=calls):
+            return watched(ground, self.loaded.run, self.loaded.mapping, flat_costs(self.town.graph, self.loaded.free), 1, None)
+
+    def test_by_lanes_and_by_vehicles(self):
+        lanes, vehicles, seldom = map(self.seen, (1_000_000, 8_000, 2_500))
+        self.assertTrue(seldom.calls < vehicles.calls < 8_000 < lanes.calls, (seldom.calls, vehicles.calls, lanes.calls))
+        self.assertEqual(vehicles.observed, lanes.observed)
+        self.assertEqual((vehicles.entries, vehicles.ends), (lanes.entries, lanes.ends))
+        self.assertEqual((seldom.ends, seldom.mean), (lanes.ends, lanes.mean))
+        self.assertEqual(self.by_movement(seldom.observed.counts), self.by_movement(lanes.observed.counts))
+        one, other = sum(seldom.observed.seconds), sum(lanes.observed.seconds)
+        self.assertLess(abs(one / other - 1), 0.01)  # dealt otherwise to the movements of each trip
+
+    def test_too_few_calls(self):
+        with self.assertRaisesRegex(Fault, "300 vehicles up to 10,800 s take more calls than the 1,000 of the program: take fewer trips, or an"):
+            self.seen(1_000)
+
+    def by_movement(self, values):
+        slices = len(values) // len(self.town.graph.movements)
+        return [sum(values[at : at + slices]) for at in range(0, len(values), slices)]
+
+
 class BadInput(Commands):
     def test_trips(self):
         for trips, told in (
@@ -465,14 +566,16 @@ class BadInput(Commands):
             with self.subTest(told):
                 self.check_refused(told, *words)
         self.check_refused("--share: '2' is not 0 to 1", "--share", 2)
+        _, said = self.tool("route", status=2)
+        self.assertIn("the following arguments are required: net, --trips, -o/--output, --out (", said)
 
 
 class Ends(Commands):
-    def begun(self, *more, until="0: mean trip"):
-        """A search that has ended an iteration."""
+    def begun(self, *more, until="0: mean trip", alone=False):
+        """A search that has ended an iteration. alone: in a process group of its own."""
         self.given(lit((15, "G"), (45, "r")), flow(720, 3600))
         words = [TOOLS / "streetsim-route", *self.words("--gap", 0, *more)]
-        search = subprocess.Popen(list(map(str, words)), stdout=subprocess.PIPE, stderr=subprocess.PIPE, text=True)
+        search = subprocess.Popen(list(map(str, words)), stdout=subprocess.PIPE, stderr=subprocess.PIPE, text=True, start_new_session=alone)
         while not (line := search.stderr.readline()).startswith(until):
             self.assertNotEqual(line, "", f"ended before {until!r}")
         return search
@@ -513,6 +616,15 @@ class Ends(Commands):
         search = self.begun(*self.WORKS, "--iterations", 1, until="knowing 0, 0: mean trip")
         os.kill(search.pid, signal.SIGTERM)
         search.communicate(timeout=60)
+        self.assertNotEqual(search.returncode, 0)
+        self.assertEqual([path for path in self.folder.iterdir() if path.name.startswith(("out", ".out"))], [])
+
+    def test_a_signal_to_all_its_processes(self):
+        """As `timeout` and batch systems send it, here while the check runs wait for the one process: each is more than a pipe holds."""
+        search = self.begun("--iterations", 0, "--check", "101-130", alone=True)
+        time.sleep(0.5)
+        os.killpg(search.pid, signal.SIGTERM)
+        search.communicate(timeout=120)
         self.assertNotEqual(search.returncode, 0)
         self.assertEqual([path for path in self.folder.iterdir() if path.name.startswith(("out", ".out"))], [])
 

@@ -4,12 +4,14 @@ import importlib.util
 import json
 import unittest
 from dataclasses import replace
+from types import SimpleNamespace
 
 from support import PROGRAM, Case, lane, needs_package, needs_simulator, net
 from test_route import Commands, flow, lit, two_ways
 from streetsim.files import Fault
 from streetsim.routes.closing import Closing, common, knows, turn_off
 from streetsim.routes.costs import flat_costs
+from streetsim.routes.diverting import within_gap
 from streetsim.routes.graph import Graph
 from streetsim.routes.trips import Trip
 from streetsim.routes.underway import Turning, Waiting, WaysRound, shut_edges, turning
@@ -70,6 +72,20 @@ class TurningOff(unittest.TestCase):
         some, more = ({name for name in map(str, range(1000)) if knows(name, share, 1)} for share in (0.3, 0.6))
         self.assertLess(some, more)
         self.assertTrue(250 < len(some) < 350 and 550 < len(more) < 650, (len(some), len(more)))
+
+
+class WithinTheGap(unittest.TestCase):
+    def told(self, before, there):
+        """What is said of mean trips and gaps (in hundredths) without works and with them."""
+        made = (SimpleNamespace(means=lambda mean=mean: [mean - 1, mean + 1], judged=SimpleNamespace(gap=gap / 100)) for mean, gap in (there, before))
+        return within_gap(*made)
+
+    def test_works_that_add_less_than_what_all_could_gain(self):
+        self.assertIsNone(self.told((300, 2), (306.5, 2)))
+        told = "what the works add ({}) is less than what all could gain by other ways {} them ({} s), and says little: find ways with a smaller --gap"
+        self.assertEqual(self.told((300, 2), (305, 1)), told.format("+5.0 s", "without", "6.0"))
+        self.assertEqual(self.told((300, 2), (295, 1)), told.format("-5.0 s", "without", "6.0"))
+        self.assertEqual(self.told((300, 1), (305, 2)), told.format("+5.0 s", "with", "6.1"))
 
 
 class UnderWay(Case):
@@ -208,6 +224,7 @@ knowing = 0.5
         given = {name: self.write(f"{name}.rou.xml", f"<routes>{text}</routes>") for name, text in (("gap", gap), ("other", ONE))}
         for words, told in (
             (("--knowing", 0.5), "--knowing is of road works: give --close too"),
+            ((*self.WORKS, "--knowing", ","), "--knowing: ',' names no share"),
             (("--close", "none_0:1-2:3-4"), "the map has no lane 'none_0'"),
             (("--close", "short_0:100-400:3-4"), "the lane ends at 300 m"),
             (("--close", "short_0:100-200:9-900", "--until", 800, "--sign", "none"), "--sign: the network has no edge 'none'"),

@@ -97,6 +97,10 @@ class Scenarios(Case):
         self.assertEqual((self.sim.lane_state("b_0").closed, self.sim.lane_state("c_0").closed), ((), ((2, 5),)))
         with self.assertRaisesRegex(ValueError, "the map has no lane 'z_0'"):
             self.sim.close("z_0")
+        for places, told in (((45, 15), "45 m to 15 m"), ((15, 15), "15 m to 15 m"), ((-9, 15), "-9 m to 15 m"), ((15, float("nan")), "15 m to nan m")):
+            with self.assertRaisesRegex(ValueError, f"lane 'b_0': from {told} there are no works"):
+                self.sim.close("b_0", *places)
+        self.assertEqual(self.sim.lane_state("b_0").closed, ())
 
     def test_detector(self):
         self.sim.inductionloop.add("d", "a_0", 29.0, 10)  # cell 3
@@ -276,6 +280,11 @@ class Diverting(Case):
         self.assertEqual(sim.close("b_0", divert=True), [])
         sim.simulationStep(100)
         self.assertEqual([row[-1] for row in sim.trips()], ["buffer", "buffer"])
+
+    def test_nobody_is_left(self):
+        sim = self.begun(0)
+        sim.simulationStep(300)
+        self.assertEqual(sim.close("short_0", divert=True), [])
 
     def test_no_other_way_is_asked_for(self):
         sim = self.begun(50)

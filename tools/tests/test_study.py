@@ -5,6 +5,7 @@ import os
 import shutil
 import socket
 import subprocess
+import sys
 import threading
 import time
 import unittest
@@ -206,6 +207,23 @@ class Given(unittest.TestCase):
         future.set_exception(BrokenExecutor("a process was terminated"))
         with self.assertRaisesRegex(Fault, "the run with seed 3: a worker ended before its work was done"):
             result_of(future, "the run with seed 3")
+
+    LOST = """
+import os, time
+from streetsim.study.machines import machines
+def lost(_):
+    time.sleep(0.5)
+    os.kill(os.getpid(), 9)
+with machines(1, None, [None]) as workers:
+    list(workers.ordered([("the run with seed 1", lost, 0), ("the run with seed 2", print, 0, bytes(1_000_000))]))
+"""
+
+    def test_a_process_that_is_lost_while_a_task_is_written_for_it(self):
+        """The second task is more than a pipe holds, and nobody reads it any more."""
+        around = {**os.environ, "PYTHONPATH": str(TOOLS)}
+        done = subprocess.run([sys.executable, "-c", self.LOST], env=around, capture_output=True, text=True, check=False, timeout=120)
+        self.assertEqual(done.returncode, 1)
+        self.assertIn("Fault: the run with seed 1: a worker ended before its work was done", done.stderr.splitlines()[-1])
 
 
 class NoCluster(Studies):

@@ -121,6 +121,19 @@ def diverted(
         yield Diverted(share, trips, search, search.judged(check))
 
 
+def within_gap(one: Diverted, before: Diverted) -> str | None:
+    """Says where works add less to the mean trip than what all could gain by other ways, without the works or with them."""
+    apart = fmean(one.means()) - fmean(before.means())
+    seconds = {where: each.judged.gap * fmean(each.means()) for where, each in (("without", before), ("with", one))}
+    where = max(seconds, key=lambda where: seconds[where])
+    if abs(apart) >= seconds[where]:
+        return None
+    return (
+        f"what the works add ({apart:+.1f} s) is less than what all could gain by other ways {where} them "
+        f"({seconds[where]:.1f} s), and says little: find ways with a smaller --gap"
+    )
+
+
 def share_rows(all_: Sequence[Diverted]) -> Iterator[tuple]:
     """A row for the ways without works, and one for each share, with its difference to these by equal seeds."""
     before = all_[0]

@@ -20,7 +20,7 @@ from ..study.seeds import seeds_of
 from ..study.sessions import digest_of
 from ..sumo.importing import add_options, options_of
 from ..sumo.report import Report
-from .diverting import SHARES, Diverted, check_works, closing_of, diverted, give_ways, placed, share_rows
+from .diverting import SHARES, Diverted, check_works, closing_of, diverted, give_ways, placed, share_rows, within_gap
 from .loading import Town, read_town
 from .pictures import draw
 from .results import FLOWS, NAME, figures, flow_rows, write_results
@@ -39,7 +39,7 @@ def parser() -> argparse.ArgumentParser:
         "seeds that the search did not see how much that is.",
     )
     made.add_argument("net", help="the network (.net.xml, .net.xml.gz)")
-    made.add_argument("additional", nargs="*", help="additional files with signal programs and vehicle types")
+    made.add_argument("additional", nargs="*", default=[], help="additional files with signal programs and vehicle types")
     made.add_argument(
         "--trips", required=True, nargs="+", metavar="FILE", help="trips, flows with from and to, and vehicles, whose routes are first ways"
     )
@@ -96,7 +96,9 @@ def add_works(made: argparse.ArgumentParser) -> None:
 
 
 def shares_of(text: str) -> list[float]:
-    return list(dict.fromkeys(share_of(part) for part in listed(text)))
+    if shares := list(dict.fromkeys(map(share_of, listed(text)))):
+        return shares
+    raise argparse.ArgumentTypeError(f"{text!r} names no share")
 
 
 def share_of(text: str) -> float:
@@ -250,6 +252,8 @@ def tell(job: Job, one: Diverted, before: Diverted) -> int:
     label = f"{one.label}: " * (one.share is not None)
     if is_still(one.search) and one.judged.gap > job.words.gap:
         print(f"warning: {label}the gap does not fall any more: the least was seen in iteration {one.search.best.number}", file=sys.stderr)
+    if one is not before and (why := within_gap(one, before)):
+        print(f"warning: {label}{why}", file=sys.stderr)
     mean, runs, missed = fmean(one.means()), len(one.judged.outcomes), missing(job, one, before)
     print(
         f"{label}mean trip {mean:.1f} s{f' ({mean - fmean(before.means()):+.1f} s by the works)' * bool(label)}, "

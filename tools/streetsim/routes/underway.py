@@ -66,6 +66,8 @@ class WaysRound:
         router = Router(self.graph, flat_costs(self.graph, free), closed)
         through = (trip for trip in trips if closed.keys().isdisjoint((trip.origin, trip.target)) and not self.is_round(trip))
         coming = [trip for trip in through if router.met(trip.path, trip.depart) is not None]
+        if not coming:
+            return {}
         plans = {trip.name: trip.path for trip in coming}
         for trip in coming:
             trip.path = ()
