@@ -191,8 +191,8 @@ def difference_rows(before: Rows, after: Rows) -> str:
         one = paired(by_seed(first, "control_delay_s"), by_seed(second, "control_delay_s"))
         if one:
             letters = f"{letter_mark(first.letter())} to {letter_mark(second.letter())}"
-            name = escape(" to ".join((key[0], " ".join(key[1:2]), *key[2:])) if len(key) > 1 else key[0])
-            rows.append([name, f"{one.before:.1f}", f"{one.after:.1f}", change_told(one), letters])
+            name = f"{key[0]}: {' to '.join(key[1:])}" if len(key) > 1 else key[0]
+            rows.append([escape(name), f"{one.before:.1f}", f"{one.after:.1f}", change_told(one), letters])
     return table(["", "before", "after", "change", "LOS"], rows)
 
 
