@@ -123,6 +123,7 @@ class Pages(Given):
             "0:00:00 to 0:30:00, seeds 1, 2, dawdle 170",
             "2 <turns> & more",
             "8, 15, 22 of 75 m",
+            "L, T, R, U: left, straight on, right, back. Bars: the length of an edge",
         ):
             self.assertIn(told, text)
         places = [text.index(told) for told in ("no route", "2 <turns>", "3 x stops", "1 light")]

@@ -18,6 +18,10 @@ WEIGHTS = (
     ("ignored:", "Read, and without effect"),
     ("", "Notes"),
 )
+KEY = (
+    "L, T, R, U: left, straight on, right, back. Bars: the length of an edge, and in it the queue that half of the cycles (dark) "
+    "and 95 % of them (light) do not exceed, and the greatest (line)."
+)
 ASSUMPTIONS = (
     "A vehicle takes one to four cells of 7.5 m and moves in steps of a second; speeds are whole cells a second.",
     f"Control delay has {STOP_LOSS} s for each vehicle that stops, measured on a lone cross against SUMO's detectors, as "
