@@ -120,6 +120,8 @@ class Numbers(Given):
 
     def test_arrivals(self):
         self.assertEqual(series.arrival_curves(self.given), ([0, 1], [30]))
+        self.given.made["until"] = 0  # the second vehicle wished to depart after the run's end
+        self.assertEqual(series.arrival_curves(self.given)[0], [0])
 
 
 @needs_matplotlib

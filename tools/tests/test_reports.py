@@ -117,11 +117,13 @@ class Pages(Given):
             "nothing speaks against this run",
             "mean control delay of a junction, s 92.0 31.0 -61.0 ± 12.7",  # changes of -60 and -62, quantile 12.706
             "B 92.0 31.0 -61.0 ± 12.7 F to C",
+            "B: a to b 92.0 31.0",
             "Junction B: 31.0 s C , 40 vehicles an hour, signals",
             "program SHA-256 abc",
             "0:00:00 to 0:30:00, seeds 1, 2, dawdle 170",
             "2 <turns> & more",
             "8, 15, 22 of 75 m",
+            "L, T, R, U: left, straight on, right, back. Bars: the length of an edge",
         ):
             self.assertIn(told, text)
         places = [text.index(told) for told in ("no route", "2 <turns>", "3 x stops", "1 light")]

@@ -5,6 +5,7 @@ import argparse
 import io
 import os
 from collections.abc import Sequence
+from math import inf
 from typing import Any
 
 from .. import limits, program
@@ -261,7 +262,8 @@ def draw_arrivals(pyplot: Any, folder: Folder, words: argparse.Namespace) -> Any
     curves: list[tuple[Sequence[float], str, str, str]]
     curves = [(departs, "wished departures", "#888888", "--"), (arrivals, "arrivals here", "#225588", "-")]
     if words.sumo:
-        sumo = sorted(arrival for _, arrival in read_tripinfo(words.sumo).values())
+        end = folder.made.get("until", inf)
+        sumo = sorted(arrival for _, arrival in read_tripinfo(words.sumo).values() if arrival <= end)
         curves.append((sumo, "arrivals in SUMO", "#d06000", ":"))
         times, values = series.difference(arrivals, sumo)
         below.set(ylabel="here less SUMO")
@@ -273,7 +275,7 @@ def draw_arrivals(pyplot: Any, folder: Folder, words: argparse.Namespace) -> Any
         axes.step(minutes, range(1, len(minutes) + 1), where="post", label=label, color=colour, linestyle=style, linewidth=1.8)
     below.step([time / 60 for time in times], values, where="post", color="#225588", linewidth=1.4)
     below.axhline(0, color="black", linewidth=0.8)
-    title = f"{len(arrivals):,} of {len(departs):,} vehicles arrived"
+    title = f"{len(arrivals):,} of {len(folder.trips()):,} vehicles arrived"
     axes.set(ylabel="vehicles", title=title, xlim=(0, None), ylim=(0, None))
     below.set(xlabel="time (min)")
     axes.legend(frameon=False)

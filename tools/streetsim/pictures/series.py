@@ -4,7 +4,7 @@ from __future__ import annotations
 from bisect import bisect_right
 from collections import Counter, defaultdict
 from collections.abc import Iterable, Iterator, Sequence
-from math import floor, log10
+from math import floor, inf, log10
 from typing import Any
 
 from .. import limits
@@ -218,9 +218,10 @@ def middle(cells: int) -> tuple[int, int]:
 
 
 def arrival_curves(folder: Folder) -> tuple[list[int], list[int]]:
-    """Sorted times of wished departures and of arrivals."""
-    trips = folder.trips()
-    return sorted(int(row["depart"]) for row in trips), sorted(int(row["arrival"]) for row in trips if row["arrival"])
+    """Sorted times of wished departures up to the run's end, and of arrivals."""
+    trips, end = folder.trips(), folder.made.get("until", inf)
+    departs = sorted(depart for row in trips if (depart := int(row["depart"])) <= end)
+    return departs, sorted(int(row["arrival"]) for row in trips if row["arrival"])
 
 
 def difference(first: Sequence[float], second: Sequence[float]) -> tuple[list[float], list[int]]:

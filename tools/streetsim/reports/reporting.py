@@ -85,7 +85,8 @@ def sections(all_runs: Sequence[Runs], shown: tuple[int, int], words: argparse.N
     if len(last.intervals()) > 1:
         found.append(("times", f"Junctions by time: {last.name}", writing.junction_letters(last)))
     names = sorted(key[0] for key in last.rows["junctions", *shown])
-    tables = "".join(writing.junction_section(last, name, shown) for name in names)
+    tables = f'<p class="small">{escape(writing.KEY)}</p>'
+    tables += "".join(writing.junction_section(last, name, shown) for name in names)
     found.append(("junctions", f"Junctions: {last.name}, {told}", tables))
     found.append(("run", "What was run", writing.what_was_run(all_runs)))
     found.append(("warnings", "What the import said", writing.warnings(all_runs)))

@@ -18,6 +18,10 @@ WEIGHTS = (
     ("ignored:", "Read, and without effect"),
     ("", "Notes"),
 )
+KEY = (
+    "L, T, R, U: left, straight on, right, back. Bars: the length of an edge, and in it the queue that half of the cycles (dark) "
+    "and 95 % of them (light) do not exceed, and the greatest (line)."
+)
 ASSUMPTIONS = (
     "A vehicle takes one to four cells of 7.5 m and moves in steps of a second; speeds are whole cells a second.",
     f"Control delay has {STOP_LOSS} s for each vehicle that stops, measured on a lone cross against SUMO's detectors, as "
@@ -191,8 +195,8 @@ def difference_rows(before: Rows, after: Rows) -> str:
         one = paired(by_seed(first, "control_delay_s"), by_seed(second, "control_delay_s"))
         if one:
             letters = f"{letter_mark(first.letter())} to {letter_mark(second.letter())}"
-            name = escape(" to ".join((key[0], " ".join(key[1:2]), *key[2:])) if len(key) > 1 else key[0])
-            rows.append([name, f"{one.before:.1f}", f"{one.after:.1f}", change_told(one), letters])
+            name = f"{key[0]}: {' to '.join(key[1:])}" if len(key) > 1 else key[0]
+            rows.append([escape(name), f"{one.before:.1f}", f"{one.after:.1f}", change_told(one), letters])
     return table(["", "before", "after", "change", "LOS"], rows)
 
 
