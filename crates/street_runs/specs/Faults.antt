@@ -1,6 +1,7 @@
 -- How the program tells its faults.
 -- Source: this profile.
-use Rattle.std.specs.Prelude.{◌≡◌, ◌⊎◌, ℕ, List, Option, Some}
+use Rattle.std.specs.Prelude.{◌≡◌, ◌++◌, ◌⊎◌, ℕ, List, Option, Some, codes}
+use Rattle.std.specs.Fmt.{decimal}
 use Rattle.std.specs.Borrow.{Bor}
 use Rattle.street_stream.specs.declared.tally.FaultKind.{FaultKind}
 use Rattle.street_stream.specs.declared.tally.FaultKind.TheVariants as kind
@@ -13,6 +14,15 @@ use Rattle.street_runs.specs.declared.fault.Fault.TheVariants.{BadArguments, Bad
 abbrev pub status_of : Fault → ℕ
 status_of BadArguments = 2
 status_of _ = 1
+
+-- what is told of a fault
+abbrev pub text_of : Fault → List ℕ
+text_of BadArguments = codes "bad arguments"
+text_of (Read name) = codes "cannot read " ++ name.now
+text_of (Write name) = codes "cannot write " ++ name.now
+text_of OutOfMemory = codes "out of memory"
+text_of Endless = codes "endless input"
+text_of (BadTape line) = codes "bad tape at line " ++ decimal line
 
 -- a run reads one thing and writes another
 abbrev pub fault_of_run : FaultKind → Bor (List ℕ) → Bor (List ℕ) → Fault
