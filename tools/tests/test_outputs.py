@@ -163,7 +163,7 @@ class Faults(Case):
         mapped = self.write("x.json", json.dumps(MAP))
         words = (run, "--map", mapped, "--until", 10, "--out", self.folder / "out", "--program", "/bin/true")
         told = self.tool("run", *words, "--sumo-output", "e2", status=2)[1]
-        self.assertIn("--sumo-output e2: the map has no such detector", told)
+        self.assertIn("--sumo-output e2: the map has no laneAreaDetector: import an additional file that has one", told)
         self.assertFalse((self.folder / "out").exists())
 
     def test_a_folder_without_every_second(self):

@@ -35,6 +35,8 @@ from .runs import Run, read_run, with_load
 from .serving import serving as serve
 from .works import all_works, with_works
 
+DETECTORS = {"e1": "inductionLoop", "e2": "laneAreaDetector"}  # SUMO's names, by the kind of output
+
 
 def parser() -> argparse.ArgumentParser:
     made = Parser(
@@ -136,9 +138,9 @@ def main(arguments: list[str]) -> int:
     unknown = [edge for edge in settings.edges if edge not in mapping.links_of]
     if unknown:
         raise Fault(f"--edges: the map has no edge {unknown[0]!r}")
-    for kind in {"e1", "e2"} & set(words.sumo_output):
+    for kind in DETECTORS.keys() & set(words.sumo_output):
         if not any(one.kind == kind for one in mapping.detectors):
-            raise Fault(f"--sumo-output {kind}: the map has no such detector")
+            raise Fault(f"--sumo-output {kind}: the map has no {DETECTORS[kind]}: import an additional file that has one")
     works = all_works(words.close, mapping, None if open_end else words.until)
     run, mapping, told = with_works(run, mapping, words.map, works, listed(words.joint))
     print(*told, sep="\n", end="\n" if told else "", file=sys.stderr)
