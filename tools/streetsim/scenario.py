@@ -214,10 +214,10 @@ class Scenario:
         divert: bool = False,
         until: float = float("inf"),
     ) -> list[str]:
-        """Closes a lane from one place to another, in metres: road works. ValueError beyond the lane, where the end is not after the
-        begin, and where vehicles could not change to the lane beside it. divert: where nobody can pass the edge any more, those who
-        would come there before a second, `until`, take another way, from their begin on or from a crossing ahead of them; gives their
-        names."""
+        """Closes a lane from one place to another, in metres: road works. ValueError beyond the lane, where the end is
+        not after the begin, and where vehicles could not change to the lane beside it. divert: where nobody can pass
+        the edge any more, those who would come there before a second, `until`, take another way, from their begin on
+        or from a crossing ahead of them; gives their names."""
         if why := why_parallel(self.map, lane):
             raise ValueError(f"{why}: Scenario(.., joint=[{lane!r}])")
         link, place = self.lane_of[lane]

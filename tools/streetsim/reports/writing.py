@@ -19,8 +19,8 @@ WEIGHTS = (
     ("", "Notes"),
 )
 KEY = (
-    "L, T, R, U: left, straight on, right, back. Bars: the length of an edge, and in it the queue that half of the cycles (dark) "
-    "and 95 % of them (light) do not exceed, and the greatest (line)."
+    "L, T, R, U: left, straight on, right, back. Bars: the length of an edge, and in it the queue that half of the "
+    "cycles (dark) and 95 % of them (light) do not exceed, and the greatest (line)."
 )
 ASSUMPTIONS = (
     "A vehicle takes one to four cells of 7.5 m and moves in steps of a second; speeds are whole cells a second.",

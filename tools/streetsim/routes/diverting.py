@@ -122,7 +122,7 @@ def diverted(
 
 
 def within_gap(one: Diverted, before: Diverted) -> str | None:
-    """Says where works add less to the mean trip than what all could gain by other ways, without the works or with them."""
+    """Says where works add less to the mean trip than what all could gain by other ways, without them or with them."""
     apart = fmean(one.means()) - fmean(before.means())
     seconds = {where: each.judged.gap * fmean(each.means()) for where, each in (("without", before), ("with", one))}
     where = max(seconds, key=lambda where: seconds[where])

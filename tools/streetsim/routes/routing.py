@@ -39,7 +39,9 @@ def parser() -> argparse.ArgumentParser:
         "seeds that the search did not see how much that is.",
     )
     made.add_argument("net", help="the network (.net.xml, .net.xml.gz)")
-    made.add_argument("additional", nargs="*", default=[], help="additional files with signal programs and vehicle types")
+    made.add_argument(
+        "additional", nargs="*", default=[], help="additional files with signal programs and vehicle types"
+    )
     made.add_argument(
         "--trips", required=True, nargs="+", metavar="FILE", help="trips, flows with from and to, and vehicles, whose routes are first ways"
     )

@@ -140,7 +140,8 @@ def main(arguments: list[str]) -> int:
         raise Fault(f"--edges: the map has no edge {unknown[0]!r}")
     for kind in DETECTORS.keys() & set(words.sumo_output):
         if not any(one.kind == kind for one in mapping.detectors):
-            raise Fault(f"--sumo-output {kind}: the map has no {DETECTORS[kind]}: import an additional file that has one")
+            missing = f"the map has no {DETECTORS[kind]}: import an additional file that has one"
+            raise Fault(f"--sumo-output {kind}: {missing}")
     works = all_works(words.close, mapping, None if open_end else words.until)
     run, mapping, told = with_works(run, mapping, words.map, works, listed(words.joint))
     print(*told, sep="\n", end="\n" if told else "", file=sys.stderr)

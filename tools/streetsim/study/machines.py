@@ -98,8 +98,8 @@ def machines(jobs: int, cluster: str | None, sessions: Sequence[Held]) -> Iterat
 
 
 def end(executor: Any) -> None:
-    """Ends the processes of a pool. Where one was lost while a task was written for it, nobody reads the rest, and the pool of a Python
-    before 3.11.5 waits for that for ever: its own end of the pipe is closed here."""
+    """Ends the processes of a pool. Where one was lost while a task was written for it, nobody reads the rest, and the
+    pool of a Python before 3.11.5 waits for that for ever: its own end of the pipe is closed here."""
     manager, calls = executor._executor_manager_thread, executor._call_queue
     executor.shutdown(wait=False, cancel_futures=True)
     while manager is not None and manager.is_alive():

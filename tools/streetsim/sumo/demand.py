@@ -147,7 +147,7 @@ class Demand:
                 self.later.append((vehicle, told(path, element)))
 
     def inner_route(self, path: FilePath, element: Element) -> tuple[Element | None, Element | None]:
-        """The route or the distribution that stands in an element; none where its attribute names one, which then counts."""
+        """The route or the distribution that stands in an element; none where its attribute names one, which counts."""
         routes = [inner for inner in element if inner.tag in ("route", "routeDistribution")]
         if element.get("route") is not None:
             self.report.ignored[f"routes in {element.tag}s that name another one"] += len(routes)

@@ -49,7 +49,7 @@ def read_detector(path: FilePath, element: Element, report: Report) -> SumoDetec
 
 
 def stretch(path: FilePath, element: Element, report: Report) -> tuple[float, float | None]:
-    """Where an area begins and ends, by its place and length, else by these or its end; without both: the lane's end."""
+    """Where an area begins and ends: by its place and length, else by these or its end; without both at the lane's."""
     end = optional(path, element, "endPos", number, None)
     length = optional(path, element, "length", at_least_zero(number), 0.0)
     if not length:
