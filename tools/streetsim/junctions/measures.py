@@ -89,11 +89,27 @@ def stop_loss(approach: Approach, target: str) -> float:
 
 
 def free_seconds(mapping: Map, dawdle: int, plan: Sequence[int], at: int) -> float:
-    """What a vehicle takes for a link of its plan and the junction behind it where nobody is in its way; who departs there
-    gains speed from 0, a cell a second in each second."""
+    """What a vehicle takes on average for a link of its plan and the junction behind it where nobody is in its way; who
+    departs there gains speed from 0."""
     link = mapping.links[plan[at]]
-    driving = link.cells / max(0.001, link.limit - dawdle / 1000) + mapping.nodes[link.end][3]
-    return driving + ((link.limit - 1) / 2 if at == 0 else 0.0)
+    slower = min(dawdle / 1000, 0.999)
+    crossing = mapping.nodes[link.end][3]
+    return driving_seconds(link.cells, link.limit, slower) + crossing + (starting_seconds(link.limit, slower) if at == 0 else 0.0)
+
+
+def driving_seconds(cells: int, limit: int, slower: float) -> float:
+    """A vehicle goes on by its limit in each second, with a chance of `slower` by a cell less, and the last of these on a
+    link leads beyond its end: on average by half of the mean of (cells a second, times one less) over that of cells."""
+    mean = limit - slower
+    beyond = ((1 - slower) * limit * (limit - 1) + slower * (limit - 1) * (limit - 2)) / (2 * mean)
+    return (cells + beyond) / mean
+
+
+def starting_seconds(limit: int, slower: float) -> float:
+    """What a vehicle loses that starts from 0 and goes on by a cell more in each second, with a chance of `slower` by as
+    many as before."""
+    way = limit * (limit - 1) / 2 + slower / (1 - slower) * (limit - 1) * (limit - 2) / 2
+    return (limit - 1) / (1 - slower) - way / (limit - slower)
 
 
 class Measures:
