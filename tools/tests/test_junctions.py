@@ -3,8 +3,6 @@ import csv
 import json
 import unittest
 from collections import Counter
-from itertools import product
-from random import Random
 from types import SimpleNamespace
 
 from support import MAP, PROGRAM, TOOLS, Case, needs_simulator
@@ -12,7 +10,7 @@ from streetsim.junctions import reporting
 from streetsim.junctions.capacity import usual_flow
 from streetsim.junctions.facing import facing
 from streetsim.junctions.layout import PRIORITY, SIGNALS, Approach, Greens, approaches_of, turn_name
-from streetsim.junctions.measures import STOP_LOSS, Measures, Totals, driving_seconds, starting_seconds, stop_loss, together
+from streetsim.junctions.measures import STOP_LOSS, Measures, Totals, stop_loss, together
 from streetsim.junctions.passages import Passages, discharges, queue_metres
 from streetsim.junctions.rows import APPROACHES, JUNCTIONS, MOVEMENTS, Tables
 from streetsim.junctions.sampling import LOOKS, Sampled, moments
@@ -62,15 +60,6 @@ def cross(left):
     return SimpleNamespace(links=links, nodes=[["C"]], yields=waiting), plans
 
 
-def steps_alone(cells, limit, slower, speed, draws):
-    """The steps of a vehicle alone to the end of so many cells."""
-    place, steps = 0, 0
-    while place < cells:
-        speed = max(0, min(limit, speed + 1) - (draws.random() < slower))
-        place, steps = place + speed, steps + 1
-    return steps
-
-
 class Definitions(unittest.TestCase):
     def test_minor_streets_that_wait_for_each_other(self):
         for left, hours, found in ((60, 1, ["C"]), (20, 1, []), (60, 4, []), (0, 1, [])):
@@ -114,16 +103,6 @@ class Definitions(unittest.TestCase):
             approach = Approach("a", "B", control, [0], 75.0, movements={"b": "T", "c": "L", "d": "R"})
             lost[control] = [stop_loss(approach, target) for target in "bcd"]
         self.assertEqual(lost, {SIGNALS: [STOP_LOSS, 0.0, 0.0], PRIORITY: [STOP_LOSS] * 3})
-
-    def test_a_vehicle_alone(self):
-        """The mean steps of one that gains a cell a step up to its limit and then goes on by a cell less by chance, to the end
-        of 200 cells: at speed from the begin, and from 0."""
-        draws, count = Random(1), 4_000
-        for limit, slower in product((1, 2, 3, 5), (0.17, 0.4)):
-            for speed in (limit, 0):
-                steps = sum(steps_alone(200, limit, slower, speed, draws) for _ in range(count)) / count
-                told = driving_seconds(200, limit, slower) + (0 if speed else starting_seconds(limit, slower))
-                self.assertAlmostEqual(steps, told, delta=0.4 if limit == 1 else 0.15, msg=(limit, slower, speed))
 
     def test_several_movements_together(self):
         """10 vehicles that lose 20 s and 30 that lose 40 s; errors of independent means."""
@@ -181,11 +160,9 @@ class ByHand(unittest.TestCase):
         self.assertEqual((approach.movements, approach.lanes, approach.metres), ({"b": "T"}, [(0, 0)], 75.0))
 
     def test_delays(self):
-        """10 cells at 5 a step, 2 cells more of which are lost at the end, and 1 s in the junction are 3.4 s; the vehicles take 7,
-        and both stop once."""
+        """10 cells at 5 a step and 1 s in the junction are 3 s; the vehicles take 7 of them, and both stop once."""
         lost = self.measures.interval(0, 10).lost["a", "b"]
-        self.assertEqual((lost.vehicles, lost.stood, lost.stops), (2, 2.5, 1.0))
-        self.assertAlmostEqual(lost.delay, 3.6 + STOP_LOSS)
+        self.assertEqual((lost.vehicles, lost.delay, lost.stood, lost.stops), (2, 4 + STOP_LOSS, 2.5, 1.0))
         self.assertEqual([one.clock for one in self.measures.crossings], [8, 10])
         self.assertEqual(self.measures.interval(0, 9).lost["a", "b"].vehicles, 1)
 
@@ -227,7 +204,7 @@ class Sampling(unittest.TestCase):
         self.assertEqual([int((clock - 1) // part) for clock in found], list(range(2 * LOOKS)))
 
     def test_littles_law(self):
-        """With a look at every clock it is the time on the approach: both vehicles are there for 7 s, where 3.4 s and 2 s for
+        """With a look at every clock it is the time on the approach: both vehicles are there for 7 s, where 3 s and 2 s for
         gaining speed would do, and stand 5 s together. Half of the time is green, and 360 vehicles an hour come to a lane
         that passes 2,400."""
         mapping = map_from("", MAP)
@@ -236,7 +213,7 @@ class Sampling(unittest.TestCase):
             made.see({"clock": clock, "lanes": lanes})
         lost = made.finish().interval(0, 20).lost["a", "b"]
         self.assertEqual((lost.vehicles, lost.stood, lost.stops), (2, 2.5, None))
-        self.assertAlmostEqual(lost.delay, 1.6 + STOP_LOSS * 0.5 / (1 - 360 / 2400))
+        self.assertAlmostEqual(lost.delay, 2 + STOP_LOSS * 0.5 / (1 - 360 / 2400))
 
 
 @needs_simulator

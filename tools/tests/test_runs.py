@@ -51,7 +51,7 @@ class Tables(Runs):
         self.given(enter([0]), cars=["first"])
         told, _ = self.run_tool("--until", 60, "--every", 1)
         self.assertEqual(told, "1 vehicles, 1 arrived, mean trip 5.0 s, 0 rescues\n")
-        self.assertEqual(self.table("trips.csv"), [["first", "0", "5", "5", "2.0", "3.0", "1", "0", "arrived"]])
+        self.assertEqual(self.table("trips.csv"), [["first", "0", "5", "5", "5.0", "0.0", "1", "0", "arrived"]])
         self.assertEqual(self.table("counts.csv")[0], ["0", "60", "a", "0", "0", "1", "60.0", "108.0", "0.0"])
         self.assertEqual(self.table("summary.csv"), [["60", "1", "0", "0", "0", "1", "0"]])
         self.assertEqual(self.table("queues.csv"), [])

@@ -7,6 +7,7 @@ from dataclasses import dataclass, field
 from statistics import fmean
 from typing import TYPE_CHECKING, Any
 
+from ..run.freeflow import Alone
 from ..run.mapping import Place
 from .capacity import Capacity, SaturationFlows, Use
 from .layout import SIGNALS, Approach, Greens
@@ -19,7 +20,7 @@ Way = tuple[str, str]  # an edge and the next one
 
 # Seconds that a vehicle which stops loses beyond what is seen here, where vehicles brake and start at once: measured on a
 # lone cross at four flows against SUMO's e3 (bench/delays --calibrate).
-STOP_LOSS = 1.9
+STOP_LOSS = 2.5
 
 
 @dataclass(slots=True)
@@ -88,30 +89,6 @@ def stop_loss(approach: Approach, target: str) -> float:
     return STOP_LOSS if approach.control != SIGNALS or approach.movements[target] == "T" else 0.0
 
 
-def free_seconds(mapping: Map, dawdle: int, plan: Sequence[int], at: int) -> float:
-    """What a vehicle takes on average for a link of its plan and the junction behind it where nobody is in its way; who
-    departs there gains speed from 0."""
-    link = mapping.links[plan[at]]
-    slower = min(dawdle / 1000, 0.999)
-    crossing = mapping.nodes[link.end][3]
-    return driving_seconds(link.cells, link.limit, slower) + crossing + (starting_seconds(link.limit, slower) if at == 0 else 0.0)
-
-
-def driving_seconds(cells: int, limit: int, slower: float) -> float:
-    """A vehicle goes on by its limit in each second, with a chance of `slower` by a cell less, and the last of these on a
-    link leads beyond its end: on average by half of the mean of (cells a second, times one less) over that of cells."""
-    mean = limit - slower
-    beyond = ((1 - slower) * limit * (limit - 1) + slower * (limit - 1) * (limit - 2)) / (2 * mean)
-    return (cells + beyond) / mean
-
-
-def starting_seconds(limit: int, slower: float) -> float:
-    """What a vehicle loses that starts from 0 and goes on by a cell more in each second, with a chance of `slower` by as
-    many as before."""
-    way = limit * (limit - 1) / 2 + slower / (1 - slower) * (limit - 1) * (limit - 2) / 2
-    return (limit - 1) / (1 - slower) - way / (limit - slower)
-
-
 class Measures:
     """The measures of a run that was looked at in every second; plans: the links of each vehicle of the file, by number."""
 
@@ -125,7 +102,7 @@ class Measures:
         passages: Passages,
     ) -> None:
         self.mapping, self.approaches, self.plans, self.passages = mapping, approaches, plans, passages
-        self.dawdle, self.greens = dawdle, Greens(mapping, signals)
+        self.alone, self.greens = Alone(mapping, dawdle / 1000), Greens(mapping, signals)
         found = [(passage, self.crossing(passage)) for passage in passages.done]
         self.crossings = [crossing for _, crossing in found if crossing]
         self.taken: defaultdict[Place, set[int]] = defaultdict(set)  # (link, lane): links to which vehicles go
@@ -141,7 +118,7 @@ class Measures:
         at = next((at for at, link in enumerate(plan) if self.mapping.links[link].edge == passage.edge), None)
         if at is None or at + 1 == len(plan):
             return None
-        lost = passage.end - passage.begin - free_seconds(self.mapping, self.dawdle, plan, at)
+        lost = passage.end - passage.begin - self.alone.approach(plan, at)
         movement = passage.edge, self.mapping.links[plan[at + 1]].edge
         delay = lost + stop_loss(self.approaches[movement[0]], movement[1]) * (passage.stops > 0)
         place = passage.link, passage.lane

@@ -9,9 +9,10 @@ from typing import Any, Self
 
 from .capacity import Use, is_alike, usual_flow
 from ..run.detectors import Cells
+from ..run.freeflow import Alone
 from ..run.mapping import Map, Place
 from .layout import Approach, Greens
-from .measures import Interval, Totals, Way, free_seconds, stop_loss
+from .measures import Interval, Totals, Way, stop_loss
 from .passages import queue_metres
 
 LOOKS = 30  # a quarter hour
@@ -44,6 +45,7 @@ class Sampled:
     ) -> None:
         self.mapping, self.approaches, self.plans, self.departs, self.arrivals = mapping, approaches, plans, departs, arrivals
         self.dawdle, self.greens, self.width, self.start = dawdle, Greens(mapping, signals), interval, start
+        self.alone = Alone(mapping, dawdle / 1000)
         self.edges = {link: edge for edge, approach in approaches.items() for link in approach.links}
         self.lanes = [place for approach in approaches.values() for place in approach.lanes]
         self.last: dict[int, tuple[int, int]] = {}  # vehicle: (place in its plan, clock) where it was seen last
@@ -105,7 +107,7 @@ class Sampled:
                 at = int(moment - self.start) // self.width
                 movement = edge, self.mapping.links[plan[place + 1]].edge
                 self.passed[at][movement] += 1
-                self.free[at, movement] += free_seconds(self.mapping, self.dawdle, plan, place)
+                self.free[at, movement] += self.alone.approach(plan, place)
 
     def note_lane(self, at: int, clock: int, place: Place, cells: Cells) -> None:
         link = self.mapping.links[place[0]]

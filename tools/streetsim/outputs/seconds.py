@@ -6,7 +6,7 @@ from dataclasses import dataclass, field
 from typing import Any
 
 from ..run.detectors import size_of
-from ..run.freeflow import FreeFlow
+from ..run.freeflow import Alone
 from ..run.mapping import Map
 
 
@@ -69,7 +69,7 @@ class Follower:
     """Follows the vehicles of a run from second to second."""
 
     def __init__(self, mapping: Map, dawdle: float) -> None:
-        self.mapping, self.free_flow = mapping, FreeFlow(mapping, dawdle)
+        self.mapping, self.alone = mapping, Alone(mapping, dawdle)
         self.trips: dict[int, Trip] = {}
         self.expected: dict[int, tuple[str, int, str]] = {}  # name, wished second, type
         self.before: dict[int, At] = {}
@@ -126,8 +126,9 @@ class Follower:
         trip.last = at
 
     def add_link(self, trip: Trip, link: int) -> None:
-        trip.free += trip.crossing + self.free_flow.driving[link]
-        trip.crossing = self.free_flow.crossing[link]
+        """SUMO counts as lost what a vehicle loses by gaining speed, so it comes at the link's own."""
+        trip.free += trip.crossing + self.alone.on_link(link, link)
+        trip.crossing = self.alone.across(link)
         trip.metres += self.mapping.links[link].metres
 
 

@@ -9,7 +9,7 @@ from typing import TYPE_CHECKING, Any
 from .. import limits
 from ..files import Fault, FilePath, open_text, reading, whole_file
 from .edgedata import edge_rows
-from .freeflow import FreeFlow
+from .freeflow import Alone
 
 if TYPE_CHECKING:
     from .mapping import Map
@@ -100,10 +100,10 @@ def edges(records: Records, mapping: Map) -> Iterator[Entry]:
 
 def trips(records: Records, run: Run, mapping: Map) -> Iterator[Entry]:
     """A row for each vehicle of the run file, as SUMO's tripinfo; a trip lasts from the wished departure to arrival."""
-    free_flow = FreeFlow(mapping, run.load.command["dawdle"] / 1000)
+    alone = Alone(mapping, run.load.command["dawdle"] / 1000)
     for place, (name, line, end) in enumerate(zip(names(run, mapping), run.enters, records.ends, strict=True)):
         plan, depart = line.command["plan"], line.command["depart"]
-        free = free_flow(plan)
+        free = alone.trip(plan)
         arrival = end.step + 1 if end is not None and end.state == "arrived" and end.step is not None else None
         trip = (
             (arrival, arrival - depart, f"{free:.1f}", f"{arrival - depart - free:.1f}")
