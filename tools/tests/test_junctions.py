@@ -97,12 +97,15 @@ class Definitions(unittest.TestCase):
         self.assertEqual(queue_metres([[0, 9, 0, 2]], link), 12.5)
 
     def test_loss_of_a_stop(self):
-        """At a light only of those who go straight on: of others the begin of green is left out instead."""
-        lost = {}
-        for control in (SIGNALS, PRIORITY):
-            approach = Approach("a", "B", control, [0], 75.0, movements={"b": "T", "c": "L", "d": "R"})
-            lost[control] = [stop_loss(approach, target) for target in "bcd"]
-        self.assertEqual(lost, {SIGNALS: [STOP_LOSS, 0.0, 0.0], PRIORITY: [STOP_LOSS] * 3})
+        """At a light only of those who go straight on: of others seconds of green are left out instead. It is less
+        where an edge has further lanes, of one link or of two."""
+        one, more = STOP_LOSS
+        for lanes, loss in (([(0, 0)], one), ([(0, 0), (0, 1)], more), ([(0, 0), (1, 0)], more)):
+            lost = {}
+            for control in (SIGNALS, PRIORITY):
+                approach = Approach("a", "B", control, [0], 75.0, lanes, {"b": "T", "c": "L", "d": "R"})
+                lost[control] = [stop_loss(approach, target) for target in "bcd"]
+            self.assertEqual(lost, {SIGNALS: [loss, 0.0, 0.0], PRIORITY: [loss] * 3})
 
     def test_several_movements_together(self):
         """10 vehicles that lose 20 s and 30 that lose 40 s; errors of independent means."""
@@ -162,7 +165,7 @@ class ByHand(unittest.TestCase):
     def test_delays(self):
         """10 cells at 5 a step and 1 s in the junction are 3 s; the vehicles take 7 of them, and both stop once."""
         lost = self.measures.interval(0, 10).lost["a", "b"]
-        self.assertEqual((lost.vehicles, lost.delay, lost.stood, lost.stops), (2, 4 + STOP_LOSS, 2.5, 1.0))
+        self.assertEqual((lost.vehicles, lost.delay, lost.stood, lost.stops), (2, 4 + STOP_LOSS[0], 2.5, 1.0))
         self.assertEqual([one.clock for one in self.measures.crossings], [8, 10])
         self.assertEqual(self.measures.interval(0, 9).lost["a", "b"].vehicles, 1)
 
@@ -213,7 +216,7 @@ class Sampling(unittest.TestCase):
             made.see({"clock": clock, "lanes": lanes})
         lost = made.finish().interval(0, 20).lost["a", "b"]
         self.assertEqual((lost.vehicles, lost.stood, lost.stops), (2, 2.5, None))
-        self.assertAlmostEqual(lost.delay, 2 + STOP_LOSS * 0.5 / (1 - 360 / 2400))
+        self.assertAlmostEqual(lost.delay, 2 + STOP_LOSS[0] * 0.5 / (1 - 360 / 2400))
 
 
 @needs_simulator

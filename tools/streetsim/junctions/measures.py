@@ -18,9 +18,10 @@ if TYPE_CHECKING:
 
 Way = tuple[str, str]  # an edge and the next one
 
-# Seconds that a vehicle which stops loses beyond what is seen here, where vehicles brake and start at once: measured on a
-# lone cross at four flows against SUMO's e3 (bench/delays --calibrate).
-STOP_LOSS = 2.5
+# Seconds that a vehicle which stops loses beyond what is seen here, where vehicles brake and start at once: on an approach
+# of one lane, where in SUMO one who drives slowly holds up those behind, and of more. Measured on lone crosses at four
+# flows against SUMO's e3 (bench/delays --calibrate).
+STOP_LOSS = 2.5, 1.5
 
 
 @dataclass(slots=True)
@@ -86,11 +87,13 @@ def together(parts: Iterable[Totals]) -> Totals:
 def stop_loss(approach: Approach, target: str) -> float:
     """What a vehicle that stops loses beyond what is seen. Of those that turn at a light the import has put it into the
     green, of which it leaves out seconds."""
-    return STOP_LOSS if approach.control != SIGNALS or approach.movements[target] == "T" else 0.0
+    if approach.control == SIGNALS and approach.movements[target] != "T":
+        return 0.0
+    return STOP_LOSS[0] if len(approach.lanes) == 1 else STOP_LOSS[1]
 
 
 class Measures:
-    """The measures of a run that was looked at in every second; plans: the links of each vehicle of the file, by number."""
+    """The measures of a run that was looked at in every second; plans: links of vehicles, by number."""
 
     def __init__(
         self,

@@ -1,4 +1,4 @@
-"""Delays by Little's law, from looks at random moments: vehicles on an approach are their flow times their time on it."""
+"""Delays by Little's law, from looks at random moments: vehicles on an approach are their flow by their time on it."""
 from __future__ import annotations
 
 from collections import Counter, defaultdict
@@ -43,7 +43,8 @@ class Sampled:
         interval: int,
         start: int,
     ) -> None:
-        self.mapping, self.approaches, self.plans, self.departs, self.arrivals = mapping, approaches, plans, departs, arrivals
+        self.mapping, self.approaches = mapping, approaches
+        self.plans, self.departs, self.arrivals = plans, departs, arrivals
         self.dawdle, self.greens, self.width, self.start = dawdle, Greens(mapping, signals), interval, start
         self.alone = Alone(mapping, dawdle / 1000)
         self.edges = {link: edge for edge, approach in approaches.items() for link in approach.links}
@@ -99,7 +100,7 @@ class Sampled:
             self.taken[link, lane].add(plan[here + 1])
 
     def pass_by(self, plan: Sequence[int], before: int, since: float, here: int, clock: float) -> None:
-        """The approaches that a vehicle left on its way from one place of its plan to another, evenly between two clocks."""
+        """The approaches that a vehicle left from one place of its plan to another, evenly between two clocks."""
         for step, place in enumerate(range(before, here)):
             moment = since + (step + 0.5) * (clock - since) / (here - before)
             edge = self.edges.get(plan[place])

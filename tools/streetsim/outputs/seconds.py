@@ -53,7 +53,7 @@ class Second:
     trips: dict[int, Trip]  # by car, of those on their way
     here: dict[int, At] = field(default_factory=dict)  # by car
     departed: list[int] = field(default_factory=list)  # cars
-    entered: list[tuple[int, int]] = field(default_factory=list)  # (car, link): into the cells of an edge from another one
+    entered: list[tuple[int, int]] = field(default_factory=list)  # (car, link): onto the cells of an edge from another
     left: list[tuple[int, At]] = field(default_factory=list)  # out of the cells of an edge into the junction behind it
     teleported: list[tuple[int, At]] = field(default_factory=list)  # taken out of the cells
     arrived: list[tuple[int, Trip]] = field(default_factory=list)

@@ -24,10 +24,11 @@ KEY = (
 )
 ASSUMPTIONS = (
     "A vehicle takes one to four cells of 7.5 m and moves in steps of a second; speeds are whole cells a second.",
-    f"Control delay has {STOP_LOSS} s for each vehicle that stops, measured on a lone cross against SUMO's detectors, as "
-    "vehicles brake and start at once; not for those that turn at a light, as seconds of their green are left out instead.",
+    f"Control delay has {STOP_LOSS[0]} s for each vehicle that stops, {STOP_LOSS[1]} s where its edge has more lanes, "
+    "as vehicles brake and start at once: measured on lone crosses against SUMO's detectors. Not for those that turn "
+    "at a light, as seconds of their green are left out instead.",
     "Letters are those of the Highway Capacity Manual 2010 by control delay; of a movement F too where v/c is above 1.",
-    "Queues are the backs of queues in each cycle of the signal. A queue as long as its edge has filled it, and may reach on.",
+    "Queues are the backs of queues in each cycle of a signal. One as long as its edge has filled it; it may reach on.",
     "Routes are given: nobody changes its route on the way.",
 )
 

@@ -59,8 +59,8 @@ def seconds_alone(cells: int, limit: int, slower: float, speed: int) -> float:
 
 @lru_cache(maxsize=1_000)
 def steps_by_cells(limit: int, slower: float) -> list[array[float]]:
-    """By speed and by cells: the mean steps of a vehicle that in each step gains a cell a step, up to the limit, and goes
-    on by one less with a chance of `slower`."""
+    """By speed and by cells: the mean steps of a vehicle that gains a cell a step in each, up to the limit, and goes on
+    by one less with a chance of `slower`."""
     found = [array("d", [0.0]) for _ in range(limit + 1)]
     for cells in range(1, FAR + 1):
         for speed, steps in enumerate(found):
