@@ -1,7 +1,8 @@
 -- What a replay replies, and which of it was a session's.
 -- Source: this profile.
-use Rattle.std.specs.Prelude.{◌≡◌, ℕ, ◌==◌, List, [], ◌∷◌, ◌++◌, drop, Bool, true, false, if◌then◌else◌, Option, Some, None, Result, Ok, Err}
+use Rattle.std.specs.Prelude.{◌≡◌, ℕ, ◌==◌, ◌<◌, List, [], ◌∷◌, ◌++◌, length, drop, HoldsAt, Bool, true, false, if◌then◌else◌, Option, Some, None, Result, Ok, Err}
 use Rattle.std.specs.Io.KnownBytes.{Consumes, IsAtEnd}
+use Rattle.std.specs.List.{AllWithin}
 use Rattle.street_base.specs.declared.command.Command.TheVariants.{Count}
 use Rattle.street_base.specs.declared.reply.Outcome.TheVariants.{Whole}
 use Rattle.street_base.specs.Outcomes.{reply_to}
@@ -35,6 +36,16 @@ pub record IsStopped (text : List ℕ) (fault : TapeFault) : Type 0 where
   pub after : Option (List ℕ)
   pub consumed : Consumes (Some text) left read
   pub breaks : TapeBreaks (IsAtEnd left) None (Some []) read view after fault
+
+-- ---- where lines end
+
+-- none of the first n bytes is LF
+abbrev pub HasNoEnd : List ℕ → ℕ → Type 0
+HasNoEnd text n = AllWithin (λ b. b ≡ 10 → ⊥) text 0 n
+
+-- the first LF stands there
+abbrev pub EndsFirst : List ℕ → ℕ → Type 0
+EndsFirst text n = (n < length text) × HoldsAt (λ b. b ≡ 10) text n × HasNoEnd text n
 
 -- ---- a session's replies
 

@@ -8,6 +8,7 @@ use Rattle.street_desk.specs.History.{BeginsWith, IsHistory}
 use Rattle.street_desk.specs.Passes.{DeskView, PassView}
 use Rattle.street_line.specs.Runs.{Goes}
 use Rattle.street_line.specs.Sessions.{DeskServes}
+use Rattle.street_line.specs.declared.script.Script.{Script}
 use Rattle.street_tape.specs.Tapes.{tape_text}
 
 -- a pass of the desk that calls as this session, and has seen nothing
@@ -20,6 +21,11 @@ pub record IsNew (desk : DeskView) (session : ℕ) (pass : PassView) : Type 0 wh
 abbrev pub Replied : PassView → List (List ℕ) → Client → Type 0
 Replied before firsts client =
     IfSome client.replies (λ replies. (more : List (List ℕ)) × Goes DeskServes before (firsts ++ more) replies.items client.pass)
+
+-- two scripts that were at one desk are there afterwards
+abbrev pub StayAtDesk : {R : Type 0} → Script R → Script R → Script R × Script R → Type 0
+StayAtDesk one two ran = (desk : DeskView) → one.session.desk ≡ desk → two.session.desk ≡ desk
+    → (ran.0.session.desk ≡ desk) × (ran.1.session.desk ≡ desk)
 
 -- the tape of a history of at least so many calls, which begins with what each of two passes has seen
 pub record IsWhole (sessions calls : ℕ) (one two : PassView) (tape : List ℕ) : Type 0 where

@@ -14,7 +14,7 @@ use std::thread;
 use std::thread::{Threads, join};
 use street_desk::{Desk, Pass};
 use street_engine::Unwatched;
-use street_line::{DeskSession, run_session};
+use street_line::{DeskSession, run_lines};
 use street_stream::Counted;
 
 /// How often a caller looks for the other before it goes on alone.
@@ -43,7 +43,7 @@ fn serve_lines<R: Threads + Wait + Sync>(
 {
     let mut reader = Counted::new(lines.as_bytes());
     let mut writer = Counted::new(Vec::new(alloc));
-    match run_session(alloc, session, &mut reader, &mut writer) {
+    match run_lines(alloc, session, &mut reader, &mut writer) {
         Ok(_tally) => Some(writer.stream),
         Err(_fault) => None,
     }

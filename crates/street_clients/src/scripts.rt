@@ -1,7 +1,6 @@
 //! Two scripts that share one network.
 ghost use Rattle.std.specs.Prelude.{◌≡◌, ◌≤◌, [], IfSome, MatchOption, Some, None};
-ghost use Rattle.street_clients.specs.Told.{AreTold, Replied};
-ghost use Rattle.street_desk.specs.Passes.{DeskView};
+ghost use Rattle.street_clients.specs.Told.{AreTold, Replied, StayAtDesk};
 ghost use Rattle.street_line.specs.Scripts.{IsRun};
 
 use crate::desks::{Client, desk_of_two, end_desk};
@@ -42,8 +41,7 @@ fn run_two<'a, R: Threads + Wait + Sync>(
     two: Script<'a, R>,
 ) -> Option<(Script<'a, R>, Script<'a, R>)>
     ensures run { IfSome result (λ r. IsRun one.entry r.0 × IsRun two.entry r.1) }
-    ensures desk { IfSome result (λ r. (desk : DeskView) → one.entry.session.desk ≡ desk → two.entry.session.desk ≡ desk
-        → (r.0.session.desk ≡ desk) × (r.1.session.desk ≡ desk)) }
+    ensures desk { IfSome result (StayAtDesk one.entry two.entry) }
 {
     let mut scripts = vec![in alloc; one, two].ok()?;
     run_scripts(rt, alloc, &mut scripts);

@@ -1,8 +1,7 @@
 //! What two clients were told, beside what a replay of their desk's tape answers.
 //! Source: this profile.
-ghost use Rattle.std.specs.Prelude.{◌≡◌, ◌<◌, [], ◌∷◌, length, IfOk, IfErr, MatchOption, Decides, HoldsAt, IsUtf8, drop, true};
-ghost use Rattle.std.specs.List.{AllWithin};
-ghost use Rattle.street_clients.specs.Replies.{Agrees, IsRetold, IsStopped, is_of, own_lines, replies_to};
+ghost use Rattle.std.specs.Prelude.{◌≡◌, ◌<◌, [], ◌∷◌, length, IfOk, IfErr, MatchOption, Decides, IsUtf8, drop, true};
+ghost use Rattle.street_clients.specs.Replies.{Agrees, HasNoEnd, EndsFirst, IsRetold, IsStopped, is_of, own_lines, replies_to};
 ghost use Rattle.street_stream.specs.Lines.{cut};
 ghost use Rattle.street_tape.specs.Entries.{entry_reading};
 
@@ -77,9 +76,7 @@ pub fn text_of(lines: &[u8]) -> &str
 
 /// Where the first LF stands.
 fn line_end(text: &[u8]) -> Option<usize>
-    ensures { MatchOption result
-        (AllWithin (λ b. b ≡ 10 → ⊥) text.now 0 (length text.now))
-        (λ n. (n < length text.now) × HoldsAt (λ b. b ≡ 10) text.now n × AllWithin (λ b. b ≡ 10 → ⊥) text.now 0 n) }
+    ensures { MatchOption result (HasNoEnd text.now (length text.now)) (EndsFirst text.now) }
 {
     text.iter().position(|byte| *byte == b'\n')
 }

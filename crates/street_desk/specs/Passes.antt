@@ -1,11 +1,12 @@
 -- What contracts see of a desk, of passes and of notes, and what each call tells.
 -- Source: this profile.
-use Rattle.std.specs.Prelude.{◌<◌, ◌≡◌, ℕ, ◌-◌, ◌≤◌, List, [], ◌∷◌, ◌++◌, length, true, false}
+use Rattle.std.specs.Prelude.{◌<◌, ◌≡◌, ℕ, ◌-◌, ◌≤◌, List, [], ◌∷◌, ◌++◌, length, true, false, Result, MatchResult}
 use Rattle.atomic_table.specs.Seated.{TableId}
 use Rattle.street_base.specs.declared.command.Command.{Command}
 use Rattle.street_base.specs.declared.reply.Outcome.{Outcome}
 use Rattle.street_base.specs.declared.reply.Reply.{Reply}
 use Rattle.street_base.specs.Outcomes.{reply_to}
+use Rattle.street_desk.specs.declared.faults.Full.{Full}
 use Rattle.street_desk.specs.declared.journal.Entry.{Entry}
 use Rattle.street_desk.specs.declared.view.SeatView.{SeatView}
 use Rattle.street_desk.specs.History.{entry, state_of, calls_of, BeginsWith, IsHistory}
@@ -84,6 +85,11 @@ pub record Filled (p q : PassView) : Type 0 where
   pub learns : Learns p q
   pub long : length q.seen ≡ p.desk.calls
   pub count : p.count ≤ length q.seen
+
+-- the reply to a command; or the command comes back, with the number of calls that the full journal has
+abbrev pub Told : PassView → Command → ℕ → Result Reply Full → PassView → Type 0
+Told p command calls told q =
+    MatchResult told (λ r. Answered p command r q) (λ f. (f.command ≡ command) × (f.served ≡ calls) × Filled p q)
 
 -- n calls were found finished
 pub record ServedCount (p : PassView) (n : ℕ) (q : PassView) : Type 0 where

@@ -1,10 +1,14 @@
 -- What each step at the desk's table does to a view, and what it tells.
 -- Source: this profile.
-use Rattle.std.specs.Prelude.{◌≡◌, ◌≢◌, ℕ, ◌+◌, ◌-◌, ◌*◌, ◌%◌, ◌/◌, ◌<◌, ◌≤◌, List, [], ◌∷◌, length, Bool, true, false, leb, if◌then◌else◌, Option, Some}
+use Rattle.std.specs.Prelude.{◌≡◌, ◌≢◌, ℕ, ◌+◌, ◌-◌, ◌*◌, ◌%◌, ◌/◌, ◌<◌, ◌≤◌, List, [], ◌∷◌, ◌++◌, length, Bool, true, false, leb, if◌then◌else◌, Option, Some}
 use Rattle.atomic_table.specs.Table.{Me, Step}
+use Rattle.street_base.specs.declared.command.Command.{Command}
+use Rattle.street_base.specs.declared.reply.Outcome.{Outcome}
+use Rattle.street_base.specs.declared.reply.Reply.{Reply}
+use Rattle.street_base.specs.Outcomes.{reply_to}
 use Rattle.street_desk.specs.declared.journal.Entry.{Entry}
 use Rattle.street_desk.specs.declared.view.SeatView.{SeatView}
-use Rattle.street_desk.specs.History.{IsLegal, AllBelow, BeginsWith, calls_of}
+use Rattle.street_desk.specs.History.{entry, state_of, IsLegal, AllBelow, BeginsWith, calls_of}
 use Rattle.street_desk.specs.Rule.{Recorded, recorded}
 
 -- a seat: its view, and the slots that it holds
@@ -58,6 +62,13 @@ grab st m n m' = (n ≡ st.first → Grabs m.0 n m'.0 m'.1) × (n ≢ st.first �
 -- the store that ends a turn: the engine is at home again, and the journal is the history
 abbrev pub release : Step (Option Recorded) → Sat → ℕ → Sat → Type 0
 release st m n m' = (r : Recorded) → m.1 ≡ (0, Some r) ∷ [] → m' ≡ (with_turn m.0 r.history false, [])
+
+-- a turn was used for this call: the history is legal with it, the reply is the machine's there, and the seat rests with it seen
+abbrev pub Calls : SeatView → ℕ → Command → Reply → Sat → Type 0
+Calls v session command reply after = (o : Outcome)
+    × (reply ≡ reply_to (state_of v.seen) command o)
+    × IsLegal (v.seen ++ entry session command o ∷ [])
+    × (after ≡ (with_turn v (v.seen ++ entry session command o ∷ []) false, []))
 
 -- ---- seats split and joined
 

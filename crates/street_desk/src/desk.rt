@@ -1,17 +1,15 @@
 //! The desk and its calls.
 //!
 //! Source: this profile.
-ghost use Rattle.std.specs.Prelude.{◌≡◌, ◌+◌, ◌*◌, ◌/◌, ◌%◌, ◌^◌, ◌<◌, ◌≤◌, [], ◌∷◌, ◌++◌, length, true, false, Some, None};
-ghost use Rattle.std.specs.Prelude.{MatchBool, MatchResult, IfOk, IfErr, IsOk};
-ghost use Rattle.street_base.specs.declared.reply.Outcome.{Outcome};
-ghost use Rattle.street_base.specs.Outcomes.{reply_to};
+ghost use Rattle.std.specs.Prelude.{◌≡◌, ◌+◌, ◌*◌, ◌/◌, ◌%◌, ◌^◌, ◌<◌, ◌≤◌, [], ◌∷◌, length, true, false, Some, None};
+ghost use Rattle.std.specs.Prelude.{MatchBool, IfOk, IfErr, IsOk};
 ghost use Rattle.street_engine.specs.Refines.{StandsFor};
 ghost use Rattle.street_desk.specs.declared.faults.SplitFault.TheVariants.{Single};
-ghost use Rattle.street_desk.specs.History.{entry, state_of, IsLegal};
+ghost use Rattle.street_desk.specs.History.{state_of};
 ghost use Rattle.street_desk.specs.Rule.{recorded};
-ghost use Rattle.street_desk.specs.Steps.{Looks, Grabs, with_turn};
+ghost use Rattle.street_desk.specs.Steps.{Looks, Grabs, Calls};
 ghost use Rattle.street_desk.specs.Passes.{desk_view, pass_view, Rests, first_pass, without_last, of_last};
-ghost use Rattle.street_desk.specs.Passes.{Answered, Filled, ServedCount, OwnsUnused, Heard, Finished};
+ghost use Rattle.street_desk.specs.Passes.{Answered, Filled, Told, ServedCount, OwnsUnused, Heard, Finished};
 
 use crate::faults::{Full, SplitFault, Torn};
 use crate::journal::{Journal, Recorder};
@@ -57,7 +55,7 @@ impl<G: Gate + Sync + Drop + Send> Model for Desk<G> {
 }
 
 impl<G: Gate + Sync + Drop + Send> Desk<G> {
-    /// A load of the turn word.
+    /// The turn word: how many turns were taken and given back. The seat then knows it.
     fn look(&self, seat: &mut DeskSeat<G>) -> u64
         requires { seat.old.table_id ≡ self.now.table }
         ensures same { (seat.new.table_id ≡ seat.old.table_id) × (seat.new.id ≡ seat.old.id) × (seat.new.me.1 ≡ seat.old.me.1) }
@@ -98,10 +96,7 @@ impl<G: Gate + Sync + Drop + Send> Desk<G> {
         requires word { (at ≡ 2 * length seat.old.me.0.seen) × (at < 2 ^ 63) }
         requires session { session ≡ seat.old.me.0.least }
         ensures same { (seat.new.table_id ≡ seat.old.table_id) × (seat.new.id ≡ seat.old.id) }
-        ensures done { let seen = seat.old.me.0.seen in (o : Outcome)
-            × (result ≡ reply_to (state_of seen) command o)
-            × IsLegal (seen ++ entry session command o ∷ [])
-            × (seat.new.me ≡ (with_turn seat.old.me.0 (seen ++ entry session command o ∷ []) false, [])) }
+        ensures done { Calls seat.old.me.0 session command result seat.new.me }
     {
         match self.table.shared.exchange(seat, 0, None) {
             Some(mut recorder) => {
@@ -148,11 +143,8 @@ impl<G: Gate + Sync + Drop + Send> Desk<G> {
         requires rests { (seat.old.me.1 ≡ []) × Rests seat.old.me.0 }
         requires session { session ≡ seat.old.me.0.least }
         ensures same { (seat.new.table_id ≡ seat.old.table_id) × (seat.new.id ≡ seat.old.id) × (seat.new.me.1 ≡ []) × Rests seat.new.me.0 }
-        ensures told { let before = pass_view seat.old.table_id seat.old.me.0 in
-            let after = pass_view seat.new.table_id seat.new.me.0 in
-            MatchResult result
-            (λ r. Answered before command r after)
-            (λ f. (f.command ≡ command) × (f.served ≡ self.now.calls) × Filled before after) }
+        ensures told { Told (pass_view seat.old.table_id seat.old.me.0) command self.now.calls result
+            (pass_view seat.new.table_id seat.new.me.0) }
     {
         let mut tries = 0;
         for _ in rt.forever() {

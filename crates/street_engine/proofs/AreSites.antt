@@ -8,10 +8,10 @@ use Rattle.std.proofs.lemmas.List.Elements.{filter-append}
 use Rattle.std.proofs.lemmas.Option.{slice_get-map, slice_get-get_or, slice_get_within, slice_get_past, get_or_from_slice_get}
 use Rattle.street_base.specs.declared.net.NetSpec.{NetSpec}
 use Rattle.street_base.specs.Limits.{most_detectors}
-use Rattle.street_base.specs.Network.{Place, is_place}
+use Rattle.street_base.specs.declared.names.Place.{Place}
+use Rattle.street_base.specs.Network.{is_place}
 use Rattle.street_base.specs.State.{Traffic, Detector}
 use Rattle.street_base.proofs.ReleaseLemmas.{is_place-refl}
-use Rattle.street_net.specs.Tables.{place_of}
 use Rattle.street_lanes.specs.Lanes.{IsLane}
 use Rattle.street_lanes.specs.Detectors.{MetersStandFor}
 use Rattle.street_tile.specs.Tiles.{Part}
@@ -44,7 +44,7 @@ module _ (f : Detector → Detector) (stays : (d : Detector) → (f d).place ≡
             let is = are.each i d l in
             record {
               lane = is.lane;
-              there = ap (λ es. slice_get es s.number) (on-map (place_of s.at) ds) ∙ slice_get-map f (detectors_on (place_of s.at) ds) s.number ∙ ap (option_map f) is.there ∙ sym (slice_get-map f ds i);
+              there = ap (λ es. slice_get es s.number) (on-map s.at ds) ∙ slice_get-map f (detectors_on s.at ds) s.number ∙ ap (option_map f) is.there ∙ sym (slice_get-map f ds i);
             };
       }
 
@@ -65,7 +65,7 @@ get-last xs x k is =
 on-append : (p : Place) (ds es : List Detector) → detectors_on p (ds ++ es) ≡ detectors_on p ds ++ detectors_on p es
 on-append p ds es = filter-append (λ (e : Detector). is_place p e.place) ds es
 
-pub sites-more : (net : NetSpec) (sites : List DetectorSite) (ds : List Detector) (s : DetectorSite) (d : Detector) → AreDetectorSites net sites ds → length ds < most_detectors → IsLane net (place_of s.at) → d.place ≡ place_of s.at → s.number ≡ length (detectors_on (place_of s.at) ds) → AreDetectorSites net (sites ++ s ∷ []) (ds ++ d ∷ [])
+pub sites-more : (net : NetSpec) (sites : List DetectorSite) (ds : List Detector) (s : DetectorSite) (d : Detector) → AreDetectorSites net sites ds → length ds < most_detectors → IsLane net s.at → d.place ≡ s.at → s.number ≡ length (detectors_on s.at ds) → AreDetectorSites net (sites ++ s ∷ []) (ds ++ d ∷ [])
 sites-more net sites ds s d are room lane at number =
     let long = length-append ds (d ∷ []) in
     let longer = length-append sites (s ∷ []) in
@@ -75,10 +75,10 @@ sites-more net sites ds s d are room lane at number =
       few = omega (arith, long, room);
       each = λ i e l. elim (cases_eq i (length sites)) as (λ _. IsDetectorSite net (ds ++ d ∷ []) i (get_or (sites ++ s ∷ []) i e)) [
         | inl last ↦ (
-            let there : is_place (place_of s.at) d.place ≡ true = ap (is_place (place_of s.at)) at ∙ is_place-refl (place_of s.at) in
+            let there : is_place s.at d.place ≡ true = ap (is_place s.at) at ∙ is_place-refl s.at in
             subst (IsDetectorSite net (ds ++ d ∷ []) i) (sym (get_or_push sites s e i (sym last))) (record {
               lane = lane;
-              there = ap (λ es. slice_get es s.number) (on-append (place_of s.at) ds (d ∷ []) ∙ rw there refl) ∙ get-last (detectors_on (place_of s.at) ds) d s.number number ∙ sym (get-last ds d i (last ∙ even));
+              there = ap (λ es. slice_get es s.number) (on-append s.at ds (d ∷ []) ∙ rw there refl) ∙ get-last (detectors_on s.at ds) d s.number number ∙ sym (get-last ds d i (last ∙ even));
             }))
         | inr other ↦ (
             let within : i < length sites = omega (arith, l, longer, other) in
@@ -88,7 +88,7 @@ sites-more net sites ds s d are room lane at number =
             let known = slice_get-get_or ds i d inside in
             subst (IsDetectorSite net (ds ++ d ∷ []) i) (sym (get_or_append_left sites (s ∷ []) e i within)) (record {
               lane = is.lane;
-              there = ap (λ es. slice_get es t.number) (on-append (place_of t.at) ds (d ∷ [])) ∙ get-before (detectors_on (place_of t.at) ds) (detectors_on (place_of t.at) (d ∷ [])) t.number (get_or ds i d) (is.there ∙ known) ∙ sym (get-before ds (d ∷ []) i (get_or ds i d) known);
+              there = ap (λ es. slice_get es t.number) (on-append t.at ds (d ∷ [])) ∙ get-before (detectors_on t.at ds) (detectors_on t.at (d ∷ [])) t.number (get_or ds i d) (is.there ∙ known) ∙ sym (get-before ds (d ∷ []) i (get_or ds i d) known);
             }))
       ];
     }

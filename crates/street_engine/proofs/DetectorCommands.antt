@@ -9,7 +9,7 @@ use Rattle.street_base.specs.declared.refusal.Refusal.TheVariants.{BadRange, Bad
 use Rattle.street_base.specs.declared.reply.Reply.{Reply}
 use Rattle.street_base.specs.declared.reply.Reply.TheVariants.{Placed, Refused, Starved as StarvedReply}
 use Rattle.street_base.specs.declared.reply.Outcome.TheVariants.{Whole, Starved}
-use Rattle.street_base.specs.Network.{Place}
+use Rattle.street_base.specs.declared.names.Place.{Place}
 use Rattle.street_base.specs.State.{Traffic, Detector}
 use Rattle.street_base.specs.Limits.{most_period, most_detectors}
 use Rattle.street_base.specs.Faults.{is_within}

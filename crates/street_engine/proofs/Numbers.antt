@@ -26,9 +26,6 @@ module _ (net : NetSpec) (faultless : network_fault net ≡ None) (link : ℕ) w
   pub small-lane : (lane : ℕ) → lane < (link_at net link).lanes → lane < 256
   small-lane lane h = omega (arith, h, (link_keeps_limits net faultless link (link-inside net link lane h)).few_lanes)
 
-  pub small-cell : (cell : ℕ) → link < length net.links → cell < (link_at net link).length → cell < 4294967296
-  small-cell cell there h = omega (arith, h, (link_keeps_limits net faultless link there).few_cells)
-
 -- ---- cells from a first to a last one
 
 -- where the lane is refused, so are its cells

@@ -7,7 +7,8 @@ use Rattle.std.proofs.lemmas.List.Sums.{sum_by-cons}
 use Rattle.std.proofs.lemmas.List.Elements.{filter_map-append}
 use Rattle.street_base.specs.declared.net.NetSpec.{NetSpec}
 use Rattle.street_base.specs.declared.reply.End.{End}
-use Rattle.street_base.specs.Network.{Place, places}
+use Rattle.street_base.specs.declared.names.Place.{Place}
+use Rattle.street_base.specs.Network.{places}
 use Rattle.street_base.specs.Vehicle.{Vehicle, is_on_last}
 use Rattle.street_base.specs.State.{Traffic}
 use Rattle.street_base.specs.Census.{in_lanes, has_ended, one_if, IsSound}

@@ -8,7 +8,8 @@ use Rattle.std.proofs.lemmas.List.{length-set}
 use Rattle.street_base.specs.declared.net.NetSpec.{NetSpec}
 use Rattle.street_base.specs.declared.reply.End.{End}
 use Rattle.street_base.specs.declared.reply.End.TheVariants.{Taken}
-use Rattle.street_base.specs.Network.{Place, is_place, link_at, node_of, places}
+use Rattle.street_base.specs.declared.names.Place.{Place}
+use Rattle.street_base.specs.Network.{is_place, link_at, node_of, places}
 use Rattle.street_base.specs.Faults.{network_fault}
 use Rattle.street_base.specs.Signal.{SignalPlan}
 use Rattle.street_base.specs.State.{Traffic, Detector, lane_at, each_lane}
@@ -30,7 +31,6 @@ use Rattle.street_base.proofs.StepLemmas.{step-sound}
 use Rattle.street_base.proofs.PlaceLemmas.{places-listed}
 use Rattle.street_base.proofs.ReleaseCountLemmas.{in_lanes-places}
 use Rattle.street_base.proofs.FormLemmas.{shape-of}
-use Rattle.street_net.specs.Tables.{place_of}
 use Rattle.street_lanes.specs.Lanes.{IsLane}
 use Rattle.street_tile.specs.Tiles.{Part, AreTiles, AllStand, StandsFor as TileStands, Each}
 use Rattle.street_tile.specs.Commands.{at_place, without, planned}
@@ -175,9 +175,9 @@ module _ (sites : List DetectorSite) (clock : ℕ) (x y : TilesView) (ends : Lis
 
   -- ---- a detector is placed
 
-  pub metered-stands : (s : DetectorSite) (cell period : ℕ) → TilesGo (λ m. Unit {0}) (λ m. metered m (place_of s.at) cell period) x y → IsLane x.network (place_of s.at) → length sites < most_detectors
-      → ((m : Traffic) → TilesStandFor x m → s.number ≡ length (detectors_on (place_of s.at) m.detectors))
-      → (m : Traffic) → IsTrafficOf (streets_of x sites clock ends) m → IsTrafficOf (streets_of y (sites ++ s ∷ []) clock ends) (metered m (place_of s.at) cell period)
+  pub metered-stands : (s : DetectorSite) (cell period : ℕ) → TilesGo (λ m. Unit {0}) (λ m. metered m s.at cell period) x y → IsLane x.network s.at → length sites < most_detectors
+      → ((m : Traffic) → TilesStandFor x m → s.number ≡ length (detectors_on s.at m.detectors))
+      → (m : Traffic) → IsTrafficOf (streets_of x sites clock ends) m → IsTrafficOf (streets_of y (sites ++ s ∷ []) clock ends) (metered m s.at cell period)
   unfolding metered
   metered-stands s cell period does lane room number m t =
       let even = t.sites.even in
@@ -187,7 +187,7 @@ module _ (sites : List DetectorSite) (clock : ℕ) (x y : TilesView) (ends : Lis
         tiles = does.goes m tt t.tiles;
         sound = record { formed = record { lanes = t.sound.formed.lanes; cells = t.sound.formed.cells; turns = t.sound.formed.turns }; whole = t.sound.whole; disjoint = t.sound.disjoint };
         signals = same-signals does.network (length m.signals) t.signals;
-        sites = subst (λ (n : NetSpec). AreDetectorSites n (sites ++ s ∷ []) (metered m (place_of s.at) cell period).detectors) (sym does.network) (sites-more x.network sites m.detectors s _ t.sites (omega arith) lane refl (number m t.tiles));
+        sites = subst (λ (n : NetSpec). AreDetectorSites n (sites ++ s ∷ []) (metered m s.at cell period).detectors) (sym does.network) (sites-more x.network sites m.detectors s _ t.sites (omega arith) lane refl (number m t.tiles));
       }
 
 -- the plan of the node with an identifier

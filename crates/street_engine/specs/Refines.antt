@@ -1,13 +1,15 @@
 -- What an engine stands for, and what it owes at each command.
 -- Source: this profile.
-use Rattle.std.specs.Prelude.{◌≡◌, ℕ, List, Bool, true, false, Option, Some, None}
+use Rattle.std.specs.Prelude.{◌≡◌, ℕ, List, ◌++◌, Bool, true, false, Option, Some, None}
 use Rattle.street_base.specs.declared.command.Command.{Command}
 use Rattle.street_base.specs.declared.command.Command.TheVariants.{CloseLane, ReopenLane}
 use Rattle.street_base.specs.declared.refusal.Refusal.{Refusal}
 use Rattle.street_base.specs.declared.reply.Reply.{Reply}
 use Rattle.street_base.specs.declared.reply.Reply.TheVariants.{Refused}
 use Rattle.street_base.specs.declared.reply.Outcome.{Outcome}
-use Rattle.street_base.specs.State.{State}
+use Rattle.street_base.specs.declared.net.NetSpec.{NetSpec}
+use Rattle.street_base.specs.Machine.{first_of, lane_tests}
+use Rattle.street_base.specs.State.{State, Traffic}
 use Rattle.street_base.specs.Outcomes.{Answers}
 use Rattle.street_base.specs.Run.{Runs}
 use Rattle.street_engine.specs.Streets.{StreetsView, StreetsStandFor}
@@ -30,6 +32,16 @@ Serves before command reply outcome after = (old : State) → StandsFor before o
 -- what was refused is as it was
 abbrev pub KeepsRefused : EngineView → Reply → EngineView → Type 0
 KeepsRefused before reply after = (refusal : Refusal) → reply ≡ Refused refusal → after ≡ before
+
+-- the lane of this link is there, so that what is refused is said by the tests behind those of the lane
+abbrev pub PassesLane : NetSpec → ℕ → ℕ → Type 0
+PassesLane net link lane = (m : Traffic) (rest : List (Bool × Refusal)) → m.network ≡ net
+    → first_of (lane_tests link lane m ++ rest) ≡ first_of rest
+
+-- the tests of the lane refuse so
+abbrev pub RefusesLane : NetSpec → ℕ → ℕ → Refusal → Type 0
+RefusesLane net link lane refusal = (m : Traffic) (rest : List (Bool × Refusal)) → m.network ≡ net
+    → first_of (lane_tests link lane m ++ rest) ≡ Some refusal
 
 -- the command that closes cells of a lane, or opens them
 abbrev pub closing : Bool → ℕ → ℕ → ℕ → ℕ → Command

@@ -4,15 +4,14 @@ use Rattle.std.specs.Prelude.{◌≡◌, ◌<◌, ◌≤◌, ℕ, List, length, 
 use Rattle.street_base.specs.declared.net.NetSpec.{NetSpec}
 use Rattle.street_base.specs.Limits.{most_detectors}
 use Rattle.street_base.specs.State.{Detector}
-use Rattle.street_net.specs.Tables.{place_of}
 use Rattle.street_lanes.specs.Lanes.{IsLane}
 use Rattle.street_tile.specs.TileDetectors.{detectors_on}
 use Rattle.street_engine.specs.declared.sites.DetectorSite.{DetectorSite}
 
 -- detector i is the one with this number among those of this lane
 pub record IsDetectorSite (net : NetSpec) (ds : List Detector) (i : ℕ) (s : DetectorSite) : Type 0 where
-  pub lane : IsLane net (place_of s.at)
-  pub there : slice_get (detectors_on (place_of s.at) ds) s.number ≡ slice_get ds i
+  pub lane : IsLane net s.at
+  pub there : slice_get (detectors_on s.at ds) s.number ≡ slice_get ds i
 
 -- each detector has its site, in their order, and there are no more than may stand
 pub record AreDetectorSites (net : NetSpec) (sites : List DetectorSite) (ds : List Detector) : Type 0 where

@@ -1,9 +1,14 @@
 -- What contracts see of the traffic on a loaded network, and when it stands for traffic of the machine.
 -- Source: this profile.
-use Rattle.std.specs.Prelude.{ℕ, ◌≡◌, ◌≤◌, List, length, Option}
+use Rattle.std.specs.Prelude.{ℕ, ◌≡◌, ◌≤◌, List, length, Option, Some}
 use Rattle.street_base.specs.declared.reply.End.{End}
 use Rattle.street_base.specs.Limits.{last_clock}
+use Rattle.street_base.specs.Network.{node_of}
+use Rattle.street_base.specs.Signal.{SignalPlan}
+use Rattle.street_base.specs.Effects.{signalled}
+use Rattle.street_base.specs.Machine.{entered, plan_links}
 use Rattle.street_base.specs.State.{Traffic}
+use Rattle.street_node.specs.Greens.{ShowsAs}
 use Rattle.street_base.specs.Census.{IsSound}
 use Rattle.street_tile.specs.Together.{TilesView, TilesStandFor, NobodyArrived}
 use Rattle.street_engine.specs.declared.sites.DetectorSite.{DetectorSite}
@@ -37,6 +42,16 @@ StreetsStandFor x m = IsTrafficOf x m
 -- whatever traffic it stood for, it then stands for f of that
 abbrev pub StreetsGo : (Traffic → Traffic) → StreetsView → StreetsView → Type 0
 StreetsGo f x y = (m : Traffic) → StreetsStandFor x m → StreetsStandFor y (f m)
+
+-- one more vehicle waits on this lane of the first link of its plan
+abbrev pub StreetsAdmit : List ℕ → ℕ → ℕ → ℕ → StreetsView → StreetsView → Type 0
+StreetsAdmit plan lane depart size x y = (ids : List ℕ) → plan ≡ plan_links x.tiles.network ids
+    → StreetsGo (λ m. entered m ids lane depart size) x y
+
+-- the node at a position has this signal plan
+abbrev pub StreetsSignal : ℕ → SignalPlan → StreetsView → StreetsView → Type 0
+StreetsSignal node plan x y = (id : ℕ) (other : SignalPlan) → node_of x.tiles.network id ≡ Some node → ShowsAs plan other
+    → StreetsGo (λ m. signalled m id other) x y
 
 -- what is kept between commands: who arrived was taken note of, the clock is in its range, and there is traffic for which all this
 -- stands

@@ -13,10 +13,8 @@ use crate::Streets;
 use std::alloc::Global;
 use std::sync::Wait;
 use std::thread::Threads;
-use street_base::{LAST_CLOCK, Outcome, Refusal, Reply};
+use street_base::{LAST_CLOCK, MOST_STEPS, Outcome, Refusal, Reply};
 use street_tile::Gate;
-
-const MOST_STEPS: u64 = 10_000;
 
 /// Why an advance of so many steps is refused. Takes no memory.
 pub(crate) fn advance_refusal(streets: &Streets, steps: u64) -> Option<Refusal>

@@ -1,18 +1,13 @@
 //! Commands of detectors.
 //!
 //! Source: this profile.
-ghost use Rattle.std.specs.Prelude.{◌≡◌};
 ghost use Rattle.street_base.specs.declared.command.Command.TheVariants.{PlaceMeter, ReadMeter};
 ghost use Rattle.street_engine.specs.Refines.{Serves, KeepsRefused};
 
 use crate::Streets;
 use crate::names::named_cells;
 use std::alloc::Global;
-use street_base::{Outcome, Refusal, Reply};
-
-const MOST_PERIOD: u64 = 100_000;
-
-const MOST_DETECTORS: usize = 1_024;
+use street_base::{MOST_DETECTORS, MOST_PERIOD, Outcome, Refusal, Reply};
 
 /// Takes memory for the detector.
 pub(crate) fn place_meter(

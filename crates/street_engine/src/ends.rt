@@ -1,7 +1,7 @@
 //! How vehicles ended.
 //!
 //! Source: this profile.
-ghost use Rattle.std.specs.Prelude.{◌≡◌, ℕ, ◌+◌, ◌<◌, ◌≤◌, ◌++◌, ◌∷◌, [], length, Some, None, slice_get, slice_set, slice_index_or, OnOk};
+ghost use Rattle.std.specs.Prelude.{◌≡◌, ◌+◌, ◌<◌, ◌≤◌, ◌++◌, ◌∷◌, [], length, Some, None, slice_get, slice_set, slice_index_or, OnOk};
 ghost use Rattle.std.specs.List.{count_by};
 ghost use Rattle.street_base.specs.declared.reply.End.TheVariants.{Arrived, Taken};
 ghost use Rattle.street_base.specs.Limits.{most_vehicles};
@@ -111,7 +111,7 @@ impl Ends {
         self.arrived += 1;
     }
 
-    /// A vehicle that had not ended was taken out at this clock.
+    /// Notes that a vehicle that had not ended was taken out at this clock.
     pub(crate) fn take(&mut self, number: CarNo, clock: Step)
         requires { slice_get self.old.ends number ≡ Some None }
         ensures { self.new.ends ≡ slice_set self.old.ends number (Some (Taken clock)) }

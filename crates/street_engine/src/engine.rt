@@ -109,7 +109,7 @@ impl<G: Gate + Sync + Drop> Engine<G> {
         }
     }
 
-    /// Serves all commands in order.
+    /// Serves all commands in order: the headline, for a list of commands.
     ///
     /// # Errors
     /// Memory for the list of answers was refused; nothing was served.

@@ -1,58 +1,46 @@
 //! Lanes and cells that a command names by numbers of its own.
 //!
 //! Source: this profile.
-ghost use Rattle.std.specs.Prelude.{◌≡◌, ℕ, ◌≤◌, ◌<◌, ◌++◌, None, Some, length, List, Bool, IfOk, IfErr, OnOk};
+ghost use Rattle.std.specs.Prelude.{◌≡◌, ℕ, ◌≤◌, ◌<◌, None, Some, length, IfOk, IfErr, OnOk};
 ghost use Rattle.street_base.specs.declared.refusal.Refusal.{Refusal};
 ghost use Rattle.street_base.specs.Network.{link_at};
-ghost use Rattle.street_base.specs.Faults.{network_fault};
 ghost use Rattle.street_base.specs.State.{Traffic};
 ghost use Rattle.street_base.specs.Effects.{named_lane as lane_named};
-ghost use Rattle.street_base.specs.Machine.{first_of, lane_tests, closure_refusal};
-ghost use Rattle.street_net.specs.Tables.{place_of};
+ghost use Rattle.street_base.specs.Machine.{closure_refusal};
 ghost use Rattle.street_lanes.specs.Lanes.{IsLane};
+ghost use Rattle.street_engine.specs.Refines.{PassesLane, RefusesLane};
 
-use street_base::{CellNo, LaneNo, LinkIx, LinkSpec, Refusal};
-use street_net::{LaneId, Network};
+use street_base::{CellNo, LaneNo, Place, Refusal};
+use street_net::Network;
 
 /// Cells of a lane from the first to the last.
 #[derive(Clone, Copy)]
 pub(crate) struct Cells {
     /// The lane.
-    pub(crate) at: LaneId,
+    pub(crate) at: Place,
     /// The first cell.
     pub(crate) first: CellNo,
     /// The last cell, in the lane and not before the first.
     pub(crate) last: CellNo,
 }
 
-/// A link as it was loaded.
-fn link_spec(net: &Network, link: LinkIx) -> &LinkSpec
-    requires { link < length net.now.links }
-    ensures spec { result.now ≡ link_at net.now link }
-    ensures faultless { network_fault net.now ≡ None }
-{
-    &net.spec().links.as_slice()[link.position()]
-}
-
 /// The lane of the link with an identifier.
 ///
 /// # Errors
 /// `NoLink`, or else `NoLane`.
-pub(crate) fn named_lane(net: &Network, link: u64, lane: u64) -> Result<LaneId, Refusal>
-    ensures place { IfOk result (λ at. place_of at ≡ lane_named net.now link lane) }
-    ensures there { IfOk result (λ at. IsLane net.now (place_of at)) }
-    ensures passed { OnOk result ((m : Traffic) (rest : List (Bool × Refusal)) → m.network ≡ net.now
-        → first_of (lane_tests link lane m ++ rest) ≡ first_of rest) }
-    ensures refused { IfErr result (λ refusal. (m : Traffic) (rest : List (Bool × Refusal)) → m.network ≡ net.now
-        → first_of (lane_tests link lane m ++ rest) ≡ Some refusal) }
+pub(crate) fn named_lane(net: &Network, link: u64, lane: u64) -> Result<Place, Refusal>
+    ensures place { IfOk result (λ at. at ≡ lane_named net.now link lane) }
+    ensures there { IfOk result (λ at. IsLane net.now at) }
+    ensures passed { OnOk result (PassesLane net.now link lane) }
+    ensures refused { IfErr result (RefusesLane net.now link lane) }
 {
     let Some(position) = net.link_of(link) else {
         return Err(Refusal::NoLink);
     };
-    if lane >= link_spec(net, position).lanes {
+    if lane >= u64::from(net.lanes_of(position)) {
         return Err(Refusal::NoLane);
     }
-    Ok(LaneId {
+    Ok(Place {
         link: position,
         lane: lane_number(net, lane),
     })
@@ -78,8 +66,8 @@ pub(crate) fn named_cells(
     first: u64,
     last: u64,
 ) -> Result<Cells, Refusal>
-    ensures place { IfOk result (λ cells. place_of cells.at ≡ lane_named net.now link lane) }
-    ensures there { IfOk result (λ cells. IsLane net.now (place_of cells.at)) }
+    ensures place { IfOk result (λ cells. cells.at ≡ lane_named net.now link lane) }
+    ensures there { IfOk result (λ cells. IsLane net.now cells.at) }
     ensures first { IfOk result (λ cells. cells.first ≡ first) }
     ensures last { IfOk result (λ cells. cells.last ≡ last) }
     ensures order { OnOk result (first ≤ last) }
@@ -89,7 +77,8 @@ pub(crate) fn named_cells(
         → closure_refusal link lane first last m ≡ Some refusal) }
 {
     let at = named_lane(net, link, lane)?;
-    if first > last || last >= link_spec(net, at.link).length {
+    let length = u64::from(net.length_of(at.link));
+    if first > last || last >= length {
         return Err(Refusal::BadRange);
     }
     Ok(Cells {

@@ -1,12 +1,12 @@
 //! Where detectors are.
 
-use street_net::LaneId;
+use street_base::Place;
 
 /// Where a detector is: its lane, and its number among the detectors of that lane.
 #[derive(Clone, Copy)]
 pub struct DetectorSite {
     /// The lane.
-    pub at: LaneId,
+    pub at: Place,
     /// The number, from 0.
     pub number: usize,
 }

@@ -2,21 +2,18 @@
 ghost use Rattle.std.specs.Prelude.{◌≡◌, ℕ, ◌+◌, ◌<◌, ◌≤◌, List, length, slice_get, slice_index_or, min, Some, None, option_map, IfOk, IfErr, OnOk, OnErr};
 ghost use Rattle.std.specs.List.{All};
 ghost use Rattle.street_base.specs.Limits.{last_clock, most_plan, most_vehicles, most_period, most_detectors};
-ghost use Rattle.street_base.specs.Network.{link_at, node_of};
+ghost use Rattle.street_base.specs.Network.{link_at};
 ghost use Rattle.street_base.specs.Faults.{network_fault};
-ghost use Rattle.street_base.specs.Signal.{SignalPlan as PlanSeen};
 ghost use Rattle.street_base.specs.State.{Traffic, lane_at};
 ghost use Rattle.street_base.specs.Step.{step, steps};
 ghost use Rattle.street_base.specs.Closing.{with_closure};
-ghost use Rattle.street_base.specs.Effects.{signalled, taken_out, metered};
-ghost use Rattle.street_base.specs.Machine.{loaded, entered, plan_links, closed_after, seen};
+ghost use Rattle.street_base.specs.Effects.{taken_out, metered};
+ghost use Rattle.street_base.specs.Machine.{loaded, plan_links, closed_after, seen};
 ghost use Rattle.street_base.specs.Shown.{shown_lane, shown_rows, census, in_cells};
-ghost use Rattle.street_net.specs.Tables.{place_of};
 ghost use Rattle.street_net.specs.Refused.{TellsFault};
-ghost use Rattle.street_node.specs.Greens.{ShowsAs};
 ghost use Rattle.street_lanes.specs.Lanes.{IsLane};
 ghost use Rattle.street_tile.specs.Tiles.{IsPrepared};
-ghost use Rattle.street_engine.specs.Streets.{StreetsStandFor, StreetsGo};
+ghost use Rattle.street_engine.specs.Streets.{StreetsStandFor, StreetsGo, StreetsAdmit, StreetsSignal};
 
 use crate::ends::{Ends, note_arrivals};
 use crate::sites::DetectorSite;
@@ -26,12 +23,13 @@ use std::marker::{Brand, Model};
 use std::sync::Wait;
 use std::thread::Threads;
 use street_base::{
-    Car, CarNo, CellNo, End, LaneNo, NetSpec, NodeIx, Plan, Reply, Size, Starved, Step, Whereabouts,
+    Car, CarNo, CellNo, End, LaneNo, NetSpec, NodeIx, Place, Plan, Reply, Size, Starved, Step,
+    Whereabouts,
 };
-use street_net::{LaneId, NetFault, Network};
+use street_net::{NetFault, Network};
 use street_node::SignalPlan;
 use street_team::{Block, Team, locks};
-use street_tile::{Course, Gate, Tile, TileWork, Tiles};
+use street_tile::{Gate, TeamNetwork, Tile, TileWork, Tiles};
 
 /// For how many steps what the gate said of threads holds.
 const STEPS_BETWEEN_COUNTS: u64 = 16;
@@ -152,11 +150,10 @@ impl Streets {
         requires short { length plan ≤ most_plan }
         requires lane { lane < (link_at self.old.tiles.network (slice_index_or plan 0 0)).lanes }
         requires few { length self.old.ends < most_vehicles }
-        ensures waits { OnOk result ((ids : List ℕ) → plan ≡ plan_links self.old.tiles.network ids
-            → StreetsGo (λ m. entered m ids lane depart size) self.old self.new) }
+        ensures waits { OnOk result (StreetsAdmit plan lane depart size self.old self.new) }
         ensures starved { OnErr result (StreetsGo (λ m. m) self.old self.new) }
     {
-        let at = LaneId {
+        let at = Place {
             link: plan.as_slice()[0],
             lane,
         };
@@ -178,8 +175,7 @@ impl Streets {
     /// A node has this signal plan from the next step on. Takes no memory.
     pub fn set_signal(&mut self, node: NodeIx, plan: SignalPlan)
         requires { node < length self.old.tiles.network.nodes }
-        ensures { (id : ℕ) → (other : PlanSeen) → node_of self.old.tiles.network id ≡ Some node → ShowsAs plan other
-            → StreetsGo (λ m. signalled m id other) self.old self.new }
+        ensures { StreetsSignal node plan self.old self.new }
     {
         self.tiles.set_signal(node, plan);
     }
@@ -190,16 +186,16 @@ impl Streets {
     /// Memory was refused; the streets stand for what they stood for.
     pub fn set_closed(
         &mut self,
-        at: LaneId,
+        at: Place,
         first: CellNo,
         last: CellNo,
         closed: bool,
     ) -> Result<u64, Starved>
-        requires lane { IsLane self.old.tiles.network (place_of at) }
+        requires lane { IsLane self.old.tiles.network at }
         requires order { first ≤ last }
         requires within { last < (link_at self.old.tiles.network at.link).length }
-        ensures marks { OnOk result (StreetsGo (with_closure closed (place_of at) first last) self.old self.new) }
-        ensures count { IfOk result (λ count. (m : Traffic) → StreetsStandFor self.old m → count ≡ closed_after closed first last (lane_at m (place_of at))) }
+        ensures marks { OnOk result (StreetsGo (with_closure closed at first last) self.old self.new) }
+        ensures count { IfOk result (λ count. (m : Traffic) → StreetsStandFor self.old m → count ≡ closed_after closed first last (lane_at m at)) }
         ensures starved { OnErr result (StreetsGo (λ m. m) self.old self.new) }
     {
         self.tiles.set_closed(at, first, last, closed)
@@ -229,9 +225,9 @@ impl Streets {
     ///
     /// # Errors
     /// Memory for the lists was refused.
-    pub fn lane(&self, alloc: Global, at: LaneId) -> Result<Reply, Starved>
-        requires { IsLane self.now.tiles.network (place_of at) }
-        ensures { IfOk result (λ reply. (m : Traffic) → StreetsStandFor self.now m → reply ≡ shown_lane (lane_at m (place_of at))) }
+    pub fn lane(&self, alloc: Global, at: Place) -> Result<Reply, Starved>
+        requires { IsLane self.now.tiles.network at }
+        ensures { IfOk result (λ reply. (m : Traffic) → StreetsStandFor self.now m → reply ≡ shown_lane (lane_at m at)) }
     {
         self.tiles.lane(alloc, at)
     }
@@ -251,27 +247,27 @@ impl Streets {
     pub fn place_meter(
         &mut self,
         alloc: Global,
-        at: LaneId,
+        at: Place,
         cell: CellNo,
         period: u32,
     ) -> Result<usize, Starved>
-        requires lane { IsLane self.old.tiles.network (place_of at) }
+        requires lane { IsLane self.old.tiles.network at }
         requires cell { cell < (link_at self.old.tiles.network at.link).length }
         requires some { 1 ≤ period }
         requires short { period ≤ most_period }
         requires few { length self.old.sites < most_detectors }
-        ensures placed { OnOk result (StreetsGo (λ m. metered m (place_of at) cell period) self.old self.new) }
+        ensures placed { OnOk result (StreetsGo (λ m. metered m at cell period) self.old self.new) }
         ensures number { IfOk result (λ number. number ≡ length self.old.sites) }
         ensures starved { OnErr result (StreetsGo (λ m. m) self.old self.new) }
     {
-        let LaneId { link, lane } = at;
+        let Place { link, lane } = at;
         let detector = self.sites.len();
         self.sites.reserve(1)?;
         let number = self
             .tiles
-            .place_meter(alloc, LaneId { link, lane }, cell, period)?;
+            .place_meter(alloc, Place { link, lane }, cell, period)?;
         self.sites.push_reserved(DetectorSite {
-            at: LaneId { link, lane },
+            at: Place { link, lane },
             number,
         });
         Ok(detector)
@@ -296,15 +292,15 @@ impl Streets {
         ensures { (m : Traffic) → StreetsStandFor self.now m → result ≡ census m }
     {
         let admitted = u64::from(self.ends.len());
-        let sizes = self.tiles.sizes();
+        let totals = self.tiles.totals();
         Reply::Census {
             admitted,
             arrived: u64::from(self.ends.arrived()),
-            buffers: sizes.buffers,
-            cells: sizes.cells,
+            buffers: totals.buffers,
+            cells: totals.cells,
             clock: u64::from(self.clock),
             taken: u64::from(self.ends.taken()),
-            waiting: sizes.waiting,
+            waiting: totals.waiting,
         }
     }
 
@@ -327,7 +323,7 @@ impl Streets {
     {
         // Its clause `few` bounds the sums.
         let _admitted = self.ends.len();
-        self.tiles.sizes().cells
+        self.tiles.totals().cells
     }
 
     /// Whether the workers share the next step, as the gate says of the vehicles in cells: never where there is one tile.
@@ -365,7 +361,7 @@ impl Streets {
     }
 
     /// One step by a team. Takes no memory.
-    pub(crate) fn step_by_team<G: Gate + Sync, K: Course, R: Wait>(
+    pub(crate) fn step_by_team<G: Gate + Sync, K: TeamNetwork, R: Wait>(
         &mut self,
         team: &mut Team<'_, '_, '_, '_, Tile, TileWork<'_, G, K>, R>,
     )
@@ -501,8 +497,8 @@ impl Streets {
         self.steps_alone(rt, gate, count)
     }
 
-    /// So many steps, or fewer where memory was refused for one, by workers that stay for up to 16 steps: what they leave, and how
-    /// many were made.
+    /// As `steps`, where workers may stay: a team of them makes up to 16 steps at a time, while the gate shares steps and there is
+    /// memory for it; else the caller makes them alone. What they leave, and how many were made.
     pub fn steps_by_team<R: Threads + Wait + Sync, G: Gate + Sync>(
         self,
         rt: &R,

@@ -16,7 +16,7 @@ use std::thread::Threads;
 use street_base::Starved;
 use street_net::Network;
 use street_team::{Block, Shared, Team, join_all, start};
-use street_tile::{Course, Gate, Tile, TileWork};
+use street_tile::{Gate, TeamNetwork, Tile, TileWork};
 
 /// The streets with which a team begins, and how many steps it makes at most.
 pub(crate) trait Begun {
@@ -58,7 +58,7 @@ impl<B: Begun> Model for Ran<B> {
 }
 
 impl<B: Begun> Ran<B> {
-    /// Before the first step.
+    /// No step is made yet.
     fn new(streets: Streets) -> Self
         requires { streets ≡ B.begun }
         ensures { result.made ≡ 0 }
@@ -95,7 +95,7 @@ impl<B: Begun> Ran<B> {
     }
 
     /// One step by a team.
-    fn step<G: Gate + Sync, K: Course, R: Wait>(
+    fn step<G: Gate + Sync, K: TeamNetwork, R: Wait>(
         &mut self,
         team: &mut Team<'_, '_, '_, '_, Tile, TileWork<'_, G, K>, R>,
     )
@@ -112,7 +112,7 @@ impl<B: Begun> Ran<B> {
 }
 
 /// So many steps by a team, or fewer where memory was refused for one.
-fn run<G: Gate + Sync, K: Course, B: Begun, R: Wait>(
+fn run<G: Gate + Sync, K: TeamNetwork, B: Begun, R: Wait>(
     team: &mut Team<'_, '_, '_, '_, Tile, TileWork<'_, G, K>, R>,
     streets: Streets,
     count: u64,
@@ -136,7 +136,7 @@ fn run<G: Gate + Sync, K: Course, B: Begun, R: Wait>(
 fn run_in_scope<
     'a,
     G: Gate + Sync,
-    K: Course + Send + Sync,
+    K: TeamNetwork + Send + Sync,
     B: Begun + Send + Sync,
     R: Threads + Wait + Sync,
 >(
@@ -175,7 +175,7 @@ fn run_in_scope<
 
 /// So many steps by a team whose items these locks tell of: what they leave, and how many were made.
 pub(crate) fn run_with_locks<
-    K: Course + Send + Sync,
+    K: TeamNetwork + Send + Sync,
     B: Begun + Send + Sync,
     G: Gate + Sync,
     R: Threads + Wait + Sync,

@@ -13,10 +13,10 @@ ghost use Rattle.street_engine.specs.Refines.{Serves, KeepsRefused};
 use crate::Streets;
 use crate::names::lane_number;
 use std::alloc::Global;
-use street_base::{CarNo, LAST_CLOCK, Outcome, Refusal, Reply, Size, Step, Whereabouts};
+use street_base::{
+    CarNo, LAST_CLOCK, MOST_VEHICLES, Outcome, Refusal, Reply, Size, Step, Whereabouts,
+};
 use street_net::{Network, PlanFault};
-
-const MOST_VEHICLES: CarNo = 1_000_000;
 
 /// Why a vehicle is refused where fewer than 1,000,000 were admitted: for its plan, or else its lane, or else its depart
 /// or its size. Takes no memory.

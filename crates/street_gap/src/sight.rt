@@ -15,8 +15,8 @@ use street_yard::{Key, ListId, Yard};
 
 /// The cell of a key's car, where there is a key.
 pub(crate) fn cell_of(yard: &Yard, key: Option<Key>) -> Option<CellNo>
-    requires { HasCar yard.now (option_map (λ k. k.0) key) }
-    ensures { result ≡ option_map (cell_at yard.now) (option_map (λ k. k.0) key) }
+    requires { HasCar yard.now key }
+    ensures { result ≡ option_map (cell_at yard.now) key }
 {
     match key {
         Some(key) => Some(yard.cell(key)),
@@ -26,8 +26,8 @@ pub(crate) fn cell_of(yard: &Yard, key: Option<Key>) -> Option<CellNo>
 
 /// The last cell that a key's car covers, where there is a key.
 pub(crate) fn rear_of(yard: &Yard, key: Option<Key>) -> Option<CellNo>
-    requires { HasCar yard.now (option_map (λ k. k.0) key) }
-    ensures { result ≡ option_map (rear_at yard.now) (option_map (λ k. k.0) key) }
+    requires { HasCar yard.now key }
+    ensures { result ≡ option_map (rear_at yard.now) key }
 {
     match key {
         Some(key) => Some(yard.rear(key)),
@@ -36,13 +36,13 @@ pub(crate) fn rear_of(yard: &Yard, key: Option<Key>) -> Option<CellNo>
 }
 
 /// The key behind `ahead` on the list, or the first one.
-pub(crate) fn next_behind(yard: &Yard, list: ListId, ahead: Option<Key>) -> Option<Key>
+pub(crate) fn next_behind(yard: &Yard, list: ListId, ahead: &Option<Key>) -> Option<Key>
     requires list { list.0 < length yard.now.lists }
-    requires ahead { IsOnList yard.now list.0 (option_map (λ k. k.0) ahead) }
-    ensures { IsNextBehind yard.now list.0 (option_map (λ k. k.0) ahead) (option_map (λ k. k.0) result) }
+    requires ahead { IsOnList yard.now list.0 ahead.now }
+    ensures { IsNextBehind yard.now list.0 ahead.now result }
 {
     match ahead {
-        Some(key) => yard.behind(key),
+        Some(key) => yard.behind(*key),
         None => yard.list_front(list),
     }
 }
@@ -50,18 +50,18 @@ pub(crate) fn next_behind(yard: &Yard, list: ListId, ahead: Option<Key>) -> Opti
 /// The last key of the list whose vehicle is above the cell, sought from such a key on. The list stands for a lane.
 pub fn last_above(yard: &Yard, list: ListId, from: Option<Key>, cell: CellNo) -> Option<Key>
     requires list { list.0 < length yard.now.lists }
-    requires from { IsUpTo yard.now list.0 cell (option_map (λ k. k.0) from) }
-    ensures { IsPosition yard.now list.0 cell (option_map (λ k. k.0) result) }
+    requires from { IsUpTo yard.now list.0 cell from }
+    ensures { IsPosition yard.now list.0 cell result }
 {
     yard.whole();
     let mut above = from;
-    let mut cursor = next_behind(yard, list, above);
+    let mut cursor = next_behind(yard, list, &above);
     while let Some(key) = cursor {
         let here = yard.cell(key);
         if here <= cell {
             return above;
         }
-        above = cursor;
+        above = Some(key);
         cursor = yard.behind(key);
     }
     above

@@ -4,11 +4,10 @@ use Rattle.std.proofs.lemmas.Option.{slice_get-get_or}
 use Rattle.std.proofs.lemmas.List.{get_or-map, get_or_read, length-map}
 use Rattle.std.proofs.lemmas.List.FromFn.{get_or-map-range_with_len}
 use Rattle.street_base.specs.declared.net.NetSpec.{NetSpec}
-use Rattle.street_base.specs.Network.{Place}
+use Rattle.street_base.specs.declared.names.Place.{Place}
 use Rattle.street_rule.specs.Odds.{Odds}
 use Rattle.street_gap.specs.declared.closures.Stretch.{Stretch}
 use Rattle.street_gap.specs.Closed.{IsWithin}
-use Rattle.street_net.specs.Tables.{place_of}
 use Rattle.street_yard.specs.Yard.{Yard}
 use Rattle.street_yard.specs.Listed.{IsLane as IsLaneOn}
 use Rattle.street_lanes.specs.declared.lanes.Extent.{Extent}
@@ -21,7 +20,7 @@ use Rattle.street_lanes.proofs.Frames.{lane-in, cells-count, sizes-are}
 
 module _ (closures : List (List Stretch)) (extents : List Extent) (odds : Odds) (n : ℕ) (within : n < length extents) (extent : Extent) (closed : List Stretch) (extent_is : extent ≡ get_or extents n extent) (closed_is : closed ≡ get_or closures n closed) (net : NetSpec) (y : Yard) (of : IsOf net (view_of y closures extents odds)) (sound : IsLaidOut y closures extents) where
   abbrev pub place : Place
-  place = place_of extent.at
+  place = extent.at
 
   extent-here : extent ≡ get_or extents n no_extent
   extent-here = get_or_read extents n extent within extent_is no_extent
@@ -31,24 +30,24 @@ module _ (closures : List (List Stretch)) (extents : List Extent) (odds : Odds) 
 
   -- it is the place of the lane
   pub place-is : place_at (view_of y closures extents odds) n ≡ place
-  place-is = get_or-map (λ (s : Extent). place_of s.at) extents n no_extent no_place within ∙ ap (λ (s : Extent). place_of s.at) (sym extent-here)
+  place-is = get_or-map (λ (s : Extent). s.at) extents n no_extent no_place within ∙ ap (λ (s : Extent). s.at) (sym extent-here)
 
   -- a lane of the network
   pub place-on : IsLane net place
   place-on =
-      let places = map (λ (s : Extent). place_of s.at) extents in
-      subst (IsLane net) place-is (of.own n (get_or places n no_place) (slice_get-get_or places n no_place (let e = length-map extents (λ (s : Extent). place_of s.at) in omega arith)))
+      let places = map (λ (s : Extent). s.at) extents in
+      subst (IsLane net) place-is (of.own n (get_or places n no_place) (slice_get-get_or places n no_place (let e = length-map extents (λ (s : Extent). s.at) in omega arith)))
 
   -- as long as the link
   pub length-is : length_at extents n ≡ cells_on net place
   length-is =
-      let places = map (λ (s : Extent). place_of s.at) extents in
+      let places = map (λ (s : Extent). s.at) extents in
       let at_extent : get_or (map size_of (lanes_in y closures extents)) n (0, 0) ≡ (length_at extents n, length_at extents n) =
       ap (λ (xs : List (ℕ × ℕ)). get_or xs n (0, 0)) (sizes-are y closures extents)
       ∙ get_or-map-range_with_len (λ k. (length_at extents k, length_at extents k)) 0 (length extents) n n (0, 0) within (omega arith) in
       let on_net : get_or (map size_of (lanes_in y closures extents)) n (0, 0) ≡ size_on net place =
       ap (λ (xs : List (ℕ × ℕ)). get_or xs n (0, 0)) of.sized
-      ∙ get_or-map (size_on net) places n no_place (0, 0) (let e = length-map extents (λ (s : Extent). place_of s.at) in omega arith)
+      ∙ get_or-map (size_on net) places n no_place (0, 0) (let e = length-map extents (λ (s : Extent). s.at) in omega arith)
       ∙ ap (size_on net) place-is in
       ap (λ (s : ℕ × ℕ). s.0) (sym at_extent ∙ on_net)
 

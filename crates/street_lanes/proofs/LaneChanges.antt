@@ -3,13 +3,13 @@ use Rattle.std.proofs.Common.{◌≡◌, ◌≢◌, ℕ, ◌+◌, ◌<◌, ◌�
 use Rattle.std.proofs.lemmas.Bool.{cases_eq, cases_lt}
 use Rattle.std.proofs.lemmas.List.{get_or_past, get_or_default}
 use Rattle.street_base.specs.declared.net.NetSpec.{NetSpec}
-use Rattle.street_base.specs.Network.{Place, link_at}
+use Rattle.street_base.specs.declared.names.Place.{Place}
+use Rattle.street_base.specs.Network.{link_at}
 use Rattle.street_base.specs.State.{Traffic, LaneState, no_lane}
 use Rattle.street_base.specs.Step.{changing_on}
 use Rattle.street_rule.specs.Odds.{Odds}
 use Rattle.street_gap.specs.declared.closures.Stretch.{Stretch}
 use Rattle.street_gap.specs.Closed.{IsWithin}
-use Rattle.street_net.specs.Tables.{place_of}
 use Rattle.street_yard.specs.Yard.{Yard}
 use Rattle.street_yard.specs.Listed.{IsLane as IsLaneOn}
 use Rattle.street_yard.proofs.FallingLists.{IsLane-agree}
@@ -71,7 +71,7 @@ module _ (x : Lanes) (y : Yard) (closures : List (List Stretch)) (extents : List
     (view_is : view_of y closures extents odds ≡ x) (sound : IsLaidOut y closures extents) (listed : n + 1 < length x.lanes) (of : IsOf net x) (joined : (place_at x (n + 1)).link ≡ (place_at x n).link)
     (extent_is : extent ≡ get_or extents n extent) (own_is : own ≡ get_or closures n own) (other_is : other ≡ get_or closures (n + 1) other) where
   abbrev link : ℕ
-  link = (place_of extent.at).link
+  link = extent.at.link
 
   abbrev count : ℕ
   count = (link_at net link).length
@@ -94,17 +94,17 @@ module _ (x : Lanes) (y : Yard) (closures : List (List Stretch)) (extents : List
   of_seen : IsOf net seen
   of_seen = subst (IsOf net) (sym view_is) of
 
-  place-here : place_at seen n ≡ place_of extent.at
+  place-here : place_at seen n ≡ extent.at
   place-here = place-is closures extents odds n within extent own extent_is own_is net y of_seen sound
 
   -- the second is on the same link, and so as long
-  same-link : (place_of beside.at).link ≡ link
+  same-link : beside.at.link ≡ link
   same-link =
       ap (λ (q : Place). q.link) (sym (place-is closures extents odds (n + 1) within_both beside other beside_is other_is net y of_seen sound))
       ∙ ap (λ (v : Lanes). (place_at v (n + 1)).link) view_is ∙ joined ∙ ap (λ (v : Lanes). (place_at v n).link) (sym view_is)
       ∙ ap (λ (q : Place). q.link) place-here
 
-  same-count : cells_on net (place_of beside.at) ≡ count
+  same-count : cells_on net beside.at ≡ count
   same-count = ap (λ (l : ℕ). (link_at net l).length) same-link
 
   pub link-there : link < length net.links

@@ -6,7 +6,6 @@ use Rattle.std.proofs.lemmas.List.{length-map, get_or-map}
 use Rattle.std.proofs.lemmas.Option.{slice_get-get_or}
 use Rattle.street_base.specs.Lane.{Track}
 use Rattle.street_base.specs.State.{Traffic, LaneState, lane_at, no_lane}
-use Rattle.street_net.specs.Tables.{place_of}
 use Rattle.street_yard.specs.Yard.{list_at, IsWhole, every_third, totals_of}
 use Rattle.street_yard.proofs.Thirds.{third-sum}
 use Rattle.street_lanes.specs.declared.lanes.Lanes.TheInside.{Inside}
@@ -46,7 +45,7 @@ module _ (x : Inside) (v : Lanes) (is : seen x ≡ v) (sound : IsSound x) (whole
   -- ---- all lanes
 
   places-long : length v.places ≡ length x.extents.items
-  places-long = sym (ap (λ (w : Lanes). length w.places) is) ∙ length-map x.extents.items (λ (e : Extent). place_of e.at)
+  places-long = sym (ap (λ (w : Lanes). length w.places) is) ∙ length-map x.extents.items (λ (e : Extent). e.at)
 
   abbrev lengths : List ℕ
   lengths = map (λ (ks : List ℕ). length ks) x.yard.lists

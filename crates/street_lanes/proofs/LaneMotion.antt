@@ -2,14 +2,13 @@
 use Rattle.std.proofs.Common.{◌≡◌, ℕ, ◌<◌, List, [], ◌∷◌, length, map, get_or, Option, None, refl, sym, ap, subst, ◌∙◌}
 use Rattle.std.specs.List.{All}
 use Rattle.street_base.specs.declared.net.NetSpec.{NetSpec}
-use Rattle.street_base.specs.Network.{Place}
+use Rattle.street_base.specs.declared.names.Place.{Place}
 use Rattle.street_base.specs.Signal.{SignalPlan}
 use Rattle.street_base.specs.State.{Traffic, LaneState, lane_at}
 use Rattle.street_base.specs.Step.{drive_on, leaver_of, driven_lane, arrival}
 use Rattle.street_rule.specs.Odds.{Odds}
 use Rattle.street_gap.specs.declared.closures.Stretch.{Stretch}
 use Rattle.street_gap.specs.Closed.{IsWithin}
-use Rattle.street_net.specs.Tables.{place_of}
 use Rattle.street_rule.specs.declared.watch.Watch.{Watch}
 use Rattle.street_rule.specs.Watch.{watched, IsReady}
 use Rattle.street_yard.specs.Yard.{Yard, list_at, first_or, IsWhole}
@@ -27,7 +26,7 @@ use Rattle.street_lanes.proofs.Extents.{place-is, place-on, kept-is, falls-on, c
 module _ (x : Lanes) (y : Yard) (closures : List (List Stretch)) (extents : List Extent) (odds : Odds) (n : ℕ) (extent : Extent) (closed : List Stretch) (net : NetSpec)
     (view_is : view_of y closures extents odds ≡ x) (sound : IsLaidOut y closures extents) (listed : n < length x.lanes) (of : IsOf net x) (extent_is : extent ≡ get_or extents n extent) (closed_is : closed ≡ get_or closures n closed) where
   abbrev p : Place
-  p = place_of extent.at
+  p = extent.at
 
   abbrev seen : Lanes
   seen = view_of y closures extents odds

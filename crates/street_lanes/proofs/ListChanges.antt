@@ -1,6 +1,6 @@
 -- Lane changes: what the lists of two lanes stand for afterwards.
 use Rattle.std.proofs.Common.{◌≡◌, ℕ, ◌+◌, ◌<◌, List, [], ◌∷◌, length, map, Option, Some, None, refl, sym, ap, subst, ◌∙◌, arith}
-use Rattle.std.specs.Prelude.{Bool, true, not, is_some, option_map}
+use Rattle.std.specs.Prelude.{Bool, true, not, is_some}
 use Rattle.std.proofs.lemmas.Bool.{true≢false}
 use Rattle.std.proofs.lemmas.List.Elements.{All-cons}
 use Rattle.street_base.specs.declared.net.NetSpec.{NetSpec}
@@ -26,7 +26,7 @@ use Rattle.street_lanes.proofs.Nobody.{IsDeserted, changed_cells-deserted}
 use Rattle.street_lanes.proofs.Front.{nobody-listed}
 
 -- a list without a front has no key
-pub empty-by : (y : Yard) (list same : ℕ) (front : Option Key) (none : Bool) → list ≡ same → option_map (λ (k : Key). k.0) front ≡ first_or (list_at y list) None → is_some front ≡ not none → none ≡ true → list_at y same ≡ []
+pub empty-by : (y : Yard) (list same : ℕ) (front : Option Key) (none : Bool) → list ≡ same → front ≡ first_or (list_at y list) None → is_some front ≡ not none → none ≡ true → list_at y same ≡ []
 empty-by y list same None none is at told e = no_head (list_at y same) None refl (subst (λ (l : ℕ). ◌≡◌ {A = Option ℕ} None (first_or (list_at y l) None)) is at)
 empty-by y list same (Some k) none is at told e = absurd (true≢false (told ∙ ap not e))
 

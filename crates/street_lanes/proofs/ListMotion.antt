@@ -7,7 +7,8 @@ use Rattle.street_base.specs.declared.car.Car.{Car}
 use Rattle.street_base.specs.declared.net.NodeSpec.{NodeSpec}
 use Rattle.street_base.specs.declared.net.NetSpec.{NetSpec}
 use Rattle.street_base.specs.Lane.{Cells, Track}
-use Rattle.street_base.specs.Network.{Place, link_at, end_node}
+use Rattle.street_base.specs.declared.names.Place.{Place}
+use Rattle.street_base.specs.Network.{link_at, end_node}
 use Rattle.street_base.specs.Signal.{SignalPlan}
 use Rattle.street_base.specs.State.{Traffic, Queued, lane_at}
 use Rattle.street_base.specs.Step.{is_exit_open, drive_on, leaver_of, joining, arrival}
@@ -171,7 +172,7 @@ module _ (net : NetSpec) (signal : Option SignalPlan) (step : ℕ) (p : Place) (
       (cells_is : cells ≡ list) (buffer_is : buffer ≡ buffer_list n) (at_front : ◌≡◌ {A = Option ℕ} (Some key) (first_or (list_at y0 cells) None)) (whole : IsWhole y0) (lane : IsLane y0 list count)
       (told_exit : (car : Car) → car_of y0 key ≡ Some car → IsToldExit net signal step p (length (list_at y0 buffer)) car exit)
       (way_is : way ≡ road cells) (dice_is : dice ≡ odds_of net)
-      (moved : MovedOn way y0 exit dice step y1 left before after) (kept : MovesList y0 y1 (lane_of way 0).list (option_map (λ (l : Leaver). l.key.0) left)) (lane_after : IsRoadLane y1 (length_of way) (lane_of way 0)) where
+      (moved : MovedOn way y0 exit dice step y1 left before after) (kept : MovesList y0 y1 (lane_of way 0).list (option_map (λ (l : Leaver). l.key) left)) (lane_after : IsRoadLane y1 (length_of way) (lane_of way 0)) where
     split : (others : List ℕ) × (list_at y0 list ≡ key ∷ others)
     split = head_is key (list_at y0 list) (Some key) refl (subst (λ (l : ℕ). ◌≡◌ {A = Option ℕ} (Some key) (first_or (list_at y0 l) None)) cells_is at_front)
 
@@ -190,8 +191,8 @@ module _ (net : NetSpec) (signal : Option SignalPlan) (step : ℕ) (p : Place) (
     moved_on : MovedOn (road list) y0 exit (odds_of net) step y1 left before after
     moved_on = subst (λ (d : Odds). MovedOn (road list) y0 exit d step y1 left before after) dice_is (subst (λ (r : Road). MovedOn r y0 exit dice step y1 left before after) road_is moved)
 
-    rest : MovesList y0 y1 list (option_map (λ (l : Leaver). l.key.0) left)
-    rest = subst (λ (r : Road). MovesList y0 y1 (lane_of r 0).list (option_map (λ (l : Leaver). l.key.0) left)) road_is kept
+    rest : MovesList y0 y1 list (option_map (λ (l : Leaver). l.key) left)
+    rest = subst (λ (r : Road). MovesList y0 y1 (lane_of r 0).list (option_map (λ (l : Leaver). l.key) left)) road_is kept
 
     lane_then : IsLane y1 list count
     lane_then = (subst (λ (r : Road). IsRoadLane y1 (length_of r) (lane_of r 0)) road_is lane_after).stands
@@ -214,25 +215,25 @@ module _ (net : NetSpec) (signal : Option SignalPlan) (step : ℕ) (p : Place) (
 
     pub MovesLane-stays : (told : Option ℕ) → left ≡ None → told ≡ None → MovesLane net signal step p closed n y0 y1 told before after
     MovesLane-stays told stays none =
-        MovesLane-settled y0 y1 y1 (option_map (λ (l : Leaver). l.key.0) left) [] told before after whole rest lane_then (touch-same (buffer_list n ∷ []) y1)
+        MovesLane-settled y0 y1 y1 (option_map (λ (l : Leaver). l.key) left) [] told before after whole rest lane_then (touch-same (buffer_list n ∷ []) y1)
         (sym (append-nil (cars_on y1 (buffer_list n))))
         (sym (ap (λ (o : Option ℕ). y1.room + length (option_to_list o)) none ∙ add-zero y1.room))
-        (λ on k loose. loose-moved y0 y1 list (option_map (λ (l : Leaver). l.key.0) left) whole rest on k loose (λ e. (let bad : ◌≡◌ {A = Option ℕ} None (Some k) = sym (ap (option_map (λ (l : Leaver). l.key.0)) stays) ∙ e in cc)))
+        (λ on k loose. loose-moved y0 y1 list (option_map (λ (l : Leaver). l.key) left) whole rest on k loose (λ e. (let bad : ◌≡◌ {A = Option ℕ} None (Some k) = sym (ap (option_map (λ (l : Leaver). l.key)) stays) ∙ e in cc)))
         (λ m now stood. (
         let h = has-moved m now stood in
-        let gone : leaver_of m p ≡ None = sym h.gone ∙ ap (option_and_then (λ (l : Leaver). vehicle_with y1 l.key.0)) stays in
+        let gone : leaver_of m p ≡ None = sym h.gone ∙ ap (option_and_then (λ (l : Leaver). vehicle_with y1 l.key)) stays in
         record { cells = h.cells; joins = sym (ap (joining m p) gone); arrives = none ∙ sym (ap arrival gone); notes = h.watches }))
 
     module _ (l : Leaver) (goes : left ≡ Some l) (end : NodeSpec) (end_is : end_node net p.link ≡ Some end) (ready : ℕ) (ready_is : step ≤ last_clock → ready ≡ step + end.residence) where
       -- who has left is loose, and so has a car
-      pub leaver-loose : IsLoose y1 l.key.0
-      leaver-loose = rest.loose l.key.0 (ap (option_map (λ (l : Leaver). l.key.0)) goes)
+      pub leaver-loose : IsLoose y1 l.key
+      leaver-loose = rest.loose l.key (ap (option_map (λ (l : Leaver). l.key)) goes)
 
       -- and nobody else is
-      leaver-alone : NoneLoose y0 → NoneLooseBut l.key.0 y1
-      leaver-alone on k loose = elim (cases_eq k l.key.0) as (λ _. k ≡ l.key.0) [
+      leaver-alone : NoneLoose y0 → NoneLooseBut l.key y1
+      leaver-alone on k loose = elim (cases_eq k l.key) as (λ _. k ≡ l.key) [
         | inl e ↦ e
-        | inr ne ↦ absurd (loose-moved y0 y1 list (option_map (λ (l : Leaver). l.key.0) left) whole rest on k loose (λ e. ne (let both : ◌≡◌ {A = Option ℕ} (Some l.key.0) (Some k) = sym (ap (option_map (λ (l : Leaver). l.key.0)) goes) ∙ e in cc)))
+        | inr ne ↦ absurd (loose-moved y0 y1 list (option_map (λ (l : Leaver). l.key) left) whole rest on k loose (λ e. ne (let both : ◌≡◌ {A = Option ℕ} (Some l.key) (Some k) = sym (ap (option_map (λ (l : Leaver). l.key)) goes) ∙ e in cc)))
       ]
 
       joins-is : (m : Traffic) → IsStepOf net signal step p m → (v : Car) → map queued_of (behind_all ready v) ≡ joining m p (Some (vehicle_of v))
@@ -247,20 +248,20 @@ module _ (net : NetSpec) (signal : Option SignalPlan) (step : ℕ) (p : Place) (
             | inr f ↦ ap (map queued_of) (cond-false _ _ _ f) ∙ ap (λ (r : ℕ). record { vehicle = vehicle_of v; ready = r } ∷ []) then_on ∙ sym (cond-false _ _ _ f)
           ]
 
-      module _ (v : Car) (v_is : car_of y1 l.key.0 ≡ Some v) (y2 : Yard) (told : Option ℕ) (settled : Settles (buffer_list n) ready v y1 y2 told) (listed : NoneLooseBut l.key.0 y1 → NoneLoose y2) where
+      module _ (v : Car) (v_is : car_of y1 l.key ≡ Some v) (y2 : Yard) (told : Option ℕ) (settled : Settles (buffer_list n) ready v y1 y2 told) (listed : NoneLooseBut l.key y1 → NoneLoose y2) where
         MovesLane-car : MovesLane net signal step p closed n y0 y2 told before after
         MovesLane-car =
-            MovesLane-settled y0 y1 y2 (option_map (λ (l : Leaver). l.key.0) left) (behind_all ready v) told before after whole rest lane_then settled.touches settled.queue settled.room (λ on. listed (leaver-alone on))
+            MovesLane-settled y0 y1 y2 (option_map (λ (l : Leaver). l.key) left) (behind_all ready v) told before after whole rest lane_then settled.touches settled.queue settled.room (λ on. listed (leaver-alone on))
             (λ m now stood. (
             let h = has-moved m now stood in
-            let gone : leaver_of m p ≡ Some (vehicle_of v) = sym h.gone ∙ ap (option_and_then (λ (l : Leaver). vehicle_with y1 l.key.0)) goes ∙ ap (option_map vehicle_of) v_is in
+            let gone : leaver_of m p ≡ Some (vehicle_of v) = sym h.gone ∙ ap (option_and_then (λ (l : Leaver). vehicle_with y1 l.key)) goes ∙ ap (option_map vehicle_of) v_is in
             record { cells = h.cells; joins = joins-is m now v ∙ sym (ap (joining m p) gone); arrives = settled.arrived ∙ sym (ap arrival gone); notes = h.watches }))
 
       loose_car : (o : Option YardEntry) → IsSomeAnd o (λ (e : YardEntry). e.list ≡ None) → (c : Car) × (option_map (λ (e : YardEntry). e.car) o ≡ Some c)
       loose_car None h = absurd h
       loose_car (Some e) h = (e.car, refl)
 
-      pub MovesLane-leaves : (y2 : Yard) (told : Option ℕ) → ((v : Car) → car_of y1 l.key.0 ≡ Some v → Settles buffer ready v y1 y2 told) → (NoneLooseBut l.key.0 y1 → NoneLoose y2) → MovesLane net signal step p closed n y0 y2 told before after
+      pub MovesLane-leaves : (y2 : Yard) (told : Option ℕ) → ((v : Car) → car_of y1 l.key ≡ Some v → Settles buffer ready v y1 y2 told) → (NoneLooseBut l.key y1 → NoneLoose y2) → MovesLane net signal step p closed n y0 y2 told before after
       MovesLane-leaves y2 told settled listed =
-          let v = loose_car (entry_at y1 l.key.0) leaver-loose in
+          let v = loose_car (entry_at y1 l.key) leaver-loose in
           MovesLane-car v.0 v.1 y2 told (subst (λ (b : ℕ). Settles b ready v.0 y1 y2 told) buffer_is (settled v.0 v.1)) listed

@@ -1,5 +1,5 @@
 -- Cars under other keys.
-use Rattle.std.proofs.Common.{◌≡◌, ◌≢◌, ℕ, ◌+◌, ◌<◌, ◌≤◌, cond, List, [], ◌∷◌, ◌++◌, length, map, get_or, IsSome, IsSomeAnd, Option, Some, None, refl, sym, ap, subst, ◌∙◌, inl, inr, arith}
+use Rattle.std.proofs.Common.{◌≡◌, ◌≢◌, ℕ, ◌<◌, cond, List, [], ◌∷◌, ◌++◌, length, map, get_or, IsSomeAnd, Option, Some, None, refl, sym, ap, subst, ◌∙◌, inl, inr, arith}
 use Rattle.std.specs.Prelude.{◌==◌, filter_map}
 use Rattle.std.specs.List.{cons_option, range_with_len}
 use Rattle.std.specs.Option.{option_map, option_and_then, unwrap_or}
@@ -11,8 +11,7 @@ use Rattle.street_base.specs.Apart.{AreDisjoint}
 use Rattle.street_rule.specs.Odds.{Odds}
 use Rattle.street_gap.specs.declared.closures.Stretch.{Stretch}
 use Rattle.street_gap.specs.Closed.{closed_marks}
-use Rattle.street_net.specs.Tables.{place_of as place_named}
-use Rattle.street_yard.specs.Yard.{YardEntry, Yard, list_at, entry_at, car_of, list_on, Has, IsLoose, IsWhole, Renews}
+use Rattle.street_yard.specs.Yard.{YardEntry, Yard, list_at, entry_at, car_of, list_on, Has, IsWhole, Renews}
 use Rattle.street_yard.specs.Listed.{cell_at, vehicle_with, key_at, seen_at, cells_at, IsFalling, IsLane}
 use Rattle.street_yard.proofs.Keys.{has-later, has-away, has-behind}
 use Rattle.street_yard.proofs.YardLemmas.{parts_apart, split-within, list-written, list-other}
@@ -191,4 +190,4 @@ module _ (y new : Yard) (closures : List (List Stretch)) (extents : List Extent)
   packed-view odds =
       let lanes : lanes_in new closures extents ≡ lanes_in y closures extents = λ i. map (λ n. lane-packed y new (closed_at closures n) (length_at extents n) n packs i) (range_with_len 0 (length extents)) in
       let loose : loose_in new ≡ loose_in y = nobody-loose new (packs.none_loose sound.none_loose) ∙ sym (nobody-loose y sound.none_loose) in
-      λ i. record { places = map (λ s. place_named s.at) extents; lanes = lanes i; loose = loose i; odds = odds; room = packs.room i }
+      λ i. record { places = map (λ s. s.at) extents; lanes = lanes i; loose = loose i; odds = odds; room = packs.room i }

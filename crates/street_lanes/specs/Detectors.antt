@@ -2,7 +2,7 @@
 -- Source: meters that sum what detectors note are this profile; what a detector notes in a step is street_base's Detector.
 use Rattle.std.specs.Prelude.{◌≡◌, ℕ, ◌+◌, ◌<◌, List, [], ◌∷◌, ◌++◌, length, slice_index_or, if◌then◌else◌}
 use Rattle.street_base.specs.Lane.{Cells, is_covered}
-use Rattle.street_base.specs.Network.{Place}
+use Rattle.street_base.specs.declared.names.Place.{Place}
 use Rattle.street_base.specs.State.{Traffic, Triple, Detector, lane_at}
 use Rattle.street_base.specs.Step.{drive_on}
 use Rattle.street_meter.specs.Meter.{Meter, Stands, IsPlacedAs, detector_of, next_step}

@@ -5,17 +5,17 @@ use Rattle.std.specs.Option.{option_map_or, option_to_list}
 use Rattle.street_base.specs.declared.car.Car.{Car}
 use Rattle.street_base.specs.declared.net.NetSpec.{NetSpec}
 use Rattle.street_base.specs.Limits.{last_clock}
-use Rattle.street_base.specs.Network.{Place, link_at, end_node, serves}
+use Rattle.street_base.specs.declared.names.Place.{Place}
+use Rattle.street_base.specs.Network.{link_at, end_node, serves}
 use Rattle.street_base.specs.Vehicle.{Vehicle, vehicle_of, next_link, is_on_last}
 use Rattle.street_base.specs.Signal.{SignalPlan, is_green}
 use Rattle.street_base.specs.State.{Traffic, lane_at}
 use Rattle.street_base.specs.Step.{plan_at, drive_on, leaver_of, driven_lane, arrival}
 use Rattle.street_gap.specs.declared.closures.Stretch.{Stretch}
-use Rattle.street_yard.specs.Yard.{Yard}
+use Rattle.street_yard.specs.Yard.{Yard, list_at, car_of}
 use Rattle.street_yard.specs.Listed.{IsLane}
 use Rattle.street_rule.specs.declared.watch.Watch.{Watch}
 use Rattle.street_rule.specs.Watch.{watched}
-use Rattle.street_net.specs.Tables.{place_of}
 use Rattle.street_lanes.specs.declared.motion.Leg.{Leg}
 use Rattle.street_lanes.specs.Views.{LaneView, LaneStands, IsLaneOf}
 use Rattle.street_lanes.specs.Lanes.{Lanes, lane_of, place_at, Same, Others}
@@ -61,6 +61,11 @@ IsFarFrom net p cell = ((link_at net p.link).limit ≤ 16) × (cell + (link_at n
 abbrev pub IsToldExit : NetSpec → Option SignalPlan → ℕ → Place → ℕ → Car → Bool → Type 0
 IsToldExit net plan step p buffered car exit = IsFarFrom net p car.cell ⊎ (exit ≡ is_open_to net plan step p buffered (vehicle_of car))
 
+-- what is told of the exit of a leg's lane is so for the car of a key, the front one, with the buffer as it is
+abbrev pub TellsExit : Yard → Leg → ℕ → ℕ → Bool → Type 0
+TellsExit y leg buffer front exit =
+    (car : Car) → car_of y front ≡ Some car → IsToldExit leg.net.now leg.signal.now leg.clock leg.at (length (list_at y buffer)) car exit
+
 -- ---- a leaver
 
 -- the car of a leaver to the end of a list, with the step from which it may go on, or nowhere where it is on its last link
@@ -96,7 +101,7 @@ pub record MovesLane (net : NetSpec) (signal : Option SignalPlan) (step : ℕ) (
 -- what motion does to the lists of a leg's lane
 abbrev pub MovesLeg : Leg → Yard → Yard → Option ℕ → List Watch → List Watch → Type 0
 MovesLeg leg old new told before after =
-    MovesLane leg.net.now leg.signal.now leg.clock (place_of leg.at) leg.closures.now leg.lane old new told before after
+    MovesLane leg.net.now leg.signal.now leg.clock leg.at leg.closures.now leg.lane old new told before after
 
 -- of whatever traffic of the step lane n stands for its lane, P holds
 abbrev pub WhereStands : NetSpec → Option SignalPlan → ℕ → ℕ → Lanes → (Traffic → Type 0) → Type 0

@@ -1,27 +1,25 @@
 //! The detectors of a lane, which has some or none.
-ghost use Rattle.std.specs.Prelude.{◌≡◌, ◌<◌, ◌≤◌, length, List, [], map, option_map, slice_get, IfOk, OnOk, OnErr};
+ghost use Rattle.std.specs.Prelude.{◌≡◌, ◌<◌, ◌≤◌, length, List, [], option_map, slice_get, IfOk, OnOk, OnErr};
 ghost use Rattle.std.specs.List.{All};
-ghost use Rattle.street_base.specs.Limits.{last_clock};
+ghost use Rattle.street_base.specs.Limits.{last_clock, most_period};
 ghost use Rattle.street_base.specs.Shown.{shown_rows};
 ghost use Rattle.street_base.specs.State.{LaneState, Detector};
-ghost use Rattle.street_net.specs.Tables.{place_of};
 ghost use Rattle.street_lanes.specs.Views.{LaneStands};
-ghost use Rattle.street_lanes.specs.Lanes.{lane_of, IsOf};
-ghost use Rattle.street_lanes.specs.Motion.{DrivesAt};
+ghost use Rattle.street_lanes.specs.Lanes.{lane_of};
 ghost use Rattle.street_meter.specs.Meter.{next_step};
-ghost use Rattle.street_lanes.specs.Detectors.{cleared, AllGoOn, AllNote, MetersStandFor, Placed};
+ghost use Rattle.street_lanes.specs.Detectors.{AllGoOn, AllNote, MetersStandFor, Placed};
 
 use crate::Lanes;
 use crate::lane_meters::LaneMeters;
 use std::alloc::Global;
 use std::marker::Model;
-use street_base::{CarNo, CellNo, Reply, Starved, Step};
-use street_net::{LaneId, Network};
+use street_base::{CarNo, CellNo, Place, Reply, Starved, Step};
+use street_net::Network;
 use street_node::Signal;
 
 /// The detectors of a lane.
 pub struct Detectors {
-    kind: Kind,
+    pub(crate) kind: Kind,
 }
 
 impl Drop for Detectors {
@@ -35,7 +33,7 @@ const _: () = prove!(size_of::<Detectors>() == 16);
 
 /// Whether the lane has detectors. Those are elsewhere, so that a step reads no more than this of a lane that has none.
 #[derive(Drop)]
-enum Kind {
+pub(crate) enum Kind {
     /// None, and so many cells.
     Bare(CellNo),
     Watched(Box<LaneMeters>),
@@ -61,27 +59,6 @@ impl Detectors {
         }
     }
 
-    /// The motion of the lane, which is lane `lane` of these, seen by the watches. Answers who arrived. Takes no memory.
-    pub fn drive(
-        &mut self,
-        own: &mut Lanes,
-        net: &Network,
-        lane: usize,
-        clock: Step,
-        signal: &Signal<'_>,
-    ) -> Option<CarNo>
-        requires lane { lane < length own.old.lanes }
-        requires of { IsOf net.now own.old }
-        requires size { self.old.size ≡ length (lane_of own.old lane).track.cells }
-        ensures drives { DrivesAt net.now signal.now clock lane own.old own.new result (map cleared self.old.meters) self.new.watches }
-        ensures meters { self.new ≡ record self.old { watches = self.new.watches } }
-    {
-        match &mut self.kind {
-            Kind::Bare(_) => own.drive(net, lane, clock, signal, &mut []),
-            Kind::Watched(meters) => meters.drive(own, net, lane, clock, signal),
-        }
-    }
-
     /// At the end of the step each meter notes what its watch saw of the motion, and whether its cell is covered. Takes no
     /// memory.
     pub fn note(&mut self, own: &Lanes, lane: usize)
@@ -104,17 +81,17 @@ impl Detectors {
     pub fn place(
         &mut self,
         alloc: Global,
-        at: LaneId,
+        at: Place,
         cell: CellNo,
         period: u32,
         start: Step,
     ) -> Result<usize, Starved>
         requires cell { cell < self.old.size }
         requires some { 1 ≤ period }
-        requires short { period ≤ 100000 }
+        requires short { period ≤ most_period }
         requires start { start ≤ last_clock }
         ensures number { IfOk result (λ number. number ≡ length self.old.meters) }
-        ensures ok { OnOk result (Placed (place_of at) cell period start self.old self.new) }
+        ensures ok { OnOk result (Placed at cell period start self.old self.new) }
         ensures err { OnErr result (self.new ≡ self.old) }
     {
         match &mut self.kind {

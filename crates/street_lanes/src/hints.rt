@@ -1,5 +1,5 @@
 //! Where those who wait are to be looked for. A hint may be wrong: whoever takes one tests it.
-ghost use Rattle.std.specs.Prelude.{◌≡◌, ◌<◌, length, option_map};
+ghost use Rattle.std.specs.Prelude.{◌<◌, length};
 ghost use Rattle.street_yard.specs.Yard.{IsOnList};
 
 use crate::search::stands_on;
@@ -40,7 +40,7 @@ impl Marks {
     /// the list.
     fn near(&self, yard: &Yard, list: ListId, car: &Car, hops: &mut usize) -> Option<Key>
         requires { list.0 < length yard.now.lists }
-        ensures { IsOnList yard.now list.0 (option_map (λ k. k.0) result) }
+        ensures { IsOnList yard.now list.0 result }
     {
         yard.whole();
         let ahead = self
@@ -130,7 +130,8 @@ impl Hints {
         let _refused = self.given.push(Given { number, key }).is_err();
     }
 
-    /// From whom on a car's place on the list of those who wait on a lane is to be looked for; from nobody it is the front.
+    /// From whom on to look for the place of a car among those who wait on a lane; nobody means from the front. Adds to `hops` how
+    /// many marks it passed that were no longer right.
     pub(crate) fn near(
         &self,
         yard: &Yard,
@@ -140,7 +141,7 @@ impl Hints {
         hops: &mut usize,
     ) -> Option<Key>
         requires { list.0 < length yard.now.lists }
-        ensures { IsOnList yard.now list.0 (option_map (λ k. k.0) result) }
+        ensures { IsOnList yard.now list.0 result }
     {
         match self.lanes.get(lane) {
             Some(marks) => marks.near(yard, list, car, hops),

@@ -3,22 +3,21 @@
 //! Source: detectors are this profile.
 ghost use Rattle.std.specs.Prelude.{◌≡◌, ◌<◌, ◌≤◌, length, List, [], map, option_map, slice_get, IfOk, OnOk, OnErr};
 ghost use Rattle.std.specs.List.{All};
-ghost use Rattle.street_base.specs.Limits.{last_clock};
+ghost use Rattle.street_base.specs.Limits.{last_clock, most_period};
 ghost use Rattle.street_base.specs.Shown.{shown_rows};
 ghost use Rattle.street_base.specs.State.{LaneState, Detector};
-ghost use Rattle.street_net.specs.Tables.{place_of};
 ghost use Rattle.street_lanes.specs.Views.{LaneStands};
-ghost use Rattle.street_lanes.specs.Lanes.{lane_of, IsOf};
-ghost use Rattle.street_lanes.specs.Motion.{DrivesAt};
+ghost use Rattle.street_lanes.specs.Lanes.{lane_of};
 ghost use Rattle.street_meter.specs.Meter.{next_step};
+ghost use Rattle.street_rule.specs.Watch.{IsReady};
 ghost use Rattle.street_lanes.specs.Detectors.{cleared, GoesOn, Notes, AllGoOn, AllNote, MetersStandFor, Placed};
 
 use crate::Lanes;
 use std::alloc::Global;
 use std::marker::Model;
-use street_base::{CarNo, CellNo, Reply, Starved, Step};
+use street_base::{CarNo, CellNo, Place, Reply, Starved, Step};
 use street_meter::{Meter, MeterSite};
-use street_net::{LaneId, Network};
+use street_net::Network;
 use street_node::Signal;
 use street_rule::Watch;
 
@@ -29,7 +28,7 @@ pub(crate) struct LaneMeters {
     length: CellNo,
     meters: Vec<Meter>,
     /// For each meter what its detector saw of the lane's last motion.
-    watches: Vec<Watch>,
+    pub(crate) watches: Vec<Watch>,
 }
 
 impl Model for LaneMeters {
@@ -90,7 +89,7 @@ fn note_all(meters: &mut [Meter], watches: &[Watch], own: &Lanes, lane: usize)
 }
 
 impl LaneMeters {
-    /// No detectors, on a lane of so many cells. Takes no memory.
+    /// For a lane of so many cells that is to have detectors: none so far. Takes no memory.
     pub(crate) fn new(alloc: Global, length: CellNo) -> LaneMeters
         ensures { result ≡ record { size = length; meters = []; watches = [] } }
     {
@@ -101,23 +100,12 @@ impl LaneMeters {
         }
     }
 
-    /// The motion of the lane, which is lane `lane` of these, seen by the watches. Answers who arrived. Takes no memory.
-    pub(crate) fn drive(
-        &mut self,
-        own: &mut Lanes,
-        net: &Network,
-        lane: usize,
-        clock: Step,
-        signal: &Signal<'_>,
-    ) -> Option<CarNo>
-        requires lane { lane < length own.old.lanes }
-        requires of { IsOf net.now own.old }
-        requires size { self.old.size ≡ length (lane_of own.old lane).track.cells }
-        ensures drives { DrivesAt net.now signal.now clock lane own.old own.new result (map cleared self.old.meters) self.new.watches }
-        ensures meters { self.new ≡ record self.old { watches = self.new.watches } }
+    /// Each watch has seen nothing, and is ready for a motion of the lane. Takes no memory.
+    pub(crate) fn clear(&mut self)
+        ensures cleared { self.new ≡ record self.old { watches = map cleared self.old.meters } }
+        ensures ready { All (IsReady self.old.size) self.new.watches }
     {
         clear(&mut self.watches, &self.meters);
-        own.drive(net, lane, clock, signal, &mut self.watches)
     }
 
     /// At the end of the step each meter notes what its watch saw of the motion, and whether its cell is covered. Takes no
@@ -140,24 +128,20 @@ impl LaneMeters {
     pub(crate) fn place(
         &mut self,
         alloc: Global,
-        at: LaneId,
+        at: Place,
         cell: CellNo,
         period: u32,
         start: Step,
     ) -> Result<usize, Starved>
         requires cell { cell < self.old.size }
         requires some { 1 ≤ period }
-        requires short { period ≤ 100000 }
+        requires short { period ≤ most_period }
         requires start { start ≤ last_clock }
         ensures number { IfOk result (λ number. number ≡ length self.old.meters) }
-        ensures ok { OnOk result (Placed (place_of at) cell period start self.old self.new) }
+        ensures ok { OnOk result (Placed at cell period start self.old self.new) }
         ensures err { OnErr result (self.new ≡ self.old) }
     {
-        let place = MeterSite {
-            link: at.link,
-            lane: at.lane,
-            cell,
-        };
+        let place = MeterSite { at, cell };
         let meter = Meter::new(alloc, place, period, start)?;
         self.meters.reserve(1)?;
         self.watches.reserve(1)?;

@@ -1,7 +1,7 @@
 //! All of one lane, as it is shown.
 //!
 //! Source: this profile.
-ghost use Rattle.std.specs.Prelude.{◌≡◌, ℕ, ◌<◌, length, map, IfOk};
+ghost use Rattle.std.specs.Prelude.{◌≡◌, ◌<◌, length, map, IfOk};
 ghost use Rattle.street_base.specs.declared.car.Car.{Car as Driven};
 ghost use Rattle.street_base.specs.State.{LaneState};
 ghost use Rattle.street_base.specs.Shown.{shown_lane};

@@ -1,7 +1,7 @@
 //! Motion on one lane of a tile.
 //!
 //! Source: Nagel and Schreckenberg 1992; exits, buffers and detectors are this profile.
-ghost use Rattle.std.specs.Prelude.{◌≡◌, ◌^◌, ◌<◌, ◌≤◌, length, Some, IsSome};
+ghost use Rattle.std.specs.Prelude.{◌≡◌, ◌^◌, ◌<◌, ◌≤◌, [], length, map, Some, IsSome};
 ghost use Rattle.std.specs.List.{All};
 ghost use Rattle.street_base.specs.declared.car.Car.{Car as CarOf};
 ghost use Rattle.street_base.specs.Limits.{most_residence};
@@ -9,19 +9,20 @@ ghost use Rattle.street_base.specs.Network.{end_node};
 ghost use Rattle.street_base.specs.Signal.{is_green};
 ghost use Rattle.street_rule.specs.Sight.{odds_of};
 ghost use Rattle.street_gap.specs.Closed.{IsWithin};
-ghost use Rattle.street_net.specs.Tables.{place_of};
 ghost use Rattle.street_rule.specs.Watch.{IsReady};
 ghost use Rattle.street_yard.specs.Yard.{list_at, entry_at, car_of, IsLoose};
 ghost use Rattle.street_yard.specs.Listed.{IsLane};
+ghost use Rattle.street_lanes.specs.Detectors.{cleared};
 ghost use Rattle.street_lanes.specs.Lanes.{lane_of, IsOf};
 ghost use Rattle.street_lanes.specs.Lists.{cells_list, buffer_list, NoneLoose, NoneLooseBut};
-ghost use Rattle.street_lanes.specs.Motion.{opens_to, cells_on, IsToldExit, Settles, MovesLeg, DrivesAt};
+ghost use Rattle.street_lanes.specs.Motion.{opens_to, cells_on, Settles, MovesLeg, DrivesAt, TellsExit};
 
+use crate::detectors::{Detectors, Kind};
 use crate::lanes::Lanes;
 use crate::lists::{buffer_list, cells_list};
-use street_base::{CarNo, CellNo, LinkIx, NodeSpec, Step, Turn};
+use street_base::{CarNo, CellNo, LinkIx, NodeSpec, Place, Step, Turn};
 use street_gap::Closures;
-use street_net::{LaneId, Network};
+use street_net::Network;
 use street_node::Signal;
 use street_rule::{Dice, Road, RoadLane, Watch, motion_pass};
 use street_yard::{Key, ListId, Yard};
@@ -31,7 +32,7 @@ use street_yard::{Key, ListId, Yard};
 pub(crate) struct Leg<'a> {
     pub(crate) net: &'a Network,
     /// Where it is in the network.
-    pub(crate) at: LaneId,
+    pub(crate) at: Place,
     /// Its number among the lanes of the tile.
     pub(crate) lane: usize,
     pub(crate) closures: &'a Closures,
@@ -55,7 +56,7 @@ fn end_node(net: &Network, link: LinkIx) -> NodeSpec
 fn exit_is_open(yard: &Yard, leg: &Leg<'_>, buffer: ListId, next: Option<LinkIx>) -> bool
     requires there { leg.now.at.link < length leg.now.net.now.links }
     requires list { buffer.0 < length yard.now.lists }
-    ensures { result ≡ opens_to leg.now.net.now leg.now.signal.now leg.now.clock (place_of leg.now.at) (length (list_at yard.now buffer.0)) next }
+    ensures { result ≡ opens_to leg.now.net.now leg.now.signal.now leg.now.clock leg.now.at (length (list_at yard.now buffer.0)) next }
 {
     let Some(next) = next else {
         return true;
@@ -69,7 +70,7 @@ fn exit_is_open(yard: &Yard, leg: &Leg<'_>, buffer: ListId, next: Option<LinkIx>
 
 /// Whether the signals show green to those who go on to a link; without a plan they always do.
 fn is_shown_green(leg: &Leg<'_>, next: LinkIx) -> bool
-    ensures { result ≡ is_green leg.now.signal.now (place_of leg.now.at) next leg.now.clock }
+    ensures { result ≡ is_green leg.now.signal.now leg.now.at next leg.now.clock }
 {
     let Some(plan) = leg.signal.plan() else {
         return true;
@@ -91,9 +92,8 @@ fn exit_for(yard: &Yard, road: &Road<'_>, leg: &Leg<'_>, buffer: ListId, front: 
     requires link { road.now.link ≡ leg.now.at.link }
     requires there { leg.now.at.link < length leg.now.net.now.links }
     requires list { buffer.0 < length yard.now.lists }
-    requires front { IsSome (entry_at yard.now front.0) }
-    ensures { (car : CarOf) → car_of yard.now front.0 ≡ Some car
-        → IsToldExit leg.now.net.now leg.now.signal.now leg.now.clock (place_of leg.now.at) (length (list_at yard.now buffer.0)) car result }
+    requires front { IsSome (entry_at yard.now front) }
+    ensures { TellsExit yard.now leg.now buffer.0 front result }
 {
     let _faultless = leg.net.spec();
     let _within = road.link();
@@ -108,9 +108,9 @@ fn exit_for(yard: &Yard, road: &Road<'_>, leg: &Leg<'_>, buffer: ListId, front: 
 /// last into the buffer.
 fn settle(yard: &mut Yard, buffer: ListId, key: Key, ready: Step) -> Option<CarNo>
     requires list { buffer.0 < length yard.old.lists }
-    requires loose { IsLoose yard.old key.0 }
-    ensures settles { (car : CarOf) → car_of yard.old key.0 ≡ Some car → Settles buffer.0 ready car yard.old yard.new result }
-    ensures none_loose { NoneLooseBut key.0 yard.old → NoneLoose yard.new }
+    requires loose { IsLoose yard.old key }
+    ensures settles { (car : CarOf) → car_of yard.old key ≡ Some car → Settles buffer.0 ready car yard.old yard.new result }
+    ensures none_loose { NoneLooseBut key yard.old → NoneLoose yard.new }
 {
     yard.whole();
     if yard.next_link(key).is_none() {
@@ -128,10 +128,10 @@ fn drive(yard: &mut Yard, dice: &mut Dice, leg: &Leg<'_>, watches: &mut [Watch])
     requires link { leg.now.at.link < length leg.now.net.now.links }
     requires few { leg.now.lane < 2 ^ 32 }
     requires listed { buffer_list leg.now.lane < length yard.old.lists }
-    requires lane { IsLane yard.old (cells_list leg.now.lane) (cells_on leg.now.net.now (place_of leg.now.at)) }
-    requires closed { IsWithin leg.now.closures.now (cells_on leg.now.net.now (place_of leg.now.at)) }
+    requires lane { IsLane yard.old (cells_list leg.now.lane) (cells_on leg.now.net.now leg.now.at) }
+    requires closed { IsWithin leg.now.closures.now (cells_on leg.now.net.now leg.now.at) }
     requires dice { dice.old ≡ odds_of leg.now.net.now }
-    requires watches { All (IsReady (cells_on leg.now.net.now (place_of leg.now.at))) watches.old }
+    requires watches { All (IsReady (cells_on leg.now.net.now leg.now.at)) watches.old }
     ensures moves { MovesLeg leg.now yard.old yard.new result watches.old watches.new }
     ensures dice { dice.new ≡ dice.old }
 {
@@ -155,28 +155,50 @@ impl Lanes {
     /// has arrived: its number is answered, and there is room for one more. Any other comes last into the lane's buffer, from
     /// where it may go on after the residence of the node. Takes no memory.
     ///
-    /// `signal` is that of the node that the lane runs to; its plan is looked up where the front vehicle asks. `watches` are
-    /// those of the lane's detectors.
+    /// `signal` is that of the node that the lane runs to; its plan is looked up where the front vehicle asks.
     pub fn drive(
         &mut self,
         net: &Network,
         lane: usize,
         clock: Step,
         signal: &Signal<'_>,
-        watches: &mut [Watch],
     ) -> Option<CarNo>
         requires lane { lane < length self.old.lanes }
         requires of { IsOf net.now self.old }
-        requires watches { All (IsReady (length (lane_of self.old lane).track.cells)) watches.old }
-        ensures { DrivesAt net.now signal.now clock lane self.old self.new result watches.old watches.new }
+        ensures { DrivesAt net.now signal.now clock lane self.old self.new result [] [] }
     {
         if self.yard.list_front(cells_list(lane)).is_none() {
             return None;
         }
-        self.drive_cells(net, lane, clock, signal, watches)
+        self.drive_cells(net, lane, clock, signal, &mut [])
     }
 
-    /// The same. It stands apart from the look at the lane's list, so that a lane without vehicles costs no call.
+    /// As [`drive`](Self::drive), where the lane's detectors watch.
+    pub fn drive_watched(
+        &mut self,
+        net: &Network,
+        lane: usize,
+        clock: Step,
+        signal: &Signal<'_>,
+        detectors: &mut Detectors,
+    ) -> Option<CarNo>
+        requires lane { lane < length self.old.lanes }
+        requires of { IsOf net.now self.old }
+        requires size { detectors.old.size ≡ length (lane_of self.old lane).track.cells }
+        ensures drives { DrivesAt net.now signal.now clock lane self.old self.new result (map cleared detectors.old.meters) detectors.new.watches }
+        ensures meters { detectors.new ≡ record detectors.old { watches = detectors.new.watches } }
+    {
+        match &mut detectors.kind {
+            Kind::Bare(_) => self.drive(net, lane, clock, signal),
+            Kind::Watched(meters) => {
+                meters.clear();
+                self.drive_cells(net, lane, clock, signal, &mut meters.watches)
+            }
+        }
+    }
+
+    /// The motion of a lane, seen by these watches. It stands apart from the look at the lane's list in `drive`, so that a lane
+    /// without vehicles and detectors costs no call.
     #[inline(never)]
     fn drive_cells(
         &mut self,

@@ -1,6 +1,5 @@
 //! Vehicles in memory in the order in which they stand on the road.
-ghost use Rattle.std.specs.Prelude.{◌≡◌, ◌*◌, ◌^◌, ◌<◌, ◌≤◌, length, option_map};
-ghost use Rattle.street_yard.specs.Yard.{IsOnList};
+ghost use Rattle.std.specs.Prelude.{◌≡◌, ◌*◌, ◌^◌, ◌<◌, ◌≤◌, length};
 ghost use Rattle.street_lanes.specs.Lists.{Packs};
 
 use crate::lanes::Lanes;

@@ -1,5 +1,5 @@
 //! The vehicle of a number on a lane.
-ghost use Rattle.std.specs.Prelude.{◌≡◌, ◌^◌, ◌<◌, length, true, IsSome, Some, option_map};
+ghost use Rattle.std.specs.Prelude.{◌≡◌, ◌^◌, ◌<◌, length, true, IsSome, Some};
 ghost use Rattle.street_lanes.specs.Lists.{waiting_list};
 ghost use Rattle.street_yard.specs.Yard.{list_on};
 ghost use Rattle.street_lanes.specs.Search.{IsSought, IsFound, TakesOut};
@@ -10,7 +10,7 @@ use street_yard::{Key, ListId, Yard};
 
 /// Whether the car of a key has the number, and is on the list.
 pub(crate) fn stands_on(yard: &Yard, list: ListId, key: Key, number: CarNo) -> bool
-    ensures { result ≡ true → IsSought yard.now list.0 number (Some key.0) }
+    ensures { result ≡ true → IsSought yard.now list.0 number (Some key) }
 {
     yard.whole();
     match yard.list_of(key) {
@@ -22,7 +22,7 @@ pub(crate) fn stands_on(yard: &Yard, list: ListId, key: Key, number: CarNo) -> b
 /// The key on a list whose car has the number. First it is asked whether that is the key of the hint.
 pub(crate) fn seek(yard: &Yard, list: ListId, number: CarNo, hint: Option<Key>) -> Option<Key>
     requires { list.0 < length yard.now.lists }
-    ensures { IsSought yard.now list.0 number (option_map (λ k. k.0) result) }
+    ensures { IsSought yard.now list.0 number result }
 {
     yard.whole();
     if let Some(key) = hint
@@ -45,25 +45,25 @@ pub(crate) fn seek_on_lane(
     yard: &Yard,
     lane: usize,
     number: CarNo,
-    hint: Option<Key>,
+    hint: &Option<Key>,
 ) -> Option<Key>
     requires few { lane < 2 ^ 32 }
     requires lists { waiting_list lane < length yard.now.lists }
-    ensures { IsFound yard.now lane number (option_map (λ k. k.0) result) }
+    ensures { IsFound yard.now lane number result }
 {
-    if let Some(key) = seek(yard, cells_list(lane), number, hint) {
+    if let Some(key) = seek(yard, cells_list(lane), number, *hint) {
         return Some(key);
     }
-    if let Some(key) = seek(yard, buffer_list(lane), number, hint) {
+    if let Some(key) = seek(yard, buffer_list(lane), number, *hint) {
         return Some(key);
     }
-    seek(yard, waiting_list(lane), number, hint)
+    seek(yard, waiting_list(lane), number, *hint)
 }
 
 /// Takes the car of a key out, which is on a list.
 pub(crate) fn take_out(yard: &mut Yard, key: Key) -> Car
-    requires { IsSome (list_on yard.old key.0) }
-    ensures { TakesOut yard.old yard.new key.0 result }
+    requires { IsSome (list_on yard.old key) }
+    ensures { TakesOut yard.old yard.new key result }
 {
     yard.whole();
     yard.unlink(key);

@@ -1,24 +1,20 @@
 //! Where the vehicle of a number is on one lane.
 //!
 //! Source: this profile.
-ghost use Rattle.std.specs.Prelude.{◌≡◌, ℕ, ◌<◌, ◌≤◌, length, None, IsSome, IfOk};
+ghost use Rattle.std.specs.Prelude.{◌≡◌, ◌<◌, length, None, IfOk};
 ghost use Rattle.street_base.specs.Network.{link_at};
 ghost use Rattle.street_base.specs.Vehicle.{vehicle_of, remaining_plan};
-ghost use Rattle.street_base.specs.State.{LaneState};
-ghost use Rattle.street_base.specs.Census.{in_lane};
-ghost use Rattle.street_base.specs.Machine.{remaining_ids, seen_in};
-ghost use Rattle.street_net.specs.Tables.{place_of};
-ghost use Rattle.street_lanes.specs.Views.{LaneStands};
-ghost use Rattle.street_lanes.specs.Lanes.{lane_of, place_at, IsOf};
-ghost use Rattle.street_lanes.specs.Whereabouts.{told_in_cell, told_in_buffer, told_waiting};
+ghost use Rattle.street_base.specs.Machine.{remaining_ids};
+ghost use Rattle.street_lanes.specs.Lanes.{IsOf};
+ghost use Rattle.street_lanes.specs.Whereabouts.{told_in_cell, told_in_buffer, told_waiting, TellsWhere, TellsWhether};
 ghost use Rattle.street_yard.specs.View.{viewed};
 
 use crate::lanes::Lanes;
 use crate::lists::{buffer_list, cells_list, waiting_list};
 use crate::search::seek;
 use std::alloc::{AllocError, Global};
-use street_base::{CarNo, LinkIx, Listing, NetSpec, Starved, Whereabouts};
-use street_net::{LaneId, Network};
+use street_base::{CarNo, LinkIx, Listing, NetSpec, Place, Starved, Whereabouts};
+use street_net::Network;
 use street_yard::CarView;
 
 /// The identifier of the link at a position, or 0 where the network has none.
@@ -59,10 +55,10 @@ fn remaining_ids(
 fn told_in_cell(
     alloc: Global,
     net: &NetSpec,
-    at: LaneId,
+    at: Place,
     car: &CarView<'_>,
 ) -> Result<Whereabouts, AllocError>
-    ensures { IfOk result (λ told. told ≡ told_in_cell net.now (place_of at) (viewed car.now)) }
+    ensures { IfOk result (λ told. told ≡ told_in_cell net.now at (viewed car.now)) }
 {
     Ok(Whereabouts::Cell {
         link: link_id(net, at.link),
@@ -78,10 +74,10 @@ fn told_in_cell(
 fn told_in_buffer(
     alloc: Global,
     net: &NetSpec,
-    at: LaneId,
+    at: Place,
     car: &CarView<'_>,
 ) -> Result<Whereabouts, AllocError>
-    ensures { IfOk result (λ told. told ≡ told_in_buffer net.now (place_of at) (viewed car.now)) }
+    ensures { IfOk result (λ told. told ≡ told_in_buffer net.now at (viewed car.now)) }
 {
     Ok(Whereabouts::Buffer {
         link: link_id(net, at.link),
@@ -97,10 +93,10 @@ fn told_in_buffer(
 fn told_waiting(
     alloc: Global,
     net: &NetSpec,
-    at: LaneId,
+    at: Place,
     car: &CarView<'_>,
 ) -> Result<Whereabouts, AllocError>
-    ensures { IfOk result (λ told. told ≡ told_waiting net.now (place_of at) (viewed car.now)) }
+    ensures { IfOk result (λ told. told ≡ told_waiting net.now at (viewed car.now)) }
 {
     Ok(Whereabouts::Waiting {
         link: link_id(net, at.link),
@@ -126,10 +122,8 @@ impl Lanes {
     ) -> Result<Option<Whereabouts>, Starved>
         requires lane { lane < length self.now.lanes }
         requires of { IsOf net.now self.now }
-        ensures found { IfOk result (λ found. (s : LaneState) → LaneStands (lane_of self.now lane) s → in_lane number s ≤ 1
-            → found ≡ seen_in net.now (place_at self.now lane) number s) }
-        ensures there { IfOk result (λ found. (s : LaneState) → LaneStands (lane_of self.now lane) s
-            → (found ≡ None → in_lane number s ≡ 0) × (IsSome found → 0 < in_lane number s)) }
+        ensures found { IfOk result (TellsWhere net.now self.now lane number) }
+        ensures there { IfOk result (TellsWhether self.now lane number) }
     {
         self.yard.whole();
         let spec = net.spec();

@@ -5,14 +5,22 @@ use Rattle.std.specs.List.{count_by}
 use Rattle.street_base.specs.declared.command.Command.{Command}
 use Rattle.street_base.specs.declared.reply.Starved.{Starved as NoMemory}
 use Rattle.street_stream.proofs.Handles.{all_replies}
+use Rattle.street_stream.specs.Faults.{IsCaused, IsCausedBy}
 use Rattle.street_stream.specs.HandledLines.{Effect, has_reply as effect_has_reply, text_in, Handles, output, calls_in, replies_in, IsTally as IsTallyOf, Breaks as LinesBreak, Whole, Broke}
 use Rattle.street_stream.specs.declared.answer.Cause.{Cause}
 use Rattle.street_stream.specs.declared.answer.Cause.TheVariants.{Run, Line}
+use Rattle.street_stream.specs.declared.counted.Counted.{Counted}
 use Rattle.street_stream.specs.declared.tally.Tally.{Tally}
 use Rattle.street_line.specs.Faults.{Breaks, ServedInPart, kind_of}
 use Rattle.street_line.specs.Runs.{Said, silent, faulty, calls, is_call, has_reply, said, Done, Goes, IsTally, ServedWhole}
 use Rattle.street_line.specs.ServedLine.{effect_of, IsServed}
 use Rattle.street_line.specs.declared.service.Served.{Served}
+
+-- a line that ends a run is told as lack of memory, which needs no cause
+pub caused_as : {R W : Type 0} (cause : Cause NoMemory) (reader : Counted R) (writer : Counted W) (reads : ℕ) → IsCausedBy cause reader writer reads
+    → IsCaused (kind_of cause) reader writer reads
+caused_as (Run kind) reader writer reads h = h
+caused_as (Line stop) reader writer reads h = tt
 
 abbrev pub LeavesState : {S : Type 0} → S → List ℕ → NoMemory → S → Type 0
 LeavesState old line stop new = new ≡ old

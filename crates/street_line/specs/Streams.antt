@@ -1,10 +1,11 @@
 -- Lines that are served from one counted stream to another.
 -- Source: this profile.
-use Rattle.std.specs.Prelude.{ℕ, List, Option}
+use Rattle.std.specs.Prelude.{ℕ, ◌≤◌, List, Option, Result, IfOk, IfErr}
 use Rattle.street_base.specs.declared.command.Command.{Command}
 use Rattle.street_base.specs.State.{State}
 use Rattle.street_desk.specs.Passes.{PassView}
 use Rattle.street_engine.specs.Refines.{EngineView, StandsFor}
+use Rattle.street_stream.specs.Faults.{IsCaused}
 use Rattle.street_stream.specs.declared.counted.Counted.{Counted}
 use Rattle.street_stream.specs.declared.tally.RunFault.{RunFault}
 use Rattle.street_stream.specs.declared.tally.Tally.{Tally}
@@ -25,15 +26,26 @@ module _ {S D W : Type 0} (serves : S → Command → Served → S → Type 0) (
   ServesFirst old reader writer new read written fault =
       ServedInPart serves old (remaining reader.stream) (contents writer.stream) new (remaining read.stream) (contents written.stream) fault
 
+  -- what became of a run of so many reads at most: all lines were served; or the first, and a fault comes only where its cause was counted
+  pub record ServesLines (reads : ℕ) (old : S) (reader : Counted D) (writer : Counted W) (run : Result Tally RunFault)
+      (new : S) (read : Counted D) (written : Counted W) : Type 0 where
+    pub served : IfOk run (ServesAll old reader writer new read written)
+    pub broken : IfErr run (ServesFirst old reader writer new read written)
+    pub caused : IfErr run (λ fault. IsCaused fault.kind read written reads)
+    pub bounded : read.calls ≤ reads
+
 module _ {D W : Type 0} (remaining : D → Option (List ℕ)) (contents : W → Option (List ℕ)) where
   -- so of a pass that nobody stands beside, as the history grows that it has seen
-  abbrev pub AloneServesAll : PassView → Counted D → Counted W → PassView → Counted D → Counted W → Tally → Type 0
-  AloneServesAll old reader writer new read written tally =
-      ServesAll (AloneServes old.desk.calls) remaining contents old.seen reader writer new.seen read written tally
+  abbrev pub AloneServesLines : ℕ → PassView → Counted D → Counted W → Result Tally RunFault → PassView → Counted D → Counted W → Type 0
+  AloneServesLines reads old reader writer run new read written =
+      ServesLines (AloneServes old.desk.calls) remaining contents reads old.seen reader writer run new.seen read written
 
-  abbrev pub AloneServesFirst : PassView → Counted D → Counted W → PassView → Counted D → Counted W → RunFault → Type 0
-  AloneServesFirst old reader writer new read written fault =
-      ServesFirst (AloneServes old.desk.calls) remaining contents old.seen reader writer new.seen read written fault
+  -- so of the machine, whatever state that leads to
+  abbrev pub MachineServesAll : State → Counted D → Counted W → Counted D → Counted W → Tally → Type 0
+  MachineServesAll old reader writer read written tally = (new : State) × ServesAll MachineServes remaining contents old reader writer new read written tally
+
+  abbrev pub MachineServesFirst : State → Counted D → Counted W → Counted D → Counted W → RunFault → Type 0
+  MachineServesFirst old reader writer read written fault = (new : State) × ServesFirst MachineServes remaining contents old reader writer new read written fault
 
   -- whatever state the engine stood for, the machine serves so from that state on, and the engine then stands for the state that this leads to
   abbrev pub EngineServesAll : EngineView → Counted D → Counted W → EngineView → Counted D → Counted W → Tally → Type 0

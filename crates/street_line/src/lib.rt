@@ -24,6 +24,6 @@ pub use runs::{run_lines, run_lines_within};
 pub use script::{Script, answer_all, run_scripts};
 pub use service::{Served, Service};
 pub use session::DeskSession;
-pub use sessions::{run_alone, run_session};
+pub use sessions::run_alone;
 pub use street_stream::{Counted, FaultKind, RunFault, Tally};
 pub use street_text::{LineFault, command_reads_back, command_text, read_command, reply_text};

@@ -1,11 +1,10 @@
 //! A text of lines, served one after another.
 //!
 //! Source: this profile. Each reply is written, and passed on, before the next read.
-ghost use Rattle.std.specs.Prelude.{◌≡◌, ◌≤◌, IfOk, IfErr, OnOk};
+ghost use Rattle.std.specs.Prelude.{◌≡◌, OnOk};
 ghost use Rattle.street_stream.specs.Streams.{IsFlushed, IsFresh, IsPrompt};
-ghost use Rattle.street_stream.specs.Faults.{IsCaused};
 ghost use Rattle.street_line.specs.Faults.{kind_of};
-ghost use Rattle.street_line.specs.Streams.{ServesAll, ServesFirst};
+ghost use Rattle.street_line.specs.Streams.{ServesLines};
 
 use crate::server::LineServer;
 use crate::service::Service;
@@ -25,40 +24,6 @@ fn kind_of(cause: Cause<Starved>) -> FaultKind
     match cause {
         Cause::Run(kind) => kind,
         Cause::Line(_) => FaultKind::Starved,
-    }
-}
-
-/// Serves the lines of a text by the service that is held.
-fn serve_all<S: Service, R: Read, W: Write>(
-    alloc: Global,
-    server: &mut LineServer<'_, S>,
-    reader: &mut Counted<R>,
-    writer: &mut Counted<W>,
-    reads: u32,
-) -> Result<Tally, RunFault>
-    requires ready { S.ready }
-    requires reader { IsFresh reader.old }
-    requires writer { IsFresh writer.old }
-    ensures same_reference { server.new.service.ghost_name ≡ server.old.service.ghost_name }
-    ensures served { IfOk result (ServesAll S.serves R.remaining W.contents
-        server.old.service.now reader.old writer.old server.new.service.now reader.new writer.new) }
-    ensures broken { IfErr result (ServesFirst S.serves R.remaining W.contents
-        server.old.service.now reader.old writer.old server.new.service.now reader.new writer.new) }
-    ensures caused { IfErr result (λ fault. IsCaused fault.kind reader.new writer.new reads) }
-    ensures bounded { reader.new.calls ≤ reads }
-    ensures prompt { IsPrompt reader.new }
-    ensures flushed { OnOk result (IsFlushed writer.new) }
-{
-    let limits = Limits {
-        line: LONGEST_LINE,
-        reads,
-    };
-    match drive_lines(alloc, server, reader, writer, limits) {
-        Ok(tally) => Ok(tally),
-        Err(halt) => Err(RunFault {
-            kind: kind_of(halt.cause),
-            tally: halt.tally,
-        }),
     }
 }
 
@@ -83,12 +48,8 @@ pub fn run_lines_within<S: Service, R: Read, W: Write>(
     requires ready { S.ready }
     requires reader { IsFresh reader.old }
     requires writer { IsFresh writer.old }
-    ensures served { IfOk result (ServesAll S.serves R.remaining W.contents
-        service.old reader.old writer.old service.new reader.new writer.new) }
-    ensures broken { IfErr result (ServesFirst S.serves R.remaining W.contents
-        service.old reader.old writer.old service.new reader.new writer.new) }
-    ensures caused { IfErr result (λ fault. IsCaused fault.kind reader.new writer.new reads) }
-    ensures bounded { reader.new.calls ≤ reads }
+    ensures runs { ServesLines S.serves R.remaining W.contents reads
+        service.old reader.old writer.old result service.new reader.new writer.new }
     ensures prompt { IsPrompt reader.new }
     ensures flushed { OnOk result (IsFlushed writer.new) }
 {
@@ -97,7 +58,17 @@ pub fn run_lines_within<S: Service, R: Read, W: Write>(
         service,
         reader: &mut lines,
     };
-    serve_all(alloc, &mut server, reader, writer, reads)
+    let limits = Limits {
+        line: LONGEST_LINE,
+        reads,
+    };
+    match drive_lines(alloc, &mut server, reader, writer, limits) {
+        Ok(tally) => Ok(tally),
+        Err(halt) => Err(RunFault {
+            kind: kind_of(halt.cause),
+            tally: halt.tally,
+        }),
+    }
 }
 
 /// Serves the lines of a text as [`run_lines_within`] does, with 1,000,000,000 reads at most.
@@ -114,12 +85,8 @@ pub fn run_lines<S: Service, R: Read, W: Write>(
     requires ready { S.ready }
     requires reader { IsFresh reader.old }
     requires writer { IsFresh writer.old }
-    ensures served { IfOk result (ServesAll S.serves R.remaining W.contents
-        service.old reader.old writer.old service.new reader.new writer.new) }
-    ensures broken { IfErr result (ServesFirst S.serves R.remaining W.contents
-        service.old reader.old writer.old service.new reader.new writer.new) }
-    ensures caused { IfErr result (λ fault. IsCaused fault.kind reader.new writer.new 1000000000) }
-    ensures bounded { reader.new.calls ≤ 1000000000 }
+    ensures runs { ServesLines S.serves R.remaining W.contents 1000000000
+        service.old reader.old writer.old result service.new reader.new writer.new }
     ensures prompt { IsPrompt reader.new }
     ensures flushed { OnOk result (IsFlushed writer.new) }
 {

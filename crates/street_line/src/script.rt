@@ -9,8 +9,7 @@ ghost use Rattle.street_line.specs.declared.script.Script.{Script};
 ghost use Rattle.street_line.specs.Scripts.{IsRun, ReaderServed, IsCausedInMemory, in_memory as memory_kind};
 
 use crate::session::DeskSession;
-use crate::sessions::run_session;
-use crate::{Counted, FaultKind};
+use crate::{Counted, FaultKind, run_lines};
 use std::alloc::Global;
 use std::fs::File;
 use std::io::{ErrorKind, Read};
@@ -74,8 +73,10 @@ impl<'a, R: Threads + Wait + Sync> Script<'a, R> {
     }
 }
 
-/// The replies to the lines that a reader gives, served as `run_session` does, and what ended them before the reader did: lack
-/// of memory to keep them is told as that, and never as a failed write. The reader is fresh: nothing was called of it yet.
+/// The replies to the lines that a reader gives, and what ended them before the reader did. They are served as `run_lines` does:
+/// each command is a call of the pass, beside the desk's other callers, and its reply is the machine's at the point where the
+/// call stands in the desk's one history. Lack of memory to keep the replies is told as that, and never as a failed write. The
+/// reader is fresh: nothing was called of it yet.
 pub fn answer_all<R: Threads + Wait + Sync, D: Read>(
     alloc: Global,
     session: &mut DeskSession<'_, R>,
@@ -89,7 +90,7 @@ pub fn answer_all<R: Threads + Wait + Sync, D: Read>(
     ensures bounded { reader.new.calls ≤ 1000000000 }
 {
     let mut writer = Counted::new(Vec::new(alloc));
-    match run_session(alloc, session, reader, &mut writer) {
+    match run_lines(alloc, session, reader, &mut writer) {
         Ok(_) => (writer.stream, None),
         Err(fault) => (writer.stream, Some(in_memory(fault.kind))),
     }

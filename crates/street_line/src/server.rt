@@ -61,13 +61,13 @@ impl<'a, S: Service> LineHandler for LineServer<'a, S> {
 
     type Stop = Starved;
 
-    ghost longest = { longest_line };
-
-    ghost takes = { λ old line effect new. (new.service.ghost_name ≡ old.service.ghost_name)
-        × IsServed S.serves old.service.now line effect new.service.now };
-
-    ghost stops = { λ old line stop new. (new.service.ghost_name ≡ old.service.ghost_name)
-        × (new.service.now ≡ old.service.now) };
+    ghost meaning = { record {
+      longest = longest_line;
+      takes = λ old line effect new. (new.service.ghost_name ≡ old.service.ghost_name)
+          × IsServed S.serves old.service.now line effect new.service.now;
+      stops = λ old line stop new. (new.service.ghost_name ≡ old.service.ghost_name)
+          × (new.service.now ≡ old.service.now);
+    } };
 
     ghost ready = { S.ready };
 

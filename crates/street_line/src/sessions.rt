@@ -1,11 +1,10 @@
 //! Lines served through a desk.
 //!
 //! Source: this profile.
-ghost use Rattle.std.specs.Prelude.{◌≡◌, ◌≤◌, IfOk, IfErr, OnOk};
+ghost use Rattle.std.specs.Prelude.{◌≡◌, OnOk};
 ghost use Rattle.street_stream.specs.Streams.{IsFlushed, IsFresh, IsPrompt};
-ghost use Rattle.street_stream.specs.Faults.{IsCaused};
-ghost use Rattle.street_line.specs.Sessions.{DeskServes, IsAlone};
-ghost use Rattle.street_line.specs.Streams.{AloneServesAll, AloneServesFirst, ServesAll, ServesFirst};
+ghost use Rattle.street_line.specs.Sessions.{IsAlone};
+ghost use Rattle.street_line.specs.Streams.{AloneServesLines};
 
 use crate::session::DeskSession;
 use crate::{Counted, RunFault, Tally, run_lines};
@@ -13,34 +12,6 @@ use std::alloc::Global;
 use std::io::{Read, Write};
 use std::sync::Wait;
 use std::thread::Threads;
-
-/// Serves the lines of a text through a desk, beside the desk's other callers, as [`run_lines`] does: each
-/// command is a call of the pass, and its reply is the machine's at the point where the call stands in the desk's one
-/// history. After a fault the same holds of the lines that were served.
-///
-/// # Errors
-///
-/// Those of `run_lines`.
-pub fn run_session<R: Threads + Wait + Sync, D: Read, W: Write>(
-    alloc: Global,
-    session: &mut DeskSession<'_, R>,
-    reader: &mut Counted<D>,
-    writer: &mut Counted<W>,
-) -> Result<Tally, RunFault>
-    requires reader { IsFresh reader.old }
-    requires writer { IsFresh writer.old }
-    ensures served { IfOk result (ServesAll DeskServes D.remaining W.contents
-        session.old reader.old writer.old session.new reader.new writer.new) }
-    ensures broken { IfErr result (ServesFirst DeskServes D.remaining W.contents
-        session.old reader.old writer.old session.new reader.new writer.new) }
-    ensures caused { IfErr result (λ fault. IsCaused fault.kind reader.new writer.new 1000000000) }
-    ensures bounded { reader.new.calls ≤ 1000000000 }
-    ensures prompt { IsPrompt reader.new }
-    ensures flushed { OnOk result (IsFlushed writer.new) }
-    ensures same { session.new.desk ≡ session.old.desk }
-{
-    run_lines(alloc, session, reader, writer)
-}
 
 /// Serves the lines of a text through a desk that has one session alone: what is written is what the machine says to these
 /// lines, each command being applied as long as the desk has a place for it, and told as full from then on. The history
@@ -58,15 +29,11 @@ pub fn run_alone<R: Threads + Wait + Sync, D: Read, W: Write>(
     requires alone { IsAlone session.old }
     requires reader { IsFresh reader.old }
     requires writer { IsFresh writer.old }
-    ensures served { IfOk result (AloneServesAll D.remaining W.contents
-        session.old reader.old writer.old session.new reader.new writer.new) }
-    ensures broken { IfErr result (AloneServesFirst D.remaining W.contents
-        session.old reader.old writer.old session.new reader.new writer.new) }
-    ensures caused { IfErr result (λ fault. IsCaused fault.kind reader.new writer.new 1000000000) }
-    ensures bounded { reader.new.calls ≤ 1000000000 }
+    ensures runs { AloneServesLines D.remaining W.contents 1000000000
+        session.old reader.old writer.old result session.new reader.new writer.new }
     ensures prompt { IsPrompt reader.new }
     ensures flushed { OnOk result (IsFlushed writer.new) }
     ensures alone { (session.new.desk ≡ session.old.desk) × IsAlone session.new }
 {
-    run_session(alloc, session, reader, writer)
+    run_lines(alloc, session, reader, writer)
 }

@@ -37,11 +37,7 @@ fn reply_to(alloc: Global, line: &PartialLine) -> Result<Option<Vec<u8>>, street
 impl LineHandler for Answerer {
     type Stop = Stopped;
 
-    ghost longest = { 3 };
-
-    ghost takes = { λ old line effect new. Unit {0} };
-
-    ghost stops = { λ old line stop new. Unit {0} };
+    ghost meaning = { record { longest = 3; takes = λ old line effect new. Unit {0}; stops = λ old line stop new. Unit {0} } };
 
     ghost ready = { Unit {0} };
 

@@ -6,13 +6,13 @@ ghost use Rattle.street_lanes.specs.Lists.{HasShortPlan};
 
 use std::alloc::{AllocError, Global};
 use street_base::{
-    Car, CarNo, GreenSpec, LinkIx, LinkSpec, Listing, NetSpec, NodeIx, NodeSpec, PhaseSpec, Plan,
-    Size, Starved, Step, TurnSpec,
+    Car, CarNo, GreenSpec, LinkIx, LinkSpec, Listing, NetSpec, NodeIx, NodeSpec, PhaseSpec, Place,
+    Plan, Size, Starved, Step, TurnSpec,
 };
 use street_gap::{Closures, gap_ahead, gap_back, gap_beside};
-use street_lanes::{LaneSizes, LaneTotals, Lanes};
+use street_lanes::{LaneTotals, Lanes};
 use street_meter::{Meter, MeterSite};
-use street_net::{LaneId, Network};
+use street_net::Network;
 use street_node::SignalPlan;
 use street_rule::{Dice, draw};
 use street_yard::{Key, ListId, Yard};
@@ -143,11 +143,11 @@ fn note(meter: &mut Meter)
 fn meter(alloc: Global) -> Option<Meter>
     ensures { IfSome result (λ meter. next_step meter ≡ 0) }
 {
-    let site = MeterSite {
+    let at = Place {
         link: LinkIx::new(0),
         lane: 0,
-        cell: 3,
     };
+    let site = MeterSite { at, cell: 3 };
     Meter::new(alloc, site, 2, 0).ok()
 }
 
@@ -325,7 +325,7 @@ fn lane_of(alloc: Global, net: &Network) -> Result<Lanes, Starved>
     requires { net.now.links ≡ LOOP ∷ [] }
     ensures { IfOk result (λ lanes. 3 ≤ lanes.room) }
 {
-    let own = [LaneId {
+    let own = [Place {
         link: LinkIx::new(0),
         lane: 0,
     }];
@@ -341,21 +341,14 @@ fn one_lane(alloc: Global) -> Result<Lanes, Starved>
     lane_of(alloc, &net)
 }
 
-/// So many are in the cells of the lane, in its buffer, and wait; and so of all lanes, since it is the only one.
-fn are_counted(lanes: &Lanes, cells: usize, waiting: usize) -> bool
-    requires { 0 < length lanes.now.lanes }
-{
-    let sizes = LaneSizes {
-        cells,
-        buffer: 0,
-        waiting,
-    };
+/// So many are in the cells of the only lane, and wait.
+fn are_counted(lanes: &Lanes, cells: usize, waiting: usize) -> bool {
     let all = LaneTotals {
         cells: cells as u64,
         buffers: 0,
         waiting: waiting as u64,
     };
-    lanes.sizes(0) == sizes && lanes.totals() == all
+    lanes.totals() == all
 }
 
 /// Two vehicles wait; the second departs in step 4, and the first is taken out.

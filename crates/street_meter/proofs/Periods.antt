@@ -9,7 +9,7 @@ use Rattle.std.proofs.Math.Nat.{lt-div-mul-add, div-mul-le_self, suc-mul}
 use Rattle.circular_buffer.specs.Buffer.{keep_last}
 use Rattle.street_base.specs.declared.reply.MeterRow.{MeterRow}
 use Rattle.street_base.specs.declared.reply.RunningRow.{RunningRow}
-use Rattle.street_base.specs.Network.{Place}
+use Rattle.street_base.specs.declared.names.Place.{Place}
 use Rattle.street_base.specs.State.{Triple, Detector}
 use Rattle.street_base.specs.Detector.{row_of, row, full_periods, full_rows}
 use Rattle.street_meter.specs.Meter.{running_seen, IsRead}

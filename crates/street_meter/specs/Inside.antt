@@ -7,7 +7,7 @@ use Rattle.street_meter.specs.Meter.{Meter}
 
 abbrev pub shown : Inside → Meter
 shown m = record {
-  place = record { link = m.place.link; lane = m.place.lane };
+  place = m.place.at;
   cell = m.place.cell;
   period = m.period;
   start = m.start;

@@ -3,7 +3,7 @@
 use Rattle.std.specs.Prelude.{◌≡◌, ℕ, ◌+◌, List}
 use Rattle.street_base.specs.declared.reply.MeterRow.{MeterRow}
 use Rattle.street_base.specs.declared.reply.RunningRow.{RunningRow}
-use Rattle.street_base.specs.Network.{Place}
+use Rattle.street_base.specs.declared.names.Place.{Place}
 use Rattle.street_base.specs.State.{Triple, Detector}
 use Rattle.street_base.specs.Detector.{full_rows, running_row}
 
@@ -19,6 +19,10 @@ pub record Meter : Type 0 where
 -- the sums of the running row, and how many steps it has
 abbrev pub running_seen : RunningRow → MeterRow × ℕ
 running_seen row = (record { start = row.start; passes = row.passes; speeds = row.speeds; occupied = row.occupied }, row.steps)
+
+-- what a step notes: how many vehicles passed, the sum of their speeds, and 1 if the cell was occupied at its end
+abbrev pub triple : ℕ → ℕ → ℕ → Triple
+triple passes speeds occupied = record { passes = passes; speeds = speeds; occupied = occupied }
 
 -- the detector at the meter's place that has noted these triples
 abbrev pub detector_of : Meter → List Triple → Detector

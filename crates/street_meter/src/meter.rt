@@ -1,15 +1,16 @@
 //! A detector as sums.
 //!
 //! Source: this profile.
-ghost use Rattle.std.specs.Prelude.{◌≡◌, ℕ, ◌+◌, ◌*◌, ◌^◌, ◌<◌, ◌≤◌, List, [], ◌∷◌, ◌++◌, IfOk};
+ghost use Rattle.std.specs.Prelude.{◌≡◌, ◌+◌, ◌*◌, ◌^◌, ◌<◌, ◌≤◌, List, [], ◌∷◌, ◌++◌, IfOk};
+ghost use Rattle.street_base.specs.Limits.{last_clock, most_period};
 ghost use Rattle.street_base.specs.State.{Triple};
-ghost use Rattle.street_meter.specs.Meter.{Stands, IsRead, IsPlacedAs, detector_of, next_step};
+ghost use Rattle.street_meter.specs.Meter.{Stands, IsRead, IsPlacedAs, detector_of, next_step, triple};
 ghost use Rattle.street_meter.specs.Inside.{row_with, row_full, row_from};
 
 use circular_buffer::HeapCircularBuffer;
 use std::alloc::Global;
 use std::marker::Model;
-use street_base::{CellNo, LaneNo, LinkIx, Listing, MeterRow, RunningRow, Starved, Step};
+use street_base::{CellNo, Listing, MeterRow, Place, RunningRow, Starved, Step};
 
 /// How many rows of full periods a meter keeps.
 const KEPT_ROWS: usize = 32;
@@ -17,10 +18,8 @@ const KEPT_ROWS: usize = 32;
 /// Where a meter is.
 #[derive(Clone, Copy)]
 pub struct MeterSite {
-    /// The link.
-    pub link: LinkIx,
-    /// The lane of it.
-    pub lane: LaneNo,
+    /// The lane.
+    pub at: Place,
     /// The cell of the lane.
     pub cell: CellNo,
 }
@@ -117,9 +116,9 @@ impl Meter {
     /// Out of memory for the rows.
     pub fn new(alloc: Global, place: MeterSite, period: u32, start: Step) -> Result<Meter, Starved>
         requires some { 1 ≤ period }
-        requires short { period ≤ 100000 }
-        requires start { start ≤ 1000000000 }
-        ensures place { IfOk result (λ m. (m.place ≡ record { link = place.link; lane = place.lane }) × (m.cell ≡ place.cell)) }
+        requires short { period ≤ most_period }
+        requires start { start ≤ last_clock }
+        ensures place { IfOk result (λ m. (m.place ≡ place.at) × (m.cell ≡ place.cell)) }
         ensures period { IfOk result (λ m. (m.period ≡ period) × (m.start ≡ start)) }
         ensures next { IfOk result (λ m. next_step m ≡ start) }
         ensures stands { IfOk result (λ m. Stands m []) }
@@ -137,9 +136,9 @@ impl Meter {
     /// Notes a step: how many vehicles passed, the sum of their speeds, and 1 if the cell was occupied at its end. The step
     /// lies before `LAST_CLOCK`. Takes no memory.
     pub fn note(&mut self, passes: u32, speeds: u32, occupied: u32)
-        requires { next_step self.old < 1000000000 }
+        requires { next_step self.old < last_clock }
         ensures placed { IsPlacedAs self.new self.old }
-        ensures stands { (triples : List Triple) → Stands self.old triples → Stands self.new (triples ++ record { passes = passes; speeds = speeds; occupied = occupied } ∷ []) }
+        ensures stands { (triples : List Triple) → Stands self.old triples → Stands self.new (triples ++ triple passes speeds occupied ∷ []) }
         ensures next { next_step self.new ≡ next_step self.old + 1 }
     {
         let row = with_step(self.running, passes, speeds, occupied);
@@ -167,7 +166,7 @@ impl Meter {
 
     /// Where the meter is.
     pub fn place(&self) -> MeterSite
-        ensures lane { self.now.place ≡ record { link = result.link; lane = result.lane } }
+        ensures lane { self.now.place ≡ result.at }
         ensures cell { self.now.cell ≡ result.cell }
     {
         self.place

@@ -4,14 +4,14 @@ use Rattle.std.specs.Prelude.{flat_map, filter, Some, ◌==◌}
 use Rattle.std.specs.Option.{option_map_or}
 use Rattle.std.specs.List.{range_with_len}
 use Rattle.std.proofs.lemmas.Bool.{cond-true, cond-false, eq-eqb, ne_eqb}
-use Rattle.std.proofs.lemmas.List.{append-nil, map-append}
+use Rattle.std.proofs.lemmas.List.{append-nil}
 use Rattle.std.proofs.lemmas.List.FromFn.{map-range_with_len_more}
 use Rattle.std.proofs.lemmas.List.Elements.{filter-append}
 use Rattle.std.proofs.lemmas.Grind.{flat_map-append}
 use Rattle.street_base.specs.declared.net.NetSpec.{NetSpec}
-use Rattle.street_base.specs.Network.{Place, link_at, node_of}
-use Rattle.street_net.specs.declared.lanes.LaneId.{LaneId}
-use Rattle.street_net.specs.Tables.{place_of, ends_at}
+use Rattle.street_base.specs.declared.names.Place.{Place}
+use Rattle.street_base.specs.Network.{link_at, node_of}
+use Rattle.street_net.specs.Tables.{ends_at}
 
 -- the lanes of a link
 abbrev pub lanes_of : NetSpec → ℕ → List Place
@@ -57,15 +57,9 @@ landed-elsewhere net i end node is other =
     ∙ ap (λ ps. filter (ends_at net node) (places_below net i) ++ ps) (none-kept (ends_at net node) i 0 (link_at net i).lanes (λ k. ap (λ o. option_map_or (λ e. e == node) o false) is ∙ ne_eqb end node (λ e. other (sym e))))
     ∙ append-nil (filter (ends_at net node) (places_below net i))
 
--- identifiers of lanes name the lanes
-pub named : (i a n : ℕ) → map place_of (map (λ k. record { link = i; lane = k }) (range_with_len a n)) ≡ map (λ k. record { link = i; lane = k }) (range_with_len a n)
-named i a zero = refl
-named i a (suc n) = ap (λ ps. record { link = i; lane = a } ∷ ps) (named i (a + 1) n)
-
 -- the lanes of a node's list, with those of a link that runs to the node
-pub landed : (net : NetSpec) (i end : ℕ) → node_of net (link_at net i).to ≡ Some end → (before : List LaneId) (link lanes : ℕ) → link ≡ i → lanes ≡ (link_at net i).lanes → map place_of before ≡ filter (ends_at net end) (places_below net i) → map place_of (before ++ map (λ k. record { link = link; lane = k }) (range_with_len 0 lanes)) ≡ filter (ends_at net end) (places_below net (i + 1))
+pub landed : (net : NetSpec) (i end : ℕ) → node_of net (link_at net i).to ≡ Some end → (before : List Place) (link lanes : ℕ) → link ≡ i → lanes ≡ (link_at net i).lanes → before ≡ filter (ends_at net end) (places_below net i) → before ++ map (λ k. record { link = link; lane = k }) (range_with_len 0 lanes) ≡ filter (ends_at net end) (places_below net (i + 1))
 landed net i end is before link lanes same_link same_lanes was =
-    map-append place_of before (map (λ k. record { link = link; lane = k }) (range_with_len 0 lanes))
-    ∙ ap (λ ps. ps ++ map place_of (map (λ k. record { link = link; lane = k }) (range_with_len 0 lanes))) was
-    ∙ ap (λ ps. filter (ends_at net end) (places_below net i) ++ ps) (named link 0 lanes ∙ rw (same_link, same_lanes) refl)
+    ap (λ ps. ps ++ (map (λ k. record { link = link; lane = k }) (range_with_len 0 lanes))) was
+    ∙ ap (λ ps. filter (ends_at net end) (places_below net i) ++ ps) (rw (same_link, same_lanes) refl)
     ∙ sym (landed-here net i end is)

@@ -10,7 +10,7 @@ use Rattle.street_base.specs.declared.net.NetSpec.{NetSpec}
 use Rattle.street_base.specs.declared.net.TurnSpec.{TurnSpec}
 use Rattle.street_base.specs.declared.net.Turn.{Turn}
 use Rattle.street_base.specs.Limits.{most_turns}
-use Rattle.street_base.specs.Network.{Place}
+use Rattle.street_base.specs.declared.names.Place.{Place}
 use Rattle.street_base.specs.Faults.{network_fault, is_bad_turn}
 use Rattle.street_base.proofs.FirstBadLemmas.{first_bad-none}
 use Rattle.street_base.proofs.FaultLemmas.{link_of_below, turns-good}

@@ -18,7 +18,8 @@ use Rattle.std.proofs.lemmas.Option.{slice_get_within, get_or_from_slice_get, sl
 use Rattle.street_base.specs.declared.net.NetSpec.{NetSpec}
 use Rattle.street_base.specs.declared.net.TurnSpec.{TurnSpec}
 use Rattle.street_base.specs.declared.net.Turn.{Turn}
-use Rattle.street_base.specs.Network.{Place, link_of, names_link, turn}
+use Rattle.street_base.specs.declared.names.Place.{Place}
+use Rattle.street_base.specs.Network.{link_of, names_link, turn}
 use Rattle.street_base.specs.Faults.{is_same_turn, joins, network_fault}
 use Rattle.street_base.proofs.ReleaseLemmas.{find-holds}
 use Rattle.street_net.specs.Tables.{turn_by_position, seen_turn, is_from, turns_from, AreTurnsFrom}

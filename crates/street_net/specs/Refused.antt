@@ -1,15 +1,16 @@
 -- What a refused load or plan tells.
 -- Source: this profile.
-use Rattle.std.specs.Prelude.{◌≡◌, ℕ, nat_le, List, Option, Some, None, if◌then◌else◌}
+use Rattle.std.specs.Prelude.{◌≡◌, ℕ, nat_le, List, Option, Some, None, if◌then◌else◌, Bool, true, false, MatchOption, slice_index}
 use Rattle.std.specs.Option.{option_map_or}
 use Rattle.street_base.specs.declared.net.NetSpec.{NetSpec}
-use Rattle.street_base.specs.Network.{link_at}
-use Rattle.street_base.specs.Faults.{Fault, plan_fault}
+use Rattle.street_base.specs.Network.{link_at, serves}
+use Rattle.street_base.specs.Faults.{Fault, plan_fault, is_bad_entry}
 use Rattle.street_base.specs.Machine.{entry_of}
 use Rattle.street_net.specs.declared.faults.NetFault.{NetFault}
 use Rattle.street_net.specs.declared.faults.NetFault.TheVariants.{Bad as BadLoad, Starved as StarvedLoad}
 use Rattle.street_net.specs.declared.faults.PlanFault.{PlanFault}
 use Rattle.street_net.specs.declared.faults.PlanFault.TheVariants.{Bad as BadPlan, Lane, Starved as StarvedPlan}
+use Rattle.std.specs.List.{list_any, range_with_len}
 
 -- where a load is refused, this is its first fault; where memory ran out nothing is told
 abbrev pub TellsFault : Option Fault → NetFault → Type 0
@@ -17,6 +18,16 @@ TellsFault first (BadLoad part at) = first ≡ Some (record { part = part; at = 
 TellsFault first StarvedLoad = Unit {0}
 
 -- ---- plans
+
+-- a lane of this link serves the next link
+abbrev pub has_turn : NetSpec → ℕ → ℕ → Bool
+has_turn net link next = list_any (λ lane. serves net (record { link = link; lane = lane }) next) (range_with_len 0 (link_at net link).lanes)
+
+-- a link is found just where this entry of a plan is good
+abbrev pub TellsEntry : NetSpec → List ℕ → ℕ → Option ℕ → Type 0
+TellsEntry net plan at found =
+    let is_bad = is_bad_entry net plan at (slice_index plan at) in
+    MatchOption found (is_bad ≡ true) (λ link. is_bad ≡ false)
 
 -- how many lanes the first link of a plan has
 abbrev pub entry_lanes : NetSpec → List ℕ → ℕ → ℕ

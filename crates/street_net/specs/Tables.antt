@@ -1,24 +1,20 @@
 -- What a network keeps beside its lists, so that a step searches for nothing in them.
 -- Source: the order of release is this profile's.
-use Rattle.std.specs.Prelude.{◌≡◌, ℕ, ◌+◌, ◌*◌, ◌<◌, ◌≤◌, ◌==◌, List, map, filter, length, nat_lt, Bool, true, false, ◌&&◌, ◌||◌, Some, None, Vec, unwrap_or, slice_index_or}
+use Rattle.std.specs.Prelude.{◌≡◌, ℕ, ◌+◌, ◌*◌, ◌<◌, ◌≤◌, ◌==◌, List, map, filter, length, nat_lt, Bool, true, false, ◌&&◌, ◌||◌, Some, None, Vec, unwrap_or, slice_index_or, ◌≢◌, Option, MatchOption}
 use Rattle.std.specs.Option.{option_map_or}
-use Rattle.std.specs.List.{between}
+use Rattle.std.specs.List.{between, Contains}
 use Rattle.std.specs.declared.alloc.Global.{Global}
 use Rattle.std.specs.List.Sorted.{IsPermutation, IsNonDecreasingBy}
 use Rattle.street_base.specs.declared.net.NetSpec.{NetSpec}
 use Rattle.street_base.specs.declared.net.TurnSpec.{TurnSpec}
 use Rattle.street_base.specs.declared.net.Turn.{Turn}
-use Rattle.street_base.specs.Network.{Place, names_link, link_of, link_at, node_of, places, serves}
+use Rattle.street_base.specs.declared.names.Place.{Place}
+use Rattle.street_base.specs.Network.{names_link, link_of, link_at, node_of, places, serves}
 use Rattle.street_base.specs.Faults.{network_fault}
 use Rattle.street_net.specs.Keys.{ids_of_nodes, ids_of_links}
 use Rattle.street_net.specs.declared.briefs.Brief.{Brief}
-use Rattle.street_net.specs.declared.lanes.LaneId.{LaneId}
 use Rattle.street_net.specs.declared.nexts.Nexts.{Nexts}
 use Rattle.street_net.specs.declared.nexts.Pair.{Pair}
-
--- the lane that an identifier of the code names
-abbrev pub place_of : LaneId → Place
-place_of id = record { link = id.link; lane = id.lane }
 
 -- ---- what a step asks of a link
 
@@ -45,9 +41,9 @@ abbrev pub in_places : NetSpec → ℕ → List Place
 in_places net node = filter (ends_at net node) (places net)
 
 -- for each node the lanes that run to it
-pub record AreInLanes (net : NetSpec) (listed : List (Vec LaneId Global)) : Type 0 where
+pub record AreInLanes (net : NetSpec) (listed : List (Vec Place Global)) : Type 0 where
   pub one_each : length listed ≡ length net.nodes
-  pub lists : (node : ℕ) (d : Vec LaneId Global) → node < length net.nodes → map place_of (slice_index_or listed node d).items ≡ in_places net node
+  pub lists : (node : ℕ) (d : Vec Place Global) → node < length net.nodes → (slice_index_or listed node d).items ≡ in_places net node
 
 -- ---- the turns from a lane
 
@@ -101,6 +97,15 @@ pub record IsTurnTable (net : NetSpec) (starts : List ℕ) (turns : List Turn) :
   pub two_each : length starts ≡ 2 * length net.links + 1
   pub cut : AreStarts starts turns
 
+-- for each link its brief, for each node the lanes that run to it, and the table of all turns
+abbrev pub AreTables : NetSpec → List Brief → List (Vec Place Global) → List ℕ → List Turn → Type 0
+AreTables net briefs in_lanes starts turns = AreBriefs net briefs × AreInLanes net in_lanes × IsTurnTable net starts turns
+
+-- one of these turns, to this next link; nothing is found where none of them goes there
+abbrev pub FindsTurn : List Turn → ℕ → Option Turn → Type 0
+FindsTurn turns next found =
+    MatchOption found ((k : ℕ) (d : Turn) → k < length turns → (slice_index_or turns k d).next ≢ next) (λ t. Contains turns t × (t.next ≡ next))
+
 -- ---- next links that are kept
 
 -- a link is one of at most four next links
@@ -127,7 +132,7 @@ AreKept net pairs = (link : ℕ) (d : Pair) → link < length pairs → IsKept n
 -- ---- a network
 
 -- a load without faults, with its identifiers in order and its tables
-pub record IsChecked (net : NetSpec) (nodes links : List ℕ) (briefs : List Brief) (in_lanes : List (Vec LaneId Global)) (starts : List ℕ) (turns : List Turn) (nexts : List Pair) : Type 0 where
+pub record IsChecked (net : NetSpec) (nodes links : List ℕ) (briefs : List Brief) (in_lanes : List (Vec Place Global)) (starts : List ℕ) (turns : List Turn) (nexts : List Pair) : Type 0 where
   pub faultless : network_fault net ≡ None
   pub nodes_listed : nodes ≡ ids_of_nodes net.nodes
   pub links_listed : links ≡ ids_of_links net.links

@@ -9,35 +9,12 @@ use crate::keys::{
     TurnKey, find_node, is_repeated_link, is_repeated_node, is_repeated_turn, link_with,
 };
 use indexmap::IndexSet;
-use street_base::{LinkSpec, NetSpec, NodeSpec, TurnSpec};
+use street_base::{
+    GREATEST_ID, LinkSpec, MOST_CAPACITY, MOST_CELLS, MOST_LANES, MOST_LIMIT, MOST_LINKS,
+    MOST_NODES, MOST_RESIDENCE, MOST_TURNS, NetSpec, NodeSpec, TurnSpec,
+};
 
-/// How many nodes a load has at most.
-pub(crate) const MOST_NODES: usize = 4_096;
-
-/// How many links a load has at most.
-pub(crate) const MOST_LINKS: usize = 4_096;
-
-/// How many turns a load has at most.
-pub(crate) const MOST_TURNS: usize = 32_768;
-
-/// The greatest identifier of a node or a link.
-pub(crate) const MOST_ID: u64 = 4_294_967_295;
-
-/// The greatest residence in a buffer, in steps.
-pub(crate) const MOST_RESIDENCE: u64 = 60;
-
-/// How many vehicles a buffer holds at most.
-pub(crate) const MOST_CAPACITY: u64 = 64;
-
-/// How many lanes a link has at most.
-pub(crate) const MOST_LANES: u64 = 2;
-
-/// How many cells a lane has at most.
-pub(crate) const MOST_LENGTH: u64 = 1_000_000;
-
-/// The greatest speed limit, in cells a step.
-pub(crate) const MOST_LIMIT: u64 = 5;
-
+/// Whether a number is in a range, with both its ends.
 fn is_within(low: u64, high: u64, number: u64) -> bool
     ensures { result ≡ is_within low high number }
 {
@@ -50,7 +27,7 @@ pub(crate) fn is_bad_node(spec: &NetSpec, seen: &IndexSet<u64>, at: usize, node:
     ensures { result ≡ is_bad_node spec.now at node.now }
 {
     at >= MOST_NODES
-        || node.id > MOST_ID
+        || node.id > GREATEST_ID
         || is_repeated_node(spec, seen, at, node.id)
         || !is_within(1, MOST_RESIDENCE, node.residence)
         || !is_within(1, MOST_CAPACITY, node.capacity)
@@ -69,12 +46,12 @@ pub(crate) fn is_bad_link(
     ensures { result ≡ is_bad_link spec.now at link.now }
 {
     at >= MOST_LINKS
-        || link.id > MOST_ID
+        || link.id > GREATEST_ID
         || is_repeated_link(spec, seen, at, link.id)
         || find_node(spec, nodes, link.from).is_none()
         || find_node(spec, nodes, link.to).is_none()
         || !is_within(1, MOST_LANES, link.lanes)
-        || !is_within(1, MOST_LENGTH, link.length)
+        || !is_within(1, MOST_CELLS, link.length)
         || !is_within(1, MOST_LIMIT, link.limit)
 }
 

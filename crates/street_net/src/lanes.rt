@@ -9,16 +9,7 @@ ghost use Rattle.street_net.specs.Tables.{AreBriefs, AreInLanes};
 
 use crate::briefs::Brief;
 use std::alloc::{AllocError, Global};
-use street_base::{LaneNo, LinkIx, NetSpec};
-
-/// A lane of a network.
-#[derive(Clone, Copy)]
-pub struct LaneId {
-    /// The position of its link.
-    pub link: LinkIx,
-    /// Its number on the link.
-    pub lane: LaneNo,
-}
+use street_base::{LaneNo, LinkIx, NetSpec, Place};
 
 /// Where a lane stands in a list of two entries a link.
 pub fn slot(link: LinkIx, lane: LaneNo) -> usize
@@ -37,7 +28,7 @@ pub(crate) fn lanes_by_end(
     alloc: Global,
     spec: &NetSpec,
     briefs: &[Brief],
-) -> Result<Vec<Vec<LaneId>>, AllocError>
+) -> Result<Vec<Vec<Place>>, AllocError>
     requires faultless { network_fault spec.now ≡ None }
     requires briefs { AreBriefs spec.now briefs.now }
     ensures { IfOk result (λ lists. AreInLanes spec.now lists.items) }
@@ -51,9 +42,9 @@ pub(crate) fn lanes_by_end(
 }
 
 /// So many lists of no lanes.
-fn no_lanes(alloc: Global, count: usize) -> Result<Vec<Vec<LaneId>>, AllocError>
+fn no_lanes(alloc: Global, count: usize) -> Result<Vec<Vec<Place>>, AllocError>
     ensures count { IfOk result (λ lists. length lists.items ≡ count) }
-    ensures empty { IfOk result (λ lists. EachIndex lists.items (λ k. (d : Vec LaneId Global) → (slice_index_or lists.items k d).items ≡ [])) }
+    ensures empty { IfOk result (λ lists. EachIndex lists.items (λ k. (d : Vec Place Global) → (slice_index_or lists.items k d).items ≡ [])) }
 {
     let mut lists = Vec::with_capacity(alloc, count)?;
     for _listed in 0..count {
@@ -63,12 +54,12 @@ fn no_lanes(alloc: Global, count: usize) -> Result<Vec<Vec<LaneId>>, AllocError>
 }
 
 /// Adds the lanes of a link to a list.
-fn add_lanes(list: &mut Vec<LaneId>, link: LinkIx, lanes: LaneNo) -> Result<(), AllocError>
+fn add_lanes(list: &mut Vec<Place>, link: LinkIx, lanes: LaneNo) -> Result<(), AllocError>
     ensures { OnOk result (list.new.items
         ≡ list.old.items ++ map (λ k. record { link = link; lane = k }) (range_with_len 0 lanes)) }
 {
     for lane in 0..lanes {
-        list.push(LaneId { link, lane })?;
+        list.push(Place { link, lane })?;
     }
     Ok(())
 }

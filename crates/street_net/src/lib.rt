@@ -16,5 +16,5 @@ mod plans;
 mod turns;
 
 pub use faults::{NetFault, PlanFault};
-pub use lanes::{LaneId, slot};
+pub use lanes::slot;
 pub use network::Network;

@@ -7,21 +7,15 @@ ghost use Rattle.street_base.specs.declared.refusal.Part.TheVariants.{Nodes, Lin
 ghost use Rattle.street_net.specs.Keys.{ids_of_nodes, ids_of_links};
 ghost use Rattle.street_net.specs.Refused.{TellsFault};
 
-use crate::entries::{MOST_LINKS, MOST_NODES, MOST_TURNS, is_bad_link, is_bad_node, is_bad_turn};
+use crate::entries::{is_bad_link, is_bad_node, is_bad_turn};
 use crate::faults::NetFault;
 use crate::keys::turn_key;
 use indexmap::IndexSet;
 use std::alloc::Global;
-use street_base::{LAST_CLOCK, NetSpec, Part};
-
-/// The greatest length of the turn zone, in cells.
-pub(crate) const MOST_ZONE: u64 = 1_000;
-
-/// The greatest dawdle, of 1,000.
-pub(crate) const MOST_DAWDLE: u64 = 1_000;
-
-/// The greatest change, of 1,000.
-pub(crate) const MOST_CHANGE: u64 = 1_000;
+use street_base::{
+    LAST_CLOCK, MOST_CHANGE, MOST_DAWDLE, MOST_LINKS, MOST_NODES, MOST_TURNS, MOST_ZONE, NetSpec,
+    Part,
+};
 
 /// The identifiers of the nodes.
 ///

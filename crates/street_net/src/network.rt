@@ -1,24 +1,24 @@
 //! The checked network.
 //!
 //! Source: this profile.
-ghost use Rattle.std.specs.Prelude.{◌≡◌, ◌<◌, None, Some, length, map, option_map, slice_get, IfOk, IfErr, IfSome, OnOk};
-ghost use Rattle.street_base.specs.Network.{Place, link_at, link_of, node_of, end_node, turn, serves};
+ghost use Rattle.std.specs.Prelude.{◌≡◌, ◌<◌, None, Some, length, option_map, slice_get, IfOk, IfErr, IfSome, OnOk};
+ghost use Rattle.street_base.specs.Network.{link_at, link_of, node_of, end_node, turn, serves};
 ghost use Rattle.street_base.specs.Faults.{network_fault};
 ghost use Rattle.street_net.specs.Keys.{ids_of_nodes, ids_of_links};
-ghost use Rattle.street_net.specs.Tables.{AreBriefs, AreInLanes, IsTurnTable, AreServed, IsServedOrNone, AreKept, place_of, in_places, turn_by_position};
+ghost use Rattle.street_net.specs.Tables.{AreServed, IsServedOrNone, AreKept, in_places, turn_by_position, AreTables};
 ghost use Rattle.street_net.specs.Refused.{TellsFault};
 
 use crate::briefs::{Brief, briefs_of_links};
 use crate::faults::NetFault;
 use crate::keys::{find_link, find_node};
-use crate::lanes::{LaneId, lanes_by_end};
+use crate::lanes::lanes_by_end;
 use crate::lists::{read_links, read_nodes, read_turns, read_values};
 use crate::nexts::{NO_LINK, Nexts, Pair};
 use crate::turns::{LISTS, TurnTable, list_of, turn_to};
 use indexmap::IndexSet;
 use std::alloc::{AllocError, Global};
 use std::marker::Model;
-use street_base::{CellNo, LaneNo, LinkIx, Listing, NetSpec, NodeIx, Speed, Turn};
+use street_base::{CellNo, LaneNo, LinkIx, Listing, NetSpec, NodeIx, Place, Speed, Turn};
 
 /// A network without faults, with constant-time look-ups of identifiers. Contracts see what it was loaded from.
 pub struct Network {
@@ -26,7 +26,7 @@ pub struct Network {
     node_ids: IndexSet<u64>,
     link_ids: IndexSet<u64>,
     briefs: Vec<Brief>,
-    in_lanes: Vec<Vec<LaneId>>,
+    in_lanes: Vec<Vec<Place>>,
     turns: TurnTable,
     // Of each link, or of none: next links that its lanes serve.
     nexts: Vec<Pair>,
@@ -88,7 +88,7 @@ fn identifiers(alloc: Global, spec: &NetSpec) -> Result<(IndexSet<u64>, IndexSet
 }
 
 // What a network keeps of each link, of each node and of the turns.
-type Tables = (Vec<Brief>, Vec<Vec<LaneId>>, TurnTable);
+type Tables = (Vec<Brief>, Vec<Vec<Place>>, TurnTable);
 
 /// The tables of a load without faults.
 fn tables(
@@ -100,8 +100,7 @@ fn tables(
     requires faultless { network_fault spec.now ≡ None }
     requires nodes { nodes.now.keys ≡ ids_of_nodes spec.now.nodes }
     requires links { links.now.keys ≡ ids_of_links spec.now.links }
-    ensures { IfOk result (λ found. AreBriefs spec.now found.0.items × AreInLanes spec.now found.1.items
-        × IsTurnTable spec.now found.2.starts.items found.2.turns.items) }
+    ensures { IfOk result (λ found. AreTables spec.now found.0.items found.1.items found.2.starts.items found.2.turns.items) }
 {
     let briefs = briefs_of_links(alloc, spec, nodes)?;
     let in_lanes = lanes_by_end(alloc, spec, &briefs)?;
@@ -176,9 +175,9 @@ impl Network {
 
     /// The lanes that run to a node, in the order in which their buffers are released: by the position of the link, then by
     /// the lane.
-    pub fn in_lanes(&self, node: NodeIx) -> &[LaneId]
+    pub fn in_lanes(&self, node: NodeIx) -> &[Place]
         requires { node < length self.now.nodes }
-        ensures { map place_of result.now ≡ in_places self.now node }
+        ensures { result.now ≡ in_places self.now node }
     {
         &self.in_lanes[node.position()]
     }

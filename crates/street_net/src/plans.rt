@@ -1,28 +1,23 @@
 //! Plans: the first bad entry, and the links by their positions.
 //!
 //! Source: this profile. An entry is good if it is a link, and the first or one to which a lane of the link before has a turn.
-ghost use Rattle.std.specs.Prelude.{◌≡◌, ◌-◌, ◌<◌, ◌≤◌, ℕ, true, false, None, Some, length, IfOk, IfErr, OnOk, MatchOption, slice_index};
-ghost use Rattle.std.specs.List.{list_any, range_with_len};
+ghost use Rattle.std.specs.Prelude.{◌≡◌, ◌-◌, ◌<◌, ◌≤◌, None, Some, length, IfOk, IfErr, OnOk, MatchOption, slice_index};
 ghost use Rattle.street_base.specs.Limits.{most_plan};
-ghost use Rattle.street_base.specs.Network.{Place, link_at, link_of, serves};
-ghost use Rattle.street_base.specs.Faults.{is_bad_entry, plan_fault};
+ghost use Rattle.street_base.specs.Network.{link_of, serves};
+ghost use Rattle.street_base.specs.Faults.{plan_fault};
 ghost use Rattle.street_base.specs.Machine.{plan_links};
-ghost use Rattle.street_net.specs.Refused.{TellsRefusal, plan_refusal};
+ghost use Rattle.street_net.specs.Refused.{TellsRefusal, plan_refusal, has_turn, TellsEntry};
 
 use crate::faults::PlanFault;
 use crate::network::Network;
 use std::alloc::{AllocError, Global};
-use street_base::{LinkIx, Plan};
-
-/// How many links a plan has at most.
-pub(crate) const MOST_PLAN: usize = 1_024;
+use street_base::{LinkIx, MOST_PLAN, Plan};
 
 impl Network {
     /// Whether a lane of a link has a turn to a next link.
     fn leads_to(&self, link: LinkIx, next: LinkIx) -> bool
         requires { link < length self.now.links }
-        ensures { result ≡ list_any (λ lane. let place : Place = record { link = link; lane = lane } in serves self.now place next)
-            (range_with_len 0 (link_at self.now link).lanes) }
+        ensures { result ≡ has_turn self.now link next }
     {
         (0..self.lanes_of(link)).any(|lane| self.serves(link, lane, next))
     }
@@ -33,9 +28,7 @@ impl Network {
         requires within { at < length plan.now }
         requires before { link_of self.now (slice_index plan.now (at - 1)) ≡ Some before }
         requires is_link { before < length self.now.links }
-        ensures entry { MatchOption result
-            (is_bad_entry self.now plan.now at (slice_index plan.now at) ≡ true)
-            (λ link. is_bad_entry self.now plan.now at (slice_index plan.now at) ≡ false) }
+        ensures entry { TellsEntry self.now plan.now at result }
         ensures link { MatchOption result Unit (λ link. link_of self.now (slice_index plan.now at) ≡ Some link) }
         ensures is_link { MatchOption result Unit (λ link. link < length self.now.links) }
     {

@@ -1,14 +1,12 @@
 //! The turns from each lane, by the positions of their next links.
 //!
 //! Source: turns of TRANSIMS; that a lane serves a link by a turn is this profile.
-ghost use Rattle.std.specs.Prelude.{◌≡◌, ◌≢◌, ℕ, ◌+◌, ◌*◌, ◌<◌, ◌≤◌, length, map, true, None, IfOk, MatchOption, slice_index_or};
-ghost use Rattle.std.specs.List.{Contains};
+ghost use Rattle.std.specs.Prelude.{◌≡◌, ◌+◌, ◌*◌, ◌<◌, ◌≤◌, length, map, true, None, IfOk};
 ghost use Rattle.std.specs.List.Sorted.{IsNonDecreasingBy};
-ghost use Rattle.street_base.specs.declared.net.Turn.{Turn as TurnSeen};
 ghost use Rattle.street_base.specs.Faults.{network_fault, joins};
 ghost use Rattle.street_base.specs.Limits.{most_turns};
 ghost use Rattle.street_net.specs.Keys.{ids_of_links};
-ghost use Rattle.street_net.specs.Tables.{seen_turn, list_number, turn_rank, list_at, IsStart, AreStarts, IsTurnTable};
+ghost use Rattle.street_net.specs.Tables.{seen_turn, list_number, turn_rank, list_at, IsStart, AreStarts, IsTurnTable, FindsTurn};
 
 use crate::keys::find_link;
 use indexmap::IndexSet;
@@ -142,9 +140,7 @@ fn start_of(turns: &[Turn], list: usize) -> usize
 /// The turn to a next link, among turns in the order of their next links.
 pub(crate) fn turn_to(turns: &[Turn], next: LinkIx) -> Option<Turn>
     requires { IsNonDecreasingBy (λ t. t.next) turns.now }
-    ensures { MatchOption result
-        ((k : ℕ) (d : TurnSeen) → k < length turns.now → (slice_index_or turns.now k d).next ≢ next)
-        (λ t. Contains turns.now t × (t.next ≡ next)) }
+    ensures { FindsTurn turns.now next result }
 {
     let position = next.position();
     match turns.binary_search_by_key(&position, |turn| turn.next.position()) {

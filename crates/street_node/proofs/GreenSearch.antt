@@ -13,7 +13,7 @@ use Rattle.std.proofs.lemmas.Cmp.{ranked, nat_cmp_total, on_total, then_total, t
 use Rattle.std.proofs.lemmas.Bool.{cases_Bool, cases_lt, and_parts, eqb-true, eq-eqb}
 use Rattle.std.proofs.lemmas.List.Folds.{list_any_at}
 use Rattle.std.proofs.lemmas.List.Sorted.{searchable_from_sorted}
-use Rattle.street_base.specs.Network.{Place}
+use Rattle.street_base.specs.declared.names.Place.{Place}
 use Rattle.street_base.specs.Signal.{Green}
 use Rattle.street_net.proofs.KeyLemmas.{list_any-keys}
 use Rattle.street_node.specs.declared.phase.GreenTurn.{GreenTurn}

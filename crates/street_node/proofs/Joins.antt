@@ -9,7 +9,8 @@ use Rattle.std.proofs.lemmas.Option.{slice_get_within, get_or_from_slice_get}
 use Rattle.street_base.specs.declared.net.NetSpec.{NetSpec}
 use Rattle.street_base.specs.declared.net.TurnSpec.{TurnSpec}
 use Rattle.street_base.specs.Faults.{network_fault}
-use Rattle.street_base.specs.Network.{Place, link_of, link_at, node_of, names_link, turn}
+use Rattle.street_base.specs.declared.names.Place.{Place}
+use Rattle.street_base.specs.Network.{link_of, link_at, node_of, names_link, turn}
 use Rattle.street_base.specs.Vehicle.{Vehicle, next_link}
 use Rattle.street_base.specs.State.{Queued}
 use Rattle.street_base.proofs.ReleaseLemmas.{find-holds}

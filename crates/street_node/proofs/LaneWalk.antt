@@ -8,7 +8,8 @@ use Rattle.std.proofs.lemmas.List.Elements.{filter_passes}
 use Rattle.std.proofs.lemmas.Option.{slice_get_within, get_or_from_slice_get}
 use Rattle.street_base.specs.declared.net.NetSpec.{NetSpec}
 use Rattle.street_base.specs.declared.net.TurnSpec.{TurnSpec}
-use Rattle.street_base.specs.Network.{Place, is_place, link_at, node_of, turn, places}
+use Rattle.street_base.specs.declared.names.Place.{Place}
+use Rattle.street_base.specs.Network.{is_place, link_at, node_of, turn, places}
 use Rattle.street_base.specs.State.{Traffic}
 use Rattle.street_base.specs.Census.{one_if}
 use Rattle.street_base.specs.Release.{front, target, may_give}

@@ -9,7 +9,8 @@ use Rattle.street_base.specs.declared.net.NetSpec.{NetSpec}
 use Rattle.street_base.specs.declared.net.TurnSpec.{TurnSpec}
 use Rattle.street_base.specs.declared.net.Turn.{Turn}
 use Rattle.street_base.specs.Faults.{network_fault}
-use Rattle.street_base.specs.Network.{Place, link_at, turn, places}
+use Rattle.street_base.specs.declared.names.Place.{Place}
+use Rattle.street_base.specs.Network.{link_at, turn, places}
 use Rattle.street_base.specs.Vehicle.{Vehicle, vehicle_of}
 use Rattle.street_base.specs.State.{Traffic, Queued, lane_at}
 use Rattle.street_base.specs.Release.{front, target, gives, on_next_link}
@@ -31,7 +32,7 @@ use Rattle.street_node.proofs.Sends.{Walked, queue-here, others-stay}
 
 -- ---- a walk and its next buffer
 
-same-crossings : (now after : Yard) (more : List Released) → All (λ r. entry_at after r.key.0 ≡ entry_at now r.key.0) more → map (crossing_in after) more ≡ map (crossing_in now) more
+same-crossings : (now after : Yard) (more : List Released) → All (λ r. entry_at after r.key ≡ entry_at now r.key) more → map (crossing_in after) more ≡ map (crossing_in now) more
 same-crossings now after [] a = refl
 same-crossings now after (r ∷ more) a =
     let first : crossing_in after r ≡ crossing_in now r = ap (λ (o : Option YardEntry). option_map (λ (v : Vehicle). record { from = lane_from r; to = lane_to r; vehicle = v }) (option_map vehicle_of (option_map (λ (e : YardEntry). e.car) o))) (a 0 r (omega arith)) in
@@ -122,7 +123,7 @@ module _ (net : NetSpec) (faultless : network_fault net ≡ None) (node clock : 
   -- a buffer whose front goes
   pub goes-sent : (k : ℕ) (now after : Yard) (open_now : List Bool) (more : List Released) (from : Place) (r : Released) → Walks k now more → Done k now open_now more → slice_get ps k ≡ Some from
       → Some (lane_to r) ≡ way_out net clock from (slice_get (queue_of now (get_or ns k 0)) 0) → mouth open_now (lane_to r) ≡ true → length open_now ≡ 2 * length net.links
-      → IsFront net now from (get_or ns k 0) r → SendsOn now after (get_or ns k 0) r.key.0 (link_at net r.turn.next).limit
+      → IsFront net now from (get_or ns k 0) r → SendsOn now after (get_or ns k 0) r.key (link_at net r.turn.next).limit
       → Done (k + 1) after (slice_set open_now (slot_of (lane_to r)) false) (more ++ r ∷ [])
   goes-sent k now after open_now more from r w d at way is_open wide_now f s =
       let to = lane_to r in
@@ -131,17 +132,17 @@ module _ (net : NetSpec) (faultless : network_fault net ≡ None) (node clock : 
       let going : gives m from ≡ true = by-mouth k now open_now more from to d at is ∙ is_open in
       let ahead = ahead-of k from to at is in
       let lead = leads-of m from to is in
-      let front_is : front m from ≡ Some (queued_of f.car) = ap (λ (qs : List Queued). slice_get qs 0) (sym (here k now more from w at)) ∙ queue-first now n r.key.0 f.car f.first f.held in
+      let front_is : front m from ≡ Some (queued_of f.car) = ap (λ (qs : List Queued). slice_get qs 0) (sym (here k now more from w at)) ∙ queue-first now n r.key f.car f.first f.held in
       let queued : lead.0 ≡ queued_of f.car = same_Some _ _ (sym lead.1.front ∙ front_is) in
-      let on : list_on now r.key.0 ≡ Some n = head-on now n r.key.0 w.whole f.first in
+      let on : list_on now r.key ≡ Some n = head-on now n r.key w.whole f.first in
       record {
         queues = λ j p low there. elim (cases_eq j k) as (λ _. queue_of after (get_or ns j 0) ≡ queue_after m p) [
           | inl same ↦ (
               let is_p : Some from ≡ Some p = sym at ∙ ap (slice_get ps) (sym same) ∙ there in
               let e : from ≡ p = same_Some from p is_p in
-              let at_k : queue_of after n ≡ queue_after m from = queue-sent now after n r.key.0 (link_at net r.turn.next).limit w.whole f.first s ∙ ap (drop 1) (here k now more from w at) ∙ sym (rw going refl) in
+              let at_k : queue_of after n ≡ queue_after m from = queue-sent now after n r.key (link_at net r.turn.next).limit w.whole f.first s ∙ ap (drop 1) (here k now more from w at) ∙ sym (rw going refl) in
               ap (λ i. queue_of after (get_or ns i 0)) same ∙ at_k ∙ ap (queue_after m) e)
-          | inr other ↦ queue-other now after n r.key.0 (link_at net r.turn.next).limit w.whole f.first s (get_or ns j 0) (apart-at ns j k apart (omega arith) (inside k from at)) ∙ d.queues j p (omega arith) there
+          | inr other ↦ queue-other now after n r.key (link_at net r.turn.next).limit w.whole f.first s (get_or ns j 0) (apart-at ns j k apart (omega arith) (inside k from at)) ∙ d.queues j p (omega arith) there
         ];
         shut =
             let few = ahead-few net faultless node to ahead in
@@ -149,14 +150,14 @@ module _ (net : NetSpec) (faultless : network_fault net ≡ None) (node clock : 
             shut-behind m (IsAhead net node) ps k from at open_now d.shut to is (ahead-few net faultless node) ahead (omega arith);
         crossings =
             let limit = (link_at net r.turn.next).limit in
-            let vehicle : vehicle_with after r.key.0 ≡ Some (on_next_link limit (vehicle_of f.car)) = ap (λ (o : Option YardEntry). option_map vehicle_of (option_map (λ (e : YardEntry). e.car) o)) s.sent ∙ sent-vehicle limit (entry_at now r.key.0) f.car f.held in
+            let vehicle : vehicle_with after r.key ≡ Some (on_next_link limit (vehicle_of f.car)) = ap (λ (o : Option YardEntry). option_map vehicle_of (option_map (λ (e : YardEntry). e.car) o)) s.sent ∙ sent-vehicle limit (entry_at now r.key) f.car f.held in
             let last : crossing_in after r ≡ Some (record { from = from; to = to; vehicle = on_next_link limit (vehicle_of f.car) }) = ap (option_map (λ (v : Vehicle). record { from = lane_from r; to = to; vehicle = v })) vehicle ∙ ap (λ (p : Place). Some (record { from = p; to = to; vehicle = on_next_link limit (vehicle_of f.car) })) (from-is net now from n r f) in
             let crosses : crossing m from ≡ Some (record { from = from; to = to; vehicle = on_next_link limit (vehicle_of f.car) }) =
             crossing-goes m from to lead.0 lead.1 going
             ∙ ap (λ (n : NetSpec). Some (record { from = from; to = to; vehicle = on_next_link (link_at n to.link).limit lead.0.vehicle })) shows.network
             ∙ ap (λ (q : Queued). Some (record { from = from; to = to; vehicle = on_next_link limit q.vehicle })) queued in
             map-append (crossing_in after) more (r ∷ [])
-            ∙ ap (λ (xs : List (Option Crossing)). xs ++ crossing_in after r ∷ []) (same-crossings now after more (others-stay net ns apart old k now after more r.key.0 n limit w on s) ∙ d.crossings)
+            ∙ ap (λ (xs : List (Option Crossing)). xs ++ crossing_in after r ∷ []) (same-crossings now after more (others-stay net ns apart old k now after more r.key n limit w on s) ∙ d.crossings)
             ∙ ap (λ (x : Option Crossing). map (λ c. Some c) (filter_map (crossing m) (take k ps)) ++ x ∷ []) (last ∙ sym crosses)
             ∙ sym (ap (map (λ c. Some c)) (crossings-more (crossing m) ps k from at)
             ∙ map-append (λ c. Some c) (filter_map (crossing m) (take k ps)) (cons_option (crossing m from) [])

@@ -39,10 +39,10 @@ module _ (net : NetSpec) (ns : List ℕ) (apart : IsApart ns) (old : Yard) where
   }
 
   -- a key on a list is none of those that were sent on
-  apart-from : (k : ℕ) (now : Yard) (more : List Released) → Walked net ns old k now more → (key n : ℕ) → list_on now key ≡ Some n → All (λ r. key ≢ r.key.0) more
+  apart-from : (k : ℕ) (now : Yard) (more : List Released) → Walked net ns old k now more → (key n : ℕ) → list_on now key ≡ Some n → All (λ r. key ≢ r.key) more
   apart-from k now more w key n on i d h e =
       let sent = w.sends.sent i d h in
-      let gone : list_on now (get_or more i d).key.0 ≡ None = ap (option_and_then (λ (e : YardEntry). e.list)) sent ∙ sent-loose (link_at net (get_or more i d).turn.next).limit (entry_at old (get_or more i d).key.0) in
+      let gone : list_on now (get_or more i d).key ≡ None = ap (option_and_then (λ (e : YardEntry). e.list)) sent ∙ sent-loose (link_at net (get_or more i d).turn.next).limit (entry_at old (get_or more i d).key) in
       let both : ◌≡◌ {A = Option ℕ} (Some n) None = sym on ∙ ap (list_on now) e ∙ gone in
       absurd (cc)
 
@@ -66,18 +66,18 @@ module _ (net : NetSpec) (ns : List ℕ) (apart : IsApart ns) (old : Yard) where
     sends = record { sent = w.sends.sent; rest = w.sends.rest; lists = λ n a. w.sends.lists n (away-less k n h a).0; count = w.sends.count; room = w.sends.room };
   }
 
-  pub walk-sends : (k : ℕ) (now after : Yard) (more : List Released) (r : Released) → Walked net ns old k now more → k < length ns → list_on now r.key.0 ≡ Some (get_or ns k 0)
-      → SendsOn now after (get_or ns k 0) r.key.0 (link_at net r.turn.next).limit → Walked net ns old (k + 1) after (more ++ r ∷ [])
+  pub walk-sends : (k : ℕ) (now after : Yard) (more : List Released) (r : Released) → Walked net ns old k now more → k < length ns → list_on now r.key ≡ Some (get_or ns k 0)
+      → SendsOn now after (get_or ns k 0) r.key (link_at net r.turn.next).limit → Walked net ns old (k + 1) after (more ++ r ∷ [])
   walk-sends k now after more r w h on s =
-      let others = apart-from k now more w r.key.0 (get_or ns k 0) on in
-      let Sent : Released → Type 0 = λ q. entry_at after q.key.0 ≡ option_map (sent_on (link_at net q.turn.next).limit) (entry_at old q.key.0) in
+      let others = apart-from k now more w r.key (get_or ns k 0) on in
+      let Sent : Released → Type 0 = λ q. entry_at after q.key ≡ option_map (sent_on (link_at net q.turn.next).limit) (entry_at old q.key) in
       record {
         whole = s.whole;
         sends = record {
           sent = All-append Sent more (r ∷ [])
-              (λ i d l. s.entries (get_or more i d).key.0 (λ e. others i d l (sym e)) ∙ w.sends.sent i d l)
-              (one-all Sent r (s.sent ∙ ap (option_map (sent_on (link_at net r.turn.next).limit)) (untouched k now more w r.key.0 (get_or ns k 0) on)));
-          rest = λ key a. s.entries key (all-last (λ (q : Released). key ≢ q.key.0) more r a) ∙ w.sends.rest key (all-first (λ (q : Released). key ≢ q.key.0) more (r ∷ []) a);
+              (λ i d l. s.entries (get_or more i d).key (λ e. others i d l (sym e)) ∙ w.sends.sent i d l)
+              (one-all Sent r (s.sent ∙ ap (option_map (sent_on (link_at net r.turn.next).limit)) (untouched k now more w r.key (get_or ns k 0) on)));
+          rest = λ key a. s.entries key (all-last (λ (q : Released). key ≢ q.key) more r a) ∙ w.sends.rest key (all-first (λ (q : Released). key ≢ q.key) more (r ∷ []) a);
           lists = λ n a. let both = away-less k n h a in s.others n both.1.0 ∙ w.sends.lists n both.0;
           count = s.count ∙ w.sends.count;
           room = s.room ∙ w.sends.room;
@@ -86,5 +86,5 @@ module _ (net : NetSpec) (ns : List ℕ) (apart : IsApart ns) (old : Yard) where
 
   -- those who were sent on stay as they are when another is
   pub others-stay : (k : ℕ) (now after : Yard) (more : List Released) (key n limit : ℕ) → Walked net ns old k now more → list_on now key ≡ Some n → SendsOn now after n key limit
-      → All (λ r. entry_at after r.key.0 ≡ entry_at now r.key.0) more
-  others-stay k now after more key n limit w on s i d h = s.entries (get_or more i d).key.0 (λ e. apart-from k now more w key n on i d h (sym e))
+      → All (λ r. entry_at after r.key ≡ entry_at now r.key) more
+  others-stay k now after more key n limit w on s i d h = s.entries (get_or more i d).key (λ e. apart-from k now more w key n on i d h (sym e))

@@ -9,7 +9,7 @@ use Rattle.std.proofs.lemmas.List.Sums.{sum_by_more, sum_by-cons}
 use Rattle.std.proofs.lemmas.List.Sorted.{list_any-IsPermutation}
 use Rattle.std.proofs.lemmas.Option.{slice_get-get_or}
 use Rattle.street_base.specs.Search.{least}
-use Rattle.street_base.specs.Network.{Place}
+use Rattle.street_base.specs.declared.names.Place.{Place}
 use Rattle.street_base.specs.Signal.{Phase, Green, time_of, phase_at, lists}
 use Rattle.street_base.proofs.SearchLemmas.{least-past, least-here, least-skip}
 use Rattle.street_node.specs.Greens.{shown, IsSamePhase}

@@ -3,18 +3,18 @@ use Rattle.std.proofs.Common.{◌≡◌, ℕ, ◌+◌, ◌*◌, ◌<◌, ◌≤�
 use Rattle.std.specs.Prelude.{slice_get, slice_set, drop, filter_map, not, ◌&&◌, IsSomeAnd}
 use Rattle.std.specs.Option.{option_map}
 use Rattle.std.specs.List.{list_any}
-use Rattle.std.proofs.lemmas.List.{length-map, length-drop, take_all, get_or-map}
-use Rattle.std.proofs.lemmas.Option.{slice_get_within, slice_get-map, slice_get-get_or}
+use Rattle.std.proofs.lemmas.List.{length-drop, take_all, get_or-map}
+use Rattle.std.proofs.lemmas.Option.{slice_get_within, slice_get-get_or}
 use Rattle.street_base.specs.declared.net.NetSpec.{NetSpec}
 use Rattle.street_base.specs.declared.car.Car.{Car}
 use Rattle.street_base.specs.Faults.{network_fault}
-use Rattle.street_base.specs.Network.{Place, link_at}
+use Rattle.street_base.specs.declared.names.Place.{Place}
+use Rattle.street_base.specs.Network.{link_at}
 use Rattle.street_base.specs.Lane.{is_free}
 use Rattle.street_base.specs.State.{Traffic, lane_at}
 use Rattle.street_base.specs.Release.{may_give}
 use Rattle.street_net.specs.Slots.{mouth, slot_of}
-use Rattle.street_net.specs.Tables.{place_of as place_of_lane, in_places}
-use Rattle.street_net.specs.declared.lanes.LaneId.{LaneId}
+use Rattle.street_net.specs.Tables.{in_places}
 use Rattle.street_yard.specs.declared.names.ListId.{ListId}
 use Rattle.street_yard.specs.Yard.{YardEntry, Yard, car_of, list_on, IsApart, IsWhole}
 use Rattle.street_node.specs.Buffers.{queue_of, HaveShortPlans}
@@ -51,10 +51,10 @@ module _ (net : NetSpec) (faultless : network_fault net ≡ None) (node clock : 
 
   pub done-sent : (k : ℕ) (now after : Yard) (open_now : List Bool) (more : List Released) (from : Place) (r : Released) → AreDone k now open_now more → slice_get (in_places net node) k ≡ Some from
       → Some (lane_to r) ≡ way_out net clock from (slice_get (queue_of now (get_or ns k 0)) 0) → mouth open_now (lane_to r) ≡ true → length open_now ≡ 2 * length net.links
-      → IsFront net now from (get_or ns k 0) r → SendsOn now after (get_or ns k 0) r.key.0 (link_at net r.turn.next).limit
+      → IsFront net now from (get_or ns k 0) r → SendsOn now after (get_or ns k 0) r.key (link_at net r.turn.next).limit
       → AreDone (k + 1) after (slice_set open_now (slot_of (lane_to r)) false) (more ++ r ∷ [])
   done-sent k now after open_now more from r d at way is_open wide_now f s = record {
-    walked = walk-sends net ns apart old k now after more r d.walked (let h = slice_get_within (in_places net node) k from at in omega arith) (head-on now (get_or ns k 0) r.key.0 d.walked.whole f.first) s;
+    walked = walk-sends net ns apart old k now after more r d.walked (let h = slice_get_within (in_places net node) k from at in omega arith) (head-on now (get_or ns k 0) r.key d.walked.whole f.first) s;
     goes = λ m shows. goes-sent net faultless node clock ns apart one_each old mouths wide m shows k now after open_now more from r d.walked (d.goes m shows) at way is_open wide_now f s;
   }
 
@@ -63,26 +63,26 @@ module _ (net : NetSpec) (faultless : network_fault net ≡ None) (node clock : 
   front-joins from now n r way = way-joins net faultless clock from (lane_to r) (slice_get (queue_of now n) 0) (sym way)
 
   -- a front has a next link, so its plan goes on
-  pub front-short : (k : ℕ) (now : Yard) (open_now : List Bool) (more : List Released) (from : Place) (n : ℕ) (r : Released) → AreDone k now open_now more → HaveShortPlans old → IsFront net now from n r → IsSomeAnd (car_of now r.key.0) (λ c. c.at < 65535)
+  pub front-short : (k : ℕ) (now : Yard) (open_now : List Bool) (more : List Released) (from : Place) (n : ℕ) (r : Released) → AreDone k now open_now more → HaveShortPlans old → IsFront net now from n r → IsSomeAnd (car_of now r.key) (λ c. c.at < 65535)
   front-short k now open_now more from n r d plans f =
-      let on : list_on now r.key.0 ≡ Some n = head-on now n r.key.0 d.walked.whole f.first in
-      let same = untouched net ns apart old k now more d.walked r.key.0 n on in
-      let was : car_of old r.key.0 ≡ Some f.car = ap (option_map (λ (e : YardEntry). e.car)) (sym same) ∙ f.held in
-      let short : length f.car.plan.value ≤ 1024 = plans r.key.0 f.car was in
+      let on : list_on now r.key ≡ Some n = head-on now n r.key d.walked.whole f.first in
+      let same = untouched net ns apart old k now more d.walked r.key n on in
+      let was : car_of old r.key ≡ Some f.car = ap (option_map (λ (e : YardEntry). e.car)) (sym same) ∙ f.held in
+      let short : length f.car.plan.value ≤ 1024 = plans r.key f.car was in
       let there = slice_get_within (drop f.car.at f.car.plan.value) 1 r.turn.next f.next in
       let fits : f.car.at < 65535 = omega (arith, length-drop f.car.at f.car.plan.value) in
       subst (λ (o : Option Car). IsSomeAnd o (λ c. c.at < 65535)) (sym f.held) fits
 
 -- ---- the places of a walk
 
-pub lane-at : (net : NetSpec) (node : ℕ) (lanes : List LaneId) (k : ℕ) (d : LaneId) → map place_of_lane lanes ≡ in_places net node → k < length lanes → slice_get (in_places net node) k ≡ Some (place_of_lane (get_or lanes k d))
-lane-at net node lanes k d e h = ap (λ (ps : List Place). slice_get ps k) (sym e) ∙ slice_get-map place_of_lane lanes k ∙ ap (option_map place_of_lane) (slice_get-get_or lanes k d h)
+pub lane-at : (net : NetSpec) (node : ℕ) (lanes : List Place) (k : ℕ) (d : Place) → lanes ≡ in_places net node → k < length lanes → slice_get (in_places net node) k ≡ Some (get_or lanes k d)
+lane-at net node lanes k d e h = ap (λ (ps : List Place). slice_get ps k) (sym e) ∙ slice_get-get_or lanes k d h
 
 pub list-at : (lists : List ListId) (k : ℕ) (d : ListId) → k < length lists → (get_or lists k d).0 ≡ get_or (map (λ n. n.0) lists) k 0
 list-at lists k d h = sym (get_or-map (λ n. n.0) lists k d 0 h)
 
-pub few-lists : (net : NetSpec) (node : ℕ) (lists : List ListId) (lanes : List LaneId) (k : ℕ) → map place_of_lane lanes ≡ in_places net node → length lists ≡ length (in_places net node) → k < length lanes → k < length lists
-few-lists net node lists lanes k e one h = (let a = length-map lanes place_of_lane in let b : length (map place_of_lane lanes) ≡ length (in_places net node) = ap length e in omega arith)
+pub few-lists : (net : NetSpec) (node : ℕ) (lists : List ListId) (lanes : List Place) (k : ℕ) → lanes ≡ in_places net node → length lists ≡ length (in_places net node) → k < length lanes → k < length lists
+few-lists net node lists lanes k e one h = (let b : length lanes ≡ length (in_places net node) = ap length e in omega arith)
 
 -- past the last buffer all are done
 pub goes-all : (net : NetSpec) (node : ℕ) (ns : List ℕ) (m : Traffic) (k : ℕ) (now : Yard) (mouths : List Bool) (more : List Released) → length (in_places net node) ≤ k → ReleasesFirst net node ns m k now mouths more → ReleasesFirst net node ns m (length (in_places net node)) now mouths more

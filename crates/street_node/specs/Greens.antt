@@ -1,17 +1,19 @@
 -- How a signal plan is kept, and what it shows.
 -- Source: this profile.
-use Rattle.std.specs.Prelude.{◌≡◌, ℕ, ◌+◌, ◌*◌, ◌-◌, ◌%◌, ◌<◌, nat_lt, List, [], ◌∷◌, map, Bool, false, Option, Some, None, slice_index_or, if◌then◌else◌}
+use Rattle.std.specs.Prelude.{◌≡◌, ℕ, ◌+◌, ◌*◌, ◌-◌, ◌%◌, ◌<◌, nat_lt, List, [], ◌∷◌, map, Bool, false, Option, Some, None, slice_index_or, if◌then◌else◌, length}
 use Rattle.std.specs.Int.{bit_at}
 use Rattle.std.specs.List.{All}
 use Rattle.std.specs.declared.cmp.Ordering.{Ordering}
 use Rattle.std.specs.Ordering.{nat_cmp, is_lt, then_cmp, on}
 use Rattle.std.specs.List.Sorted.{IsPermutation, IsSortedBy}
 use Rattle.street_base.specs.declared.net.NetSpec.{NetSpec}
-use Rattle.street_base.specs.Network.{Place}
+use Rattle.street_base.specs.declared.names.Place.{Place}
 use Rattle.street_base.specs.Signal.{Green, Phase, SignalPlan, cycle, lists, is_green}
 use Rattle.street_node.specs.declared.phase.GreenTurn.{GreenTurn}
 use Rattle.street_node.specs.declared.faults.SignalFault.{SignalFault}
 use Rattle.street_node.specs.declared.faults.SignalFault.TheVariants.{Bad, Starved}
+use Rattle.street_base.specs.declared.command.PhaseSpec.{PhaseSpec}
+use Rattle.street_base.specs.Effects.{phase_of_spec}
 
 -- turns by their links, then by their lanes, then by their next links
 abbrev pub turn_cmp : GreenTurn → GreenTurn → Ordering
@@ -59,6 +61,11 @@ pub record IsCycle (offset kept : ℕ) (phases : List Phase) : Type 0 where
 pub record IsSamePhase (phase other : Phase) : Type 0 where
   pub duration : phase.duration ≡ other.duration
   pub greens : IsPermutation other.greens phase.greens
+
+-- these phases are, one by one, those that were told
+abbrev pub AreSamePhases : NetSpec → List PhaseSpec → List Phase → Type 0
+AreSamePhases net told phases =
+    (k : ℕ) (d : Phase) (e : PhaseSpec) → k < length told → IsSamePhase (slice_index_or phases k d) (phase_of_spec net (slice_index_or told k e))
 
 -- a plan shows the same turns green as another, in every step
 pub record ShowsAs (plan other : SignalPlan) : Type 0 where

@@ -7,7 +7,8 @@ use Rattle.street_base.specs.declared.net.NetSpec.{NetSpec}
 use Rattle.street_base.specs.declared.car.Car.{Car}
 use Rattle.street_base.specs.Vehicle.{Vehicle, vehicle_of, next_link}
 use Rattle.street_base.specs.Lane.{is_free}
-use Rattle.street_base.specs.Network.{Place, link_at, node_of, turn}
+use Rattle.street_base.specs.declared.names.Place.{Place}
+use Rattle.street_base.specs.Network.{link_at, node_of, turn}
 use Rattle.street_base.specs.State.{Traffic, Queued, lane_at}
 use Rattle.street_base.specs.Release.{target, gives, entering}
 use Rattle.street_net.specs.Slots.{slot_of, mouth}
@@ -70,7 +71,7 @@ lane_from r = record { link = r.turn.link; lane = r.turn.lane }
 
 -- who crosses, as it stands in the yard
 abbrev pub crossing_in : Yard → Released → Option Crossing
-crossing_in y r = option_map (λ v. record { from = lane_from r; to = lane_to r; vehicle = v }) (vehicle_with y r.key.0)
+crossing_in y r = option_map (λ v. record { from = lane_from r; to = lane_to r; vehicle = v }) (vehicle_with y r.key)
 
 -- what is kept of a vehicle that is sent on: it is on no list, no faster than the limit, and one further in its plan
 abbrev pub sent_on : ℕ → YardEntry → YardEntry
@@ -83,8 +84,8 @@ way_out net clock from = option_and_then (λ q. if nat_le q.ready clock then opt
 -- the first of a list, with its turn
 pub record IsFront (net : NetSpec) (y : Yard) (from : Place) (n : ℕ) (r : Released) : Type 0 where
   pub car : Car
-  pub held : car_of y r.key.0 ≡ Some car
-  pub first : first_or (list_at y n) None ≡ Some r.key.0
+  pub held : car_of y r.key ≡ Some car
+  pub first : first_or (list_at y n) None ≡ Some r.key
   pub next : next_link (vehicle_of car) ≡ Some r.turn.next
   pub turn : option_map (turn_by_position from r.turn.next) (turn net from r.turn.next) ≡ Some r.turn
 
@@ -99,9 +100,9 @@ pub record SendsOn (old new : Yard) (n key limit : ℕ) : Type 0 where
   pub whole : IsWhole new
 
 -- a front that finds the mouth shut stays, and nothing changes; else it is sent on and told, and the mouth closes behind it
-pub record SendsFront (limit n : ℕ) (front : Released) (old new : Yard) (open_old open_new : List Bool) (before after : List Released) : Type 0 where
+pub record SendsFront (net : NetSpec) (n : ℕ) (front : Released) (old new : Yard) (open_old open_new : List Bool) (before after : List Released) : Type 0 where
   pub shut : mouth open_old (lane_to front) ≡ false → (new ≡ old) × (open_new ≡ open_old) × (after ≡ before)
-  pub goes : mouth open_old (lane_to front) ≡ true → SendsOn old new n front.key.0 limit
+  pub goes : mouth open_old (lane_to front) ≡ true → SendsOn old new n front.key (link_at net front.turn.next).limit
   pub closes : mouth open_old (lane_to front) ≡ true → open_new ≡ slice_set open_old (slot_of (lane_to front)) false
   pub told : mouth open_old (lane_to front) ≡ true → after ≡ before ++ front ∷ []
 
@@ -109,8 +110,8 @@ pub record SendsFront (limit n : ℕ) (front : Released) (old new : Yard) (open_
 
 -- those told are sent on, and no other; only these buffers have changed
 pub record Sends (net : NetSpec) (ns : List ℕ) (old new : Yard) (more : List Released) : Type 0 where
-  pub sent : All (λ r. entry_at new r.key.0 ≡ option_map (sent_on (link_at net r.turn.next).limit) (entry_at old r.key.0)) more
-  pub rest : (key : ℕ) → All (λ r. key ≢ r.key.0) more → entry_at new key ≡ entry_at old key
+  pub sent : All (λ r. entry_at new r.key ≡ option_map (sent_on (link_at net r.turn.next).limit) (entry_at old r.key)) more
+  pub rest : (key : ℕ) → All (λ r. key ≢ r.key) more → entry_at new key ≡ entry_at old key
   pub lists : (n : ℕ) → Away n ns → list_at new n ≡ list_at old n
   pub count : length new.lists ≡ length old.lists
   pub room : new.room ≡ old.room

@@ -61,9 +61,9 @@ impl Buffers {
     pub fn take_in(&self, yard: &mut Yard, lane: usize, key: Key, ready: Step)
         requires lane { lane < length self.now.lists }
         requires lists { AreIn yard.old self.now }
-        requires loose { IsLoose yard.old key.0 }
+        requires loose { IsLoose yard.old key }
         requires room { length (list_at yard.old (list_of self.now lane)) < self.now.capacity }
-        ensures { yard.new ≡ taken_in yard.old (list_of self.now lane) key.0 ready }
+        ensures { yard.new ≡ taken_in yard.old (list_of self.now lane) key ready }
     {
         yard.push_back(self.lists[lane], key);
         yard.set_step(key, ready);

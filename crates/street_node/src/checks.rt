@@ -3,22 +3,13 @@
 //! Source: this profile.
 ghost use Rattle.std.specs.Prelude.{◌≡◌, ◌*◌, ◌≤◌, None, length, sum_by};
 ghost use Rattle.std.specs.List.{list_all};
+ghost use Rattle.street_base.specs.Limits.{most_phases, most_duration};
 ghost use Rattle.street_base.specs.Faults.{first_bad, is_turn_to, is_bad_phase, signal_fault};
 
-use street_base::{GreenSpec, LaneNo, PhaseSpec};
+use street_base::{
+    GreenSpec, LaneNo, MOST_DURATION, MOST_GREENS, MOST_LANES, MOST_PHASES, PhaseSpec,
+};
 use street_net::Network;
-
-/// How many lanes a link has at most.
-const MOST_LANES: u64 = 2;
-
-/// How many phases a plan has at most.
-const MOST_PHASES: usize = 16;
-
-/// The longest duration of a phase, in steps.
-const MOST_DURATION: u64 = 600;
-
-/// How many green turns a phase lists at most.
-const MOST_GREENS: usize = 32_768;
 
 /// Whether this is a turn of the network whose link runs to the node with an identifier.
 fn is_turn_to(net: &Network, node: u64, green: &GreenSpec) -> bool
@@ -77,8 +68,8 @@ fn phases_fault(net: &Network, node: u64, phases: &[PhaseSpec]) -> Option<u64>
 pub(crate) fn cycle_of(net: &Network, node: u64, phases: &[PhaseSpec]) -> u64
     requires { first_bad (is_bad_phase net.now node) phases.now ≡ None }
     ensures cycle { result ≡ sum_by (λ p. p.duration) phases.now }
-    ensures small { result ≤ 600 * length phases.now }
-    ensures few { length phases.now ≤ 16 }
+    ensures small { result ≤ most_duration * length phases.now }
+    ensures few { length phases.now ≤ most_phases }
 {
     let mut cycle = 0;
     for phase in phases {

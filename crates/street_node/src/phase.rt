@@ -3,7 +3,7 @@
 //! Source: this profile.
 ghost use Rattle.std.specs.Prelude.{◌≡◌, ◌<◌, map};
 ghost use Rattle.std.specs.List.Sorted.{IsPermutation};
-ghost use Rattle.street_base.specs.Network.{Place};
+ghost use Rattle.street_base.specs.declared.names.Place.{Place};
 ghost use Rattle.street_base.specs.Signal.{lists};
 ghost use Rattle.street_node.specs.Greens.{turn_cmp, green_seen, mark_of, HasMarks};
 

@@ -1,14 +1,13 @@
 //! Signal plans with fixed times.
 //!
 //! Source: this profile.
-ghost use Rattle.std.specs.Prelude.{◌≡◌, ℕ, ◌<◌, true, length, map, None, Some, IfOk, IfErr, OnOk, slice_index_or};
+ghost use Rattle.std.specs.Prelude.{◌≡◌, ◌<◌, true, length, map, None, Some, IfOk, IfErr, OnOk};
 ghost use Rattle.std.specs.List.{list_all};
-ghost use Rattle.street_base.specs.declared.command.PhaseSpec.{PhaseSpec as PhaseTold};
-ghost use Rattle.street_base.specs.Network.{Place};
+ghost use Rattle.street_base.specs.declared.names.Place.{Place};
 ghost use Rattle.street_base.specs.Faults.{network_fault, signal_fault, first_bad, is_bad_phase, is_turn_to};
-ghost use Rattle.street_base.specs.Effects.{plan_of, green_of, phase_of_spec, position_of};
-ghost use Rattle.street_base.specs.Signal.{Phase, is_green, cycle};
-ghost use Rattle.street_node.specs.Greens.{ShowsAs, IsSamePhase, TellsSignalFault, node_id, green_seen, shown};
+ghost use Rattle.street_base.specs.Effects.{plan_of, green_of, position_of};
+ghost use Rattle.street_base.specs.Signal.{is_green, cycle};
+ghost use Rattle.street_node.specs.Greens.{ShowsAs, TellsSignalFault, node_id, green_seen, shown, AreSamePhases};
 
 use crate::checks::{cycle_of, signal_fault};
 use crate::faults::SignalFault;
@@ -126,8 +125,7 @@ fn kept_phases(
     requires good { first_bad (is_bad_phase net.now node) phases.now ≡ None }
     requires faultless { network_fault net.now ≡ None }
     ensures count { IfOk result (λ kept. length kept.items ≡ length phases.now) }
-    ensures same { IfOk result (λ kept. (k : ℕ) (d : Phase) (e : PhaseTold) → k < length phases.now
-        → IsSamePhase (slice_index_or kept.items k d) (phase_of_spec net.now (slice_index_or phases.now k e))) }
+    ensures same { IfOk result (λ kept. AreSamePhases net.now phases.now kept.items) }
 {
     let mut kept = Vec::with_capacity(alloc, phases.len())?;
     for phase in phases {

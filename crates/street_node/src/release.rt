@@ -2,22 +2,21 @@
 //!
 //! Source: this profile.
 ghost use Rattle.std.specs.Prelude.{◌≡◌, ◌+◌, ◌*◌, ◌<◌, ◌≤◌, false, length, map, option_map, slice_get, vec_len, vec_capacity, IfSome, IsSomeAnd, Some};
-ghost use Rattle.street_base.specs.Network.{link_at};
 ghost use Rattle.street_base.specs.Vehicle.{vehicle_of, next_link};
-ghost use Rattle.street_net.specs.Tables.{place_of as lane_of, in_places};
+ghost use Rattle.street_net.specs.Tables.{in_places};
 ghost use Rattle.street_yard.specs.Yard.{car_of, list_on};
 ghost use Rattle.street_yard.specs.View.{viewed};
 ghost use Rattle.street_node.specs.Buffers.{queue_of, AreListed, HaveShortPlans};
 ghost use Rattle.street_node.specs.Releases.{way_out, lane_to, IsFront, SendsOn, SendsFront, Releases};
 
-use street_base::{LinkIx, NodeIx, Speed, Step, Turn};
-use street_net::{LaneId, Network, slot};
+use street_base::{LinkIx, NodeIx, Place, Speed, Step, Turn};
+use street_net::{Network, slot};
 use street_yard::{CarView, Key, ListId, Yard};
 
 /// A vehicle on its way from a buffer into a lane of its next link.
 #[derive(Clone, Copy)]
 pub struct Released {
-    /// The vehicle's key, which is on no list.
+    /// The vehicle's key: on no list, once it was released.
     pub key: Key,
     /// Its turn: the lane that it comes from, and the lane that it enters.
     pub turn: Turn,
@@ -30,17 +29,17 @@ fn next_link(car: &CarView<'_>) -> Option<LinkIx>
     car.plan.as_slice().get(usize::from(car.at) + 1).copied()
 }
 
-/// The front of a lane's buffer, if it is ready and has a turn to go.
+/// Who goes first from a lane's buffer, with its turn, if it is ready and has one. It still stands in the buffer.
 fn front_to_go(
     network: &Network,
     yard: &Yard,
     step: Step,
-    from: LaneId,
+    from: Place,
     list: ListId,
 ) -> Option<Released>
     requires { list.0 < length yard.now.lists }
-    ensures way { option_map lane_to result ≡ way_out network.now step (lane_of from) (slice_get (queue_of yard.now list.0) 0) }
-    ensures front { IfSome result (IsFront network.now yard.now (lane_of from) list.0) }
+    ensures way { option_map lane_to result ≡ way_out network.now step from (slice_get (queue_of yard.now list.0) 0) }
+    ensures front { IfSome result (IsFront network.now yard.now from list.0) }
 {
     let key = yard.list_front(list)?;
     let car = yard.car(key);
@@ -54,9 +53,9 @@ fn front_to_go(
 
 /// A vehicle leaves its buffer for its next link, where it is at most as fast as allowed.
 fn send_on(yard: &mut Yard, list: ListId, key: Key, limit: Speed)
-    requires list { list_on yard.old key.0 ≡ Some list.0 }
-    requires next { IsSomeAnd (car_of yard.old key.0) (λ c. c.at < 65535) }
-    ensures { SendsOn yard.old yard.new list.0 key.0 limit }
+    requires list { list_on yard.old key ≡ Some list.0 }
+    requires next { IsSomeAnd (car_of yard.old key) (λ c. c.at < 65535) }
+    ensures { SendsOn yard.old yard.new list.0 key limit }
 {
     let car = yard.car(key);
     let speed = car.speed.min(limit);
@@ -76,13 +75,13 @@ fn release_front(
     mouths: &mut [bool],
     released: &mut Vec<Released>,
 )
-    requires list { list_on yard.old front.now.key.0 ≡ Some list.0 }
-    requires next { IsSomeAnd (car_of yard.old front.now.key.0) (λ c. c.at < 65535) }
+    requires list { list_on yard.old front.now.key ≡ Some list.0 }
+    requires next { IsSomeAnd (car_of yard.old front.now.key) (λ c. c.at < 65535) }
     requires link { front.now.turn.next < length network.now.links }
     requires lane { front.now.turn.next_lane < 2 }
     requires mouths { length mouths.old ≡ 2 * length network.now.links }
     requires room { vec_len released.old < vec_capacity released.old }
-    ensures front { SendsFront (link_at network.now front.now.turn.next).limit list.0 front.now yard.old yard.new mouths.old mouths.new released.old.items released.new.items }
+    ensures front { SendsFront network.now list.0 front.now yard.old yard.new mouths.old mouths.new released.old.items released.new.items }
     ensures grown { vec_len released.new ≤ vec_len released.old + 1 }
     ensures capacity { vec_capacity released.old ≤ vec_capacity released.new }
 {

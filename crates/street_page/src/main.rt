@@ -5,11 +5,9 @@
 #![tactic(auto)]
 
 ghost use Rattle.std.specs.Prelude.{None, IfOk, IfErr, OnOk};
-ghost use Rattle.street_base.specs.State.{State};
 ghost use Rattle.street_stream.specs.Streams.{IsFlushed, IsFresh, IsPrompt};
 ghost use Rattle.street_stream.specs.Faults.{IsCaused};
-ghost use Rattle.street_line.specs.Engines.{MachineServes};
-ghost use Rattle.street_line.specs.Streams.{ServesAll, ServesFirst};
+ghost use Rattle.street_line.specs.Streams.{MachineServesAll, MachineServesFirst};
 
 use std::alloc::Global;
 use std::io;
@@ -42,10 +40,8 @@ fn serve<R: Threads + Sync, D: Read, W: Write>(
 ) -> Result<Tally, RunFault>
     requires reader { IsFresh reader.old }
     requires writer { IsFresh writer.old }
-    ensures served { IfOk result (λ tally. (new : State) × ServesAll MachineServes D.remaining W.contents
-        None reader.old writer.old new reader.new writer.new tally) }
-    ensures broken { IfErr result (λ fault. (new : State) × ServesFirst MachineServes D.remaining W.contents
-        None reader.old writer.old new reader.new writer.new fault) }
+    ensures served { IfOk result (MachineServesAll D.remaining W.contents None reader.old writer.old reader.new writer.new) }
+    ensures broken { IfErr result (MachineServesFirst D.remaining W.contents None reader.old writer.old reader.new writer.new) }
     ensures caused { IfErr result (λ fault. IsCaused fault.kind reader.new writer.new 1000000000) }
     ensures prompt { IsPrompt reader.new }
     ensures flushed { OnOk result (IsFlushed writer.new) }

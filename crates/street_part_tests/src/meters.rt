@@ -4,7 +4,7 @@ ghost use Rattle.street_meter.specs.Meter.{next_step};
 
 use std::process::Abort;
 use std::test::Fail;
-use street_base::{LinkIx, MeterRow, RunningRow};
+use street_base::{LinkIx, MeterRow, Place, RunningRow};
 use street_meter::{Meter, MeterSite};
 
 /// The numbers of a row.
@@ -19,11 +19,11 @@ fn running(row: RunningRow) -> [u64; 5] {
 
 /// Cell 3 of the first link.
 fn place() -> MeterSite {
-    MeterSite {
+    let at = Place {
         link: LinkIx::new(0),
         lane: 0,
-        cell: 3,
-    }
+    };
+    MeterSite { at, cell: 3 }
 }
 
 /// Five steps are noted: in the third the cell is occupied, and in the fourth a car passes.

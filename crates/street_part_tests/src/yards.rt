@@ -289,7 +289,7 @@ fn cars_take_other_keys(rt: HostRuntime) -> Result<(), Fail> {
 
 // The key has a car: it is loose.
 fn is_named(rt: &impl Abort, yard: &Yard, key: Key)
-    ensures { IsSome (entry_at yard.now key.0) }
+    ensures { IsSome (entry_at yard.now key) }
 {
     assert!(rt; yard.is_loose(key));
 }

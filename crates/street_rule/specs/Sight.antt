@@ -1,7 +1,7 @@
 -- What a driver sees from the keys of two lists, and what follows from it.
 -- Source: symmetric lane changes by Rickert, Nagel, Schreckenberg and Latour 1996; the turn zone and closed cells are this
 -- profile.
-use Rattle.std.specs.Prelude.{ℕ, ◌+◌, ◌-◌, nat_lt, nat_le, Bool, ◌&&◌, List, Option, if◌then◌else◌}
+use Rattle.std.specs.Prelude.{ℕ, ◌+◌, ◌-◌, nat_lt, nat_le, Bool, ◌&&◌, List, Option, if◌then◌else◌, ◌≡◌, ◌≤◌, [], Some, false}
 use Rattle.std.specs.Option.{option_map, option_map_or, unwrap_or}
 use Rattle.street_base.specs.declared.net.NetSpec.{NetSpec}
 use Rattle.street_base.specs.Network.{serves}
@@ -10,9 +10,12 @@ use Rattle.street_base.specs.Vehicle.{Vehicle, next_link}
 use Rattle.street_base.specs.Lane.{Track, rear, are_free}
 use Rattle.street_base.specs.LaneChange.{Changing, free_ahead, free_behind, zone_wish}
 use Rattle.street_rule.specs.Odds.{Odds}
-use Rattle.street_gap.specs.Closed.{entrance_after}
+use Rattle.street_gap.specs.Closed.{entrance_after, closed_marks}
 use Rattle.street_gap.specs.Sight.{lesser}
-use Rattle.street_rule.specs.Road.{Road}
+use Rattle.street_rule.specs.Road.{Road, RoadLane, lane_of, lane_seen, length_of, track_of, IsRoadLane}
+use Rattle.street_rule.specs.declared.sight.Outlook.{Outlook}
+use Rattle.street_yard.specs.Yard.{Yard}
+use Rattle.street_yard.specs.Listed.{cell_at, vehicle_with}
 
 -- the dice of a network have its seed and its odds
 abbrev pub odds_of : NetSpec → Odds
@@ -58,3 +61,32 @@ has_room_between closed is_open above below x r speed =
 abbrev pub decision : Changing → ℕ → ℕ → List Bool → Option ℕ → Track → ℕ → Vehicle → Bool
 decision changing lane count closed ahead other x v =
     wishes_with changing lane count (gap_up closed ahead x) x v.speed (next_link v) && (has_room other x (rear x v) v.speed && changing.may_change v.number)
+
+-- the same, of the vehicle that a key has on a lane of a link, in a step
+abbrev pub decision_of : Yard → Road → ℕ → ℕ → List Bool → Option ℕ → ℕ → Vehicle → Bool
+decision_of y road lane step closed ahead key v =
+    decision (changing_of road step) lane (length_of road) closed ahead (track_of y (length_of road) (lane_of road (1 - lane))) (cell_at y key) v
+
+-- ---- what the code tells
+
+-- whether there is room on a lane, of whatever length it stands for
+abbrev pub TellsRoom : Yard → RoadLane → ℕ → ℕ → ℕ → Bool → Type 0
+TellsRoom y lane x r speed fits = (count : ℕ) → IsRoadLane y count lane → fits ≡ has_room (track_of y count lane) x r speed
+
+-- the outlook is that of the drivers on one of the two lanes of a link
+pub record IsOutlook (road : Road) (outlook : Outlook) : Type 0 where
+  pub lane : outlook.lane ≤ 1
+  pub own : lane_seen outlook.own ≡ lane_of road outlook.lane
+  pub closed : outlook.has_closed ≡ false → outlook.own.closures.now ≡ []
+  pub zone : outlook.zone ≡ length_of road - road.network.zone
+
+-- whether the vehicle of a key goes to the other lane, by the rear of the one ahead of it and its lane's closed cells
+abbrev pub Decides : Yard → Road → ℕ → ℕ → Option ℕ → ℕ → Bool → Type 0
+Decides y road lane step ahead key goes =
+    (v : Vehicle) → vehicle_with y key ≡ Some v → goes ≡ decision_of y road lane step (closed_marks (lane_of road lane).closed (length_of road)) ahead key v
+
+-- the same by the gap ahead of it, whatever closed cells and vehicle ahead leave it
+abbrev pub DecidesAt : Yard → Road → ℕ → ℕ → ℕ → ℕ → Bool → Type 0
+DecidesAt y road lane step gap key goes =
+    (v : Vehicle) (closed : List Bool) (ahead : Option ℕ) → vehicle_with y key ≡ Some v
+    → gap ≡ gap_up closed ahead (cell_at y key) → goes ≡ decision_of y road lane step closed ahead key v

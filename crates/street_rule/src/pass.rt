@@ -1,11 +1,11 @@
 //! The lane pass: first who goes is marked, then the marked ones go.
 //!
 //! Source: Rickert, Nagel, Schreckenberg and Latour 1996: all decide by where the others stood before.
-ghost use Rattle.std.specs.Prelude.{◌≡◌, ℕ, ◌<◌, ◌≤◌, ◌-◌, length, Some, None, false, IsSome};
+ghost use Rattle.std.specs.Prelude.{◌≡◌, ◌<◌, ◌≤◌, ◌-◌, length, Some, None, false, IsSome};
 ghost use Rattle.street_base.specs.LaneChange.{changes};
-ghost use Rattle.street_rule.specs.Road.{lane_of, length_of, track_of, lists_of, IsRoad};
-ghost use Rattle.street_rule.specs.Sight.{odds_of, changing_of};
-ghost use Rattle.street_rule.specs.Marks.{Marks};
+ghost use Rattle.street_rule.specs.Road.{lane_of, lists_of, IsRoad};
+ghost use Rattle.street_rule.specs.Sight.{odds_of};
+ghost use Rattle.street_rule.specs.Marks.{MarksChanges};
 ghost use Rattle.street_rule.specs.Changed.{Changes, KeepsRest};
 ghost use Rattle.street_rule.specs.Relinked.{HasNoMarks};
 ghost use Rattle.street_yard.specs.Yard.{list_at, entry_at, mark_set, first_or};
@@ -19,8 +19,8 @@ use street_yard::{Key, Yard};
 
 /// Gives a key its mark, or takes it. Few go, so that mostly nothing is to be written.
 fn set_mark(yard: &mut Yard, key: Key, mark: bool)
-    requires { IsSome (entry_at yard.old key.0) }
-    ensures { yard.new ≡ record yard.old { kept = mark_set yard.old.kept key.0 mark } }
+    requires { IsSome (entry_at yard.old key) }
+    ensures { yard.new ≡ record yard.old { kept = mark_set yard.old.kept key mark } }
 {
     if yard.is_marked(key) != mark {
         yard.mark(key, mark);
@@ -42,10 +42,8 @@ fn mark_from(
     requires lane { lane ≤ 1 }
     requires road { IsRoad yard.old road.now }
     requires dice { dice.old ≡ odds_of road.now.network }
-    requires front { Some front.0 ≡ first_or (list_at yard.old (lane_of road.now lane).list) None }
-    ensures marks { Marks yard.old yard.new (lane_of road.now lane).list
-        (changes (changing_of road.now step) lane (track_of yard.old (length_of road.now) (lane_of road.now lane))
-        (track_of yard.old (length_of road.now) (lane_of road.now (1 - lane)))) }
+    requires front { Some front ≡ first_or (list_at yard.old (lane_of road.now lane).list) None }
+    ensures marks { MarksChanges yard.old yard.new road.now lane step }
     ensures none { result ≡ false → HasNoMarks yard.new (lane_of road.now lane).list }
     ensures dice { dice.new ≡ dice.old }
 {
@@ -80,9 +78,7 @@ fn mark_pass(yard: &mut Yard, road: &Road<'_>, lane: LaneNo, step: Step, dice: &
     requires lane { lane ≤ 1 }
     requires road { IsRoad yard.old road.now }
     requires dice { dice.old ≡ odds_of road.now.network }
-    ensures marks { Marks yard.old yard.new (lane_of road.now lane).list
-        (changes (changing_of road.now step) lane (track_of yard.old (length_of road.now) (lane_of road.now lane))
-        (track_of yard.old (length_of road.now) (lane_of road.now (1 - lane)))) }
+    ensures marks { MarksChanges yard.old yard.new road.now lane step }
     ensures none { result ≡ false → HasNoMarks yard.new (lane_of road.now lane).list }
     ensures dice { dice.new ≡ dice.old }
 {

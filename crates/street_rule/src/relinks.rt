@@ -1,5 +1,5 @@
 //! Moves of marked vehicles from one list to another.
-ghost use Rattle.std.specs.Prelude.{◌≡◌, ◌≢◌, ◌<◌, length, Some, option_map};
+ghost use Rattle.std.specs.Prelude.{◌≡◌, ◌≢◌, ◌<◌, length, Some};
 ghost use Rattle.street_yard.specs.Yard.{list_on, IsOnList};
 ghost use Rattle.street_rule.specs.Relinked.{IsFallen, Carries, Relinks};
 
@@ -11,9 +11,9 @@ fn carry(yard: &mut Yard, from: ListId, to: ListId, position: Option<Key>, key: 
     requires from { from.0 < length yard.old.lists }
     requires to { to.0 < length yard.old.lists }
     requires apart { from.0 ≢ to.0 }
-    requires key { list_on yard.old key.0 ≡ Some from.0 }
-    requires position { IsOnList yard.old to.0 (option_map (λ k. k.0) position) }
-    ensures { Carries yard.old yard.new from.0 to.0 key.0 (option_map (λ k. k.0) position) }
+    requires key { list_on yard.old key ≡ Some from.0 }
+    requires position { IsOnList yard.old to.0 position }
+    ensures { Carries yard.old yard.new from.0 to.0 key position }
 {
     yard.mark(key, false);
     yard.unlink(key);

@@ -1,8 +1,7 @@
 //! A link, as a network has it and as a yard keeps it.
-ghost use Rattle.std.specs.Prelude.{◌≡◌, ◌∷◌, ◌<◌, ◌≤◌, [], length, map, Option, option_map};
+ghost use Rattle.std.specs.Prelude.{◌≡◌, ◌∷◌, ◌<◌, ◌≤◌, length, Option, option_map};
 ghost use Rattle.std.specs.Option.{option_to_list};
 ghost use Rattle.street_base.specs.Network.{link_at};
-ghost use Rattle.street_gap.specs.Closed.{IsWithin};
 ghost use Rattle.street_rule.specs.Road.{lane_of, lane_seen, length_of};
 
 use std::marker::Model;

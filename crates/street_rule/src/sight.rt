@@ -1,16 +1,15 @@
 //! What a driver sees on both lanes, and whether they wish to change and have room for it.
 //!
 //! Source: Rickert, Nagel, Schreckenberg and Latour 1996, with this profile's turn zone and closed cells.
-ghost use Rattle.std.specs.Prelude.{◌≡◌, ℕ, ◌<◌, ◌≤◌, ◌+◌, ◌-◌, nat_lt, Bool, List, Option, length, [], Some, option_map, not, false};
+ghost use Rattle.std.specs.Prelude.{◌≡◌, ℕ, ◌<◌, ◌≤◌, ◌+◌, ◌-◌, nat_lt, Option, length, Some, not, false};
 ghost use Rattle.std.specs.Option.{option_map_or};
-ghost use Rattle.street_base.specs.Network.{Place, serves};
-ghost use Rattle.street_base.specs.Vehicle.{Vehicle};
+ghost use Rattle.street_base.specs.declared.names.Place.{Place};
+ghost use Rattle.street_base.specs.Network.{serves};
 ghost use Rattle.street_yard.specs.Yard.{list_on};
-ghost use Rattle.street_yard.specs.Listed.{cell_at, vehicle_with};
-ghost use Rattle.street_gap.specs.Closed.{closed_marks};
+ghost use Rattle.street_yard.specs.Listed.{cell_at};
 ghost use Rattle.street_gap.specs.Sight.{IsUpTo, IsPosition};
-ghost use Rattle.street_rule.specs.Road.{length_of, lane_of, track_of, lane_seen, IsRoadLane, IsRoad};
-ghost use Rattle.street_rule.specs.Sight.{odds_of, changing_of, gap_between, gap_up, wishes_with, has_room, decision};
+ghost use Rattle.street_rule.specs.Road.{length_of, lane_of, lane_seen, IsRoad};
+ghost use Rattle.street_rule.specs.Sight.{odds_of, changing_of, gap_between, wishes_with, TellsRoom, Decides, DecidesAt, IsOutlook};
 
 use crate::Dice;
 use crate::road::{Road, RoadLane};
@@ -108,22 +107,21 @@ fn may_wish(
 fn fits(
     yard: &Yard,
     other: RoadLane<'_>,
-    above: Option<Key>,
+    above: &Option<Key>,
     cell: CellNo,
     rear: CellNo,
     speed: Speed,
 ) -> bool
-    requires above { IsPosition yard.now other.list.0 cell (option_map (λ k. k.0) above) }
+    requires above { IsPosition yard.now other.list.0 cell above.now }
     requires listed { other.list.0 < length yard.now.lists }
     requires rear { rear ≤ cell }
-    ensures { (count : ℕ) → IsRoadLane yard.now count (lane_seen other.entry)
-        → result ≡ has_room (track_of yard.now count (lane_seen other.entry)) cell rear speed }
+    ensures { TellsRoom yard.now (lane_seen other.entry) cell rear speed result }
 {
     yard.whole();
     let RoadLane { list, closures } = other;
     closures.is_open(rear, cell)
-        && CellNo::from(speed) + 1 < gap_beside(yard, closures, list, above, cell).unwrap_or(FAR)
-        && CLOSE_BEHIND < gap_back(yard, list, above, rear).unwrap_or(FAR)
+        && CellNo::from(speed) + 1 < gap_beside(yard, closures, list, *above, cell).unwrap_or(FAR)
+        && CLOSE_BEHIND < gap_back(yard, list, *above, rear).unwrap_or(FAR)
 }
 
 /// What a driver decides, and where they have looked.
@@ -166,13 +164,10 @@ fn decide_beside(
     requires lane { outlook.now.lane ≤ 1 }
     requires road { IsRoad yard.now road.now }
     requires dice { dice.old ≡ odds_of road.now.network }
-    requires key { list_on yard.now key.0 ≡ Some (lane_of road.now outlook.now.lane).list }
-    requires above { IsUpTo yard.now (lane_of road.now (1 - outlook.now.lane)).list (cell_at yard.now key.0) (option_map (λ k. k.0) above) }
-    ensures above { IsUpTo yard.now (lane_of road.now (1 - outlook.now.lane)).list (cell_at yard.now key.0) (option_map (λ k. k.0) result.above) }
-    ensures goes { (v : Vehicle) (closed : List Bool) (ahead : Option ℕ) → vehicle_with yard.now key.0 ≡ Some v
-        → gap ≡ gap_up closed ahead (cell_at yard.now key.0)
-        → result.goes ≡ decision (changing_of road.now outlook.now.step) outlook.now.lane (length_of road.now) closed ahead
-        (track_of yard.now (length_of road.now) (lane_of road.now (1 - outlook.now.lane))) (cell_at yard.now key.0) v }
+    requires key { list_on yard.now key ≡ Some (lane_of road.now outlook.now.lane).list }
+    requires above { IsUpTo yard.now (lane_of road.now (1 - outlook.now.lane)).list (cell_at yard.now key) above }
+    ensures above { IsUpTo yard.now (lane_of road.now (1 - outlook.now.lane)).list (cell_at yard.now key) result.above }
+    ensures goes { DecidesAt yard.now road.now outlook.now.lane outlook.now.step gap key result.goes }
     ensures dice { dice.new ≡ dice.old }
 {
     let cell = yard.cell(key);
@@ -180,7 +175,7 @@ fn decide_beside(
     let rear = yard.rear(key);
     let other = road.lane(1 - outlook.lane);
     let above = last_above(yard, other.list, above, cell);
-    if !fits(yard, other, above, cell, rear, speed) {
+    if !fits(yard, other, &above, cell, rear, speed) {
         return Decision { above, goes: false };
     }
     if !wishes(road, outlook.lane, gap, cell, speed, yard.next_link(key)) {
@@ -203,19 +198,13 @@ pub(crate) fn decide(
     dice: &mut Dice,
 ) -> Decision
     requires lanes { length road.now.lanes ≡ 2 }
-    requires lane { outlook.lane ≤ 1 }
-    requires own { lane_seen outlook.own ≡ lane_of road.now outlook.lane }
-    requires closed { outlook.has_closed ≡ false → outlook.own.closures.now ≡ [] }
-    requires zone { outlook.zone ≡ length_of road.now - road.now.network.zone }
+    requires outlook { IsOutlook road.now outlook }
     requires road { IsRoad yard.now road.now }
     requires dice { dice.old ≡ odds_of road.now.network }
-    requires key { list_on yard.now key.0 ≡ Some (lane_of road.now outlook.lane).list }
-    requires above { IsUpTo yard.now (lane_of road.now (1 - outlook.lane)).list (cell_at yard.now key.0) (option_map (λ k. k.0) above) }
-    ensures above { IsUpTo yard.now (lane_of road.now (1 - outlook.entry.lane)).list (cell_at yard.now key.0) (option_map (λ k. k.0) result.above) }
-    ensures goes { (v : Vehicle) → vehicle_with yard.now key.0 ≡ Some v
-        → result.goes ≡ decision (changing_of road.now outlook.entry.step) outlook.entry.lane (length_of road.now)
-        (closed_marks (lane_of road.now outlook.entry.lane).closed (length_of road.now)) ahead
-        (track_of yard.now (length_of road.now) (lane_of road.now (1 - outlook.entry.lane))) (cell_at yard.now key.0) v }
+    requires key { list_on yard.now key ≡ Some (lane_of road.now outlook.lane).list }
+    requires above { IsUpTo yard.now (lane_of road.now (1 - outlook.lane)).list (cell_at yard.now key) above }
+    ensures above { IsUpTo yard.now (lane_of road.now (1 - outlook.entry.lane)).list (cell_at yard.now key) result.above }
+    ensures goes { Decides yard.now road.now outlook.entry.lane outlook.entry.step ahead key result.goes }
     ensures dice { dice.new ≡ dice.old }
 {
     let cell = yard.cell(key);

@@ -3,3 +3,4 @@ pub mod Counts
 pub mod First
 pub mod Scripts
 pub mod Told
+pub mod Parser

@@ -3,6 +3,9 @@
 use Rattle.std.specs.Prelude.{◌≡◌, ◌++◌, ◌⊎◌, ℕ, List, Option, Some, codes}
 use Rattle.std.specs.Fmt.{decimal}
 use Rattle.std.specs.Borrow.{Bor}
+use Rattle.std.specs.IoError.{error_kind}
+use Rattle.std.specs.declared.io.Error.{Error}
+use Rattle.std.specs.declared.io.ErrorKind.TheVariants as io
 use Rattle.street_stream.specs.declared.tally.FaultKind.{FaultKind}
 use Rattle.street_stream.specs.declared.tally.FaultKind.TheVariants as kind
 use Rattle.street_tape.specs.declared.fault.TapeFault.{TapeFault}
@@ -36,6 +39,10 @@ abbrev pub fault_of_tape : TapeFault → Bor (List ℕ) → Bor (List ℕ) → F
 fault_of_tape tape.NotTape from to = BadTape 1
 fault_of_tape (tape.BadEntry line) from to = BadTape line
 fault_of_tape (tape.Run fault) from to = fault_of_run fault.kind from to
+
+-- the system had no memory for a file
+abbrev pub LacksMemory : Error → Type 0
+LacksMemory error = error_kind error ≡ io.OutOfMemory
 
 -- a file that could not be opened, or written, is told so, or memory ran out
 abbrev pub IsFileFault : Fault → Fault → Type 0

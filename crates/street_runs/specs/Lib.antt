@@ -1,4 +1,5 @@
 pub mod Words
+pub mod Parser
 pub mod Faults
 pub mod Outputs
 pub mod Replays

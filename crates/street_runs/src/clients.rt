@@ -7,11 +7,10 @@ ghost use Rattle.street_desk.specs.History.{BeginsWith};
 ghost use Rattle.street_desk.specs.Passes.{DeskView, Same, first_pass};
 ghost use Rattle.street_line.specs.declared.script.Script.{Script};
 ghost use Rattle.street_line.specs.Sessions.{IsAlone};
-ghost use Rattle.street_line.specs.Streams.{AloneServesAll, AloneServesFirst};
+ghost use Rattle.street_line.specs.Streams.{AloneServesLines};
 ghost use Rattle.street_runs.specs.Outputs.{IsBegun, IsPrinted, TellsOutput, replies_of};
 ghost use Rattle.street_runs.specs.Scripts.{AreOpened, ArePassesFrom, ArePlayed, AreRun, IsFirstFault, Tells};
 ghost use Rattle.street_runs.specs.Words.{IsInRange};
-ghost use Rattle.street_stream.specs.Faults.{IsCaused};
 ghost use Rattle.street_stream.specs.Streams.{HasFailed, IsFlushed, IsFresh, IsPrompt};
 
 use crate::outputs::{STANDARD_INPUT, STANDARD_OUTPUT, keep_tape, pass_on, write_out};
@@ -81,11 +80,8 @@ fn serve_alone<R: Threads + Wait + Sync, D: Read, W: Write>(
     requires calls { (1 ≤ calls) × (calls ≤ 1000000) }
     requires reader { IsFresh reader.old }
     requires writer { IsFresh writer.old }
-    ensures served { IfOk result (λ r. IfOk r.0 (AloneServesAll D.remaining W.contents
-        (first_pass r.1) reader.old writer.old r.2 reader.new writer.new)) }
-    ensures broken { IfOk result (λ r. IfErr r.0 (AloneServesFirst D.remaining W.contents
-        (first_pass r.1) reader.old writer.old r.2 reader.new writer.new)) }
-    ensures caused { IfOk result (λ r. IfErr r.0 (λ fault. IsCaused fault.kind reader.new writer.new 1000000000)) }
+    ensures runs { IfOk result (λ r. AloneServesLines D.remaining W.contents 1000000000
+        (first_pass r.1) reader.old writer.old r.0 r.2 reader.new writer.new) }
     ensures prompt { IfOk result (λ r. IsPrompt reader.new × OnOk r.0 (IsFlushed writer.new)) }
     ensures desk { IfOk result (λ r. (r.1.calls ≡ calls) × (r.2.desk ≡ r.1) × IsAlone r.2) }
     ensures starved { OnErr result ((reader.new ≡ reader.old) × (writer.new ≡ writer.old)) }

@@ -1,12 +1,18 @@
 //! The command, as the parser knows it.
 //!
 //! Source: this profile.
+ghost use Rattle.std.specs.Prelude.{◌≡◌, All, IfOk, codes, false, map};
+ghost use Rattle.clap.specs.Words.{app_of, rule_of};
+ghost use Rattle.street_runs.specs.Parser.{option_rule, script_rule, streetsim_app, streetsim_rules};
 
 use clap::{Arg, ArgAction, Command};
 use std::alloc::{AllocError, Global};
 
 /// An option with one value.
-fn option<'a>(alloc: Global, name: &'a str, value: &'a str, help: &'a str) -> Arg<'a> {
+fn option<'a>(alloc: Global, name: &'a str, value: &'a str, help: &'a str) -> Arg<'a>
+    ensures rule { rule_of result ≡ option_rule name.entry.now }
+    ensures local { result.global ≡ false }
+{
     Arg::new(alloc, name)
         .long(name)
         .action(ArgAction::Set)
@@ -15,7 +21,10 @@ fn option<'a>(alloc: Global, name: &'a str, value: &'a str, help: &'a str) -> Ar
 }
 
 /// The scripts, of which there may be any number.
-fn scripts<'a>(alloc: Global) -> Arg<'a> {
+fn scripts<'a>(alloc: Global) -> Arg<'a>
+    ensures rule { rule_of result ≡ script_rule }
+    ensures local { result.global ≡ false }
+{
     Arg::new(alloc, "script")
         .action(ArgAction::Append)
         .num_args(0..)
@@ -24,7 +33,10 @@ fn scripts<'a>(alloc: Global) -> Arg<'a> {
 }
 
 /// The options, and then the scripts.
-fn arguments<'a>(alloc: Global) -> Result<Vec<Arg<'a>>, AllocError> {
+fn arguments<'a>(alloc: Global) -> Result<Vec<Arg<'a>>, AllocError>
+    ensures rules { IfOk result (λ v. map rule_of v.items ≡ streetsim_rules) }
+    ensures local { IfOk result (λ v. All (λ a. a.global ≡ false) v.items) }
+{
     Ok(vec![in alloc;
         option(
             alloc,
@@ -61,7 +73,9 @@ fn arguments<'a>(alloc: Global) -> Result<Vec<Arg<'a>>, AllocError> {
 }
 
 /// The command `streetsim`.
-pub(crate) fn streetsim<'a>(alloc: Global) -> Result<Command<'a>, AllocError> {
+pub(crate) fn streetsim<'a>(alloc: Global) -> Result<Command<'a>, AllocError>
+    ensures { IfOk result (λ command. app_of command ≡ streetsim_app) }
+{
     let arguments = arguments(alloc)?;
     Command::new(alloc, "streetsim")
         .about(

@@ -1,10 +1,13 @@
 //! From the words of the command line to options.
 //!
 //! Source: this profile.
-ghost use Rattle.std.specs.Prelude.{◌≤◌, ◌≡◌, [], IfOk, IfSome, IsNone, codes, map, option_map, unwrap_or, vec_len};
+ghost use Rattle.std.specs.Prelude.{◌≤◌, ◌<◌, ◌≡◌, [], IfErr, IfOk, IsNone, IsSome, SomeIff};
+ghost use Rattle.std.specs.Prelude.{codes, length, map, option_map, string_bytes, unwrap_or, vec_len};
 ghost use Rattle.std.specs.Str.Parse.{digits_value, without_leading_plus};
-ghost use Rattle.clap.specs.Words.{first_value, found_of, matched_of, raw_values};
-ghost use Rattle.street_runs.specs.Words.{IsFound, IsInRange, IsNumberOf, StandsTogether, TellsBad};
+ghost use Rattle.clap.specs.Words.{app_of, first_of, found_of, matched_of, raw_values, rows_of};
+ghost use Rattle.street_runs.specs.Parser.{IsAsked, IsCount, IsCountIfSaid, IsFit, IsFound, IsNumberOf};
+ghost use Rattle.street_runs.specs.Parser.{IsRefused, IsUnfit, streetsim_app};
+ghost use Rattle.street_runs.specs.Words.{IsInRange, StandsTogether, TellsBad};
 
 use crate::command::streetsim;
 use crate::words::{Options, WordsFault};
@@ -27,8 +30,7 @@ const MOST_SCRIPTS: usize = 1_024;
 
 /// The number that a word says, where it is from 1 to `most`.
 fn number_of(word: &str, most: u64) -> Option<u64>
-    ensures range { IfSome result (λ n. (1 ≤ n) × (n ≤ most)) }
-    ensures said { IfSome result (λ n. n ≡ digits_value 10 (without_leading_plus word.now)) }
+    ensures { SomeIff result (IsCount most word.now) (digits_value 10 (without_leading_plus word.now)) }
 {
     match word.parse::<u64>() {
         Ok(number) if 1 <= number && number <= most => Some(number),
@@ -47,7 +49,9 @@ fn number(
 ) -> Result<u64, WordsFault>
     requires { (1 ≤ default) × (default ≤ most) }
     ensures range { IfOk result (λ n. (1 ≤ n) × (n ≤ most)) }
-    ensures said { IfOk result (λ n. IsNumberOf (first_value (found_of matches.now) name.now) default n) }
+    ensures said { IfOk result (IsNumberOf (first_of name.now (rows_of (found_of matches.now))) default) }
+    ensures fit { IfOk result (λ n. IsCountIfSaid most (first_of name.now (rows_of (found_of matches.now)))) }
+    ensures unfit { IfErr result (IsUnfit (IsCountIfSaid most (first_of name.now (rows_of (found_of matches.now))))) }
 {
     let Some(word) = matches.get_str(name) else {
         return Ok(default);
@@ -80,6 +84,8 @@ fn bad_words(command: &mut Command<'_>, kind: ErrorKind, text: &str) -> WordsFau
 pub fn options<'a>(alloc: Global, words: &'a [String]) -> Result<Options<'a>, WordsFault>
     ensures ranges { IfOk result IsInRange }
     ensures together { IfOk result StandsTogether }
+    ensures asked { IfOk result (IsAsked (map string_bytes words.now)) }
+    ensures refused { IfErr result (IsRefused (map string_bytes words.now)) }
 {
     match streetsim(alloc) {
         Ok(mut command) => asked(alloc, &mut command, words),
@@ -95,6 +101,8 @@ fn asked<'a>(
 ) -> Result<Options<'a>, WordsFault>
     ensures ranges { IfOk result IsInRange }
     ensures together { IfOk result StandsTogether }
+    ensures asked { app_of command.old ≡ streetsim_app → IfOk result (IsAsked (map string_bytes words.now)) }
+    ensures refused { app_of command.old ≡ streetsim_app → IfErr result (IsRefused (map string_bytes words.now)) }
 {
     let matches = command.try_get_matches_from_mut(words)?;
     matched(alloc, command, &matches)
@@ -108,7 +116,9 @@ fn matched<'a>(
 ) -> Result<Options<'a>, WordsFault>
     ensures ranges { IfOk result IsInRange }
     ensures together { IfOk result StandsTogether }
-    ensures found { IfOk result (IsFound matches.now) }
+    ensures found { IfOk result (IsFound (rows_of (found_of matches.now))) }
+    ensures fit { IfOk result (λ found. IsFit (rows_of (found_of matches.now))) }
+    ensures unfit { IfErr result (IsUnfit (IsFit (rows_of (found_of matches.now)))) }
 {
     let workers = number(alloc, command, matches, "workers", WORKERS, MOST_WORKERS)?;
     let calls = number(alloc, command, matches, "calls", CALLS, MOST_CALLS)?;
@@ -128,8 +138,9 @@ fn matched<'a>(
 
 /// The scripts that the words name, in order.
 fn named_scripts<'a>(alloc: Global, matches: &ArgMatches<'a>) -> Result<Vec<&'a str>, AllocError>
-    ensures { IfOk result (λ v. map (λ s. s.now) v.items
+    ensures scripts { IfOk result (λ v. map (λ s. s.now) v.items
         ≡ unwrap_or (option_map raw_values (matched_of (found_of matches.now) (codes "script"))) []) }
+    ensures whole { IfOk result (λ v. vec_len v ≡ length v.items) }
 {
     let mut scripts = Vec::new(alloc);
     if let Some(names) = matches.get_strs("script") {
@@ -140,7 +151,8 @@ fn named_scripts<'a>(alloc: Global, matches: &ArgMatches<'a>) -> Result<Vec<&'a 
 
 /// What is wrong with these options together, if anything is.
 fn misfit(found: &Options<'_>) -> Option<(ErrorKind, &'static str)>
-    ensures { IsNone result → StandsTogether found.now × (vec_len found.now.scripts ≤ 1024) }
+    ensures none { IsNone result → StandsTogether found.now × (vec_len found.now.scripts ≤ 1024) }
+    ensures some { IsSome result → StandsTogether found.now → 1024 < vec_len found.now.scripts }
 {
     let serves = found.tape.is_some() || !found.scripts.is_empty();
     if found.replay.is_some() && serves {

@@ -4,9 +4,9 @@
 ghost use Rattle.std.specs.Io.KnownBytes.{Appends, Keeps};
 ghost use Rattle.std.specs.Prelude.{◌≡◌, OnOk, OnErr, IfErr};
 ghost use Rattle.street_runs.specs.Ends.{IsTaped, StopsTape, TellsWriting};
-ghost use Rattle.street_runs.specs.Faults.{IsFileFault, IsTapeFault};
+ghost use Rattle.street_runs.specs.Faults.{IsFileFault, IsTapeFault, LacksMemory};
 ghost use Rattle.street_runs.specs.Outputs.{IsBegun, TellsOutput};
-ghost use Rattle.street_runs.specs.declared.fault.Fault.TheVariants.{Read, Write};
+ghost use Rattle.street_runs.specs.declared.fault.Fault.TheVariants.{OutOfMemory, Read, Write};
 ghost use Rattle.street_stream.specs.Streams.{HasFailed, IsFlushed, IsFresh};
 ghost use Rattle.street_tape.specs.Tapes.{tape_text};
 
@@ -137,7 +137,9 @@ pub fn open_file<'a, R: Files<File = File>>(rt: &R, name: &'a str) -> Result<Fil
 
 /// The fault of a file that could not be opened, perhaps because memory ran out.
 fn of_file<'a>(error: &io::Error, otherwise: Fault<'a>) -> Fault<'a>
-    ensures { IsFileFault otherwise.entry result }
+    ensures starved { LacksMemory error.now → result ≡ OutOfMemory }
+    ensures other { (LacksMemory error.now → ⊥) → result ≡ otherwise.entry }
+    ensures either { IsFileFault otherwise.entry result }
 {
     match error.kind() {
         io::ErrorKind::OutOfMemory => Fault::OutOfMemory,

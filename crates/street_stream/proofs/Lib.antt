@@ -7,3 +7,4 @@ pub mod Feeds
 pub mod Breaks
 pub mod HandlerReferences
 pub mod Prompt
+pub mod Caused

@@ -1,15 +1,17 @@
 -- Lines that are handled one after another.
 -- Source: this profile.
-use Rattle.std.specs.Prelude.{◌≡◌, ℕ, ◌+◌, ◌<◌, ◌≤◌, ◌⊎◌, List, [], ◌∷◌, ◌++◌, length, take, Bool, true, false, Option, Some, None, Result, Ok, Err, Vec}
+use Rattle.std.specs.Prelude.{◌≡◌, ℕ, ◌+◌, ◌<◌, ◌≤◌, ◌⊎◌, List, [], ◌∷◌, ◌++◌, length, take, Bool, true, false, Option, Some, None, Result, Ok, Err, IfOk, IfErr, Vec}
 use Rattle.std.specs.List.{count_by}
 use Rattle.std.specs.Io.KnownBytes.{Appends, Consumes, IsAtEnd}
 use Rattle.std.specs.declared.alloc.Global.{Global}
 use Rattle.street_base.specs.declared.reply.Starved.{Starved}
-use Rattle.street_stream.specs.Faults.{IsAtRead, CountsReplies}
+use Rattle.street_stream.specs.Faults.{IsAtRead, IsCausedBy, CountsReplies}
 use Rattle.street_stream.specs.Lines.{cut, lines_of}
 use Rattle.street_stream.specs.declared.answer.Answer.{Answer}
 use Rattle.street_stream.specs.declared.answer.Cause.{Cause}
 use Rattle.street_stream.specs.declared.answer.Cause.TheVariants.{Run, Line}
+use Rattle.street_stream.specs.declared.answer.Halt.{Halt}
+use Rattle.street_stream.specs.declared.counted.Counted.{Counted}
 use Rattle.street_stream.specs.declared.tally.Tally.{Tally}
 
 -- ---- one line
@@ -39,6 +41,16 @@ GivesText (Err starved) reply = (out : List ℕ) × (0 < length out) × (reply �
 pub record Gives (answer : Answer) (effect : Effect) : Type 0 where
   pub is_call : answer.is_call ≡ effect.is_call
   pub text : GivesText answer.reply effect.reply
+
+-- what lines mean to a handler: the most bytes that one may have, what one gives and leads to, and which ends the run, why, and leading to what
+pub record Meaning (S Stop : Type 0) : Type 1 where
+  pub longest : ℕ
+  pub takes : S → List ℕ → Effect → S → Type 0
+  pub stops : S → List ℕ → Stop → S → Type 0
+
+-- the line was handled, and the answer tells what it gave
+abbrev pub Handled : {S : Type 0} → (S → List ℕ → Effect → S → Type 0) → S → List ℕ → S → Answer → Type 0
+Handled takes old line new answer = (effect : Effect) × takes old line effect new × Gives answer effect
 
 -- ---- lines
 
@@ -125,3 +137,24 @@ pub record Broke {S Stop : Type 0} (takes : S → List ℕ → Effect → S → 
   pub text : List ℕ
   pub read : Consumes unread left text
   pub breaks : Breaks takes stops (IsAtEnd left) start before text now after cause tally
+
+-- ---- runs from one counted stream to another
+
+module _ {S Stop D W : Type 0} (meaning : Meaning S Stop) (remaining : D → Option (List ℕ)) (contents : W → Option (List ℕ)) where
+  -- the reader was read to its end, all of its lines were handled, and their replies are in the writer
+  abbrev pub HandlesAll : S → Counted D → Counted W → S → Counted D → Counted W → Tally → Type 0
+  HandlesAll old reader writer new read written tally =
+      Whole meaning.takes old (remaining reader.stream) (contents writer.stream) new (remaining read.stream) (contents written.stream) tally
+
+  -- of what was read the first lines were handled, and of their replies the first bytes are in the writer
+  abbrev pub HandlesFirst : S → Counted D → Counted W → S → Counted D → Counted W → Halt Stop → Type 0
+  HandlesFirst old reader writer new read written halt =
+      Broke meaning.takes meaning.stops old (remaining reader.stream) (contents writer.stream) new (remaining read.stream) (contents written.stream) halt.cause halt.tally
+
+  -- what became of a run of so many reads at most: all lines were handled; or the first, and a fault comes only where its cause was counted
+  pub record Drives (reads : ℕ) (old : S) (reader : Counted D) (writer : Counted W) (run : Result Tally (Halt Stop))
+      (new : S) (read : Counted D) (written : Counted W) : Type 0 where
+    pub whole : IfOk run (HandlesAll old reader writer new read written)
+    pub broken : IfErr run (HandlesFirst old reader writer new read written)
+    pub caused : IfErr run (λ halt. IsCausedBy halt.cause read written reads)
+    pub bounded : read.calls ≤ reads

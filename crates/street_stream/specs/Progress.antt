@@ -1,12 +1,14 @@
 -- A run of lines as far as it has come.
 -- Source: this profile.
-use Rattle.std.specs.Prelude.{◌≡◌, ℕ, ◌+◌, ◌*◌, ◌^◌, ◌<◌, ◌≤◌, List, [], ◌++◌, length, take, if◌then◌else◌, Option, Some, ⊤}
+use Rattle.std.specs.Prelude.{◌≡◌, ℕ, ◌+◌, ◌*◌, ◌^◌, ◌<◌, ◌≤◌, List, [], ◌++◌, length, take, if◌then◌else◌, Option, Some, Result, Ok, Err, ⊤}
 use Rattle.std.specs.Io.KnownBytes.{Appends}
 use Rattle.street_stream.specs.Faults.{IsAtRead}
-use Rattle.street_stream.specs.HandledLines.{Effect, has_reply, text_in, Handles, output, IsTally, Breaks}
+use Rattle.street_stream.specs.HandledLines.{Effect, Meaning, has_reply, text_in, Handles, output, IsTally, Breaks}
 use Rattle.street_stream.specs.Lines.{cut, lines_of, IsPart}
 use Rattle.street_stream.specs.declared.answer.Cause.{Cause}
 use Rattle.street_stream.specs.declared.answer.Cause.TheVariants.{Run, Line}
+use Rattle.street_stream.specs.declared.answer.Halt.{Halt}
+use Rattle.street_stream.specs.declared.counted.Counted.{Counted}
 use Rattle.street_stream.specs.declared.driver.Progress.{Progress}
 use Rattle.street_stream.specs.declared.part.PartialLine.{PartialLine}
 use Rattle.street_stream.specs.declared.tally.Tally.{Tally}
@@ -96,3 +98,41 @@ module _ {S Stop : Type 0} (takes : S → List ℕ → Effect → S → Type 0) 
   FinishBreaks old written progress new written_then cause tally =
       (start : S) (before : Option (List ℕ)) (seen : List ℕ) → Stands takes longest start before seen old written progress
       → Breaks takes stops ⊤ start before seen new written_then cause tally
+
+-- ---- so where the replies go to a counted stream
+
+module _ {S Stop W : Type 0} (meaning : Meaning S Stop) (contents : W → Option (List ℕ)) where
+  -- the line of this part was handled and counted, and its reply is in the writer
+  abbrev pub TakesTo : S → Counted W → PartialLine → Tally → S → Counted W → Tally → Type 0
+  TakesTo old writer part tally new written counted =
+      Taken meaning.takes meaning.longest old (contents writer.stream) part tally new (contents written.stream) counted
+
+  -- it ended the run, or its reply is not whole in the writer
+  abbrev pub TakeStops : S → Counted W → PartialLine → Tally → S → Counted W → Tally → Cause Stop → Type 0
+  TakeStops old writer part tally new written counted cause = (line : List ℕ) → IsPart meaning.longest part line
+      → LineBreaks meaning.takes meaning.stops old (contents writer.stream) tally line new (contents written.stream) cause counted
+
+  -- these bytes were fed, and the replies to the lines that end in them are in the writer
+  abbrev pub FeedsTo : S → Counted W → Progress → List ℕ → S → Counted W → Progress → Type 0
+  FeedsTo old writer progress bytes new written fed =
+      Feeds meaning.takes meaning.longest old (contents writer.stream) progress bytes new (contents written.stream) fed
+
+  -- the run ended while they were fed
+  abbrev pub FeedStops : S → Counted W → Progress → List ℕ → S → Counted W → Progress → Cause Stop → Type 0
+  FeedStops old writer progress bytes new written fed cause =
+      FeedBreaks meaning.takes meaning.stops meaning.longest old (contents writer.stream) progress bytes new (contents written.stream) cause fed.tally
+
+  -- the text ended, and the reply to its last line is in the writer
+  abbrev pub FinishesTo : S → Counted W → Progress → S → Counted W → Progress → Type 0
+  FinishesTo old writer progress new written ended =
+      Finishes meaning.takes meaning.longest old (contents writer.stream) progress new (contents written.stream) ended.tally
+
+  -- the run ended there by a fault, or by that line
+  abbrev pub FinishStops : S → Counted W → Progress → S → Counted W → Progress → Cause Stop → Type 0
+  FinishStops old writer progress new written ended cause =
+      FinishBreaks meaning.takes meaning.stops meaning.longest old (contents writer.stream) progress new (contents written.stream) cause ended.tally
+
+-- how a run ended that has come so far
+abbrev pub ended : {T Stop : Type 0} → Result T (Cause Stop) → Progress → Result Tally (Halt Stop)
+ended (Ok done) progress = Ok progress.tally
+ended (Err cause) progress = Err (record { cause = cause; tally = progress.tally })

@@ -1,13 +1,13 @@
 //! The lines of a text, cut out of reads and handled one after another.
 //!
 //! Source: this profile. Each reply is written, and passed on, before the next read.
-ghost use Rattle.std.specs.Prelude.{◌≡◌, ◌+◌, ◌^◌, ◌<◌, ◌≤◌, ℕ, List, [], ◌∷◌, ◌++◌, IfOk, OnOk, IfErr, length};
+ghost use Rattle.std.specs.Prelude.{◌≡◌, ◌+◌, ◌^◌, ◌<◌, ◌≤◌, [], ◌∷◌, ◌++◌, IfOk, OnOk, IfErr, length};
 ghost use Rattle.std.specs.Io.KnownBytes.{Consumes, IsAtEnd};
 ghost use Rattle.street_stream.specs.Streams.{IsFlushed, IsFresh, IsPrompt};
-ghost use Rattle.street_stream.specs.Faults.{IsCausedBy, IsCausedByLine};
-ghost use Rattle.street_stream.specs.HandledLines.{Whole, Broke, IsTally};
+ghost use Rattle.street_stream.specs.Faults.{IsCausedByLine};
+ghost use Rattle.street_stream.specs.HandledLines.{Drives, IsTally};
 ghost use Rattle.street_stream.specs.Lines.{IsInsideLine, IsPart};
-ghost use Rattle.street_stream.specs.Progress.{IsWithin, Grows, Taken, LineBreaks, Feeds, FeedBreaks, Finishes, FinishBreaks};
+ghost use Rattle.street_stream.specs.Progress.{IsWithin, Grows, TakesTo, TakeStops, FeedsTo, FeedStops, FinishesTo, FinishStops, ended};
 
 use crate::answer::{Answer, Cause, Halt};
 use crate::counted::Counted;
@@ -46,12 +46,11 @@ fn end_line<H: LineHandler, W: Write>(
     requires ready { H.ready }
     requires within { IsWithin tally.old }
     requires room { tally.old.lines < 2 ^ 62 }
-    ensures taken { OnOk result (Taken H.takes H.longest handler.old (W.contents writer.old.stream) part.now tally.old
-        handler.new (W.contents writer.new.stream) tally.new) }
+    ensures taken { OnOk result (TakesTo H.meaning W.contents
+        handler.old writer.old part.now tally.old handler.new writer.new tally.new) }
     ensures grows { OnOk result (Grows tally.old tally.new 1) }
-    ensures broken { IfErr result (λ cause. (line : List ℕ) → IsPart H.longest part.now line
-        → LineBreaks H.takes H.stops handler.old (W.contents writer.old.stream) tally.old line
-        handler.new (W.contents writer.new.stream) cause tally.new) }
+    ensures broken { IfErr result (TakeStops H.meaning W.contents
+        handler.old writer.old part.now tally.old handler.new writer.new tally.new) }
     ensures caused { IfErr result (λ cause. IsCausedByLine cause writer.new) }
 {
     tally.lines += 1;
@@ -81,11 +80,11 @@ fn take_line<H: LineHandler, W: Write>(
     requires inside { IsInsideLine bytes.now }
     requires within { IsWithin progress.old.tally }
     requires room { progress.old.tally.lines < 2 ^ 62 }
-    ensures feeds { OnOk result (Feeds H.takes H.longest handler.old (W.contents writer.old.stream) progress.old (bytes.now ++ 10 ∷ [])
-        handler.new (W.contents writer.new.stream) progress.new) }
+    ensures feeds { OnOk result (FeedsTo H.meaning W.contents
+        handler.old writer.old progress.old (bytes.now ++ 10 ∷ []) handler.new writer.new progress.new) }
     ensures grows { OnOk result (Grows progress.old.tally progress.new.tally 1) }
-    ensures broken { IfErr result (λ cause. FeedBreaks H.takes H.stops H.longest handler.old (W.contents writer.old.stream)
-        progress.old (bytes.now ++ 10 ∷ []) handler.new (W.contents writer.new.stream) cause progress.new.tally) }
+    ensures broken { IfErr result (FeedStops H.meaning W.contents
+        handler.old writer.old progress.old (bytes.now ++ 10 ∷ []) handler.new writer.new progress.new) }
     ensures caused { IfErr result (λ cause. IsCausedByLine cause writer.new) }
 {
     progress.part.extend(bytes)?;
@@ -105,11 +104,11 @@ fn feed<H: LineHandler, W: Write>(
     requires ready { H.ready }
     requires within { IsWithin progress.old.tally }
     requires room { progress.old.tally.lines + length bytes.now < 2 ^ 62 }
-    ensures feeds { OnOk result (Feeds H.takes H.longest handler.old (W.contents writer.old.stream) progress.old bytes.now
-        handler.new (W.contents writer.new.stream) progress.new) }
+    ensures feeds { OnOk result (FeedsTo H.meaning W.contents
+        handler.old writer.old progress.old bytes.now handler.new writer.new progress.new) }
     ensures grows { OnOk result (Grows progress.old.tally progress.new.tally (length bytes.now)) }
-    ensures broken { IfErr result (λ cause. FeedBreaks H.takes H.stops H.longest handler.old (W.contents writer.old.stream)
-        progress.old bytes.now handler.new (W.contents writer.new.stream) cause progress.new.tally) }
+    ensures broken { IfErr result (FeedStops H.meaning W.contents
+        handler.old writer.old progress.old bytes.now handler.new writer.new progress.new) }
     ensures caused { IfErr result (λ cause. IsCausedByLine cause writer.new) }
 {
     let mut at = 0;
@@ -132,11 +131,11 @@ fn feed_through<H: LineHandler, W: Write>(
     requires ready { H.ready }
     requires within { IsWithin progress.old.tally }
     requires room { progress.old.tally.lines + length bytes.now < 2 ^ 62 }
-    ensures feeds { OnOk result (Feeds H.takes H.longest handler.old (W.contents writer.old.stream) progress.old bytes.now
-        handler.new (W.contents writer.new.stream) progress.new) }
+    ensures feeds { OnOk result (FeedsTo H.meaning W.contents
+        handler.old writer.old progress.old bytes.now handler.new writer.new progress.new) }
     ensures grows { OnOk result (Grows progress.old.tally progress.new.tally (length bytes.now)) }
-    ensures broken { IfErr result (λ cause. FeedBreaks H.takes H.stops H.longest handler.old (W.contents writer.old.stream)
-        progress.old bytes.now handler.new (W.contents writer.new.stream) cause progress.new.tally) }
+    ensures broken { IfErr result (FeedStops H.meaning W.contents
+        handler.old writer.old progress.old bytes.now handler.new writer.new progress.new) }
     ensures caused { IfErr result (λ cause. IsCausedByLine cause writer.new) }
     ensures passed { OnOk result (IsFlushed writer.new) }
 {
@@ -155,11 +154,11 @@ fn finish<H: LineHandler, W: Write>(
     requires ready { H.ready }
     requires within { IsWithin progress.old.tally }
     requires room { progress.old.tally.lines < 2 ^ 62 }
-    ensures finishes { OnOk result (Finishes H.takes H.longest handler.old (W.contents writer.old.stream) progress.old
-        handler.new (W.contents writer.new.stream) progress.new.tally) }
+    ensures finishes { OnOk result (FinishesTo H.meaning W.contents
+        handler.old writer.old progress.old handler.new writer.new progress.new) }
     ensures grows { OnOk result (Grows progress.old.tally progress.new.tally 1) }
-    ensures broken { IfErr result (λ cause. FinishBreaks H.takes H.stops H.longest handler.old (W.contents writer.old.stream)
-        progress.old handler.new (W.contents writer.new.stream) cause progress.new.tally) }
+    ensures broken { IfErr result (FinishStops H.meaning W.contents
+        handler.old writer.old progress.old handler.new writer.new progress.new) }
     ensures caused { IfErr result (λ cause. IsCausedByLine cause writer.new) }
 {
     if progress.part.as_slice().is_empty() {
@@ -179,11 +178,11 @@ fn finish_through<H: LineHandler, W: Write>(
     requires ready { H.ready }
     requires within { IsWithin progress.old.tally }
     requires room { progress.old.tally.lines < 2 ^ 62 }
-    ensures finishes { OnOk result (Finishes H.takes H.longest handler.old (W.contents writer.old.stream) progress.old
-        handler.new (W.contents writer.new.stream) progress.new.tally) }
+    ensures finishes { OnOk result (FinishesTo H.meaning W.contents
+        handler.old writer.old progress.old handler.new writer.new progress.new) }
     ensures grows { OnOk result (Grows progress.old.tally progress.new.tally 1) }
-    ensures broken { IfErr result (λ cause. FinishBreaks H.takes H.stops H.longest handler.old (W.contents writer.old.stream)
-        progress.old handler.new (W.contents writer.new.stream) cause progress.new.tally) }
+    ensures broken { IfErr result (FinishStops H.meaning W.contents
+        handler.old writer.old progress.old handler.new writer.new progress.new) }
     ensures caused { IfErr result (λ cause. IsCausedByLine cause writer.new) }
     ensures passed { OnOk result (IsFlushed writer.new) }
 {
@@ -203,14 +202,10 @@ fn drive_all<H: LineHandler, R: Read, W: Write>(
 ) -> Result<(), Cause<H::Stop>>
     requires ready { H.ready }
     requires fresh { IsFresh reader.old }
-    requires begun { IsPart H.longest progress.old.part [] × IsTally progress.old.tally [] [] }
-    ensures whole { OnOk result (Whole H.takes handler.old (R.remaining reader.old.stream) (W.contents writer.old.stream)
-        handler.new (R.remaining reader.new.stream) (W.contents writer.new.stream) progress.new.tally) }
+    requires begun { IsPart H.meaning.longest progress.old.part [] × IsTally progress.old.tally [] [] }
+    ensures runs { Drives H.meaning R.remaining W.contents reads
+        handler.old reader.old writer.old (ended result progress.new) handler.new reader.new writer.new }
     ensures few { OnOk result (progress.new.tally.lines < 2 ^ 62) }
-    ensures broken { IfErr result (λ cause. Broke H.takes H.stops handler.old (R.remaining reader.old.stream) (W.contents writer.old.stream)
-        handler.new (R.remaining reader.new.stream) (W.contents writer.new.stream) cause progress.new.tally) }
-    ensures caused { IfErr result (λ cause. IsCausedBy cause reader.new writer.new reads) }
-    ensures bounded { reader.new.calls ≤ reads }
     ensures prompt { IsPrompt reader.new }
     ensures flushed { OnOk result (IsFlushed writer.new) }
 {
@@ -253,15 +248,11 @@ pub fn drive_lines<H: LineHandler, R: Read, W: Write>(
     limits: Limits,
 ) -> Result<Tally, Halt<H::Stop>>
     requires ready { H.ready }
-    requires longest { limits.line ≡ H.longest }
+    requires longest { limits.line ≡ H.meaning.longest }
     requires fresh { IsFresh reader.old × IsFresh writer.old }
-    ensures whole { IfOk result (λ tally. Whole H.takes handler.old (R.remaining reader.old.stream) (W.contents writer.old.stream)
-        handler.new (R.remaining reader.new.stream) (W.contents writer.new.stream) tally) }
+    ensures runs { Drives H.meaning R.remaining W.contents limits.reads
+        handler.old reader.old writer.old result handler.new reader.new writer.new }
     ensures few { IfOk result (λ tally. tally.lines < 2 ^ 62) }
-    ensures broken { IfErr result (λ halt. Broke H.takes H.stops handler.old (R.remaining reader.old.stream) (W.contents writer.old.stream)
-        handler.new (R.remaining reader.new.stream) (W.contents writer.new.stream) halt.cause halt.tally) }
-    ensures caused { IfErr result (λ halt. IsCausedBy halt.cause reader.new writer.new limits.reads) }
-    ensures bounded { reader.new.calls ≤ limits.reads }
     ensures prompt { IsPrompt reader.new }
     ensures flushed { OnOk result (IsFlushed writer.new) }
 {

@@ -10,11 +10,12 @@ ghost use Rattle.street_text.specs.Fits.{IsWord, NodeFits, LinkFits, TurnFits, G
 use street_base::{Command, GreenSpec, LinkSpec, NetSpec, NodeSpec, Outcome, PhaseSpec, TurnSpec};
 use street_desk::{Entry, Journal};
 
-/// A number.
+/// A number fits.
 fn word(_number: u64)
     ensures { IsWord _number }
 {}
 
+/// The numbers of a list fit.
 fn words(numbers: &[u64])
     ensures { All IsWord numbers.now }
 {
@@ -23,6 +24,7 @@ fn words(numbers: &[u64])
     }
 }
 
+/// The numbers of a node fit.
 fn node(spec: &NodeSpec)
     ensures { NodeFits spec.now }
 {
@@ -31,6 +33,7 @@ fn node(spec: &NodeSpec)
     word(spec.capacity);
 }
 
+/// Those of each node fit.
 fn nodes(specs: &[NodeSpec])
     ensures { All NodeFits specs.now }
 {
@@ -39,6 +42,7 @@ fn nodes(specs: &[NodeSpec])
     }
 }
 
+/// The numbers of a link fit.
 fn link(spec: &LinkSpec)
     ensures { LinkFits spec.now }
 {
@@ -50,6 +54,7 @@ fn link(spec: &LinkSpec)
     word(spec.limit);
 }
 
+/// Those of each link fit.
 fn links(specs: &[LinkSpec])
     ensures { All LinkFits specs.now }
 {
@@ -58,6 +63,7 @@ fn links(specs: &[LinkSpec])
     }
 }
 
+/// The numbers of a turn fit.
 fn turn(spec: &TurnSpec)
     ensures { TurnFits spec.now }
 {
@@ -67,6 +73,7 @@ fn turn(spec: &TurnSpec)
     word(spec.next_lane);
 }
 
+/// Those of each turn fit.
 fn turns(specs: &[TurnSpec])
     ensures { All TurnFits specs.now }
 {
@@ -75,6 +82,7 @@ fn turns(specs: &[TurnSpec])
     }
 }
 
+/// The numbers of a green turn fit.
 fn green(spec: &GreenSpec)
     ensures { GreenFits spec.now }
 {
@@ -83,6 +91,7 @@ fn green(spec: &GreenSpec)
     word(spec.next);
 }
 
+/// Those of each green turn fit.
 fn greens(specs: &[GreenSpec])
     ensures { All GreenFits specs.now }
 {
@@ -91,6 +100,7 @@ fn greens(specs: &[GreenSpec])
     }
 }
 
+/// The numbers of a phase fit: how long it lasts, and those of its green turns.
 fn phase(spec: &PhaseSpec)
     ensures { PhaseFits spec.now }
 {
@@ -98,6 +108,7 @@ fn phase(spec: &PhaseSpec)
     greens(spec.greens.as_slice());
 }
 
+/// Those of each phase fit.
 fn phases(specs: &[PhaseSpec])
     ensures { All PhaseFits specs.now }
 {
@@ -106,6 +117,7 @@ fn phases(specs: &[PhaseSpec])
     }
 }
 
+/// The numbers of a load fit.
 fn net(spec: &NetSpec)
     ensures { Fits (Load spec.now) }
 {
@@ -119,10 +131,12 @@ fn net(spec: &NetSpec)
     word(spec.start);
 }
 
+/// The four numbers of a command that names a lane fit.
 fn lane(link: u64, lane: u64, first: u64, last: u64)
     ensures { IsWord link × IsWord lane × IsWord first × IsWord last }
 {}
 
+/// The numbers of a command fit.
 fn numbers_of(command: &Command)
     ensures { Fits command.now }
 {
@@ -178,7 +192,8 @@ fn numbers_of(command: &Command)
     }
 }
 
-fn outcome(outcome: Outcome)
+/// How many steps an outcome tells of fits, where it tells of any.
+fn outcome_fits(outcome: Outcome)
     ensures { OutcomeFits outcome }
 {
     if let Outcome::Short(steps) = outcome {
@@ -186,12 +201,13 @@ fn outcome(outcome: Outcome)
     }
 }
 
+/// The numbers of a call fit: of its session, its command and its outcome.
 fn call(entry: &Entry)
     ensures { IsOfWords entry.now }
 {
     word(entry.session);
     numbers_of(&entry.command);
-    outcome(entry.outcome);
+    outcome_fits(entry.outcome);
 }
 
 /// How many calls a journal has.

@@ -1,4 +1,4 @@
-//! The tape of a journal.
+//! Tapes: of a journal, and of lines that are at hand as text.
 //!
 //! Source: this profile.
 ghost use Rattle.std.specs.Prelude.{◌≡◌, ◌≤◌, ◌+◌, ◌-◌, ◌^◌, ◌++◌, OnOk, OnErr, IfOk, IfErr, length, take};
@@ -39,7 +39,8 @@ fn write_line<W: Write>(
     }
 }
 
-/// Writes the tape of so many calls from the text of their lines, passes it on, and counts what went out of it.
+/// Writes a tape of so many calls whose lines are at hand as text, as an upgrade has them: its first line, and then these. Flushes,
+/// and counts what went out of it.
 ///
 /// # Errors
 ///

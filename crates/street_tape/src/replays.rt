@@ -40,13 +40,13 @@ impl<'a, R: Threads + Sync> LineHandler for Replayer<'a, R> {
 
     type Stop = Stop;
 
-    ghost longest = { longest_tape_line };
-
-    ghost takes = { λ old line effect new. (new.engine.ghost_name ≡ old.engine.ghost_name)
-        × ReplaysLine (old.tape.rest, old.engine.now) line effect (new.tape.rest, new.engine.now) };
-
-    ghost stops = { λ old line stop new. (new.engine.ghost_name ≡ old.engine.ghost_name)
-        × StopsLine (old.tape.rest, old.engine.now) line stop (new.tape.rest, new.engine.now) };
+    ghost meaning = { record {
+      longest = longest_tape_line;
+      takes = λ old line effect new. (new.engine.ghost_name ≡ old.engine.ghost_name)
+          × ReplaysLine (old.tape.rest, old.engine.now) line effect (new.tape.rest, new.engine.now);
+      stops = λ old line stop new. (new.engine.ghost_name ≡ old.engine.ghost_name)
+          × StopsLine (old.tape.rest, old.engine.now) line stop (new.tape.rest, new.engine.now);
+    } };
 
     ghost ready = { IsSync R.row };
 

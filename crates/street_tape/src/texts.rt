@@ -13,6 +13,7 @@ use street_base::{Outcome, Starved};
 use street_desk::Entry;
 use street_text::command_value;
 
+/// An outcome, as a tape has it: a word, or how many steps were made.
 fn outcome_value(alloc: Global, outcome: Outcome) -> Result<Value, AllocError>
     ensures { IfOk result (λ v. view v ≡ outcome_data outcome) }
 {
@@ -23,6 +24,7 @@ fn outcome_value(alloc: Global, outcome: Outcome) -> Result<Value, AllocError>
     }
 }
 
+/// A call, as a tape has it.
 fn entry_value(alloc: Global, entry: &Entry) -> Result<Value, AllocError>
     ensures { IfOk result (λ v. view v ≡ entry_data entry.now) }
 {
@@ -31,6 +33,7 @@ fn entry_value(alloc: Global, entry: &Entry) -> Result<Value, AllocError>
     json!(in alloc; {"command": command, "outcome": outcome, "session": entry.session})
 }
 
+/// The head of a tape of so many calls.
 fn head_value(alloc: Global, calls: u64) -> Result<Value, AllocError>
     ensures { IfOk result (λ v. view v ≡ head_data calls) }
 {

@@ -46,11 +46,7 @@ impl LineHandler for Upgrader {
 
     type Stop = Stop;
 
-    ghost longest = { longest_tape_line };
-
-    ghost takes = { UpgradesLine };
-
-    ghost stops = { RefusesLine };
+    ghost meaning = { record { longest = longest_tape_line; takes = UpgradesLine; stops = RefusesLine } };
 
     ghost ready = { ⊤ };
 

@@ -1,5 +1,5 @@
 -- What is said of items that are lent.
-use Rattle.std.specs.Prelude.{ℕ, ◌≡◌, ◌+◌, ◌<◌, List, Bool, length, slice_index_or}
+use Rattle.std.specs.Prelude.{ℕ, ◌≡◌, ◌+◌, ◌<◌, List, Bool, Vec, length, vec_len, slice_index_or}
 
 -- each of these items may be worked on, as item number i of this part, while this is shown
 abbrev pub AllMay : {T : Type 0} → (ℕ → ℕ → List Bool → T → Type 0) → ℕ → List Bool → List T → Type 0
@@ -16,3 +16,11 @@ BackMay {T} may part first shown xs = (j k : ℕ) (d : T) → j + k + 1 ≡ leng
 -- each of these items was worked on, of which the last is number first, and the one before it the next
 abbrev pub BackDoes : {T : Type 0} → (ℕ → ℕ → List Bool → T → T → Type 0) → ℕ → ℕ → List Bool → List T → List T → Type 0
 BackDoes {T} does part first shown xs ys = (j k : ℕ) (d : T) → j + k + 1 ≡ length xs → does part (first + k) shown (slice_index_or xs j d) (slice_index_or ys j d)
+
+-- a block has the items of a list from this number on, the last of them first
+abbrev pub IsBackOf : {T A : Type 0} → List T → ℕ → Vec T A → Type 0
+IsBackOf {T} xs n block = (j k : ℕ) (d : T) → j + k + 1 ≡ vec_len block → slice_index_or block.items j d ≡ slice_index_or xs (n + k) d
+
+-- a list has the items of a block from this number on, the first of them last
+abbrev pub HasBack : {T A : Type 0} → List T → ℕ → Vec T A → Type 0
+HasBack {T} xs n block = (j k : ℕ) (d : T) → j + k + 1 ≡ vec_len block → slice_index_or xs (n + k) d ≡ slice_index_or block.items j d

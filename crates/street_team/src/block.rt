@@ -1,5 +1,6 @@
 //! Items that are lent together.
 ghost use Rattle.std.specs.Prelude.{◌≡◌, ℕ, ◌+◌, ◌<◌, ◌≤◌, true, false, vec_len, vec_capacity, slice_index_or};
+ghost use Rattle.street_team.specs.Lent.{IsBackOf, HasBack};
 
 use std::alloc::{AllocError, Global};
 
@@ -39,8 +40,7 @@ impl<T: Drop> Block<T> {
         ensures len { vec_len items.new + vec_len self.new.items ≡ vec_len items.old }
         ensures capacity { vec_capacity items.new ≡ vec_capacity items.old }
         ensures front { (i : ℕ) (d : T) → i < vec_len items.new → slice_index_or items.new.items i d ≡ slice_index_or items.old.items i d }
-        ensures back { (j k : ℕ) (d : T) → j + k + 1 ≡ vec_len self.new.items
-            → slice_index_or self.new.items.items j d ≡ slice_index_or items.old.items (vec_len items.new + k) d }
+        ensures back { IsBackOf items.old.items (vec_len items.new) self.new.items }
     {
         self.items.clear();
         self.shown.clear();
@@ -61,8 +61,7 @@ impl<T: Drop> Block<T> {
         ensures len { vec_len items.new ≡ vec_len items.old + vec_len self.old.items }
         ensures capacity { vec_capacity items.new ≡ vec_capacity items.old }
         ensures front { (i : ℕ) (d : T) → i < vec_len items.old → slice_index_or items.new.items i d ≡ slice_index_or items.old.items i d }
-        ensures back { (j k : ℕ) (d : T) → j + k + 1 ≡ vec_len self.old.items
-            → slice_index_or items.new.items (vec_len items.old + k) d ≡ slice_index_or self.old.items.items j d }
+        ensures back { HasBack items.new.items (vec_len items.old) self.old.items }
     {
         for _ in 0..self.items.len() {
             let item = self.items.take_last();

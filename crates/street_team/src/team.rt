@@ -1,6 +1,6 @@
 //! Lending items to the workers.
 ghost use Rattle.std.specs.Prelude.{◌≡◌, ℕ, ◌+◌, ◌<◌, length, vec_len, vec_capacity, slice_get, slice_index_or, Some, None, IfSome};
-ghost use Rattle.street_team.specs.Lent.{AllMay, EachDoes, BackDoes};
+ghost use Rattle.street_team.specs.Lent.{AllMay, EachDoes, BackDoes, IsBackOf};
 
 use crate::block::Block;
 use crate::errand::Errand;
@@ -121,8 +121,7 @@ impl<'a, 'r, 'w, 's, T: Drop, W: Work<T>, R: Wait> Team<'a, 'r, 'w, 's, T, W, R>
         ensures first { IfSome result (λ r. r.0 ≡ vec_len items.new) }
         ensures len { IfSome result (λ r. vec_len items.new + vec_len r.1.value.value.items ≡ vec_len items.old) }
         ensures shown { IfSome result (λ r. r.1.value.value.shown.items ≡ shown.now) }
-        ensures back { IfSome result (λ r. (j k : ℕ) (d : T) → j + k + 1 ≡ vec_len r.1.value.value.items
-            → slice_index_or r.1.value.value.items.items j d ≡ slice_index_or items.old.items (vec_len items.new + k) d) }
+        ensures back { IfSome result (λ r. IsBackOf items.old.items (vec_len items.new) r.1.value.value.items) }
     {
         let lock = self.locks.get(at)?;
         let mut block = self.spare.pop()?;

@@ -1,7 +1,10 @@
 -- What a line of numbers, texts and lists of numbers says, as JSON.
 -- Source: this profile.
-use Rattle.std.specs.Prelude.{List, [], ◌∷◌}
-use Rattle.serde_json.specs.Data.{Data, string, array, object, Members, no_members, put}
+use Rattle.std.specs.Prelude.{◌≡◌, ℕ, suc, List, [], ◌∷◌, length, Some}
+use Rattle.json.specs.Json.{value, items, members}
+use Rattle.json.specs.Token.{Token}
+use Rattle.serde_json.specs.Data.{Data, string, array, object, Items, Members, no_members, put}
+use Rattle.serde_json.specs.Read.{of_items, of_members, converted}
 use Rattle.street_text.specs.ReplyLines.{number_data, numbers}
 use Rattle.street_text.specs.declared.flat.FlatLine.{FlatLine}
 use Rattle.street_text.specs.declared.flat.FlatMember.{FlatMember}
@@ -24,3 +27,11 @@ flat_members ms = put_flat ms no_members
 
 abbrev pub flat_object : FlatLine → Data
 flat_object line = object (flat_members line.members.items)
+
+-- the items of a list are read up to its end, at any depth, and these tokens are left
+abbrev pub ReadsItems : List Token → Items → List Token → Type 0
+ReadsItems ts found rest = (depth : ℕ) → converted of_items (items (value depth) (length ts) ts) ≡ Some (found, rest)
+
+-- so the members of an object
+abbrev pub ReadsMembers : List Token → Members → List Token → Type 0
+ReadsMembers ts found rest = (depth : ℕ) → converted (λ ms. of_members ms no_members) (members (value (suc depth)) (length ts) ts) ≡ Some (found, rest)

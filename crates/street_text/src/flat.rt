@@ -2,11 +2,11 @@
 //!
 //! Source: this profile. What stands so in most lines; any other line is left to the JSON value.
 ghost use Rattle.std.specs.Prelude.{◌≡◌, ◌<◌, ◌≤◌, ◌==◌, ℕ, suc, length, slice_index, Some, IfSome, option_map};
-ghost use Rattle.json.specs.Json.{value, items, members};
-ghost use Rattle.serde_json.specs.Data.{unsigned, no_members, no_items};
-ghost use Rattle.serde_json.specs.Read.{number_of, of_json, of_items, of_members, converted, read};
+ghost use Rattle.json.specs.Json.{value};
+ghost use Rattle.serde_json.specs.Data.{unsigned, no_items};
+ghost use Rattle.serde_json.specs.Read.{number_of, of_json, converted, read};
 ghost use Rattle.serde_json.specs.Find.{get, as_str};
-ghost use Rattle.street_text.specs.FlatLines.{flat_data, flat_members, flat_object};
+ghost use Rattle.street_text.specs.FlatLines.{flat_data, flat_members, flat_object, ReadsItems, ReadsMembers};
 ghost use Rattle.street_text.specs.LineCommands.{number_in, list_in, field, value_of};
 ghost use Rattle.street_text.specs.ReplyLines.{numbers};
 
@@ -92,8 +92,7 @@ fn whole_number(text: &str) -> Option<u64>
 
 /// The numbers of a list, up to its end.
 fn read_numbers(alloc: Global, reader: &mut Reader<'_>) -> Option<Vec<u64>>
-    ensures list { IfSome result (λ list. (depth : ℕ) → converted of_items (items (value depth) (length reader.old) reader.old)
-        ≡ Some (numbers list.items, reader.new)) }
+    ensures list { IfSome result (λ list. ReadsItems reader.old (numbers list.items) reader.new) }
     ensures shorter { IfSome result (λ list. length reader.new ≤ length reader.old) }
 {
     let mut found = Vec::with_capacity(alloc, 32).ok()?;
@@ -122,8 +121,7 @@ fn read_value<'a>(alloc: Global, reader: &mut Reader<'a>) -> Option<FlatValue<'a
 
 /// The members of an object, up to its end.
 fn read_members<'a>(alloc: Global, reader: &mut Reader<'a>) -> Option<Vec<FlatMember<'a>>>
-    ensures { IfSome result (λ list. (depth : ℕ) → converted (λ ms. of_members ms no_members)
-        (members (value (suc depth)) (length reader.old) reader.old) ≡ Some (flat_members list.items, reader.new)) }
+    ensures { IfSome result (λ list. ReadsMembers reader.old (flat_members list.items) reader.new) }
 {
     let mut found = Vec::with_capacity(alloc, 8).ok()?;
     'members: while let Some(name) = reader.next_key().ok()? {

@@ -4,7 +4,8 @@ use Rattle.std.specs.Prelude.{Option, Some, None, All, filter_map}
 use Rattle.std.specs.List.{list_any, cons_option}
 use Rattle.street_base.specs.declared.net.NetSpec.{NetSpec}
 use Rattle.street_base.specs.Limits.{last_clock}
-use Rattle.street_base.specs.Network.{Place, is_place, places}
+use Rattle.street_base.specs.declared.names.Place.{Place}
+use Rattle.street_base.specs.Network.{is_place, places}
 use Rattle.street_base.specs.State.{Traffic}
 use Rattle.street_base.specs.Step.{changed, driven, step, arrival, leaver_of}
 use Rattle.street_base.specs.Release.{released}

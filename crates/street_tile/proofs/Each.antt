@@ -2,7 +2,8 @@
 use Rattle.std.proofs.Common.{◌≡◌, ℕ, zero, suc, ◌+◌, ◌<◌, List, [], ◌∷◌, length, map, get_or, refl, sym, ◌∙◌, ap, arith, add-zero}
 use Rattle.std.specs.List.{enumerate_from}
 use Rattle.street_base.specs.declared.net.NetSpec.{NetSpec}
-use Rattle.street_base.specs.Network.{Place, link_at}
+use Rattle.street_base.specs.declared.names.Place.{Place}
+use Rattle.street_base.specs.Network.{link_at}
 use Rattle.street_base.specs.State.{Traffic, LaneState, no_lane, lane_at, each_lane}
 use Rattle.street_base.proofs.CensusLemmas.{HasShape}
 use Rattle.street_base.proofs.FormLemmas.{shape-of}

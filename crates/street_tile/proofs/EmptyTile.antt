@@ -13,7 +13,8 @@ use Rattle.street_base.specs.declared.net.TurnSpec.{TurnSpec}
 use Rattle.street_base.specs.declared.net.NetSpec.{NetSpec}
 use Rattle.street_base.specs.Faults.{network_fault, joins}
 use Rattle.street_base.specs.Limits.{most_lanes}
-use Rattle.street_base.specs.Network.{Place, is_place, no_link, link_at, node_of, names_link, turn}
+use Rattle.street_base.specs.declared.names.Place.{Place}
+use Rattle.street_base.specs.Network.{is_place, no_link, link_at, node_of, names_link, turn}
 use Rattle.street_base.specs.Vehicle.{Vehicle}
 use Rattle.street_base.specs.State.{LaneState, no_lane, lane_at}
 use Rattle.street_base.specs.Signal.{SignalPlan}

@@ -4,7 +4,8 @@ use Rattle.std.specs.List.{sum_by}
 use Rattle.std.proofs.lemmas.List.{take_more, take_all}
 use Rattle.std.proofs.lemmas.List.Sums.{sum_by-append}
 use Rattle.street_base.specs.declared.net.NetSpec.{NetSpec}
-use Rattle.street_base.specs.Network.{Place, places}
+use Rattle.street_base.specs.declared.names.Place.{Place}
+use Rattle.street_base.specs.Network.{places}
 use Rattle.street_base.specs.State.{Traffic, LaneState, lane_at}
 use Rattle.street_base.specs.Shown.{over_all}
 use Rattle.street_base.proofs.FormLemmas.{shape-of}

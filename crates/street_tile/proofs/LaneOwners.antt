@@ -9,7 +9,8 @@ use Rattle.std.proofs.lemmas.List.Elements.{filter_map-append}
 use Rattle.std.proofs.lemmas.List.Quantifiers.{position-Some}
 use Rattle.street_base.specs.declared.net.NodeSpec.{NodeSpec}
 use Rattle.street_base.specs.declared.net.NetSpec.{NetSpec}
-use Rattle.street_base.specs.Network.{Place, is_place, link_at, node_of, places}
+use Rattle.street_base.specs.declared.names.Place.{Place}
+use Rattle.street_base.specs.Network.{is_place, link_at, node_of, places}
 use Rattle.street_base.specs.Vehicle.{Vehicle}
 use Rattle.street_base.specs.State.{Traffic}
 use Rattle.street_base.specs.Census.{one_if}

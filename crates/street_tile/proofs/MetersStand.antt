@@ -11,12 +11,11 @@ use Rattle.street_base.specs.Lane.{Cells, Track}
 use Rattle.street_base.specs.Limits.{last_clock}
 use Rattle.street_base.specs.Machine.{loaded}
 use Rattle.street_base.specs.Motion.{Drive}
-use Rattle.street_base.specs.Network.{Place, is_place}
+use Rattle.street_base.specs.declared.names.Place.{Place}
+use Rattle.street_base.specs.Network.{is_place}
 use Rattle.street_base.specs.State.{Traffic, LaneState, Triple, Detector, lane_at}
 use Rattle.street_base.specs.Step.{drive_on, noted}
 use Rattle.street_base.proofs.ReleaseLemmas.{is_place-same}
-use Rattle.street_net.specs.declared.lanes.LaneId.{LaneId}
-use Rattle.street_net.specs.Tables.{place_of}
 use Rattle.street_lanes.specs.Views.{LaneStands}
 use Rattle.street_lanes.specs.Lanes.{Lanes, IsOf, lane_of, place_at, no_place, size_of, size_on}
 use Rattle.street_lanes.specs.Motion.{cells_on}
@@ -57,26 +56,26 @@ module _ (net : NetSpec) (own : Lanes) (of : IsOf net own) (detectors : List Det
 
 -- ---- no detectors
 
-pub bare-sizes : (net : NetSpec) (own : List LaneId) → sizes_of (map (bare net) own) ≡ map (cells_on net) (map place_of own)
+pub bare-sizes : (net : NetSpec) (own : List Place) → sizes_of (map (bare net) own) ≡ map (cells_on net) own
 bare-sizes net [] = refl
-bare-sizes net (at ∷ own) = ap (λ (ns : List ℕ). cells_on net (place_of at) ∷ ns) (bare-sizes net own)
+bare-sizes net (at ∷ own) = ap (λ (ns : List ℕ). cells_on net at ∷ ns) (bare-sizes net own)
 
-bare-none : (net : NetSpec) (own : List LaneId) (k : ℕ) → IsBare (detectors_at (map (bare net) own) k)
+bare-none : (net : NetSpec) (own : List Place) (k : ℕ) → IsBare (detectors_at (map (bare net) own) k)
 bare-none net [] k = (refl, refl)
 bare-none net (at ∷ own) zero = (refl, refl)
 bare-none net (at ∷ own) (suc k) = bare-none net own k
 
-pub bare-due : (net : NetSpec) (own : List LaneId) (clock : ℕ) → AreDue clock (map (bare net) own)
+pub bare-due : (net : NetSpec) (own : List Place) (clock : ℕ) → AreDue clock (map (bare net) own)
 bare-due net own clock k d h =
     let none : (get_or (map (bare net) own) k d).meters ≡ [] = ap (λ (g : Detectors). g.meters) (get_or_default (map (bare net) own) k d no_detectors h) ∙ (bare-none net own k).0 in
     subst (All (λ x. next_step x ≡ clock)) (sym none) (λ j x l. absurd (omega arith))
 
-pub bare-stand : (net : NetSpec) (ps : List Place) (own : List LaneId) (detectors : List Detectors) → detectors ≡ map (bare net) own → (k : ℕ) (p : Place) → slice_get ps k ≡ Some p → MetersStandFor (detectors_at detectors k).meters (detectors_on p (loaded net).detectors)
+pub bare-stand : (net : NetSpec) (ps : List Place) (own : List Place) (detectors : List Detectors) → detectors ≡ map (bare net) own → (k : ℕ) (p : Place) → slice_get ps k ≡ Some p → MetersStandFor (detectors_at detectors k).meters (detectors_on p (loaded net).detectors)
 unfolding loaded
 bare-stand net ps own detectors is k p at = subst (λ (ms : List Meter). MetersStandFor ms []) (sym (ap (λ gs. (detectors_at gs k).meters) is ∙ (bare-none net own k).0)) (record { even = refl; each = λ j y d h. absurd (omega arith) })
 
 -- none of the lanes has a detector
-pub bare-all : (net : NetSpec) (own : List LaneId) → AreBare (map (bare net) own)
+pub bare-all : (net : NetSpec) (own : List Place) → AreBare (map (bare net) own)
 bare-all net own k d h = subst IsBare (sym (get_or_default (map (bare net) own) k d no_detectors h)) (bare-none net own k)
 
 -- so there is nothing to note

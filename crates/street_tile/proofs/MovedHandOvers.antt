@@ -6,7 +6,8 @@ use Rattle.std.specs.List.{list_any}
 use Rattle.std.proofs.lemmas.Bool.{cases_Bool, cases_eq, cases_lt, both_ways, cond-true, cond-false, and_parts, lt-leb, lt-ltb, le-ltb, ltb-true, eq-eqb, ne_eqb, false_from_ne_true, true_from_ne_false}
 use Rattle.std.proofs.lemmas.List.{get_or-set_same, get_or-set_other, get_or_default, length_push, get_or_push, take_more, take_all, drop_more}
 use Rattle.street_base.specs.declared.net.NetSpec.{NetSpec}
-use Rattle.street_base.specs.Network.{Place, is_place, link_at, node_of, places}
+use Rattle.street_base.specs.declared.names.Place.{Place}
+use Rattle.street_base.specs.Network.{is_place, link_at, node_of, places}
 use Rattle.street_base.specs.Vehicle.{Vehicle}
 use Rattle.street_base.specs.Census.{one_if}
 use Rattle.street_base.proofs.ReleaseLemmas.{is_place-refl, is_place-swap}

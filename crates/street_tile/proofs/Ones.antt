@@ -5,7 +5,8 @@ use Rattle.std.specs.List.{sum_by, list_any}
 use Rattle.std.proofs.lemmas.Bool.{cases_Bool, both_ways, false_from_ne_true}
 use Rattle.std.proofs.lemmas.List.Sums.{sum_by-cons}
 use Rattle.street_base.specs.declared.net.NetSpec.{NetSpec}
-use Rattle.street_base.specs.Network.{Place, is_place, places}
+use Rattle.street_base.specs.declared.names.Place.{Place}
+use Rattle.street_base.specs.Network.{is_place, places}
 use Rattle.street_base.specs.State.{Traffic, lane_at}
 use Rattle.street_base.specs.Census.{in_lane, IsFormed, IsWhole}
 use Rattle.street_base.proofs.ReleaseLemmas.{is_place-same, is_place-refl}

@@ -5,7 +5,8 @@ use Rattle.std.specs.List.{list_any}
 use Rattle.std.proofs.lemmas.Bool.{and_parts}
 use Rattle.std.proofs.lemmas.Map.Views.{any-filter_same}
 use Rattle.street_base.specs.declared.net.NetSpec.{NetSpec}
-use Rattle.street_base.specs.Network.{Place, is_place, places}
+use Rattle.street_base.specs.declared.names.Place.{Place}
+use Rattle.street_base.specs.Network.{is_place, places}
 use Rattle.street_base.specs.State.{Traffic}
 use Rattle.street_base.proofs.FormLemmas.{places-inside}
 use Rattle.street_base.proofs.ReleaseLemmas.{is_place-same}

@@ -2,7 +2,7 @@
 use Rattle.std.proofs.Common.{◌≡◌, ℕ, zero, suc, Bool, true, false, inl, inr, List, [], ◌∷◌, length, map, get_or, refl, sym, ◌∙◌, ap, subst, arith}
 use Rattle.std.specs.Prelude.{Option, IsSome, All, filter_map}
 use Rattle.street_base.specs.declared.net.NetSpec.{NetSpec}
-use Rattle.street_base.specs.Network.{Place}
+use Rattle.street_base.specs.declared.names.Place.{Place}
 use Rattle.street_base.specs.Vehicle.{Vehicle}
 use Rattle.street_base.specs.State.{Traffic, LaneState, lane_at}
 use Rattle.street_base.specs.Release.{giver, entering, released}

@@ -5,7 +5,7 @@ use Rattle.std.proofs.lemmas.Bool.{cases_eq}
 use Rattle.std.proofs.lemmas.List.{length-map}
 use Rattle.std.proofs.lemmas.Option.{slice_get_within, slice_get-get_or, get_or_from_slice_get}
 use Rattle.street_base.specs.declared.net.NetSpec.{NetSpec}
-use Rattle.street_base.specs.Network.{Place}
+use Rattle.street_base.specs.declared.names.Place.{Place}
 use Rattle.street_base.specs.State.{Traffic, LaneState, no_lane, lane_at}
 use Rattle.street_lanes.specs.Views.{LaneView, LaneStands}
 use Rattle.street_lanes.specs.Lanes.{Lanes, IsLane, AllLanes, IsOf, Same, Others, lane_of, place_at, no_place, size_of, size_on}

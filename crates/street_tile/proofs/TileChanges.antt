@@ -2,7 +2,8 @@
 use Rattle.std.proofs.Common.{◌≡◌, ℕ, suc, ◌+◌, ◌<◌, ◌≤◌, List, [], ◌∷◌, length, get_or, refl, sym, ◌∙◌, ap, subst, arith, inl, inr}
 use Rattle.std.proofs.lemmas.Bool.{cases_eq}
 use Rattle.street_base.specs.declared.net.NetSpec.{NetSpec}
-use Rattle.street_base.specs.Network.{Place, link_at}
+use Rattle.street_base.specs.declared.names.Place.{Place}
+use Rattle.street_base.specs.Network.{link_at}
 use Rattle.street_base.specs.State.{Traffic, LaneState, no_lane, lane_at}
 use Rattle.street_base.specs.LaneChange.{Changing, changed_cells}
 use Rattle.street_base.specs.Step.{changed, changing_on, changed_lanes, with_cells}

@@ -7,17 +7,16 @@ use Rattle.std.proofs.lemmas.List.{take_more, take_all, append_assoc, get_or_def
 use Rattle.std.proofs.lemmas.List.Elements.{filter_map-append}
 use Rattle.std.proofs.lemmas.Option.{slice_get_within, get_or_from_slice_get}
 use Rattle.street_base.specs.declared.net.NetSpec.{NetSpec}
-use Rattle.street_base.specs.Network.{Place, node_of, link_at}
+use Rattle.street_base.specs.declared.names.Place.{Place}
+use Rattle.street_base.specs.Network.{node_of, link_at}
 use Rattle.street_base.specs.Signal.{SignalPlan}
 use Rattle.street_base.specs.State.{Traffic, lane_at}
 use Rattle.street_base.specs.Step.{driven, driven_lane, arrival, leaver_of, plan_at}
 use Rattle.street_lanes.specs.Lanes.{IsLane}
 use Rattle.street_lanes.specs.Whole.{IsOn}
 use Rattle.street_base.specs.Limits.{last_clock}
-use Rattle.street_net.specs.declared.lanes.LaneId.{LaneId}
-use Rattle.street_net.specs.Tables.{place_of}
 use Rattle.street_lanes.specs.Motion.{PlanStands, IsStepOf}
-use Rattle.street_tile.specs.declared.lanes.MotionStep.{MotionStep}
+use Rattle.street_tile.specs.declared.motion.MotionStep.{MotionStep}
 use Rattle.street_tile.specs.Motion.{IsOfStep, HasPlanFor}
 use Rattle.street_tile.specs.Tiles.{ShowSignals, is_own}
 use Rattle.street_tile.proofs.Each.{lane_at-each}
@@ -65,7 +64,7 @@ plan-shown net m on low signals p node is own shows plan d e =
     rw (kept, plan-of_node net m on p.link node is) (shows node above below)
 
 -- traffic of the step is traffic of this lane's step, with the plan of the node to which the lane runs
-pub of-lane : (step : MotionStep) (m : Traffic) → IsOfStep step m → step.clock ≤ last_clock → (p : Place) → HasPlanFor step p → (at : LaneId) → place_of at ≡ p → (node : ℕ) → node_of step.net.now (link_at step.net.now at.link).to ≡ Some node
+pub of-lane : (step : MotionStep) (m : Traffic) → IsOfStep step m → step.clock ≤ last_clock → (p : Place) → HasPlanFor step p → (at : Place) → at ≡ p → (node : ℕ) → node_of step.net.now (link_at step.net.now at.link).to ≡ Some node
     → (position : ℕ) → position ≡ node → (plan : Option SignalPlan) → plan ≡ get_or step.signals.now (position - step.low) None → IsStepOf step.net.now plan step.clock p m
 of-lane step m of in_time p own at at_is node node_is position position_is plan plan_is =
     let link : at.link ≡ p.link = ap (λ (q : Place). q.link) at_is in

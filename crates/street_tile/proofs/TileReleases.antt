@@ -3,7 +3,7 @@ use Rattle.std.proofs.Common.{◌≡◌, ℕ, ◌+◌, ◌*◌, ◌<◌, ◌≤�
 use Rattle.std.specs.Prelude.{Some, None, option_map, slice_get, slice_set, filter_map}
 use Rattle.std.proofs.lemmas.List.{take_all, append_assoc, append-nil}
 use Rattle.street_base.specs.declared.net.NetSpec.{NetSpec}
-use Rattle.street_base.specs.Network.{Place}
+use Rattle.street_base.specs.declared.names.Place.{Place}
 use Rattle.street_base.specs.State.{Traffic, Queued, lane_at}
 use Rattle.street_base.specs.Release.{target, gives}
 use Rattle.street_net.specs.Slots.{mouth, slot_of}

@@ -4,13 +4,15 @@ use Rattle.std.specs.Prelude.{◌≡◌, ◌<◌, ◌≤◌, ℕ, List, sum_by, 
 use Rattle.street_base.specs.declared.net.NetSpec.{NetSpec}
 use Rattle.street_base.specs.declared.reply.Whereabouts.{Whereabouts}
 use Rattle.street_base.specs.Vehicle.{Vehicle}
-use Rattle.street_base.specs.Network.{Place, is_place}
+use Rattle.street_base.specs.declared.names.Place.{Place}
+use Rattle.street_base.specs.Network.{is_place}
 use Rattle.street_base.specs.Signal.{SignalPlan}
 use Rattle.street_base.specs.State.{Traffic, LaneState, lane_at, each_lane}
 use Rattle.street_base.specs.Census.{in_lane}
 use Rattle.street_base.specs.Effects.{lane_without}
 use Rattle.street_base.specs.Machine.{seen_in}
 use Rattle.street_lanes.specs.Whereabouts.{vehicle_on}
+use Rattle.street_lanes.specs.Lanes.{place_at}
 use Rattle.street_lanes.specs.Whole.{IsOn}
 use Rattle.street_tile.specs.Tiles.{Part, StandsFor, SameTile}
 
@@ -76,3 +78,7 @@ HaveAtMostOne ps m number = over ps (in_lane number) m ≤ 1
 -- of whatever traffic the tile stands for, with at most one vehicle of this number on its lanes, P holds
 abbrev pub WhereOnce : NetSpec → Part → ℕ → (Traffic → Type 0) → Type 0
 WhereOnce net x number P = (m : Traffic) → IsOn net m → StandsFor x m → HaveAtMostOne x.own.places m number → P m
+
+-- this is where that vehicle is on the tile's lane n
+abbrev pub FindsAt : NetSpec → Part → ℕ → ℕ → Option Whereabouts → Type 0
+FindsAt net x n number found = WhereOnce net x number (λ m. found ≡ seen_in net (place_at x.own n) number (lane_at m (place_at x.own n)))

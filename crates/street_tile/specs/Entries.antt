@@ -1,7 +1,7 @@
 -- What entries and departures do to a tile's lanes.
 -- Source: this profile.
 use Rattle.std.specs.Prelude.{◌≡◌, ℕ, List, map, true, Option, IsSome}
-use Rattle.street_base.specs.Network.{Place}
+use Rattle.street_base.specs.declared.names.Place.{Place}
 use Rattle.street_base.specs.Vehicle.{Vehicle}
 use Rattle.street_base.specs.Lane.{is_free}
 use Rattle.street_base.specs.State.{Traffic, LaneState}

@@ -1,6 +1,7 @@
 -- Hand-overs on their way from the tiles that let them go to the tiles that own their lanes.
 use Rattle.std.specs.Prelude.{◌≡◌, ℕ, ◌<◌, ◌==◌, List, [], ◌∷◌, ◌++◌, map, length, slice_index_or, if◌then◌else◌}
-use Rattle.street_base.specs.Network.{Place}
+use Rattle.std.specs.List.{All}
+use Rattle.street_base.specs.declared.names.Place.{Place}
 use Rattle.street_tile.specs.Halves.{Transfer, entry_in}
 use Rattle.street_tile.specs.Tiles.{Part}
 
@@ -25,5 +26,11 @@ Awaits entries x = x.coming ≡ map (entry_in entries) x.own.places
 abbrev pub moved_at : ℕ → List Transfer → List Transfer → ℕ → Part → Part
 moved_at i left moved j x = record x { handed = if j == i then left else x.handed; coming = map (entry_in moved) x.own.places }
 
+-- each tile is as it was but for the hand-overs of the tile at i, of which these are left and those were moved
 abbrev pub IsMoved : ℕ → List Transfer → List Transfer → List Part → List Part → Type 0
 IsMoved i left moved xs ys = (j : ℕ) (d : Part) → j < length xs → slice_index_or ys j d ≡ moved_at i left moved j (slice_index_or xs j d)
+
+-- where tiles await these, the last hand-over of the tile at i comes to them, and those before it are left
+abbrev pub MovesLast : ℕ → List Part → List Part → Type 0
+MovesLast i xs ys = (left : List Transfer) (e : Transfer) (es : List Transfer) (d : Part)
+    → (slice_index_or xs i d).handed ≡ left ++ e ∷ [] → All (Awaits es) xs → IsMoved i left (e ∷ es) xs ys

@@ -1,7 +1,7 @@
 -- What motion on a tile's lanes reads of the step, and what it does.
 use Rattle.std.specs.Prelude.{◌≡◌, ℕ, ◌+◌, ◌<◌, ◌≤◌, List, ◌++◌, length, map, filter_map, slice_get, Bool, true, false, Option, Some}
 use Rattle.street_base.specs.Limits.{last_clock}
-use Rattle.street_base.specs.Network.{Place}
+use Rattle.street_base.specs.declared.names.Place.{Place}
 use Rattle.street_base.specs.Lane.{is_free}
 use Rattle.street_base.specs.State.{Traffic, lane_at}
 use Rattle.street_base.specs.Step.{driven, driven_lane, arrival, leaver_of}
@@ -11,7 +11,7 @@ use Rattle.street_lanes.specs.Lanes.{Lanes, Same, Others, IsOf, lane_of, place_a
 use Rattle.street_lanes.specs.Whole.{IsOn, LanesStand}
 use Rattle.street_lanes.specs.Motion.{cells_on}
 use Rattle.street_lanes.specs.Detectors.{Detectors, watch_of}
-use Rattle.street_tile.specs.declared.lanes.MotionStep.{MotionStep}
+use Rattle.street_tile.specs.declared.motion.MotionStep.{MotionStep}
 use Rattle.street_tile.specs.Tiles.{IsRoads, ShowSignals, AreBare, is_own, sizes_of}
 use Rattle.street_tile.specs.TileDetectors.{KeepMeters, HaveWatched}
 

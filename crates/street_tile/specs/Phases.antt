@@ -1,13 +1,14 @@
 -- The phases of a tile: each speaks of the whole machine, whatever state the tile stood for.
 -- Source: the phases and their order are this profile.
-use Rattle.std.specs.Prelude.{◌≡◌, ◌+◌, ◌≤◌, List, map, filter_map, Bool, Option}
+use Rattle.std.specs.Prelude.{◌≡◌, ℕ, ◌+◌, ◌≤◌, List, map, filter_map, Bool, Option}
 use Rattle.street_base.specs.declared.net.NetSpec.{NetSpec}
 use Rattle.street_base.specs.Vehicle.{Vehicle}
-use Rattle.street_base.specs.Network.{Place}
+use Rattle.street_base.specs.declared.names.Place.{Place}
 use Rattle.street_base.specs.State.{Traffic}
 use Rattle.street_base.specs.Departure.{departed}
 use Rattle.street_base.specs.Step.{arrival, leaver_of, changed, driven}
-use Rattle.street_lanes.specs.Whole.{AllFree, IsOn}
+use Rattle.street_lanes.specs.Lanes.{Lanes}
+use Rattle.street_lanes.specs.Whole.{AllFree, IsOn, LanesStand}
 use Rattle.street_tile.specs.Halves.{crossing, let_go, placed}
 use Rattle.street_tile.specs.Tiles.{Part, StandsFor, SameTile, Shows, ShowsOwn, nobody}
 use Rattle.street_tile.specs.TileDetectors.{KeepMeters, HaveWatched, MetersStand, noted_by}
@@ -19,6 +20,11 @@ pub record GoesBy (net : NetSpec) (f : Traffic → Traffic) (x y : Part) : Type 
   pub coming : y.coming ≡ x.coming
   pub room : x.own.room ≤ y.own.room
   pub stands : (m : Traffic) → IsOn net m → StandsFor x m → StandsFor y (f m)
+
+-- whatever traffic of the network at the clock these lanes stood for, they then stand for what its lane changes make of it
+abbrev pub ChangeLanes : NetSpec → ℕ → Lanes → Lanes → Type 0
+ChangeLanes net clock old new = (m : Traffic) → IsOn net m → m.clock ≡ clock
+    → LanesStand old.places old.lanes m → LanesStand new.places new.lanes (changed m)
 
 -- lane changes
 pub record LanePhase (net : NetSpec) (x y : Part) : Type 0 where

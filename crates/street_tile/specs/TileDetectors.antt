@@ -3,9 +3,9 @@
 use Rattle.std.specs.Prelude.{◌≡◌, ℕ, ◌+◌, ◌<◌, List, [], map, length, filter, Some, slice_get, slice_index_or}
 use Rattle.std.specs.List.{All}
 use Rattle.street_base.specs.declared.net.NetSpec.{NetSpec}
-use Rattle.street_net.specs.declared.lanes.LaneId.{LaneId}
+use Rattle.street_base.specs.declared.names.Place.{Place}
 use Rattle.street_base.specs.Effects.{metered}
-use Rattle.street_base.specs.Network.{Place, is_place, link_at}
+use Rattle.street_base.specs.Network.{is_place, link_at}
 use Rattle.street_base.specs.State.{Traffic, LaneState, Detector}
 use Rattle.street_base.specs.Step.{noted}
 use Rattle.street_lanes.specs.Views.{LaneStands}
@@ -21,7 +21,7 @@ abbrev pub detectors_at : List Detectors → ℕ → Detectors
 detectors_at detectors k = slice_index_or detectors k no_detectors
 
 -- no detectors on a lane
-abbrev pub bare : NetSpec → LaneId → Detectors
+abbrev pub bare : NetSpec → Place → Detectors
 bare net at = record { size = (link_at net at.link).length; meters = []; watches = [] }
 
 -- ---- the step

@@ -1,8 +1,8 @@
 -- A tile's walk over its buffers.
 -- Source: releases are this profile.
-use Rattle.std.specs.Prelude.{◌≡◌, ℕ, ◌≤◌, List, [], ◌∷◌, ◌++◌, Bool, true, false, Option, Some, IsSome, slice_get, slice_set}
+use Rattle.std.specs.Prelude.{◌≡◌, ℕ, ◌≤◌, List, [], ◌∷◌, ◌++◌, Bool, true, false, Option, Some, IsSome, filter_map, slice_get, slice_set}
 use Rattle.street_base.specs.declared.net.NetSpec.{NetSpec}
-use Rattle.street_base.specs.Network.{Place}
+use Rattle.street_base.specs.declared.names.Place.{Place}
 use Rattle.street_base.specs.Vehicle.{next_link}
 use Rattle.street_base.specs.State.{Traffic, LaneState, Queued, lane_at}
 use Rattle.street_base.specs.Release.{target}
@@ -11,7 +11,7 @@ use Rattle.street_node.specs.Walks.{IsWalk}
 use Rattle.street_lanes.specs.Views.{LaneStands, without_front}
 use Rattle.street_lanes.specs.Lanes.{Lanes, GoesAt, lane_of, place_at}
 use Rattle.street_lanes.specs.Whole.{LanesStand, IsOn}
-use Rattle.street_tile.specs.Halves.{Transfer, entry_on}
+use Rattle.street_tile.specs.Halves.{Transfer, crossing, entry_on}
 use Rattle.street_tile.specs.Tiles.{Shows}
 
 -- what a tile's lanes and the view show as the releases begin
@@ -21,6 +21,11 @@ pub record IsReleasing (net : NetSpec) (clock : ℕ) (own : Lanes) (mouths : Lis
   pub walk : IsWalk m own.places
   pub stand : LanesStand own.places own.lanes m
   pub shows : Shows net mouths m
+
+-- in whatever traffic shows this, the fronts that go stand behind those handed over before, buffer by buffer
+abbrev pub HandsOver : NetSpec → ℕ → Lanes → List Bool → List Transfer → List Transfer → Type 0
+HandsOver net clock own mouths before after = (m : Traffic) → IsReleasing net clock own mouths m
+    → after ≡ before ++ filter_map (crossing m) own.places
 
 -- in traffic of the network at this clock the front of buffer n may go there
 abbrev pub Targets : NetSpec → ℕ → Lanes → ℕ → Option Place → Type 0

@@ -10,7 +10,6 @@ ghost use Rattle.street_base.specs.Census.{in_lane};
 ghost use Rattle.street_base.specs.Closing.{with_marks};
 ghost use Rattle.street_base.specs.Machine.{with_waiting, closed_after};
 ghost use Rattle.street_base.specs.Shown.{shown_lane};
-ghost use Rattle.street_net.specs.Tables.{place_of};
 ghost use Rattle.street_node.specs.Greens.{ShowsAs};
 ghost use Rattle.street_lanes.specs.Views.{waiting_of};
 ghost use Rattle.street_lanes.specs.Lanes.{IsLane};
@@ -21,17 +20,17 @@ ghost use Rattle.street_tile.specs.Commands.{at_place, planned, DoesIf, Does, Ke
 
 use crate::tile::Tile;
 use std::alloc::Global;
-use street_base::{Car, CellNo, NodeIx, Reply, Starved};
-use street_net::{LaneId, Network, slot};
+use street_base::{Car, CellNo, NodeIx, Place, Reply, Starved};
+use street_net::{Network, slot};
 use street_node::SignalPlan;
 
 impl Tile {
     /// The number of an own lane among the own lanes.
-    pub(crate) fn number(&self, net: &Network, at: LaneId) -> usize
+    pub(crate) fn number(&self, net: &Network, at: Place) -> usize
         requires tile { IsTileOf net.now self.now }
-        requires lane { IsLane net.now (place_of at) }
-        requires own { is_own net.now self.now.low self.now.high (place_of at) ≡ true }
-        ensures { slice_get self.now.own.places result ≡ Some (place_of at) }
+        requires lane { IsLane net.now at }
+        requires own { is_own net.now self.now.low self.now.high at ≡ true }
+        ensures { slice_get self.now.own.places result ≡ Some at }
     {
         self.numbers[slot(at.link, at.lane)]
     }
@@ -40,13 +39,13 @@ impl Tile {
     ///
     /// # Errors
     /// Memory was refused; the tile is as it was, reserved room apart.
-    pub fn admit(&mut self, net: &Network, at: LaneId, car: Car) -> Result<(), Starved>
+    pub fn admit(&mut self, net: &Network, at: Place, car: Car) -> Result<(), Starved>
         requires tile { IsTileOf net.now self.old }
-        requires lane { IsLane net.now (place_of at) }
-        requires own { is_own net.now self.old.low self.old.high (place_of at) ≡ true }
+        requires lane { IsLane net.now at }
+        requires own { is_own net.now self.old.low self.old.high at ≡ true }
         requires short { HasShortPlan car }
-        ensures waits { OnOk result (DoesIf net.now (λ m. in_lane car.number (lane_at m (place_of at)) ≡ 0)
-            (at_place (place_of at) (with_waiting (waiting_of car))) self.old self.new) }
+        ensures waits { OnOk result (DoesIf net.now (λ m. in_lane car.number (lane_at m at) ≡ 0)
+            (at_place at (with_waiting (waiting_of car))) self.old self.new) }
         ensures starved { OnErr result (KeepsAll self.old self.new) }
     {
         let lane = self.number(net, at);
@@ -66,56 +65,52 @@ impl Tile {
         self.signals[at] = Some(plan);
     }
 
-    /// Closes cells of an own lane, and tells how many of its cells are closed then.
+    /// As [`set_closed`](Self::set_closed), to close: for a caller of a single tile.
     ///
     /// # Errors
     /// Memory was refused; the tile is as it was.
     pub fn close(
         &mut self,
         net: &Network,
-        at: LaneId,
+        at: Place,
         first: CellNo,
         last: CellNo,
     ) -> Result<u64, Starved>
         requires tile { IsTileOf net.now self.old }
-        requires lane { IsLane net.now (place_of at) }
-        requires own { is_own net.now self.old.low self.old.high (place_of at) ≡ true }
+        requires lane { IsLane net.now at }
+        requires own { is_own net.now self.old.low self.old.high at ≡ true }
         requires order { first ≤ last }
         requires within { last < (link_at net.now at.link).length }
-        ensures marks { OnOk result (Does net.now (at_place (place_of at) (with_marks true first last)) self.old self.new) }
+        ensures marks { OnOk result (Does net.now (at_place at (with_marks true first last)) self.old self.new) }
         ensures count { IfOk result (λ count. (m : Traffic) → IsOn net.now m → StandsFor self.old m
-            → count ≡ closed_after true first last (lane_at m (place_of at))) }
+            → count ≡ closed_after true first last (lane_at m at)) }
         ensures starved { OnErr result (KeepsAll self.old self.new) }
     {
-        let lane = self.number(net, at);
-        self.own.set_closed(lane, first, last, true)?;
-        Ok(self.own.closed_cells(lane))
+        self.set_closed(net, at, first, last, true)
     }
 
-    /// Opens cells of an own lane again, and tells how many of its cells are closed then.
+    /// As [`set_closed`](Self::set_closed), to open again: for a caller of a single tile.
     ///
     /// # Errors
     /// Memory was refused; the tile is as it was.
     pub fn reopen(
         &mut self,
         net: &Network,
-        at: LaneId,
+        at: Place,
         first: CellNo,
         last: CellNo,
     ) -> Result<u64, Starved>
         requires tile { IsTileOf net.now self.old }
-        requires lane { IsLane net.now (place_of at) }
-        requires own { is_own net.now self.old.low self.old.high (place_of at) ≡ true }
+        requires lane { IsLane net.now at }
+        requires own { is_own net.now self.old.low self.old.high at ≡ true }
         requires order { first ≤ last }
         requires within { last < (link_at net.now at.link).length }
-        ensures marks { OnOk result (Does net.now (at_place (place_of at) (with_marks false first last)) self.old self.new) }
+        ensures marks { OnOk result (Does net.now (at_place at (with_marks false first last)) self.old self.new) }
         ensures count { IfOk result (λ count. (m : Traffic) → IsOn net.now m → StandsFor self.old m
-            → count ≡ closed_after false first last (lane_at m (place_of at))) }
+            → count ≡ closed_after false first last (lane_at m at)) }
         ensures starved { OnErr result (KeepsAll self.old self.new) }
     {
-        let lane = self.number(net, at);
-        self.own.set_closed(lane, first, last, false)?;
-        Ok(self.own.closed_cells(lane))
+        self.set_closed(net, at, first, last, false)
     }
 
     /// Closes cells of an own lane, or opens them, and tells how many of its cells are closed then.
@@ -125,37 +120,36 @@ impl Tile {
     pub fn set_closed(
         &mut self,
         net: &Network,
-        at: LaneId,
+        at: Place,
         first: CellNo,
         last: CellNo,
         closed: bool,
     ) -> Result<u64, Starved>
         requires tile { IsTileOf net.now self.old }
-        requires lane { IsLane net.now (place_of at) }
-        requires own { is_own net.now self.old.low self.old.high (place_of at) ≡ true }
+        requires lane { IsLane net.now at }
+        requires own { is_own net.now self.old.low self.old.high at ≡ true }
         requires order { first ≤ last }
         requires within { last < (link_at net.now at.link).length }
-        ensures marks { OnOk result (Does net.now (at_place (place_of at) (with_marks closed first last)) self.old self.new) }
+        ensures marks { OnOk result (Does net.now (at_place at (with_marks closed first last)) self.old self.new) }
         ensures count { IfOk result (λ count. (m : Traffic) → IsOn net.now m → StandsFor self.old m
-            → count ≡ closed_after closed first last (lane_at m (place_of at))) }
+            → count ≡ closed_after closed first last (lane_at m at)) }
         ensures starved { OnErr result (KeepsAll self.old self.new) }
     {
-        if closed {
-            return self.close(net, at, first, last);
-        }
-        self.reopen(net, at, first, last)
+        let lane = self.number(net, at);
+        self.own.set_closed(lane, first, last, closed)?;
+        Ok(self.own.closed_cells(lane))
     }
 
     /// All of an own lane.
     ///
     /// # Errors
     /// Memory for the lists was refused.
-    pub fn lane(&self, alloc: Global, net: &Network, at: LaneId) -> Result<Reply, Starved>
+    pub fn lane(&self, alloc: Global, net: &Network, at: Place) -> Result<Reply, Starved>
         requires tile { IsTileOf net.now self.now }
-        requires lane { IsLane net.now (place_of at) }
-        requires own { is_own net.now self.now.low self.now.high (place_of at) ≡ true }
+        requires lane { IsLane net.now at }
+        requires own { is_own net.now self.now.low self.now.high at ≡ true }
         ensures { IfOk result (λ reply. (m : Traffic) → IsOn net.now m → StandsFor self.now m
-            → reply ≡ shown_lane (lane_at m (place_of at))) }
+            → reply ≡ shown_lane (lane_at m at)) }
     {
         let lane = self.number(net, at);
         self.own.lane(alloc, lane)

@@ -3,8 +3,8 @@
 //! Source: this profile.
 ghost use Rattle.std.specs.Prelude.{◌≡◌, ◌+◌, ◌*◌, ◌/◌, ◌<◌, ◌≤◌, ◌++◌, [], length, map, replicate, min, vec_capacity, None, IfOk, OnOk};
 ghost use Rattle.std.specs.List.{All, range_with_len};
+ghost use Rattle.street_base.specs.Limits.{most_links};
 ghost use Rattle.street_base.specs.Machine.{loaded};
-ghost use Rattle.street_net.specs.Tables.{place_of};
 ghost use Rattle.street_lanes.specs.Lanes.{AllLanes, IsOf, fresh};
 ghost use Rattle.street_tile.specs.Tiles.{IsTileOf, IsIdle, StandsFor, AreTiles, AreNumbers, own_places};
 ghost use Rattle.street_tile.specs.TileDetectors.{bare, MetersStand, AllMetersStand};
@@ -14,18 +14,18 @@ use crate::comers::Comers;
 use crate::hand_over::HandOver;
 use crate::tile::Tile;
 use std::alloc::{AllocError, Global};
-use street_base::{CarNo, CellNo, LaneNo, LinkIx, NodeIx, Starved, Step};
+use street_base::{CarNo, CellNo, LaneNo, LinkIx, NodeIx, Place, Starved, Step};
 use street_lanes::{Detectors, Lanes};
-use street_net::{LaneId, Network, slot};
+use street_net::{Network, slot};
 use street_node::SignalPlan;
 
 /// Adds the lanes of a link to a list.
-fn add_lanes(list: &mut Vec<LaneId>, link: LinkIx, lanes: LaneNo) -> Result<(), AllocError>
+fn add_lanes(list: &mut Vec<Place>, link: LinkIx, lanes: LaneNo) -> Result<(), AllocError>
     ensures { OnOk result (list.new.items
         ≡ list.old.items ++ map (λ k. record { link = link; lane = k }) (range_with_len 0 lanes)) }
 {
     for lane in 0..lanes {
-        list.push(LaneId { link, lane })?;
+        list.push(Place { link, lane })?;
     }
     Ok(())
 }
@@ -39,8 +39,8 @@ fn own_lanes(
     net: &Network,
     low: usize,
     high: usize,
-) -> Result<Vec<LaneId>, AllocError>
-    ensures { IfOk result (λ own. map place_of own.items ≡ own_places net.now low high) }
+) -> Result<Vec<Place>, AllocError>
+    ensures { IfOk result (λ own. own.items ≡ own_places net.now low high) }
 {
     let links = net.spec().links.as_slice();
     let mut own = Vec::new(alloc);
@@ -58,11 +58,11 @@ fn own_lanes(
 ///
 /// # Errors
 /// Memory was refused.
-fn numbers_of(alloc: Global, links: usize, own: &[LaneId]) -> Result<Vec<usize>, AllocError>
-    requires few { links ≤ 4096 }
+fn numbers_of(alloc: Global, links: usize, own: &[Place]) -> Result<Vec<usize>, AllocError>
+    requires few { links ≤ most_links }
     requires inside { All (λ at. (at.link < links) × (at.lane < 2)) own.now }
-    requires once { AtMostOnce (map place_of own.now) }
-    ensures { IfOk result (λ numbers. AreNumbers links (map place_of own.now) numbers.items) }
+    requires once { AtMostOnce own.now }
+    ensures { IfOk result (λ numbers. AreNumbers links own.now numbers.items) }
 {
     let mut numbers = vec![in alloc; 0; 2 * links]?;
     for n in 0..own.len() {
@@ -90,8 +90,8 @@ pub(crate) fn nones<T: Drop>(alloc: Global, count: usize) -> Result<Vec<Option<T
 ///
 /// # Errors
 /// Memory was refused.
-fn detectors_of(alloc: Global, net: &Network, own: &[LaneId]) -> Result<Vec<Detectors>, AllocError>
-    requires { AllLanes net.now (map place_of own.now) }
+fn detectors_of(alloc: Global, net: &Network, own: &[Place]) -> Result<Vec<Detectors>, AllocError>
+    requires { AllLanes net.now own.now }
     ensures { IfOk result (λ detectors. detectors.items ≡ map (bare net.now) own.now) }
 {
     let links = net.spec().links.as_slice();
@@ -107,13 +107,9 @@ fn detectors_of(alloc: Global, net: &Network, own: &[LaneId]) -> Result<Vec<Dete
 ///
 /// # Errors
 /// Memory was refused.
-fn lanes_of(
-    alloc: Global,
-    net: &Network,
-    own: &[LaneId],
-) -> Result<(Lanes, Vec<Detectors>), Starved>
-    requires { AllLanes net.now (map place_of own.now) }
-    ensures fresh { IfOk result (λ found. found.0 ≡ fresh net.now (map place_of own.now) found.0.room) }
+fn lanes_of(alloc: Global, net: &Network, own: &[Place]) -> Result<(Lanes, Vec<Detectors>), Starved>
+    requires { AllLanes net.now own.now }
+    ensures fresh { IfOk result (λ found. found.0 ≡ fresh net.now own.now found.0.room) }
     ensures of { IfOk result (λ found. IsOf net.now found.0) }
     ensures detectors { IfOk result (λ found. found.1.items ≡ map (bare net.now) own.now) }
 {
@@ -129,12 +125,12 @@ fn lanes_of(
 fn slots_of(
     alloc: Global,
     links: usize,
-    own: &[LaneId],
+    own: &[Place],
 ) -> Result<(Vec<usize>, Vec<bool>), AllocError>
-    requires few { links ≤ 4096 }
+    requires few { links ≤ most_links }
     requires inside { All (λ at. (at.link < links) × (at.lane < 2)) own.now }
-    requires once { AtMostOnce (map place_of own.now) }
-    ensures numbers { IfOk result (λ slots. AreNumbers links (map place_of own.now) slots.0.items) }
+    requires once { AtMostOnce own.now }
+    ensures numbers { IfOk result (λ slots. AreNumbers links own.now slots.0.items) }
     ensures mouths { IfOk result (λ slots. length slots.1.items ≡ 2 * links) }
 {
     let numbers = numbers_of(alloc, links, own)?;
@@ -167,16 +163,11 @@ type Tables = ((Vec<usize>, Vec<bool>), Moving, Vec<Option<SignalPlan>>);
 ///
 /// # Errors
 /// Memory was refused.
-fn tables_of(
-    alloc: Global,
-    links: usize,
-    nodes: usize,
-    own: &[LaneId],
-) -> Result<Tables, AllocError>
-    requires few { links ≤ 4096 }
+fn tables_of(alloc: Global, links: usize, nodes: usize, own: &[Place]) -> Result<Tables, AllocError>
+    requires few { links ≤ most_links }
     requires inside { All (λ at. (at.link < links) × (at.lane < 2)) own.now }
-    requires once { AtMostOnce (map place_of own.now) }
-    ensures numbers { IfOk result (λ tables. AreNumbers links (map place_of own.now) tables.0.0.items) }
+    requires once { AtMostOnce own.now }
+    ensures numbers { IfOk result (λ tables. AreNumbers links own.now tables.0.0.items) }
     ensures mouths { IfOk result (λ tables. length tables.0.1.items ≡ 2 * links) }
     ensures handed { IfOk result (λ tables. (tables.1.0.items ≡ []) × (length own.now ≤ vec_capacity tables.1.0)) }
     ensures coming { IfOk result (λ tables. tables.1.1 ≡ replicate (length own.now) None) }

@@ -4,11 +4,15 @@
 ghost use Rattle.std.specs.Prelude.{◌≡◌, ◌+◌, ◌<◌, ◌≤◌, length, None, Option, map};
 ghost use Rattle.street_lanes.specs.Lanes.{Same, Others};
 ghost use Rattle.street_tile.specs.Entries.{EntersAt, EnterAll};
+ghost use Rattle.street_tile.specs.Phases.{EnterPhase};
+ghost use Rattle.street_tile.specs.Tiles.{IsTileOf, IsPrepared};
 
 use crate::comers::Comers;
 use crate::hand_over::HandOver;
+use crate::tile::Tile;
 use street_base::Step;
 use street_lanes::Lanes;
+use street_net::Network;
 
 /// Who comes to lane `n` stands in its cell 0, and then who waits first may depart.
 fn enter_lane(own: &mut Lanes, n: usize, coming: Option<HandOver>, clock: Step)
@@ -27,7 +31,7 @@ fn enter_lane(own: &mut Lanes, n: usize, coming: Option<HandOver>, clock: Step)
 }
 
 /// The same on all lanes.
-pub(crate) fn enter_lanes(own: &mut Lanes, coming: &mut Comers, clock: Step)
+fn enter_lanes(own: &mut Lanes, coming: &mut Comers, clock: Step)
     requires even { length coming.old ≡ length own.old.places }
     requires room { length own.old.places ≤ own.old.room }
     ensures same { Same own.old own.new }
@@ -36,5 +40,16 @@ pub(crate) fn enter_lanes(own: &mut Lanes, coming: &mut Comers, clock: Step)
 {
     for n in 0..own.len() {
         enter_lane(own, n, coming.take(n), clock);
+    }
+}
+
+impl Tile {
+    /// Who comes stands in cell 0, and then at most one vehicle departs on each own lane. Takes no memory.
+    pub fn phase_enter(&mut self, net: &Network)
+        requires tile { IsTileOf net.now self.old }
+        requires prepared { IsPrepared self.old }
+        ensures { EnterPhase net.now self.old self.new }
+    {
+        enter_lanes(&mut self.own, &mut self.coming, self.clock);
     }
 }

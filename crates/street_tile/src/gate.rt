@@ -2,17 +2,18 @@
 
 use crate::tile::Tile;
 
-/// Called by each worker in each phase, with its number, the phase's (0 lane changes, 1 motion, 2 releases, 3 entries and
-/// departures, 4 detectors), and its tile.
+/// What the caller of steps observes of them, and what it says of their threads.
 pub trait Gate {
-    /// Before the worker's part of the phase.
+    /// Called by each worker before its part of each phase, with its number, the phase's (0 lane changes, 1 motion, 2 releases,
+    /// 3 entries and departures, 4 detectors), and its tile.
     fn arrive(&self, worker: u32, phase: u32, tile: &Tile) {}
 
-    /// After it.
+    /// Called by each worker after its part of each phase, with the same.
     fn leave(&self, worker: u32, phase: u32, tile: &Tile) {}
 
-    /// Whether the workers share a step, on threads of their own, while so many vehicles are in cells, and so many of these in
-    /// the tile that has most of them; else the calling thread runs all tiles in turn. The step is the same.
+    /// Asked, where there are several tiles, before the first of each 16 steps of an advance: whether the workers share a step, on
+    /// threads of their own, while so many vehicles are in cells, and so many of these in the tile that has most of them; else the
+    /// calling thread runs all tiles in turn. The step is the same.
     fn shares(&self, vehicles: u64, fullest: u64) -> bool {
         true
     }

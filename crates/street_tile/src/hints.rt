@@ -28,7 +28,7 @@ impl Model for Hints {
 }
 
 impl Hints {
-    /// Of no number.
+    /// No number is given yet. Takes no memory.
     pub fn new(alloc: Global) -> Hints
         ensures { result.links ≡ [] }
     {

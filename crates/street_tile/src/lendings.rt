@@ -18,7 +18,7 @@ use std::thread;
 use std::thread::Threads;
 use street_net::Network;
 
-/// Phases 0 and 1 of a tile.
+/// Lane changes and motion of a tile.
 pub(crate) fn drive<G: Gate>(net: &Network, worker: u32, tile: &mut Tile, gate: &G)
     requires tile { IsTileOf net.now tile.old }
     requires none { tile.old.arrived ≡ [] }
@@ -33,7 +33,7 @@ pub(crate) fn drive<G: Gate>(net: &Network, worker: u32, tile: &mut Tile, gate: 
     gate.leave(worker, 1, tile);
 }
 
-/// Phase 2 of a tile, by these mouths.
+/// Releases of a tile, by these mouths.
 pub(crate) fn release<G: Gate>(
     net: &Network,
     worker: u32,
@@ -51,7 +51,7 @@ pub(crate) fn release<G: Gate>(
     gate.leave(worker, 2, tile);
 }
 
-/// Phases 3 and 4 of a tile.
+/// Entries, departures and detectors of a tile.
 pub(crate) fn settle<G: Gate>(net: &Network, worker: u32, tile: &mut Tile, gate: &G)
     requires tile { IsTileOf net.now tile.old }
     requires prepared { IsPrepared tile.old }
@@ -66,7 +66,7 @@ pub(crate) fn settle<G: Gate>(net: &Network, worker: u32, tile: &mut Tile, gate:
     gate.leave(worker, 4, tile);
 }
 
-/// Phases 0 and 1 of all tiles.
+/// Lane changes and motion of all tiles, by so many threads at most.
 fn all_drive<R: Threads + Sync, G: Gate + Sync>(
     rt: &R,
     net: &Network,
@@ -94,7 +94,7 @@ fn all_drive<R: Threads + Sync, G: Gate + Sync>(
     );
 }
 
-/// Phases 3 and 4 of all tiles.
+/// Entries, departures and detectors of all tiles, by so many threads at most.
 fn all_settle<R: Threads + Sync, G: Gate + Sync>(
     rt: &R,
     net: &Network,

@@ -10,6 +10,7 @@
 //! phase by phase, for a caller that watches each; both promise `Steps`.
 #![tactic(auto)]
 
+mod change;
 mod comers;
 mod commands;
 mod cut;
@@ -17,9 +18,9 @@ mod entries;
 mod gate;
 mod hand_over;
 mod hints;
-mod lanes;
 mod lendings;
 mod meters;
+mod motion;
 mod mouths;
 mod release;
 mod step;
@@ -37,7 +38,6 @@ pub use hints::Hints;
 pub use lendings::step_by;
 pub use step::step_all;
 pub use tile::Tile;
-pub use tile_work::{Course, TileWork};
+pub use tile_work::{TeamNetwork, TileWork};
 pub use tiles::Tiles;
-pub use vehicles::TileSizes;
 pub use view::View;

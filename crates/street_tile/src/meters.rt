@@ -2,23 +2,23 @@
 //!
 //! Source: this profile.
 ghost use Rattle.std.specs.Prelude.{◌≡◌, ℕ, ◌<◌, ◌≤◌, length, true, false, option_map, slice_get, IfOk, OnOk, OnErr};
-ghost use Rattle.street_base.specs.Limits.{last_clock};
+ghost use Rattle.street_base.specs.Limits.{last_clock, most_period};
 ghost use Rattle.street_base.specs.Network.{link_at};
 ghost use Rattle.street_base.specs.Shown.{shown_rows};
 ghost use Rattle.street_base.specs.State.{Traffic};
-ghost use Rattle.street_net.specs.Tables.{place_of};
 ghost use Rattle.street_lanes.specs.Lanes.{IsLane};
+ghost use Rattle.street_tile.specs.Phases.{MeterPhase};
 ghost use Rattle.street_tile.specs.Tiles.{IsTileOf, AreBare, AreDue, is_own};
 ghost use Rattle.street_tile.specs.TileDetectors.{HaveNoted, MetersStand, PlacesMeter, detectors_on};
 
 use crate::tile::Tile;
 use std::alloc::Global;
-use street_base::{CellNo, Reply, Starved};
+use street_base::{CellNo, Place, Reply, Starved};
 use street_lanes::{Detectors, Lanes};
-use street_net::{LaneId, Network};
+use street_net::Network;
 
 /// The detectors of each of these lanes note the step. Where `has_meters` is false there are none, and no lane is looked at.
-pub(crate) fn note_lanes(has_meters: bool, detectors: &mut [Detectors], own: &Lanes)
+fn note_lanes(has_meters: bool, detectors: &mut [Detectors], own: &Lanes)
     requires bare { has_meters ≡ false → AreBare detectors.old }
     requires even { length detectors.old ≡ length own.now.lanes }
     requires in_time { (clock : ℕ) × (clock < last_clock) × AreDue clock detectors.old }
@@ -33,6 +33,18 @@ pub(crate) fn note_lanes(has_meters: bool, detectors: &mut [Detectors], own: &La
 }
 
 impl Tile {
+    /// Each detector notes the step, and the clock goes on. In a tile where none was ever placed, the lanes are not looked at.
+    /// Takes no memory.
+    pub fn phase_meter(&mut self, net: &Network)
+        requires tile { IsTileOf net.now self.old }
+        requires in_time { self.old.clock < last_clock }
+        ensures { MeterPhase net.now self.old self.new }
+    {
+        note_lanes(self.has_meters, &mut self.detectors, &self.own);
+        self.own.pack(self.clock);
+        self.clock += 1;
+    }
+
     /// Places one more detector in a cell of an own lane, with a period of 1 to 100,000 steps; it notes from the next step on.
     /// Answers its number among the detectors of the lane.
     ///
@@ -42,27 +54,27 @@ impl Tile {
         &mut self,
         alloc: Global,
         net: &Network,
-        at: LaneId,
+        at: Place,
         cell: CellNo,
         period: u32,
     ) -> Result<usize, Starved>
         requires tile { IsTileOf net.now self.old }
-        requires lane { IsLane net.now (place_of at) }
-        requires own { is_own net.now self.old.low self.old.high (place_of at) ≡ true }
+        requires lane { IsLane net.now at }
+        requires own { is_own net.now self.old.low self.old.high at ≡ true }
         requires cell { cell < (link_at net.now at.link).length }
         requires some { 1 ≤ period }
-        requires short { period ≤ 100000 }
+        requires short { period ≤ most_period }
         requires in_time { self.old.clock ≤ last_clock }
-        ensures placed { OnOk result (PlacesMeter (place_of at) cell period self.old self.new) }
-        ensures number { IfOk result (λ number. (m : Traffic) → MetersStand self.old m → number ≡ length (detectors_on (place_of at) m.detectors)) }
+        ensures placed { OnOk result (PlacesMeter at cell period self.old self.new) }
+        ensures number { IfOk result (λ number. (m : Traffic) → MetersStand self.old m → number ≡ length (detectors_on at m.detectors)) }
         ensures starved { OnErr result (self.new ≡ self.old) }
     {
-        let LaneId { link, lane } = at;
+        let Place { link, lane } = at;
         let n = self.number(net, at);
         let start = self.clock;
         // Also where memory is then refused: that costs no more than a walk over the lanes in each step.
         self.has_meters = true;
-        self.detectors[n].place(alloc, LaneId { link, lane }, cell, period, start)
+        self.detectors[n].place(alloc, Place { link, lane }, cell, period, start)
     }
 
     /// The rows of a detector of an own lane, by its number among those of the lane, if there is one.
@@ -73,14 +85,14 @@ impl Tile {
         &self,
         alloc: Global,
         net: &Network,
-        at: LaneId,
+        at: Place,
         number: usize,
     ) -> Result<Option<Reply>, Starved>
         requires tile { IsTileOf net.now self.now }
-        requires lane { IsLane net.now (place_of at) }
-        requires own { is_own net.now self.now.low self.now.high (place_of at) ≡ true }
+        requires lane { IsLane net.now at }
+        requires own { is_own net.now self.now.low self.now.high at ≡ true }
         ensures { IfOk result (λ reply. (m : Traffic) → MetersStand self.now m
-            → reply ≡ option_map shown_rows (slice_get (detectors_on (place_of at) m.detectors) number)) }
+            → reply ≡ option_map shown_rows (slice_get (detectors_on at m.detectors) number)) }
     {
         let n = self.number(net, at);
         self.detectors[n].rows(alloc, number)

@@ -1,19 +1,21 @@
 //! What a tile found of its own lanes' mouths, as the view shows it.
 //!
 //! Source: this profile.
-ghost use Rattle.std.specs.Prelude.{◌≡◌, ℕ, ◌*◌, length, false, slice_get, Some};
+ghost use Rattle.std.specs.Prelude.{◌≡◌, ℕ, ◌*◌, length, false, slice_get, Some, IsTrue, ◌↔◌};
 ghost use Rattle.std.specs.List.{list_any};
-ghost use Rattle.street_base.specs.Network.{Place, is_place};
+ghost use Rattle.street_base.specs.declared.names.Place.{Place};
+ghost use Rattle.street_base.specs.Network.{is_place};
 ghost use Rattle.street_lanes.specs.Lanes.{IsLane, AllLanes};
 ghost use Rattle.street_net.specs.Slots.{mouth};
-ghost use Rattle.street_tile.specs.Tiles.{IsRoads};
+ghost use Rattle.street_tile.specs.Tiles.{IsTileOf, IsRoads};
 
+use crate::tile::Tile;
 use crate::view::View;
 use street_lanes::Lanes;
 use street_net::{Network, slot};
 
 /// Copies the mouth of each of these lanes from a list of mouths into the view.
-pub(crate) fn copy_lanes(own: &Lanes, net: &Network, mouths: &[bool], view: &mut View)
+fn copy_lanes(own: &Lanes, net: &Network, mouths: &[bool], view: &mut View)
     requires roads { IsRoads net.now }
     requires there { AllLanes net.now own.now.places }
     requires held { length mouths.now ≡ 2 * length net.now.links }
@@ -27,5 +29,32 @@ pub(crate) fn copy_lanes(own: &Lanes, net: &Network, mouths: &[bool], view: &mut
     for n in 0..own.len() {
         let at = own.at(n);
         view.show(at, mouths[slot(at.link, at.lane)]);
+    }
+}
+
+impl Tile {
+    /// Whether all nodes are the tile's, and so all lanes.
+    fn has_all_nodes(&self, net: &Network) -> bool
+        ensures { IsTrue result ↔ (self.now.low ≡ 0) × (self.now.high ≡ length net.now.nodes) }
+    {
+        self.low == 0 && self.high == net.spec().nodes.as_slice().len()
+    }
+
+    /// Copies into the view what the tile holds of the mouth of each own lane, as motion left it; the lanes are not looked at.
+    /// Takes no memory.
+    pub fn mouths(&self, net: &Network, view: &mut View)
+        requires tile { IsTileOf net.now self.now }
+        requires view { length view.old ≡ 2 * length net.now.links }
+        ensures own { (j : ℕ) → (p : Place) → slice_get self.now.own.places j ≡ Some p
+            → mouth view.new p ≡ mouth self.now.mouths p }
+        ensures rest { (p : Place) → IsLane net.now p → list_any (is_place p) self.now.own.places ≡ false
+            → mouth view.new p ≡ mouth view.old p }
+        ensures wide { length view.new ≡ length view.old }
+    {
+        if self.has_all_nodes(net) {
+            view.copy(&self.mouths);
+        } else {
+            copy_lanes(&self.own, net, &self.mouths, view);
+        }
     }
 }

@@ -1,44 +1,46 @@
 //! Releases from a tile's own buffers.
 //!
 //! Source: this profile.
-ghost use Rattle.std.specs.Prelude.{◌≡◌, ◌+◌, ◌*◌, ◌<◌, ◌≤◌, length, ◌++◌, false, Some, option_map, filter_map, vec_len, vec_capacity, IsSome, IfSome};
+ghost use Rattle.std.specs.Prelude.{◌≡◌, [], ◌+◌, ◌*◌, ◌<◌, ◌≤◌, length, false, Some, vec_len, vec_capacity, IsSome, IfSome};
 ghost use Rattle.street_base.specs.State.{Traffic, Queued};
 ghost use Rattle.street_base.specs.Vehicle.{next_link};
-ghost use Rattle.street_net.specs.Tables.{place_of as named};
 ghost use Rattle.street_lanes.specs.Views.{without_front};
 ghost use Rattle.street_lanes.specs.Lanes.{IsLane, AllLanes, Same, GoesAt};
 ghost use Rattle.street_lanes.specs.Whole.{LanesStand};
-ghost use Rattle.street_tile.specs.Halves.{crossing, let_go, entry_on};
-ghost use Rattle.street_tile.specs.Tiles.{IsRoads};
-ghost use Rattle.street_tile.specs.Walks.{IsReleasing, Targets, HasFront, ReleasesFront};
+ghost use Rattle.street_tile.specs.Halves.{let_go, entry_on};
+ghost use Rattle.street_tile.specs.Phases.{ReleasePhase};
+ghost use Rattle.street_tile.specs.Tiles.{IsTileOf, IsRoads};
+ghost use Rattle.street_tile.specs.Walks.{IsReleasing, HandsOver, Targets, HasFront, ReleasesFront};
 
 use crate::hand_over::HandOver;
-use street_base::Step;
+use crate::tile::Tile;
+use crate::view::View;
+use street_base::{Place, Step};
 use street_lanes::Lanes;
-use street_net::{LaneId, Network, slot};
+use street_net::{Network, slot};
 
 /// The lane that the front of a buffer would enter now, if it is ready and has a turn.
-fn candidate(own: &Lanes, net: &Network, n: usize, clock: Step) -> Option<LaneId>
+fn candidate(own: &Lanes, net: &Network, n: usize, clock: Step) -> Option<Place>
     requires lane { n < length own.now.lanes }
     requires roads { IsRoads net.now }
-    ensures goes { Targets net.now clock own.now n (option_map named result) }
-    ensures inside { IfSome result (λ to. IsLane net.now (named to)) }
+    ensures goes { Targets net.now clock own.now n result }
+    ensures inside { IfSome result (λ to. IsLane net.now to) }
 {
     let next = own.next_of_front(n, clock)?;
     let from = own.at(n);
     let turn = net.turn(from.link, from.lane, next)?;
-    Some(LaneId {
+    Some(Place {
         link: turn.next,
         lane: turn.next_lane,
     })
 }
 
 /// Takes the front of buffer `n` for a lane of its next link.
-fn hand_over(own: &mut Lanes, net: &Network, n: usize, to: LaneId) -> Option<HandOver>
+fn hand_over(own: &mut Lanes, net: &Network, n: usize, to: Place) -> Option<HandOver>
     requires lane { n < length own.old.lanes }
-    requires there { IsLane net.now (named to) }
+    requires there { IsLane net.now to }
     ensures goes { GoesAt n without_front own.old own.new }
-    ensures entry { (q : Queued) → HasFront own.old n q → IsSome (next_link q.vehicle) → result ≡ Some (entry_on net.now q.vehicle (named to)) }
+    ensures entry { (q : Queued) → HasFront own.old n q → IsSome (next_link q.vehicle) → result ≡ Some (entry_on net.now q.vehicle to) }
     ensures some { (q : Queued) → HasFront own.old n q → IsSome result }
     ensures room { own.old.room ≤ own.new.room }
 {
@@ -55,16 +57,16 @@ fn release_front(
     own: &mut Lanes,
     net: &Network,
     n: usize,
-    to: LaneId,
+    to: Place,
     mouths: &mut [bool],
     handed: &mut Vec<HandOver>,
 )
     requires lane { n < length own.old.lanes }
     requires roads { IsRoads net.now }
-    requires there { IsLane net.now (named to) }
+    requires there { IsLane net.now to }
     requires wide { length mouths.old ≡ 2 * length net.now.links }
     requires room { vec_len handed.old < vec_capacity handed.old }
-    ensures front { ReleasesFront net.now n (named to) own.old own.new mouths.old mouths.new handed.old.items handed.new.items }
+    ensures front { ReleasesFront net.now n to own.old own.new mouths.old mouths.new handed.old.items handed.new.items }
     ensures grown { vec_len handed.new ≤ vec_len handed.old + 1 }
     ensures kept { vec_capacity handed.old ≤ vec_capacity handed.new }
 {
@@ -79,7 +81,7 @@ fn release_front(
 }
 
 /// The fronts of the buffers, in their order, go to the lanes whose mouths are open; a mouth closes behind each.
-pub(crate) fn release_lanes(
+fn release_lanes(
     own: &mut Lanes,
     net: &Network,
     clock: Step,
@@ -94,13 +96,42 @@ pub(crate) fn release_lanes(
     ensures room { own.old.room ≤ own.new.room }
     ensures lanes { (m : Traffic) → IsReleasing net.now clock own.old mouths.old m
         → LanesStand own.new.places own.new.lanes (let_go m) }
-    ensures handed { (m : Traffic) → IsReleasing net.now clock own.old mouths.old m
-        → handed.new.items ≡ handed.old.items ++ filter_map (crossing m) own.old.places }
+    ensures handed { HandsOver net.now clock own.old mouths.old handed.old.items handed.new.items }
     ensures kept { vec_capacity handed.old ≤ vec_capacity handed.new }
 {
     for n in 0..own.len() {
         if let Some(to) = candidate(own, net, n, clock) {
             release_front(own, net, n, to, mouths, handed);
         }
+    }
+}
+
+impl Tile {
+    /// The fronts that go leave the buffers and are handed over. Of the lanes that they enter, which may be other tiles', the
+    /// view alone is asked. Takes no memory.
+    pub fn phase_release(&mut self, net: &Network, view: &View)
+        requires tile { IsTileOf net.now self.old }
+        requires empty { self.old.handed ≡ [] }
+        requires view { length view.now ≡ 2 * length net.now.links }
+        ensures { ReleasePhase net.now view.now self.old self.new }
+    {
+        self.release_by(net, view.mouths());
+    }
+
+    /// As [`phase_release`](Self::phase_release), by these mouths. Takes no memory.
+    pub(crate) fn release_by(&mut self, net: &Network, mouths: &[bool])
+        requires tile { IsTileOf net.now self.old }
+        requires empty { self.old.handed ≡ [] }
+        requires wide { length mouths.now ≡ 2 * length net.now.links }
+        ensures { ReleasePhase net.now mouths.now self.old self.new }
+    {
+        self.mouths.copy_from_slice(mouths);
+        release_lanes(
+            &mut self.own,
+            net,
+            self.clock,
+            &mut self.mouths,
+            &mut self.handed,
+        );
     }
 }

@@ -1,16 +1,15 @@
 //! One step of all tiles, phase by phase, each phase by a worker for each tile.
 //!
 //! Source: this profile, whose five phases a step has in this order.
-ghost use Rattle.std.specs.Prelude.{◌≡◌, ◌+◌, ◌*◌, ◌<◌, ◌≤◌, length, List, [], ◌∷◌, ◌++◌, slice_index_or, true};
+ghost use Rattle.std.specs.Prelude.{◌≡◌, ◌+◌, ◌*◌, ◌<◌, ◌≤◌, length, List, [], ◌++◌, slice_index_or, true};
 ghost use Rattle.std.specs.List.{All};
 ghost use Rattle.street_base.specs.Limits.{last_clock};
 ghost use Rattle.street_base.specs.State.{Traffic};
-ghost use Rattle.street_net.specs.Tables.{place_of};
 ghost use Rattle.street_lanes.specs.Lanes.{IsLane};
 ghost use Rattle.street_tile.specs.Halves.{Transfer};
 ghost use Rattle.street_tile.specs.Tiles.{Part, IsTileOf, IsPrepared, Each, AreTiles, AllStand, Shows, ShowsOwn, is_own, nobody};
 ghost use Rattle.street_tile.specs.Phases.{LanePhase, MotionPhase, ReleasePhase, EnterPhase, MeterPhase};
-ghost use Rattle.street_tile.specs.HandOvers.{Awaits, IsMoved, all_handed, received};
+ghost use Rattle.street_tile.specs.HandOvers.{Awaits, IsMoved, MovesLast, all_handed, received};
 ghost use Rattle.street_tile.specs.Hinted.{KeepsHints};
 ghost use Rattle.street_tile.specs.Steps.{MayStep, Steps};
 
@@ -18,10 +17,11 @@ use crate::cut::owner;
 use crate::{Gate, Hints, Tile, View};
 use std::thread;
 use std::thread::Threads;
-use street_net::{LaneId, Network};
+use street_base::Place;
+use street_net::Network;
 
-/// Phase 0 of all tiles.
-fn all_lanes<R: Threads + Sync, G: Gate + Sync>(
+/// Lane changes of all tiles, each by a worker of its own.
+fn all_changes<R: Threads + Sync, G: Gate + Sync>(
     rt: &R,
     net: &Network,
     tiles: &mut [Tile],
@@ -48,7 +48,7 @@ fn all_lanes<R: Threads + Sync, G: Gate + Sync>(
     );
 }
 
-/// Phase 1 of all tiles.
+/// Motion of all tiles, each by a worker of its own.
 fn all_motion<R: Threads + Sync, G: Gate + Sync>(
     rt: &R,
     net: &Network,
@@ -78,7 +78,7 @@ fn all_motion<R: Threads + Sync, G: Gate + Sync>(
     );
 }
 
-/// Phase 2 of all tiles.
+/// Releases of all tiles, each by a worker of its own.
 pub(crate) fn all_release<R: Threads + Sync, G: Gate + Sync>(
     rt: &R,
     net: &Network,
@@ -109,7 +109,7 @@ pub(crate) fn all_release<R: Threads + Sync, G: Gate + Sync>(
     );
 }
 
-/// Phase 3 of all tiles.
+/// Entries and departures of all tiles, each by a worker of its own.
 fn all_enter<R: Threads + Sync, G: Gate + Sync>(
     rt: &R,
     net: &Network,
@@ -138,7 +138,7 @@ fn all_enter<R: Threads + Sync, G: Gate + Sync>(
     );
 }
 
-/// Phase 4 of all tiles.
+/// The detectors and the clock of all tiles, each by a worker of its own.
 fn all_meter<R: Threads + Sync, G: Gate + Sync>(
     rt: &R,
     net: &Network,
@@ -181,12 +181,12 @@ pub(crate) fn publish(net: &Network, tiles: &[Tile], view: &mut View)
 }
 
 /// Which of the tiles owns a lane: that of the node to which its link runs. Of one tile, without a look at the network.
-fn tile_of(net: &Network, tiles: &[Tile], to: LaneId) -> usize
+fn tile_of(net: &Network, tiles: &[Tile], to: Place) -> usize
     requires tiles { AreTiles net.now tiles.now }
-    requires lane { IsLane net.now (place_of to) }
+    requires lane { IsLane net.now to }
     ensures inside { result < length tiles.now }
     ensures own { (d : Part) → is_own net.now (slice_index_or tiles.now result d).low
-        (slice_index_or tiles.now result d).high (place_of to) ≡ true }
+        (slice_index_or tiles.now result d).high to ≡ true }
 {
     if tiles.len() == 1 {
         return 0;
@@ -200,9 +200,7 @@ fn move_one(net: &Network, tiles: &mut [Tile], hints: &mut Hints, i: usize)
     requires tiles { AreTiles net.now tiles.old }
     requires lanes { All (λ x. All (λ e. IsLane net.now e.to) x.handed) tiles.old }
     requires awaits { (es : List Transfer) × All (Awaits es) tiles.old }
-    ensures moved { (left : List Transfer) → (e : Transfer) → (es : List Transfer) → (d : Part)
-        → (slice_index_or tiles.old i d).handed ≡ left ++ e ∷ [] → All (Awaits es) tiles.old
-        → IsMoved i left (e ∷ es) tiles.old tiles.new }
+    ensures moved { MovesLast i tiles.old tiles.new }
     ensures hints { KeepsHints hints.old hints.new }
 {
     if let Some(hand_over) = tiles[i].next_hand_over() {
@@ -258,7 +256,7 @@ pub fn step_all<R: Threads + Sync, G: Gate + Sync>(
     ensures hints { KeepsHints hints.old hints.new }
 {
     let threads = tiles.len().max(1);
-    all_lanes(rt, net, tiles, gate, threads);
+    all_changes(rt, net, tiles, gate, threads);
     all_motion(rt, net, tiles, gate, threads);
     publish(net, tiles, view);
     all_release(rt, net, tiles, view, gate, threads);

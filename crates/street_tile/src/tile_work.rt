@@ -22,14 +22,23 @@ use std::sync::Wait;
 use street_net::Network;
 use street_team::{Team, Work};
 
+/// The part with lane changes and motion.
+const DRIVE: u32 = 0;
+
+/// The part with releases.
+const RELEASE: u32 = 1;
+
+/// The part with entries, departures and detectors.
+const SETTLE: u32 = 2;
+
 /// The network of a team's tiles, and the locks that tell what they were.
-pub trait Course {
+pub trait TeamNetwork {
     ghost net: { NetSpec };
 
     ghost lock: { ℕ → ℕ };
 }
 
-impl Course for Brand {
+impl TeamNetwork for Brand {
     ghost use Rattle.std.specs.Prelude.{[]};
 
     ghost net = { record { nodes = []; links = []; turns = []; zone = 0; change = 0; dawdle = 0; seed = 0; start = 0 } };
@@ -37,17 +46,17 @@ impl Course for Brand {
     ghost lock = { λ k. 0 };
 }
 
-/// The parts of a step as workers make them.
+/// The parts of a step as the workers of a team make them: `DRIVE`, `RELEASE`, and then `SETTLE`.
 #[derive(Drop)]
-pub struct TileWork<'b, G: Gate + Sync, K: Course> {
+pub struct TileWork<'b, G: Gate + Sync, K: TeamNetwork> {
     net: &'b Network,
     gate: &'b G,
     of: PhantomData<K>,
     ghost net_is: { net.now ≡ K.net },
 }
 
-impl<'b, G: Gate + Sync, K: Course> TileWork<'b, G, K> {
-    /// Of a network's tiles.
+impl<'b, G: Gate + Sync, K: TeamNetwork> TileWork<'b, G, K> {
+    /// The parts of a step on this network's tiles, which this gate observes.
     pub fn new(net: &'b Network, gate: &'b G) -> Self
         requires { net.now ≡ K.net }
     {
@@ -59,7 +68,7 @@ impl<'b, G: Gate + Sync, K: Course> TileWork<'b, G, K> {
     }
 }
 
-impl<'b, G: Gate + Sync, K: Course> Work<Tile> for TileWork<'b, G, K> {
+impl<'b, G: Gate + Sync, K: TeamNetwork> Work<Tile> for TileWork<'b, G, K> {
     ghost use Rattle.std.specs.Prelude.{◌<◌};
 
     ghost lock = { K.lock };
@@ -70,15 +79,15 @@ impl<'b, G: Gate + Sync, K: Course> Work<Tile> for TileWork<'b, G, K> {
 
     fn work(&self, part: u32, number: usize, shown: &[bool], item: &mut Tile) {
         match part {
-            0 => drive(self.net, number as u32, item, self.gate),
-            1 => release(self.net, number as u32, shown, item, self.gate),
+            DRIVE => drive(self.net, number as u32, item, self.gate),
+            RELEASE => release(self.net, number as u32, shown, item, self.gate),
             _ => settle(self.net, number as u32, item, self.gate),
         }
     }
 }
 
-/// Phases 0 and 1 of all tiles.
-fn drive_with<G: Gate + Sync, K: Course, R: Wait>(
+/// Lane changes and motion of all tiles, lent to a team, whose network this is: `net` is there for the contract alone.
+fn drive_with<G: Gate + Sync, K: TeamNetwork, R: Wait>(
     team: &mut Team<'_, '_, '_, '_, Tile, TileWork<'_, G, K>, R>,
     net: &Network,
     tiles: &mut Vec<Tile>,
@@ -91,11 +100,11 @@ fn drive_with<G: Gate + Sync, K: Course, R: Wait>(
     ensures len { length tiles.new.items ≡ length tiles.old.items }
     ensures each { Each (Then (LanePhase net.now) (MotionPhase net.now)) tiles.old.items tiles.new.items }
 {
-    team.lend(0, &[], tiles);
+    team.lend(DRIVE, &[], tiles);
 }
 
-/// Phase 2 of all tiles.
-fn release_with<G: Gate + Sync, K: Course, R: Wait>(
+/// Releases of all tiles, lent to a team, whose network this is: `net` is there for the contract alone.
+fn release_with<G: Gate + Sync, K: TeamNetwork, R: Wait>(
     team: &mut Team<'_, '_, '_, '_, Tile, TileWork<'_, G, K>, R>,
     net: &Network,
     view: &View,
@@ -109,11 +118,11 @@ fn release_with<G: Gate + Sync, K: Course, R: Wait>(
     ensures len { length tiles.new.items ≡ length tiles.old.items }
     ensures each { Each (ReleasePhase net.now view.now) tiles.old.items tiles.new.items }
 {
-    team.lend(1, view.mouths(), tiles);
+    team.lend(RELEASE, view.mouths(), tiles);
 }
 
-/// Phases 3 and 4 of all tiles.
-fn settle_with<G: Gate + Sync, K: Course, R: Wait>(
+/// Entries, departures and detectors of all tiles, lent to a team, whose network this is: `net` is there for the contract alone.
+fn settle_with<G: Gate + Sync, K: TeamNetwork, R: Wait>(
     team: &mut Team<'_, '_, '_, '_, Tile, TileWork<'_, G, K>, R>,
     net: &Network,
     tiles: &mut Vec<Tile>,
@@ -126,10 +135,10 @@ fn settle_with<G: Gate + Sync, K: Course, R: Wait>(
     ensures len { length tiles.new.items ≡ length tiles.old.items }
     ensures each { Each (Then (EnterPhase net.now) (MeterPhase net.now)) tiles.old.items tiles.new.items }
 {
-    team.lend(2, &[], tiles);
+    team.lend(SETTLE, &[], tiles);
 }
 
-/// Each tile shows its mouths.
+/// Each tile shows its mouths to all, while none is lent.
 fn publish_with(net: &Network, tiles: &Vec<Tile>, view: &mut View)
     requires tiles { AreTiles net.now tiles.now.items }
     requires shown { All ShowsOwn tiles.now.items }
@@ -140,7 +149,7 @@ fn publish_with(net: &Network, tiles: &Vec<Tile>, view: &mut View)
     publish(net, tiles, view);
 }
 
-/// Each hand-over is moved to the tile that owns its lane.
+/// Each hand-over is moved to the tile that owns its lane, while none is lent.
 fn move_with(net: &Network, tiles: &mut Vec<Tile>, hints: &mut Hints)
     requires tiles { AreTiles net.now tiles.old.items }
     requires nobody { All (λ x. x.coming ≡ nobody x) tiles.old.items }
@@ -154,7 +163,7 @@ fn move_with(net: &Network, tiles: &mut Vec<Tile>, hints: &mut Hints)
 
 /// One step by a team, of the same meaning as [`step_by`](crate::step_by)'s. The hints follow who enters another link. Takes no
 /// memory.
-pub fn step_with<G: Gate + Sync, K: Course, R: Wait>(
+pub fn step_with<G: Gate + Sync, K: TeamNetwork, R: Wait>(
     team: &mut Team<'_, '_, '_, '_, Tile, TileWork<'_, G, K>, R>,
     net: &Network,
     tiles: &mut Vec<Tile>,

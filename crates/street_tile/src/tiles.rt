@@ -9,12 +9,11 @@ ghost use Rattle.street_base.specs.Census.{in_lane, IsSound};
 ghost use Rattle.street_base.specs.Closing.{with_marks};
 ghost use Rattle.street_base.specs.Effects.{metered};
 ghost use Rattle.street_base.specs.Limits.{last_clock, most_period, most_vehicles};
-ghost use Rattle.street_base.specs.Machine.{loaded, with_waiting, closed_after, seen};
+ghost use Rattle.street_base.specs.Machine.{loaded, with_waiting, closed_after};
 ghost use Rattle.street_base.specs.Network.{link_at};
 ghost use Rattle.street_base.specs.Shown.{shown_lane, shown_rows, in_cells, in_buffers, in_wait};
 ghost use Rattle.street_base.specs.Signal.{SignalPlan as PlanSeen};
 ghost use Rattle.street_base.specs.State.{Traffic, lane_at};
-ghost use Rattle.street_net.specs.Tables.{place_of};
 ghost use Rattle.street_node.specs.Greens.{ShowsAs};
 ghost use Rattle.street_lanes.specs.Lanes.{IsLane};
 ghost use Rattle.street_lanes.specs.Lists.{HasShortPlan};
@@ -24,12 +23,13 @@ ghost use Rattle.street_tile.specs.TileDetectors.{detectors_on};
 ghost use Rattle.street_tile.specs.Together.{TilesStandFor, TilesGo, TilesKeep, NobodyArrived, OwnsLink};
 
 use crate::cut::owner;
-use crate::{Hints, Tile, TileSizes, View};
+use crate::{Hints, Tile, View};
 use std::alloc::Global;
 use std::marker::Model;
 use std::sync::Arc;
-use street_base::{Car, CellNo, LinkIx, NodeIx, Reply, Starved};
-use street_net::{LaneId, Network};
+use street_base::{Car, CellNo, LinkIx, NodeIx, Place, Reply, Starved};
+use street_lanes::LaneTotals;
+use street_net::Network;
 use street_node::SignalPlan;
 use street_team::{Block, blocks};
 
@@ -128,11 +128,11 @@ impl Tiles {
     ///
     /// # Errors
     /// Memory was refused; the tiles stand for what they stood for.
-    pub fn admit(&mut self, at: LaneId, car: Car) -> Result<(), Starved>
-        requires lane { IsLane self.old.network (place_of at) }
+    pub fn admit(&mut self, at: Place, car: Car) -> Result<(), Starved>
+        requires lane { IsLane self.old.network at }
         requires short { HasShortPlan car }
-        ensures waits { OnOk result (TilesGo (λ m. in_lane car.number (lane_at m (place_of at)) ≡ 0)
-            (at_place (place_of at) (with_waiting (waiting_of car))) self.old self.new) }
+        ensures waits { OnOk result (TilesGo (λ m. in_lane car.number (lane_at m at) ≡ 0)
+            (at_place at (with_waiting (waiting_of car))) self.old self.new) }
         ensures starved { OnErr result (TilesKeep self.old self.new) }
     {
         let link = at.link;
@@ -159,17 +159,17 @@ impl Tiles {
     /// Memory was refused; the tiles stand for what they stood for.
     pub fn set_closed(
         &mut self,
-        at: LaneId,
+        at: Place,
         first: CellNo,
         last: CellNo,
         closed: bool,
     ) -> Result<u64, Starved>
-        requires lane { IsLane self.old.network (place_of at) }
+        requires lane { IsLane self.old.network at }
         requires order { first ≤ last }
         requires within { last < (link_at self.old.network at.link).length }
-        ensures marks { OnOk result (TilesGo (λ m. Unit) (at_place (place_of at) (with_marks closed first last)) self.old self.new) }
+        ensures marks { OnOk result (TilesGo (λ m. Unit) (at_place at (with_marks closed first last)) self.old self.new) }
         ensures count { IfOk result (λ count. (m : Traffic) → TilesStandFor self.old m
-            → count ≡ closed_after closed first last (lane_at m (place_of at))) }
+            → count ≡ closed_after closed first last (lane_at m at)) }
         ensures starved { OnErr result (TilesKeep self.old self.new) }
     {
         let i = self.owner_of(at.link);
@@ -180,9 +180,9 @@ impl Tiles {
     ///
     /// # Errors
     /// Memory for the lists was refused.
-    pub fn lane(&self, alloc: Global, at: LaneId) -> Result<Reply, Starved>
-        requires { IsLane self.now.network (place_of at) }
-        ensures { IfOk result (λ reply. (m : Traffic) → TilesStandFor self.now m → reply ≡ shown_lane (lane_at m (place_of at))) }
+    pub fn lane(&self, alloc: Global, at: Place) -> Result<Reply, Starved>
+        requires { IsLane self.now.network at }
+        ensures { IfOk result (λ reply. (m : Traffic) → TilesStandFor self.now m → reply ≡ shown_lane (lane_at m at)) }
     {
         let i = self.owner_of(at.link);
         self.tiles[i].lane(alloc, &self.network, at)
@@ -196,18 +196,18 @@ impl Tiles {
     pub fn place_meter(
         &mut self,
         alloc: Global,
-        at: LaneId,
+        at: Place,
         cell: CellNo,
         period: u32,
     ) -> Result<usize, Starved>
         requires stand { (m : Traffic) × TilesStandFor self.old m × (m.clock ≤ last_clock) }
-        requires lane { IsLane self.old.network (place_of at) }
+        requires lane { IsLane self.old.network at }
         requires cell { cell < (link_at self.old.network at.link).length }
         requires some { 1 ≤ period }
         requires short { period ≤ most_period }
-        ensures placed { OnOk result (TilesGo (λ m. Unit) (λ m. metered m (place_of at) cell period) self.old self.new) }
+        ensures placed { OnOk result (TilesGo (λ m. Unit) (λ m. metered m at cell period) self.old self.new) }
         ensures number { IfOk result (λ number. (m : Traffic) → TilesStandFor self.old m
-            → number ≡ length (detectors_on (place_of at) m.detectors)) }
+            → number ≡ length (detectors_on at m.detectors)) }
         ensures starved { OnErr result (TilesKeep self.old self.new) }
     {
         let i = self.owner_of(at.link);
@@ -221,31 +221,31 @@ impl Tiles {
     pub fn read_meter(
         &self,
         alloc: Global,
-        at: LaneId,
+        at: Place,
         number: usize,
     ) -> Result<Option<Reply>, Starved>
-        requires { IsLane self.now.network (place_of at) }
+        requires { IsLane self.now.network at }
         ensures { IfOk result (λ found. (m : Traffic) → TilesStandFor self.now m
-            → found ≡ option_map shown_rows (slice_get (detectors_on (place_of at) m.detectors) number)) }
+            → found ≡ option_map shown_rows (slice_get (detectors_on at m.detectors) number)) }
     {
         let i = self.owner_of(at.link);
         self.tiles[i].read_meter(alloc, &self.network, at, number)
     }
 
     /// How many vehicles are on the lanes of all tiles; looks at no lane.
-    pub fn sizes(&self) -> TileSizes
+    pub fn totals(&self) -> LaneTotals
         requires { (m : Traffic) × TilesStandFor self.now m × IsSound m × (length m.ends ≤ most_vehicles) }
         ensures cells { (m : Traffic) → TilesStandFor self.now m → result.cells ≡ in_cells m }
         ensures buffers { (m : Traffic) → TilesStandFor self.now m → result.buffers ≡ in_buffers m }
         ensures waiting { (m : Traffic) → TilesStandFor self.now m → result.waiting ≡ in_wait m }
     {
-        let mut all = TileSizes {
+        let mut all = LaneTotals {
             cells: 0,
             buffers: 0,
             waiting: 0,
         };
         for i in 0..self.tiles.len() {
-            let own = self.tiles[i].sizes();
+            let own = self.tiles[i].totals();
             all.cells += own.cells;
             all.buffers += own.buffers;
             all.waiting += own.waiting;
@@ -257,7 +257,7 @@ impl Tiles {
     pub fn fullest(&self) -> u64 {
         let mut most = 0;
         for tile in &self.tiles {
-            most = most.max(tile.sizes().cells);
+            most = most.max(tile.totals().cells);
         }
         most
     }

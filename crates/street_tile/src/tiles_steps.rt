@@ -8,7 +8,7 @@ ghost use Rattle.street_tile.specs.Tiles.{Part, IsPrepared, AreTiles};
 ghost use Rattle.street_tile.specs.Together.{TilesStandFor, TilesKeep, NobodyArrived, PreparesOne, TakesArrival, TakesArrivalOf};
 
 use crate::lendings::step_by;
-use crate::tile_work::{Course, TileWork, step_with};
+use crate::tile_work::{TeamNetwork, TileWork, step_with};
 use crate::tiles::Tiles;
 use crate::{Gate, Tile};
 use std::sync::Wait;
@@ -67,7 +67,7 @@ impl Tiles {
     }
 
     /// As [`step`](Self::step), by a team.
-    pub fn step_by_team<G: Gate + Sync, K: Course, R: Wait>(
+    pub fn step_by_team<G: Gate + Sync, K: TeamNetwork, R: Wait>(
         &mut self,
         team: &mut Team<'_, '_, '_, '_, Tile, TileWork<'_, G, K>, R>,
     )
@@ -99,7 +99,7 @@ impl Tiles {
         self.tiles[i].next_arrival()
     }
 
-    /// Takes a number that arrived in the last step; none when all were taken. Takes no memory.
+    /// Takes the number of a vehicle that arrived in the last step, in no order; none when all were taken. Takes no memory.
     pub fn next_arrival(&mut self) -> Option<CarNo>
         ensures some { IfSome result (λ number. TakesArrival number self.old self.new) }
         ensures kept { result ≡ None → self.new ≡ self.old }

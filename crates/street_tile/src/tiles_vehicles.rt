@@ -5,15 +5,13 @@ ghost use Rattle.std.specs.Prelude.{◌≡◌, ℕ, ◌<◌, length, true, false
 ghost use Rattle.street_base.specs.Census.{IsSound, IsWhole};
 ghost use Rattle.street_base.specs.Machine.{seen};
 ghost use Rattle.street_base.specs.State.{Traffic};
-ghost use Rattle.street_net.specs.Tables.{place_of};
 ghost use Rattle.street_lanes.specs.Lanes.{IsLane};
 ghost use Rattle.street_tile.specs.Commands.{without};
 ghost use Rattle.street_tile.specs.Together.{TilesStandFor, TilesGo, TileHasNot};
 
 use crate::tiles::Tiles;
 use std::alloc::Global;
-use street_base::{CarNo, LaneNo, LinkIx, Starved, Whereabouts};
-use street_net::LaneId;
+use street_base::{CarNo, LaneNo, LinkIx, Place, Starved, Whereabouts};
 
 impl Tiles {
     /// How many lanes a link has; none of a position past the last link.
@@ -27,8 +25,8 @@ impl Tiles {
     }
 
     /// Takes a vehicle out of a lane, and tells whether it was there.
-    fn take_on(&mut self, at: LaneId, number: CarNo) -> bool
-        requires { IsLane self.old.network (place_of at) }
+    fn take_on(&mut self, at: Place, number: CarNo) -> bool
+        requires { IsLane self.old.network at }
         ensures taken { result ≡ true → TilesGo IsWhole (without number) self.old self.new }
         ensures kept { result ≡ false → self.new ≡ self.old }
     {
@@ -44,7 +42,7 @@ impl Tiles {
         ensures kept { result ≡ false → self.new ≡ self.old }
     {
         for lane in 0..self.lanes_of(link) {
-            if self.take_on(LaneId { link, lane }, number) {
+            if self.take_on(Place { link, lane }, number) {
                 return true;
             }
         }
@@ -90,7 +88,7 @@ impl Tiles {
         ensures { IfOk result (λ found. IsSome found → (m : Traffic) → IsSound m → TilesStandFor self.now m → found ≡ seen m number) }
     {
         for lane in 0..self.lanes_of(link) {
-            let at = LaneId { link, lane };
+            let at = Place { link, lane };
             let i = self.owner_of(link);
             if let Some(found) = self.tiles[i].find_on(alloc, &self.network, at, number)? {
                 return Ok(Some(found));

@@ -6,27 +6,16 @@ ghost use Rattle.street_base.specs.Vehicle.{vehicle_of};
 ghost use Rattle.street_base.specs.State.{Traffic, lane_at};
 ghost use Rattle.street_base.specs.Census.{in_lane};
 ghost use Rattle.street_base.specs.Machine.{seen_in};
-ghost use Rattle.street_net.specs.Tables.{place_of};
 ghost use Rattle.street_lanes.specs.Lanes.{IsLane, place_at};
 ghost use Rattle.street_lanes.specs.Whereabouts.{vehicle_on};
 ghost use Rattle.street_tile.specs.Tiles.{IsTileOf, StandsFor, is_own};
-ghost use Rattle.street_tile.specs.Commands.{without, DoesIf, HaveNot, Have, Hold, HaveAtMostOne, WhereOnce, Finds, over};
+ghost use Rattle.street_tile.specs.Commands.{without, DoesIf, HaveNot, Have, Hold, HaveAtMostOne, WhereOnce, Finds, FindsAt, over};
 
 use crate::tile::Tile;
 use std::alloc::Global;
-use street_base::{Car, CarNo, Starved, Whereabouts};
-use street_net::{LaneId, Network};
-
-/// How many vehicles are on the lanes of a tile.
-#[derive(Clone, Copy, Debug, PartialEq, Eq)]
-pub struct TileSizes {
-    /// Those in cells.
-    pub cells: u64,
-    /// Those in buffers.
-    pub buffers: u64,
-    /// Those who wait.
-    pub waiting: u64,
-}
+use street_base::{Car, CarNo, Place, Starved, Whereabouts};
+use street_lanes::LaneTotals;
+use street_net::Network;
 
 impl Tile {
     /// Takes a vehicle out of own lane `n`, if it is there.
@@ -44,16 +33,16 @@ impl Tile {
     }
 
     /// Takes a vehicle out of an own lane, if it is there. Takes no memory.
-    pub fn take_out_on(&mut self, net: &Network, at: LaneId, number: CarNo) -> Option<Car>
+    pub fn take_out_on(&mut self, net: &Network, at: Place, number: CarNo) -> Option<Car>
         requires tile { IsTileOf net.now self.old }
-        requires lane { IsLane net.now (place_of at) }
-        requires own { is_own net.now self.old.low self.old.high (place_of at) ≡ true }
+        requires lane { IsLane net.now at }
+        requires own { is_own net.now self.old.low self.old.high at ≡ true }
         ensures number { IfSome result (λ car. car.number ≡ number) }
         ensures some { IfSome result (λ car. DoesIf net.now (λ m. HaveAtMostOne self.old.own.places m number) (without number) self.old self.new) }
-        ensures vehicle { WhereOnce net.now self.old number (λ m. option_map vehicle_of result ≡ vehicle_on number (lane_at m (place_of at))) }
-        ensures had { IfSome result (λ car. WhereOnce net.now self.old number (λ m. 0 < in_lane number (lane_at m (place_of at)))) }
+        ensures vehicle { WhereOnce net.now self.old number (λ m. option_map vehicle_of result ≡ vehicle_on number (lane_at m at)) }
+        ensures had { IfSome result (λ car. WhereOnce net.now self.old number (λ m. 0 < in_lane number (lane_at m at))) }
         ensures none { result ≡ None → self.new ≡ self.old }
-        ensures had_not { result ≡ None → WhereOnce net.now self.old number (λ m. in_lane number (lane_at m (place_of at)) ≡ 0) }
+        ensures had_not { result ≡ None → WhereOnce net.now self.old number (λ m. in_lane number (lane_at m at) ≡ 0) }
     {
         let n = self.number(net, at);
         self.take_at(net, n, number)
@@ -87,8 +76,7 @@ impl Tile {
     ) -> Result<Option<Whereabouts>, Starved>
         requires tile { IsTileOf net.now self.now }
         requires lane { n < length self.now.own.places }
-        ensures found { IfOk result (λ found. WhereOnce net.now self.now number
-            (λ m. found ≡ seen_in net.now (place_at self.now.own n) number (lane_at m (place_at self.now.own n)))) }
+        ensures found { IfOk result (FindsAt net.now self.now n number) }
         ensures there { IfOk result (λ found. WhereOnce net.now self.now number
             (λ m. found ≡ None → in_lane number (lane_at m (place_at self.now.own n)) ≡ 0)) }
     {
@@ -103,13 +91,13 @@ impl Tile {
         &self,
         alloc: Global,
         net: &Network,
-        at: LaneId,
+        at: Place,
         number: CarNo,
     ) -> Result<Option<Whereabouts>, Starved>
         requires tile { IsTileOf net.now self.now }
-        requires lane { IsLane net.now (place_of at) }
-        requires own { is_own net.now self.now.low self.now.high (place_of at) ≡ true }
-        ensures { IfOk result (λ found. WhereOnce net.now self.now number (λ m. found ≡ seen_in net.now (place_of at) number (lane_at m (place_of at)))) }
+        requires lane { IsLane net.now at }
+        requires own { is_own net.now self.now.low self.now.high at ≡ true }
+        ensures { IfOk result (λ found. WhereOnce net.now self.now number (λ m. found ≡ seen_in net.now at number (lane_at m at))) }
     {
         let n = self.number(net, at);
         self.find_at(alloc, net, n, number)
@@ -137,16 +125,11 @@ impl Tile {
     }
 
     /// How many vehicles are on the own lanes; looks at no lane.
-    pub fn sizes(&self) -> TileSizes
+    pub fn totals(&self) -> LaneTotals
         ensures cells { (m : Traffic) → StandsFor self.now m → result.cells ≡ over self.now.own.places (λ lane. count_by is_some lane.track.cells) m }
         ensures buffers { (m : Traffic) → StandsFor self.now m → result.buffers ≡ over self.now.own.places (λ lane. length lane.queue) m }
         ensures waiting { (m : Traffic) → StandsFor self.now m → result.waiting ≡ over self.now.own.places (λ lane. length lane.waiting) m }
     {
-        let own = self.own.totals();
-        TileSizes {
-            cells: own.cells,
-            buffers: own.buffers,
-            waiting: own.waiting,
-        }
+        self.own.totals()
     }
 }

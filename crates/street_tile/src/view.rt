@@ -1,12 +1,11 @@
 //! Which lanes are open, as all tiles see it.
 ghost use Rattle.std.specs.Prelude.{◌≡◌, ◌*◌, ◌<◌, length, slice_set, IfOk};
-ghost use Rattle.street_net.specs.Tables.{place_of};
 ghost use Rattle.street_net.specs.Slots.{slot_of};
 
 use std::alloc::Global;
 use std::marker::Model;
-use street_base::Starved;
-use street_net::{LaneId, Network, slot};
+use street_base::{Place, Starved};
+use street_net::{Network, slot};
 
 /// For each lane of a network whether its cell 0 is empty and not closed, two entries a link. Contracts see the list.
 pub struct View {
@@ -63,10 +62,10 @@ impl View {
     }
 
     /// Writes the mouth of a lane.
-    pub(crate) fn show(&mut self, at: LaneId, is_open: bool)
-        requires small { slot_of (place_of at) < 65536 }
-        requires within { slot_of (place_of at) < length self.old }
-        ensures { self.new ≡ slice_set self.old (slot_of (place_of at)) is_open }
+    pub(crate) fn show(&mut self, at: Place, is_open: bool)
+        requires small { slot_of at < 65536 }
+        requires within { slot_of at < length self.old }
+        ensures { self.new ≡ slice_set self.old (slot_of at) is_open }
     {
         self.mouths[slot(at.link, at.lane)] = is_open;
     }

@@ -8,13 +8,12 @@ use crate::lanes::{one_lane, place};
 use std::alloc::Global;
 use std::process::Abort;
 use std::test::Fail;
-use street_base::{LinkIx, Reply, Starved};
+use street_base::{LinkIx, Place, Reply, Starved};
 use street_lanes::{Detectors, Lanes};
-use street_net::LaneId;
 
 /// The lane of the link.
-fn at() -> LaneId {
-    LaneId {
+fn at() -> Place {
+    Place {
         link: LinkIx::new(0),
         lane: 0,
     }

@@ -5,9 +5,11 @@ ghost use Rattle.street_lanes.specs.Lists.{HasShortPlan};
 use std::alloc::{AllocError, Global};
 use std::process::Abort;
 use std::test::Fail;
-use street_base::{Car, CarNo, LinkIx, LinkSpec, Listing, NetSpec, NodeSpec, Plan, Size, Step};
-use street_lanes::{LaneSizes, LaneTotals, Lanes};
-use street_net::{LaneId, Network};
+use street_base::{
+    Car, CarNo, LinkIx, LinkSpec, Listing, NetSpec, NodeSpec, Place, Plan, Size, Step,
+};
+use street_lanes::{LaneTotals, Lanes};
+use street_net::Network;
 
 /// The link, from a node to itself, of five cells.
 const LINK: LinkSpec = LinkSpec {
@@ -52,7 +54,7 @@ pub(crate) fn network(alloc: Global) -> Result<Network, Fail>
 fn lane_of(alloc: Global, net: &Network) -> Result<Lanes, Fail>
     requires { net.now.links ≡ LINK ∷ [] }
 {
-    let own = [LaneId {
+    let own = [Place {
         link: LinkIx::new(0),
         lane: 0,
     }];
@@ -86,15 +88,9 @@ fn car(alloc: Global, number: CarNo, depart: Step) -> Result<Car, AllocError>
     })
 }
 
-/// So many are in its cells, in its buffer, and wait; and so of all lanes, since it is the only one.
+/// So many are in the cells of the only lane, in its buffer, and wait.
 fn counts(rt: &impl Abort, lanes: &Lanes, cells: usize, buffer: usize, waiting: usize) {
     assert!(rt; lanes.len() == 1);
-    let expected = LaneSizes {
-        cells,
-        buffer,
-        waiting,
-    };
-    assert_eq!(rt; lanes.sizes(0), expected);
     let all = LaneTotals {
         cells: cells as u64,
         buffers: buffer as u64,

@@ -2,7 +2,8 @@
 
 use std::sync::atomic::{AtomicU64, Ordering};
 use street_engine::Gate;
-use street_tile::{Tile, TileSizes};
+use street_lanes::LaneTotals;
+use street_tile::Tile;
 
 /// The phases of a step.
 const PHASES: u64 = 5;
@@ -76,7 +77,7 @@ impl Meeting {
     /// How many vehicles are on a tile after so many phases of three steps, if one is: it waits, departs in the entries of the
     /// first step, goes to the buffer in the motion of the second, and in the third is released to the other tile, from which
     /// another enters.
-    fn sizes(&self, phases: u64) -> TileSizes {
+    fn totals(&self, phases: u64) -> LaneTotals {
         let (cells, buffers, waiting) = match phases {
             _ if self.empty => (0, 0, 0),
             0..=3 => (0, 0, 1),
@@ -85,7 +86,7 @@ impl Meeting {
             13 => (0, 0, 0),
             _ => (1, 0, 0),
         };
-        TileSizes {
+        LaneTotals {
             cells,
             buffers,
             waiting,
@@ -96,7 +97,7 @@ impl Meeting {
     fn compare(&self, worker: u32, phase: u32, tile: &Tile, begun: u64, ended: u64) {
         let right = worker < 2
             && u64::from(phase) == begun % PHASES
-            && tile.sizes() == self.sizes(ended);
+            && tile.totals() == self.totals(ended);
         if !right {
             self.wrong.fetch_add(1, Ordering::SeqCst);
         }

@@ -27,7 +27,7 @@ impl Gate for Counts<'_> {
             _ => &self.0.second,
         };
         if phase == 0 {
-            own.fetch_add(tile.sizes().waiting, Ordering::SeqCst);
+            own.fetch_add(tile.totals().waiting, Ordering::SeqCst);
         }
     }
 }

@@ -6,8 +6,9 @@ use std::alloc::Global;
 use std::process::Abort;
 use std::test::Fail;
 use street_base::Starved;
+use street_lanes::LaneTotals;
 use street_net::Network;
-use street_tile::{Tile, TileSizes};
+use street_tile::Tile;
 
 /// Whether car 0 is on the tile.
 fn finds(alloc: Global, net: &Network, tile: &Tile) -> Result<bool, Starved>
@@ -20,12 +21,12 @@ fn finds(alloc: Global, net: &Network, tile: &Tile) -> Result<bool, Starved>
 fn check_nobody(rt: &(impl Abort + AllocGlobal), net: &Network, tile: &Tile) -> Result<(), Fail>
     requires { IsTileOf net.now tile.now }
 {
-    let nobody = TileSizes {
+    let nobody = LaneTotals {
         cells: 0,
         buffers: 0,
         waiting: 0,
     };
-    assert_eq!(rt; tile.sizes(), nobody);
+    assert_eq!(rt; tile.totals(), nobody);
     assert!(rt; !finds(rt.alloc(), net, tile)?);
     Ok(())
 }

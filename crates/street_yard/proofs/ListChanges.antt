@@ -103,7 +103,7 @@ Has-tail key k xs ne ([], vs, e) = absurd (let f : k ≡ key = cc in ne f)
 Has-tail key k xs ne (u ∷ us, vs, e) = let f : xs ≡ us ++ k ∷ vs = cc in (us, vs, f)
 
 -- keys that a contract names fit
-pub below_nobody : (o : Option Key) (count : ℕ) → count ≤ 4294967295 → IsBelow count (option_map (λ (k : Key). k.0) o) → MatchOption o (Unit {0}) (λ k. k.0 < 4294967295)
+pub below_nobody : (o : Option Key) (count : ℕ) → count ≤ 4294967295 → IsBelow count o → MatchOption o (Unit {0}) (λ k. k < 4294967295)
 below_nobody None count few b = tt
 below_nobody (Some k) count few b = omega arith
 

@@ -1,5 +1,5 @@
 //! Changes of the neighbours of keys.
-ghost use Rattle.std.specs.Prelude.{◌≡◌, ◌<◌, length};
+ghost use Rattle.std.specs.Prelude.{◌≡◌, length};
 ghost use Rattle.street_yard.specs.Thread.{sides_behind, sides_ahead};
 ghost use Rattle.street_yard.specs.Inside.{hots_behind, hots_ahead, next_behind_of, IsBelow};
 

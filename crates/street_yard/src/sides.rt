@@ -101,7 +101,7 @@ impl Listed {
         self.totals
     }
 
-    /// The front and the back of a list.
+    /// The front, the back and the count of a list.
     #[inline]
     pub(crate) fn get(&self, list: usize) -> Sides
         requires { list < length self.now }
@@ -115,7 +115,7 @@ impl Listed {
         }
     }
 
-    /// Writes the front and the back of a list.
+    /// Writes the front, the back and the count of a list; the totals follow.
     #[inline]
     pub(crate) fn set(&mut self, list: usize, sides: Sides)
         requires { list < length self.old }

@@ -1,7 +1,6 @@
 use Rattle.std.proofs.Common.{refl, ap, sym, ◌∙◌, arith}
 use Rattle.street_base.specs.declared.net.NetSpec.{NetSpec}
 use Rattle.street_base.specs.Effects.{named_lane}
-use Rattle.street_net.specs.Tables.{place_of}
 use Rattle.street_engine.proofs.DetectorCommands.{meter-refused, bad-period, too-many-meters, meter-starved, meter-done, good-period, no-period, long-period}
 use Rattle.street_engine.proofs.detector_commands.place_meter.Goals as goal
 use Rattle.street_engine.proofs.detector_commands.place_meter.Goals.{then-period-eq0-via-then-period-eq0, then-period-eq0-via-else-period-eq0+then-period-gt-MOST_PERIOD}
@@ -22,7 +21,7 @@ returns-then-detectors-ge-MOST_DETECTORS-clause-serves c = too-many-meters c.arg
 pub returns-in-Ok-place_meter-clause-serves : goal.returns-in-Ok-place_meter-clause-serves
 returns-in-Ok-place_meter-clause-serves c = meter-done c.args.streets.now c.args.link c.args.lane c.args.cell c.args.period (λ m same. c.in-Ok.ensures.passed m (same ∙ sym c.network.ensures))
     (good-period c.args.period (omega (arith, c.if-period-eq0.false)) (omega (arith, c.if-period-gt-MOST_PERIOD.false))) (omega (arith, c.detectors.ensures, c.if-detectors-ge-MOST_DETECTORS.false)) c.place_meter.new.self
-    (place_of c.in-Ok.cells.at) c.in-Ok.cells.first c.args.period c.in-Ok-place_meter.number
+    c.in-Ok.cells.at c.in-Ok.cells.first c.args.period c.in-Ok-place_meter.number
     (c.in-Ok.ensures.place ∙ ap (λ (net : NetSpec). named_lane net c.args.link c.args.lane) c.network.ensures) c.in-Ok.ensures.first refl c.in-Ok-place_meter.ensures.number c.in-Ok-place_meter.ensures.placed
 
 pub returns-in-Err-place_meter-clause-serves : goal.returns-in-Err-place_meter-clause-serves

@@ -1,5 +1,4 @@
-use Rattle.std.proofs.Common.{IsSome, refl, sym, ap, subst}
-use Rattle.std.specs.Option.{option_map}
+use Rattle.std.proofs.Common.{IsSome, refl, sym, subst}
 use Rattle.street_yard.proofs.YardLemmas.{on_has_entry}
 use Rattle.street_lanes.proofs.PlaceFor.{IsBetween, on-key, behind-fewer, between-start, between-on, between-step}
 use Rattle.street_lanes.proofs.departures.last_not_after.Goals as goal
@@ -8,16 +7,16 @@ pub loop-cursor-init : goal.loop-cursor-init
 loop-cursor-init c = between-start c.args.yard.now c.args.list.0 c.args.car.now _ _ c.whole.ensures c.requires.start c.after-cursor.ensures
 
 pub is_before-requires : goal.is_before-requires
-is_before-requires c = on_has_entry c.args.yard.now c.in-Some.key.0 c.args.list.0 (on-key c.args.yard.now c.args.list.0 _ c.in-Some.key.0 (between-on c.args.yard.now c.args.list.0 c.args.car.now _ _ c.whole.ensures c.loop-cursor.invariant) (ap (option_map (λ k. k.0)) c.in-Some.is))
+is_before-requires c = on_has_entry c.args.yard.now c.in-Some.key c.args.list.0 (on-key c.args.yard.now c.args.list.0 _ c.in-Some.key (between-on c.args.yard.now c.args.list.0 c.args.car.now _ _ c.whole.ensures c.loop-cursor.invariant) c.in-Some.is)
 
 pub behind-cursor-requires : goal.behind-cursor-requires
-behind-cursor-requires c = subst IsSome (sym (on-key c.args.yard.now c.args.list.0 _ c.in-Some.key.0 (between-on c.args.yard.now c.args.list.0 c.args.car.now _ _ c.whole.ensures c.loop-cursor.invariant) (ap (option_map (λ k. k.0)) c.in-Some.is))) refl
+behind-cursor-requires c = subst IsSome (sym (on-key c.args.yard.now c.args.list.0 _ c.in-Some.key (between-on c.args.yard.now c.args.list.0 c.args.car.now _ _ c.whole.ensures c.loop-cursor.invariant) c.in-Some.is)) refl
 
 pub loop-cursor-smaller : goal.loop-cursor-smaller
-loop-cursor-smaller c = behind-fewer c.args.yard.now c.args.list.0 _ c.in-Some.key.0 c.whole.ensures (between-on c.args.yard.now c.args.list.0 c.args.car.now _ _ c.whole.ensures c.loop-cursor.invariant) (ap (option_map (λ k. k.0)) c.in-Some.is) _ c.behind-cursor.ensures
+loop-cursor-smaller c = behind-fewer c.args.yard.now c.args.list.0 _ c.in-Some.key c.whole.ensures (between-on c.args.yard.now c.args.list.0 c.args.car.now _ _ c.whole.ensures c.loop-cursor.invariant) c.in-Some.is _ c.behind-cursor.ensures
 
 pub loop-cursor-preserved : goal.loop-cursor-preserved
 loop-cursor-preserved c =
-    let is = ap (option_map (λ k. k.0)) c.in-Some.is in
-    subst (λ o. IsBetween c.args.yard.now c.args.list.0 c.args.car.now o (option_map (λ k. k.0) c.behind-cursor.result)) is
-    (between-step c.args.yard.now c.args.list.0 c.args.car.now _ c.in-Some.key.0 is c.is_before.result c.is_before.ensures _ c.loop-cursor.invariant c.if-is_before.false _ c.behind-cursor.ensures)
+    let is = c.in-Some.is in
+    subst (λ o. IsBetween c.args.yard.now c.args.list.0 c.args.car.now o c.behind-cursor.result) is
+    (between-step c.args.yard.now c.args.list.0 c.args.car.now _ c.in-Some.key is c.is_before.result c.is_before.ensures _ c.loop-cursor.invariant c.if-is_before.false _ c.behind-cursor.ensures)

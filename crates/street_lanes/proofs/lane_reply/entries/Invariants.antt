@@ -1,10 +1,9 @@
-use Rattle.std.specs.Option.{option_map}
 use Rattle.street_yard.proofs.YardLemmas.{left}
 use Rattle.street_lanes.proofs.Entries.{IsTold}
 use Rattle.street_lanes.proofs.lane_reply.entries.Given as goal
 
 abbrev pub invariant-loop-cursor : goal.invariant-loop-cursor
-invariant-loop-cursor g l = IsTold l.yard l.fn.list.0 g.E.CarEntry.shown (option_map (λ k. k.0) l.cursor) l.entries.items
+invariant-loop-cursor g l = IsTold l.yard l.fn.list.0 g.E.CarEntry.shown l.cursor l.entries.items
 
 abbrev pub decreases-loop-cursor : goal.decreases-loop-cursor
-decreases-loop-cursor g l = left l.yard l.fn.list.0 (option_map (λ k. k.0) l.cursor)
+decreases-loop-cursor g l = left l.yard l.fn.list.0 l.cursor

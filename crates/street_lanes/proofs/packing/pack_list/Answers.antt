@@ -1,5 +1,4 @@
-use Rattle.std.proofs.Common.{◌≡◌, Some, refl, ap, ◌∙◌, arith}
-use Rattle.std.specs.Option.{option_map}
+use Rattle.std.proofs.Common.{◌≡◌, Some, refl, ◌∙◌, arith}
 use Rattle.street_yard.specs.Yard.{list_on}
 use Rattle.street_lanes.proofs.PlaceFor.{on-key, on-front, behind-on}
 use Rattle.street_lanes.proofs.PackLemmas.{packs-none, packs-then, renew-packs}
@@ -14,9 +13,9 @@ loop-car-init c = record {
 
 pub loop-car-preserved : goal.loop-car-preserved
 loop-car-preserved c =
-    let was : list_on c.loop-car.yard c.in-Some.key.0 ≡ Some c.args.list.0 = on-key c.loop-car.yard c.args.list.0 _ c.in-Some.key.0 c.loop-car.invariant.on (ap (option_map (λ k. k.0)) c.in-Some.is) in
+    let was : list_on c.loop-car.yard c.in-Some.key ≡ Some c.args.list.0 = on-key c.loop-car.yard c.args.list.0 _ c.in-Some.key c.loop-car.invariant.on c.in-Some.is in
     record {
-      packs = packs-then c.args.yard.now c.loop-car.yard c.renew-next.new.self c.loop-car.invariant.packs (renew-packs c.loop-car.yard c.renew-next.new.self c.in-Some.key.0 c.renew-next.result.0 c.whole.ensures (omega arith) c.renew-next.ensures);
-      on = behind-on c.renew-next.new.self c.args.list.0 (Some c.renew-next.result.0) c.renew-next.result.0 c.whole-in-loop-car.ensures (c.renew-next.ensures.on ∙ was) refl _ c.behind-cursor.ensures;
+      packs = packs-then c.args.yard.now c.loop-car.yard c.renew-next.new.self c.loop-car.invariant.packs (renew-packs c.loop-car.yard c.renew-next.new.self c.in-Some.key c.renew-next.result c.whole.ensures (omega arith) c.renew-next.ensures);
+      on = behind-on c.renew-next.new.self c.args.list.0 (Some c.renew-next.result) c.renew-next.result c.whole-in-loop-car.ensures (c.renew-next.ensures.on ∙ was) refl _ c.behind-cursor.ensures;
       dice = c.follow.ensures ∙ c.loop-car.invariant.dice;
     }

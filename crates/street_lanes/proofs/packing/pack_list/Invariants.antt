@@ -1,5 +1,4 @@
 use Rattle.std.proofs.Common.{◌≡◌}
-use Rattle.std.specs.Option.{option_map}
 use Rattle.street_yard.specs.Yard.{IsOnList}
 use Rattle.street_lanes.specs.Lists.{Packs}
 use Rattle.street_lanes.proofs.packing.pack_list.Given as goal
@@ -7,6 +6,6 @@ use Rattle.street_lanes.proofs.packing.pack_list.Given as goal
 abbrev pub invariant-loop-car : goal.invariant-loop-car
 invariant-loop-car l = record {
   packs : Packs l.fn.yard l.yard;
-  on : IsOnList l.yard l.fn.list.0 (option_map (λ k. k.0) l.cursor);
+  on : IsOnList l.yard l.fn.list.0 l.cursor;
   dice : l.dice ≡ l.fn.dice;
 }

@@ -9,9 +9,9 @@ returns-clause-served g c = IfOk-weaker c.run_lines.result _ _ (λ tally run. λ
       told.0,
       told.2,
       record { text = run.text; out = run.out; read = run.read; at_end = run.at_end; served = told.1; written = run.written; counted = run.counted },
-    )) c.run_lines.ensures.served
+    )) c.run_lines.ensures.runs.served
 
 pub returns-clause-broken : goal.returns-clause-broken
 returns-clause-broken g c = IfErr-weaker c.run_lines.result _ _ (λ fault run. λ old stands.
     let told = breaks-machine c.args.session.now _ run.text c.run_lines.new.service _ _ _ run.breaks old stands in
-    (told.0, told.2, record { text = run.text; read = run.read; breaks = told.1 })) c.run_lines.ensures.broken
+    (told.0, told.2, record { text = run.text; read = run.read; breaks = told.1 })) c.run_lines.ensures.runs.broken

@@ -3,12 +3,12 @@ use Rattle.std.specs.Prelude.{slice_get}
 use Rattle.std.proofs.lemmas.Bool.{cases_Bool}
 use Rattle.std.proofs.lemmas.List.{append-nil, append_assoc, length-map, length-set, take_all}
 use Rattle.street_base.specs.Network.{link_at}
-use Rattle.street_net.specs.Tables.{place_of as lane_of, in_places}
+use Rattle.street_net.specs.Tables.{in_places}
 use Rattle.street_node.specs.Buffers.{queue_of}
 use Rattle.street_net.specs.Slots.{slot_of, mouth}
 use Rattle.street_node.specs.Releases.{lane_to, way_out, IsFront, SendsOn, Sends}
 use Rattle.street_node.specs.declared.release.Released.{Released}
-use Rattle.street_net.specs.declared.lanes.LaneId.{LaneId}
+use Rattle.street_base.specs.declared.names.Place.{Place}
 use Rattle.street_node.proofs.Queues.{head-on}
 use Rattle.street_node.proofs.Steps.{AreDone, done-start, done-none, done-shut, done-sent, front-joins, front-short, lane-at, list-at, few-lists, goes-all}
 use Rattle.street_node.proofs.release.release_lanes.Goals as goal
@@ -34,7 +34,7 @@ front_to_go-requires c =
 pub release_front-requires-clause-list : goal.release_front-requires-clause-list
 release_front-requires-clause-list c =
     let d = c.loop-k.invariant.done c.spec-faultless.ensures.faultless c.requires.lists.apart (length-map c.args.lists.now (λ n. n.0) ∙ c.requires.one_each) c.requires.mouths in
-    head-on c.loop-k.yard (get_or c.args.lists.now c.loop-k.k (record { 0 = 0 })).0 c.in-Some.front.key.0 d.2.walked.whole c.in-Some.ensures.front.first
+    head-on c.loop-k.yard (get_or c.args.lists.now c.loop-k.k (record { 0 = 0 })).0 c.in-Some.front.key d.2.walked.whole c.in-Some.ensures.front.first
 
 pub release_front-requires-clause-next : goal.release_front-requires-clause-next
 release_front-requires-clause-next c =
@@ -55,7 +55,7 @@ release_front-requires-clause-lane c =
 pub loop-k-preserved : goal.loop-k-preserved
 loop-k-preserved c =
     let h = few-lists c.args.network.now c.args.node c.args.lists.now c.in_lanes-lanes.result.now c.loop-k.k c.in_lanes-lanes.ensures c.requires.one_each (omega arith) in
-    let at : slice_get (in_places c.args.network.now c.args.node) c.loop-k.k ≡ Some (lane_of c.index-lanes-k.result) = lane-at c.args.network.now c.args.node c.in_lanes-lanes.result.now c.loop-k.k c.index-lanes-k.result c.in_lanes-lanes.ensures (omega arith) ∙ ap (λ (l : LaneId). Some (lane_of l)) (sym c.index-lanes-k.is) in
+    let at : slice_get (in_places c.args.network.now c.args.node) c.loop-k.k ≡ Some c.index-lanes-k.result = lane-at c.args.network.now c.args.node c.in_lanes-lanes.result.now c.loop-k.k c.index-lanes-k.result c.in_lanes-lanes.ensures (omega arith) ∙ ap (λ (l : Place). Some l) (sym c.index-lanes-k.is) in
     let named = list-at c.args.lists.now c.loop-k.k (record { 0 = 0 }) h in
     elim c.match-front_to_go.branch [
       | in-Some w ↦ (
@@ -64,15 +64,15 @@ loop-k-preserved c =
           rw (w.yard-is, w.mouths-is, w.released-is) (record {
             done = λ faultless apart one_each wide.
                 let d = c.loop-k.invariant.done faultless apart one_each wide in
-                let way = subst (λ n. Some (lane_to r) ≡ way_out c.args.network.now c.args.step (lane_of c.index-lanes-k.result) (slice_get (queue_of c.loop-k.yard n) 0)) named w.in-Some.ensures.way in
+                let way = subst (λ n. Some (lane_to r) ≡ way_out c.args.network.now c.args.step c.index-lanes-k.result (slice_get (queue_of c.loop-k.yard n) 0)) named w.in-Some.ensures.way in
                 elim (cases_Bool (mouth c.loop-k.mouths (lane_to r))) [
                   | inl is_open ↦ (
                     d.0 ++ r ∷ [],
                     e.front.told is_open ∙ ap (λ (xs : List Released). xs ++ r ∷ []) d.1 ∙ append_assoc c.args.released.now.items d.0 (r ∷ []),
                     subst (λ (ms : List Bool). AreDone c.args.network.now faultless c.args.node c.args.step (map (λ n. n.0) c.args.lists.now) apart one_each c.args.yard.now c.args.mouths.now wide (c.loop-k.k + 1) w.release_front.new.yard ms (d.0 ++ r ∷ [])) (sym (e.front.closes is_open))
                         (done-sent c.args.network.now faultless c.args.node c.args.step (map (λ n. n.0) c.args.lists.now) apart one_each c.args.yard.now c.args.mouths.now wide c.loop-k.k c.loop-k.yard w.release_front.new.yard c.loop-k.mouths d.0 _ r d.2 at way is_open c.loop-k.invariant.wide
-                        (subst (λ n. IsFront c.args.network.now c.loop-k.yard (lane_of c.index-lanes-k.result) n r) named w.in-Some.ensures.front)
-                        (subst (λ n. SendsOn c.loop-k.yard w.release_front.new.yard n r.key.0 (link_at c.args.network.now r.turn.next).limit) named (e.front.goes is_open))),
+                        (subst (λ n. IsFront c.args.network.now c.loop-k.yard c.index-lanes-k.result n r) named w.in-Some.ensures.front)
+                        (subst (λ n. SendsOn c.loop-k.yard w.release_front.new.yard n r.key (link_at c.args.network.now r.turn.next).limit) named (e.front.goes is_open))),
                   )
                   | inr is_shut ↦ (let kept = e.front.shut is_shut in (
                     d.0,
@@ -93,7 +93,7 @@ loop-k-preserved c =
               d.0,
               d.1,
               done-none c.args.network.now faultless c.args.node c.args.step (map (λ n. n.0) c.args.lists.now) apart one_each c.args.yard.now c.args.mouths.now wide c.loop-k.k c.loop-k.yard c.loop-k.mouths d.0 _ d.2 at
-                  (subst (λ n. None ≡ way_out c.args.network.now c.args.step (lane_of c.index-lanes-k.result) (slice_get (queue_of c.loop-k.yard n) 0)) named w.in_default.ensures.way),
+                  (subst (λ n. None ≡ way_out c.args.network.now c.args.step c.index-lanes-k.result (slice_get (queue_of c.loop-k.yard n) 0)) named w.in_default.ensures.way),
             );
         wide = c.loop-k.invariant.wide;
         room = omega (arith, h, c.loop-k.invariant.room);
@@ -106,7 +106,7 @@ returns-clause-releases c =
     let ns : List ℕ = map (λ n. n.0) c.args.lists.now in
     let one : length ns ≡ length (in_places c.args.network.now c.args.node) = length-map c.args.lists.now (λ n. n.0) ∙ c.requires.one_each in
     let d = c.loop-k.invariant.done c.spec-faultless.ensures.faultless c.requires.lists.apart one c.requires.mouths in
-    let lanes : length c.in_lanes-lanes.result.now ≡ length (in_places c.args.network.now c.args.node) = sym (length-map c.in_lanes-lanes.result.now lane_of) ∙ ap length c.in_lanes-lanes.ensures in
+    let lanes : length c.in_lanes-lanes.result.now ≡ length (in_places c.args.network.now c.args.node) = ap length c.in_lanes-lanes.ensures in
     let all : length (in_places c.args.network.now c.args.node) ≤ c.loop-k.k = omega arith in
     record {
       more = d.0;

@@ -1,5 +1,4 @@
 use Rattle.std.specs.Prelude.{◌≡◌, ◌-◌}
-use Rattle.std.specs.Option.{option_map}
 use Rattle.street_base.specs.LaneChange.{changes}
 use Rattle.street_rule.specs.Road.{lane_of, length_of, track_of}
 use Rattle.street_rule.specs.Sight.{changing_of, odds_of}
@@ -11,8 +10,8 @@ abbrev pub invariant-loop-cursor : goal.invariant-loop-cursor
 invariant-loop-cursor l =
     IsMarking l.initial.yard l.yard (lane_of l.road l.lane).list (lane_of l.road (1 - l.lane)).list
     (changes (changing_of l.road l.step) l.lane (track_of l.initial.yard (length_of l.road) (lane_of l.road l.lane)) (track_of l.initial.yard (length_of l.road) (lane_of l.road (1 - l.lane))))
-    (option_map (λ k. k.0) l.above) l.ahead (option_map (λ k. k.0) l.cursor) l.goes
+    l.above l.ahead l.cursor l.goes
     × (l.dice ≡ odds_of l.road.network)
 
 abbrev pub decreases-loop-cursor : goal.decreases-loop-cursor
-decreases-loop-cursor l = left l.yard (lane_of l.road l.lane).list (option_map (λ k. k.0) l.cursor)
+decreases-loop-cursor l = left l.yard (lane_of l.road l.lane).list l.cursor

@@ -6,7 +6,7 @@ use Rattle.street_rule.proofs.Whole.{IsMarking-road}
 use Rattle.street_rule.proofs.pass.mark_pass.Goals as goal
 
 pub mark_from-requires-clause-front : goal.mark_from-requires-clause-front
-mark_from-requires-clause-front c = subst (λ n. Some c.in-Some.front.0 ≡ first_or (list_at c.args.yard.now n) None) (ap (λ l. l.list) c.lane.ensures) c.in-Some.ensures.front
+mark_from-requires-clause-front c = subst (λ n. Some c.in-Some.front ≡ first_or (list_at c.args.yard.now n) None) (ap (λ l. l.list) c.lane.ensures) c.in-Some.ensures.front
 
 pub returns-in-None-clause-marks : goal.returns-in-None-clause-marks
 returns-in-None-clause-marks c =

@@ -10,19 +10,19 @@ use Rattle.std.specs.Option.{unwrap_or}
 
 pub returns-then-not-may_wish-clause-goes : goal.returns-then-not-may_wish-clause-goes
 returns-then-not-may_wish-clause-goes c = λ v seen.
-    let car = its_car c.args.yard.now c.args.key.0 (on_has_entry c.args.yard.now c.args.key.0 _ c.requires.key) in
-    let here : c.args.outlook.lane < length c.args.road.now.lanes = (let l = c.requires.lane in let t = c.requires.lanes in omega arith) in
+    let car = its_car c.args.yard.now c.args.key (on_has_entry c.args.yard.now c.args.key _ c.requires.key) in
+    let here : c.args.outlook.lane < length c.args.road.now.lanes = (let l = c.requires.outlook.lane in let t = c.requires.lanes in omega arith) in
     decided-by (changing_of c.args.road.now c.args.outlook.step) c.args.outlook.lane (length_of c.args.road.now) (closed_marks (lane_of c.args.road.now c.args.outlook.lane).closed (length_of c.args.road.now)) c.args.ahead
-    (track_of c.args.yard.now (length_of c.args.road.now) (lane_of c.args.road.now (1 - c.args.outlook.lane))) c.args.yard.now c.args.key.0 car.0 v c.cell-cell.result (car.0.cell - (car.0.size - 1)) c.speed-speed.result (gap_between c.obstacle_ahead-obstacle.result c.cell-cell.result) false false car.1 seen (field-is (λ r. r.cell) car.0 _ c.cell-cell.result car.1 c.cell-cell.ensures) refl (field-is (λ r. r.speed) car.0 _ c.speed-speed.result car.1 c.speed-speed.ensures)
-    (gap-by (length_of c.args.road.now) (lane_of c.args.road.now c.args.outlook.lane) (lane_seen c.args.outlook.own) c.args.ahead c.obstacle_ahead-obstacle.result c.cell-cell.result c.requires.own (c.requires.road.lanes c.args.outlook.lane no_lane here).within c.obstacle_ahead-obstacle.ensures)
+    (track_of c.args.yard.now (length_of c.args.road.now) (lane_of c.args.road.now (1 - c.args.outlook.lane))) c.args.yard.now c.args.key car.0 v c.cell-cell.result (car.0.cell - (car.0.size - 1)) c.speed-speed.result (gap_between c.obstacle_ahead-obstacle.result c.cell-cell.result) false false car.1 seen (field-is (λ r. r.cell) car.0 _ c.cell-cell.result car.1 c.cell-cell.ensures) refl (field-is (λ r. r.speed) car.0 _ c.speed-speed.result car.1 c.speed-speed.ensures)
+    (gap-by (length_of c.args.road.now) (lane_of c.args.road.now c.args.outlook.lane) (lane_seen c.args.outlook.own) c.args.ahead c.obstacle_ahead-obstacle.result c.cell-cell.result c.requires.outlook.own (c.requires.road.lanes c.args.outlook.lane no_lane here).within c.obstacle_ahead-obstacle.ensures)
     (sym (c.may_wish.ensures c.args.outlook.step c.if-not-may_wish.true) ∙ ap (wishes_with (changing_of c.args.road.now c.args.outlook.step) c.args.outlook.lane (length_of c.args.road.now) (gap_between c.obstacle_ahead-obstacle.result c.cell-cell.result) c.cell-cell.result c.speed-speed.result) (field-is (λ r. next_link (vehicle_of r)) car.0 _ c.next_link.result car.1 c.next_link.ensures))
     refl
 
 pub returns-clause-goes : goal.returns-clause-goes
 returns-clause-goes c = λ v seen.
-    let here : c.args.outlook.lane < length c.args.road.now.lanes = (let l = c.requires.lane in let t = c.requires.lanes in omega arith) in
+    let here : c.args.outlook.lane < length c.args.road.now.lanes = (let l = c.requires.outlook.lane in let t = c.requires.lanes in omega arith) in
     c.decide_beside.ensures.goes v (closed_marks (lane_of c.args.road.now c.args.outlook.lane).closed (length_of c.args.road.now)) c.args.ahead seen
     (c.unwrap_or-gap.ensures
     ∙ ap (λ o. unwrap_or o 16) c.cells_up_to.ensures
-    ∙ gap-by (length_of c.args.road.now) (lane_of c.args.road.now c.args.outlook.lane) (lane_seen c.args.outlook.own) c.args.ahead c.obstacle_ahead-obstacle.result c.cell-cell.result c.requires.own (c.requires.road.lanes c.args.outlook.lane no_lane here).within c.obstacle_ahead-obstacle.ensures
-    ∙ ap (gap_up (closed_marks (lane_of c.args.road.now c.args.outlook.lane).closed (length_of c.args.road.now)) c.args.ahead) (sym (cell_reads c.args.yard.now c.args.key.0 c.cell-cell.result c.cell-cell.ensures)))
+    ∙ gap-by (length_of c.args.road.now) (lane_of c.args.road.now c.args.outlook.lane) (lane_seen c.args.outlook.own) c.args.ahead c.obstacle_ahead-obstacle.result c.cell-cell.result c.requires.outlook.own (c.requires.road.lanes c.args.outlook.lane no_lane here).within c.obstacle_ahead-obstacle.ensures
+    ∙ ap (gap_up (closed_marks (lane_of c.args.road.now c.args.outlook.lane).closed (length_of c.args.road.now)) c.args.ahead) (sym (cell_reads c.args.yard.now c.args.key c.cell-cell.result c.cell-cell.ensures)))

@@ -12,20 +12,20 @@ use Rattle.street_rule.proofs.sight.decide_beside.Goals as goal
 
 pub returns-then-not-fits-clause-goes : goal.returns-then-not-fits-clause-goes
 returns-then-not-fits-clause-goes c = λ v closed ahead seen up_to.
-    let car = its_car c.args.yard.now c.args.key.0 (on_has_entry c.args.yard.now c.args.key.0 _ c.requires.key) in
+    let car = its_car c.args.yard.now c.args.key (on_has_entry c.args.yard.now c.args.key _ c.requires.key) in
     let there : 1 - c.args.outlook.now.lane < length c.args.road.now.lanes = (let t = c.requires.lanes in omega arith) in
     let room = room-by c.args.yard.now (length_of c.args.road.now) (lane_of c.args.road.now (1 - c.args.outlook.now.lane)) (lane_seen c.lane-other.result) c.cell-cell.result c.rear-rear.result c.speed-speed.result false c.lane-other.ensures (c.requires.road.lanes (1 - c.args.outlook.now.lane) no_lane there) c.if-not-fits.ensures in
-    let gap_is : c.args.gap ≡ gap_up closed ahead c.cell-cell.result = up_to ∙ ap (gap_up closed ahead) (cell_reads c.args.yard.now c.args.key.0 c.cell-cell.result c.cell-cell.ensures) in
-    decided-by (changing_of c.args.road.now c.args.outlook.now.step) c.args.outlook.now.lane (length_of c.args.road.now) closed ahead (track_of c.args.yard.now (length_of c.args.road.now) (lane_of c.args.road.now (1 - c.args.outlook.now.lane))) c.args.yard.now c.args.key.0 car.0 v c.cell-cell.result c.rear-rear.result c.speed-speed.result c.args.gap (wishes_with (changing_of c.args.road.now c.args.outlook.now.step) c.args.outlook.now.lane (length_of c.args.road.now) c.args.gap c.cell-cell.result c.speed-speed.result (next_link (vehicle_of car.0))) false car.1 seen (field-is (λ r. r.cell) car.0 _ c.cell-cell.result car.1 c.cell-cell.ensures) (field-is (λ r. r.cell - (r.size - 1)) car.0 _ c.rear-rear.result car.1 c.rear-rear.ensures) (field-is (λ r. r.speed) car.0 _ c.speed-speed.result car.1 c.speed-speed.ensures) gap_is
+    let gap_is : c.args.gap ≡ gap_up closed ahead c.cell-cell.result = up_to ∙ ap (gap_up closed ahead) (cell_reads c.args.yard.now c.args.key c.cell-cell.result c.cell-cell.ensures) in
+    decided-by (changing_of c.args.road.now c.args.outlook.now.step) c.args.outlook.now.lane (length_of c.args.road.now) closed ahead (track_of c.args.yard.now (length_of c.args.road.now) (lane_of c.args.road.now (1 - c.args.outlook.now.lane))) c.args.yard.now c.args.key car.0 v c.cell-cell.result c.rear-rear.result c.speed-speed.result c.args.gap (wishes_with (changing_of c.args.road.now c.args.outlook.now.step) c.args.outlook.now.lane (length_of c.args.road.now) c.args.gap c.cell-cell.result c.speed-speed.result (next_link (vehicle_of car.0))) false car.1 seen (field-is (λ r. r.cell) car.0 _ c.cell-cell.result car.1 c.cell-cell.ensures) (field-is (λ r. r.cell - (r.size - 1)) car.0 _ c.rear-rear.result car.1 c.rear-rear.ensures) (field-is (λ r. r.speed) car.0 _ c.speed-speed.result car.1 c.speed-speed.ensures) gap_is
     refl (sym (and_right (wishes_with (changing_of c.args.road.now c.args.outlook.now.step) c.args.outlook.now.lane (length_of c.args.road.now) c.args.gap c.cell-cell.result c.speed-speed.result (next_link (vehicle_of car.0))) _ (and_left _ _ (sym room))))
 
 pub returns-clause-goes : goal.returns-clause-goes
 returns-clause-goes c = λ v closed ahead seen up_to.
-    let car = its_car c.args.yard.now c.args.key.0 (on_has_entry c.args.yard.now c.args.key.0 _ c.requires.key) in
+    let car = its_car c.args.yard.now c.args.key (on_has_entry c.args.yard.now c.args.key _ c.requires.key) in
     let there : 1 - c.args.outlook.now.lane < length c.args.road.now.lanes = (let t = c.requires.lanes in omega arith) in
     let room = room-by c.args.yard.now (length_of c.args.road.now) (lane_of c.args.road.now (1 - c.args.outlook.now.lane)) (lane_seen c.lane-other.result) c.cell-cell.result c.rear-rear.result c.speed-speed.result true c.lane-other.ensures (c.requires.road.lanes (1 - c.args.outlook.now.lane) no_lane there) c.if-not-fits.ensures in
-    let gap_is : c.args.gap ≡ gap_up closed ahead c.cell-cell.result = up_to ∙ ap (gap_up closed ahead) (cell_reads c.args.yard.now c.args.key.0 c.cell-cell.result c.cell-cell.ensures) in
-    decided-by (changing_of c.args.road.now c.args.outlook.now.step) c.args.outlook.now.lane (length_of c.args.road.now) closed ahead (track_of c.args.yard.now (length_of c.args.road.now) (lane_of c.args.road.now (1 - c.args.outlook.now.lane))) c.args.yard.now c.args.key.0 car.0 v c.cell-cell.result c.rear-rear.result c.speed-speed.result c.args.gap true c.may_change-goes.result car.1 seen (field-is (λ r. r.cell) car.0 _ c.cell-cell.result car.1 c.cell-cell.ensures) (field-is (λ r. r.cell - (r.size - 1)) car.0 _ c.rear-rear.result car.1 c.rear-rear.ensures) (field-is (λ r. r.speed) car.0 _ c.speed-speed.result car.1 c.speed-speed.ensures) gap_is
+    let gap_is : c.args.gap ≡ gap_up closed ahead c.cell-cell.result = up_to ∙ ap (gap_up closed ahead) (cell_reads c.args.yard.now c.args.key c.cell-cell.result c.cell-cell.ensures) in
+    decided-by (changing_of c.args.road.now c.args.outlook.now.step) c.args.outlook.now.lane (length_of c.args.road.now) closed ahead (track_of c.args.yard.now (length_of c.args.road.now) (lane_of c.args.road.now (1 - c.args.outlook.now.lane))) c.args.yard.now c.args.key car.0 v c.cell-cell.result c.rear-rear.result c.speed-speed.result c.args.gap true c.may_change-goes.result car.1 seen (field-is (λ r. r.cell) car.0 _ c.cell-cell.result car.1 c.cell-cell.ensures) (field-is (λ r. r.cell - (r.size - 1)) car.0 _ c.rear-rear.result car.1 c.rear-rear.ensures) (field-is (λ r. r.speed) car.0 _ c.speed-speed.result car.1 c.speed-speed.ensures) gap_is
     (c.if-not-wishes.ensures c.args.outlook.now.step ∙ ap (wishes_with (changing_of c.args.road.now c.args.outlook.now.step) c.args.outlook.now.lane (length_of c.args.road.now) c.args.gap c.cell-cell.result c.speed-speed.result) (field-is (λ r. next_link (vehicle_of r)) car.0 _ c.next_link.result car.1 c.next_link.ensures))
     (c.may_change-goes.ensures.value ∙ ap (λ (o : Odds). nat_lt (lane_draw o.seed c.number.result c.args.outlook.now.step) o.change) c.requires.dice
     ∙ ap (λ n. nat_lt (lane_draw c.args.road.now.network.seed n c.args.outlook.now.step) c.args.road.now.network.change) (field-is (λ r. r.number) car.0 _ c.number.result car.1 c.number.ensures)

@@ -5,7 +5,7 @@ use Rattle.std.proofs.lemmas.Bool.{both_ways}
 use Rattle.street_yard.specs.Yard.{first_or}
 use Rattle.street_yard.specs.Listed.{cell_at, rear_at}
 use Rattle.street_gap.specs.Closed.{closed_marks, are_open}
-use Rattle.street_gap.proofs.Sights.{last_on, named}
+use Rattle.street_gap.proofs.Sights.{last_on}
 use Rattle.street_rule.specs.Road.{lane_seen}
 use Rattle.street_rule.specs.Sight.{has_room_between}
 use Rattle.street_rule.proofs.Decision.{room-beside}
@@ -29,10 +29,10 @@ longer : (n speed gap : ℕ) (o p : Option ℕ) → n ≡ speed → gap ≡ unwr
 longer n speed gap o p e f g = sym (ap (λ k. nat_lt (k + 1) gap) e ∙ ap (nat_lt (speed + 1)) (f ∙ ap (λ q. unwrap_or q 16) g))
 
 pub gap_beside-requires : goal.gap_beside-requires
-gap_beside-requires c = last_on c.args.yard.now c.args.other.list.0 c.requires.above.up c.requires.above.down (option_map named c.args.above) c.whole.ensures c.requires.above.split c.requires.above.at_position
+gap_beside-requires c = last_on c.args.yard.now c.args.other.list.0 c.requires.above.up c.requires.above.down c.args.above.now c.whole.ensures c.requires.above.split c.requires.above.at_position
 
 pub gap_back-requires-clause-ahead : goal.gap_back-requires-clause-ahead
-gap_back-requires-clause-ahead c = last_on c.args.yard.now c.args.other.list.0 c.requires.above.up c.requires.above.down (option_map named c.args.above) c.whole.ensures c.requires.above.split c.requires.above.at_position
+gap_back-requires-clause-ahead c = last_on c.args.yard.now c.args.other.list.0 c.requires.above.up c.requires.above.down c.args.above.now c.whole.ensures c.requires.above.split c.requires.above.at_position
 
 pub returns-then-from-unwrap_or : goal.returns-then-from-unwrap_or
 returns-then-from-unwrap_or c = λ count lane.
@@ -40,7 +40,7 @@ returns-then-from-unwrap_or c = λ count lane.
       | then-is_open w ↦ (
           let behind = ap (λ q. nat_lt 5 q) (c.unwrap_or-then-from-unwrap_or.ensures ∙ ap (λ q. unwrap_or q 16) (c.gap_back.ensures.near c.requires.above.up c.requires.above.down c.requires.above.split c.requires.above.at_position)) in
           let ahead = longer w.from.result c.args.speed w.unwrap_or.result w.gap_beside.result _ w.from.ensures w.unwrap_or.ensures (w.gap_beside.ensures.near count lane.within) ∙ sym w.value-is ∙ c.if-from-unwrap_or.true in
-          behind ∙ all_but _ _ _ (sym (c.is_open.ensures count lane.within) ∙ w.if-is_open.true) ahead ∙ room-beside c.args.yard.now count (lane_seen c.args.other) c.args.cell c.args.rear c.args.speed (option_map named c.args.above) c.whole.ensures lane c.requires.above c.requires.rear)
+          behind ∙ all_but _ _ _ (sym (c.is_open.ensures count lane.within) ∙ w.if-is_open.true) ahead ∙ room-beside c.args.yard.now count (lane_seen c.args.other) c.args.cell c.args.rear c.args.speed c.args.above.now c.whole.ensures lane c.requires.above c.requires.rear)
       | else-is_open w ↦ absurd (both_ways c.is_open.result w.if-is_open.false (sym w.value-is ∙ c.if-from-unwrap_or.true))
     ]
 
@@ -49,6 +49,6 @@ returns-else-from-unwrap_or c = λ count lane.
     c.if-from-unwrap_or.false
     ∙ elim c.if-is_open.branch [
       | then-is_open w ↦ not_second _ _ _ (longer w.from.result c.args.speed w.unwrap_or.result w.gap_beside.result _ w.from.ensures w.unwrap_or.ensures (w.gap_beside.ensures.near count lane.within) ∙ sym w.value-is ∙ c.if-from-unwrap_or.false)
-      | else-is_open w ↦ no-room (closed_marks c.args.other.closures.now count) (are_open c.args.other.closures.now c.args.rear c.args.cell) (option_map (rear_at c.args.yard.now) (option_map named c.args.above)) (option_map (cell_at c.args.yard.now) (first_or c.requires.above.down None)) c.args.cell c.args.rear c.args.speed (sym (c.is_open.ensures count lane.within) ∙ w.if-is_open.false)
+      | else-is_open w ↦ no-room (closed_marks c.args.other.closures.now count) (are_open c.args.other.closures.now c.args.rear c.args.cell) (option_map (rear_at c.args.yard.now) c.args.above.now) (option_map (cell_at c.args.yard.now) (first_or c.requires.above.down None)) c.args.cell c.args.rear c.args.speed (sym (c.is_open.ensures count lane.within) ∙ w.if-is_open.false)
     ]
-    ∙ room-beside c.args.yard.now count (lane_seen c.args.other) c.args.cell c.args.rear c.args.speed (option_map named c.args.above) c.whole.ensures lane c.requires.above c.requires.rear
+    ∙ room-beside c.args.yard.now count (lane_seen c.args.other) c.args.cell c.args.rear c.args.speed c.args.above.now c.whole.ensures lane c.requires.above c.requires.rear

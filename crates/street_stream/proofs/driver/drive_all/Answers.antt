@@ -4,6 +4,7 @@ use Rattle.std.proofs.lemmas.List.{length-take}
 use Rattle.std.proofs.lemmas.Result.{err_from_is_err_and}
 use Rattle.std.proofs.KnownBytes.{Consumes-nil, Consumes-trans, Consumes-kept}
 use Rattle.street_stream.proofs.Breaks.{breaks_at, read_breaks}
+use Rattle.street_stream.proofs.Caused.{caused_by_line}
 use Rattle.street_stream.proofs.Feeds.{feeds_none, feeds_more, consumes_end, begun, whole_run}
 use Rattle.street_stream.proofs.Handles.{none_within}
 use Rattle.street_stream.proofs.Prompt.{prompt_again}
@@ -11,7 +12,7 @@ use Rattle.street_stream.proofs.driver.drive_all.Goals as goal
 
 pub loop-init : goal.loop-init
 loop-init g c =
-    ([], Consumes-nil _, feeds_none g.H.LineHandler.takes g.H.LineHandler.longest _ _ _, record { lines = omega arith; within = none_within c.args.progress.now.tally c.requires.begun.1 }, c.requires.fresh.calls, λ some. absurd (omega (arith, some)))
+    ([], Consumes-nil _, feeds_none g.H.LineHandler.meaning.takes g.H.LineHandler.meaning.longest _ _ _, record { lines = omega arith; within = none_within c.args.progress.now.tally c.requires.begun.1 }, c.requires.fresh.calls, λ some. absurd (omega (arith, some)))
 
 pub loop-preserved : goal.loop-preserved
 loop-preserved g c =
@@ -20,53 +21,78 @@ loop-preserved g c =
     let got : List ℕ = take c.in-Ok.count c.read_behind.new.buffer in (
       before.0 ++ got,
       Consumes-trans _ _ _ before.0 got before.1 c.in-Ok.ensures.bytes.0,
-      feeds_more g.H.LineHandler.takes g.H.LineHandler.longest _ _ _ _ _ _ _ _ _ before.0 got before.2 fed.feeds,
+      feeds_more g.H.LineHandler.meaning.takes g.H.LineHandler.meaning.longest _ _ _ _ _ _ _ _ _ before.0 got before.2 fed.feeds,
       record { lines = omega (arith, fed.grows.lines, before.3.lines, length-take c.in-Ok.count c.read_behind.new.buffer); within = fed.grows.within },
       omega (arith, c.in-Ok.ensures.calls, before.4),
       λ some. (prompt_again c.loop.reader.calls c.loop.reader.is_prompt c.loop.writer.is_flushed _ c.in-Ok.ensures.prompt (λ more. before.5 (omega (arith, before.4, more))), fed.passed),
     )
 
-pub returns-in-Err-clause-broken : goal.returns-in-Err-clause-broken
-returns-in-Err-clause-broken g c =
+pub returns-in-Err-clause-runs : goal.returns-in-Err-clause-runs
+returns-in-Err-clause-runs g c =
     let before = c.loop.invariant in
-    let stands = begun g.H.LineHandler.takes g.H.LineHandler.longest _ _ _ _ c.args.progress.now before.0 c.loop.progress c.requires.begun.0 c.requires.begun.1 before.2 in
-    record { text = before.0; read = Consumes-kept _ _ _ before.0 before.1 c.in-Err.ensures.bytes; breaks = read_breaks g.H.LineHandler.takes g.H.LineHandler.stops g.H.LineHandler.longest _ _ _ _ _ _ c.loop.progress _ stands }
+    let stands = begun g.H.LineHandler.meaning.takes g.H.LineHandler.meaning.longest _ _ _ _ c.args.progress.now before.0 c.loop.progress c.requires.begun.0 c.requires.begun.1 before.2 in
+    record {
+      whole = tt;
+      broken = record { text = before.0; read = Consumes-kept _ _ _ before.0 before.1 c.in-Err.ensures.bytes; breaks = read_breaks g.H.LineHandler.meaning.takes g.H.LineHandler.meaning.stops g.H.LineHandler.meaning.longest _ _ _ _ _ _ c.loop.progress _ stands };
+      caused = (omega (arith, c.in-Err.ensures.failed), c.in-Err.ensures.place);
+      bounded = omega (arith, c.in-Err.ensures.calls, before.4);
+    }
 
-pub returns-in_err-finish_through-clause-broken : goal.returns-in_err-finish_through-clause-broken
-returns-in_err-finish_through-clause-broken g c =
+pub returns-in_err-finish_through-clause-runs : goal.returns-in_err-finish_through-clause-runs
+returns-in_err-finish_through-clause-runs g c =
     let before = c.loop.invariant in
-    let stands = begun g.H.LineHandler.takes g.H.LineHandler.longest _ _ _ _ c.args.progress.now before.0 c.loop.progress c.requires.begun.0 c.requires.begun.1 before.2 in
+    let stands = begun g.H.LineHandler.meaning.takes g.H.LineHandler.meaning.longest _ _ _ _ c.args.progress.now before.0 c.loop.progress c.requires.begun.0 c.requires.begun.1 before.2 in
     let p = err_from_is_err_and c.from_residual.result c.from_residual.ensures.1 in
     let over = c.in-Ok.ensures.bytes.1 c.if-count-eq0.true (omega arith) in
     rw (p.1, p.2) (record {
-      text = before.0;
-      read = consumes_end _ _ _ before.0 c.in-Ok.count c.read_behind.new.buffer c.if-count-eq0.true before.1 c.in-Ok.ensures.bytes.0;
-      breaks = breaks_at g.H.LineHandler.takes g.H.LineHandler.stops ⊤ _ _ _ before.0 _ _ _ _ (λ _. over) (c.in_err-finish_through.ensures.broken _ _ before.0 stands);
+      whole = tt;
+      broken = record {
+        text = before.0;
+        read = consumes_end _ _ _ before.0 c.in-Ok.count c.read_behind.new.buffer c.if-count-eq0.true before.1 c.in-Ok.ensures.bytes.0;
+        breaks = breaks_at g.H.LineHandler.meaning.takes g.H.LineHandler.meaning.stops ⊤ _ _ _ before.0 _ _ _ _ (λ _. over) (c.in_err-finish_through.ensures.broken _ _ before.0 stands);
+      };
+      caused = caused_by_line _ _ _ _ c.in_err-finish_through.ensures.caused;
+      bounded = omega (arith, c.in-Ok.ensures.calls, before.4);
     })
 
-pub returns-then-count-eq0-clause-whole : goal.returns-then-count-eq0-clause-whole
-returns-then-count-eq0-clause-whole g c =
+pub returns-then-count-eq0-clause-runs : goal.returns-then-count-eq0-clause-runs
+returns-then-count-eq0-clause-runs g c =
     let before = c.loop.invariant in
-    whole_run g.H.LineHandler.takes g.H.LineHandler.longest _ _ _ _ _ _ c.args.progress.now c.loop.progress before.0 _ _ _ c.requires.begun.0 c.requires.begun.1 before.2 c.in_ok-finish_through.ensures.finishes
-    (consumes_end _ _ _ before.0 c.in-Ok.count c.read_behind.new.buffer c.if-count-eq0.true before.1 c.in-Ok.ensures.bytes.0) (c.in-Ok.ensures.bytes.1 c.if-count-eq0.true (omega arith))
+    record {
+      whole = whole_run g.H.LineHandler.meaning.takes g.H.LineHandler.meaning.longest _ _ _ _ _ _ c.args.progress.now c.loop.progress before.0 _ _ _ c.requires.begun.0 c.requires.begun.1 before.2 c.in_ok-finish_through.ensures.finishes
+          (consumes_end _ _ _ before.0 c.in-Ok.count c.read_behind.new.buffer c.if-count-eq0.true before.1 c.in-Ok.ensures.bytes.0) (c.in-Ok.ensures.bytes.1 c.if-count-eq0.true (omega arith));
+      broken = tt;
+      caused = tt;
+      bounded = omega (arith, c.in-Ok.ensures.calls, before.4);
+    }
 
-pub returns-in_err-feed_through-clause-broken : goal.returns-in_err-feed_through-clause-broken
-returns-in_err-feed_through-clause-broken g c =
+pub returns-in_err-feed_through-clause-runs : goal.returns-in_err-feed_through-clause-runs
+returns-in_err-feed_through-clause-runs g c =
     let before = c.loop.invariant in
-    let stands = begun g.H.LineHandler.takes g.H.LineHandler.longest _ _ _ _ c.args.progress.now before.0 c.loop.progress c.requires.begun.0 c.requires.begun.1 before.2 in
+    let stands = begun g.H.LineHandler.meaning.takes g.H.LineHandler.meaning.longest _ _ _ _ c.args.progress.now before.0 c.loop.progress c.requires.begun.0 c.requires.begun.1 before.2 in
     let p = err_from_is_err_and c.from_residual-in_err-feed_through.result c.from_residual-in_err-feed_through.ensures.1 in
     let got : List ℕ = take c.in-Ok.count c.read_behind.new.buffer in
     rw (p.1, p.2) (record {
-      text = before.0 ++ got;
-      read = Consumes-trans _ _ _ before.0 got before.1 c.in-Ok.ensures.bytes.0;
-      breaks = breaks_at g.H.LineHandler.takes g.H.LineHandler.stops ⊥ _ _ _ (before.0 ++ got) _ _ _ _ (λ none. absurd none) (rw (append-nil got) at (c.in_err-feed_through.ensures.broken _ _ before.0 stands []));
+      whole = tt;
+      broken = record {
+        text = before.0 ++ got;
+        read = Consumes-trans _ _ _ before.0 got before.1 c.in-Ok.ensures.bytes.0;
+        breaks = breaks_at g.H.LineHandler.meaning.takes g.H.LineHandler.meaning.stops ⊥ _ _ _ (before.0 ++ got) _ _ _ _ (λ none. absurd none) (rw (append-nil got) at (c.in_err-feed_through.ensures.broken _ _ before.0 stands []));
+      };
+      caused = caused_by_line _ _ _ _ c.in_err-feed_through.ensures.caused;
+      bounded = omega (arith, c.in-Ok.ensures.calls, before.4);
     })
 
-pub returns-clause-broken : goal.returns-clause-broken
-returns-clause-broken g c =
+pub returns-clause-runs : goal.returns-clause-runs
+returns-clause-runs g c =
     let before = c.loop.invariant in
-    let stands = begun g.H.LineHandler.takes g.H.LineHandler.longest _ _ _ _ c.args.progress.now before.0 c.loop.progress c.requires.begun.0 c.requires.begun.1 before.2 in
-    record { text = before.0; read = before.1; breaks = read_breaks g.H.LineHandler.takes g.H.LineHandler.stops g.H.LineHandler.longest _ _ _ _ _ _ c.loop.progress _ stands }
+    let stands = begun g.H.LineHandler.meaning.takes g.H.LineHandler.meaning.longest _ _ _ _ c.args.progress.now before.0 c.loop.progress c.requires.begun.0 c.requires.begun.1 before.2 in
+    record {
+      whole = tt;
+      broken = record { text = before.0; read = before.1; breaks = read_breaks g.H.LineHandler.meaning.takes g.H.LineHandler.meaning.stops g.H.LineHandler.meaning.longest _ _ _ _ _ _ c.loop.progress _ stands };
+      caused = omega (arith, before.4);
+      bounded = omega (arith, before.4);
+    }
 
 pub returns-in-Err-clause-prompt : goal.returns-in-Err-clause-prompt
 returns-in-Err-clause-prompt g c = λ some. prompt_again c.loop.reader.calls c.loop.reader.is_prompt c.loop.writer.is_flushed _ c.in-Err.ensures.prompt (λ more. c.loop.invariant.5 (omega (arith, c.loop.invariant.4, more)))

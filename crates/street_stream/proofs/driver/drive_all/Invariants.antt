@@ -6,7 +6,7 @@ use Rattle.street_stream.proofs.driver.drive_all.Given as goal
 abbrev pub invariant-loop : goal.invariant-loop
 invariant-loop g l =
     (text : List ℕ) × Consumes (g.R.Read.remaining l.fn.reader.stream) (g.R.Read.remaining l.reader.stream) text
-    × Feeds g.H.LineHandler.takes g.H.LineHandler.longest l.fn.handler (g.W.Write.contents l.fn.writer.stream) l.fn.progress text
+    × Feeds g.H.LineHandler.meaning.takes g.H.LineHandler.meaning.longest l.fn.handler (g.W.Write.contents l.fn.writer.stream) l.fn.progress text
     l.handler (g.W.Write.contents l.writer.stream) l.progress
     × Grows l.fn.progress.tally l.progress.tally (l.counter * 4096)
     × (l.reader.calls ≡ l.counter)

@@ -7,7 +7,7 @@ use Rattle.street_stream.specs.declared.driver.Progress.{Progress}
 use Rattle.street_stream.proofs.driver.feed.Goals as goal
 
 pub lines-init : goal.lines-init
-lines-init g c = (omega arith, feeds_none g.H.LineHandler.takes g.H.LineHandler.longest _ _ _, record { lines = omega arith; within = c.requires.within })
+lines-init g c = (omega arith, feeds_none g.H.LineHandler.meaning.takes g.H.LineHandler.meaning.longest _ _ _, record { lines = omega arith; within = c.requires.within })
 
 pub take_line-requires-clause-inside : goal.take_line-requires-clause-inside
 take_line-requires-clause-inside g c = part_inside c.args.bytes.now c.lines.at c.in-Some.size c.in-Some.ensures.0.before
@@ -17,7 +17,7 @@ lines-preserved g c =
     let found = line_found c.args.bytes.now c.lines.at c.in-Some.size c.in-Some.ensures.0.high c.in-Some.ensures.1 in
     let fed = c.in_ok-take_line.ensures in (
       found.0,
-      feeds_both g.H.LineHandler.takes g.H.LineHandler.longest _ _ _ _ _ _ _ _ _ _ _ _ (sym found.1) c.lines.invariant.1 fed.feeds,
+      feeds_both g.H.LineHandler.meaning.takes g.H.LineHandler.meaning.longest _ _ _ _ _ _ _ _ _ _ _ _ (sym found.1) c.lines.invariant.1 fed.feeds,
       record { lines = omega (arith, fed.grows.lines, c.lines.invariant.2.lines); within = fed.grows.within },
     )
 
@@ -25,20 +25,20 @@ pub returns-in_err-take_line-clause-broken : goal.returns-in_err-take_line-claus
 returns-in_err-take_line-clause-broken g c =
     let p = err_from_is_err_and c.from_residual.result c.from_residual.ensures.1 in
     let split = line_between c.args.bytes.now c.lines.at c.in-Some.size c.in-Some.ensures.0.high c.in-Some.ensures.1 in
-    rw (p.1, p.2) (feed_breaks g.H.LineHandler.takes g.H.LineHandler.stops g.H.LineHandler.longest _ _ _ _ _ _ c.args.progress.now c.lines.progress _ _ c.args.bytes.now _ _ _ split c.lines.invariant.1 c.in_err-take_line.ensures.broken)
+    rw (p.1, p.2) (feed_breaks g.H.LineHandler.meaning.takes g.H.LineHandler.meaning.stops g.H.LineHandler.meaning.longest _ _ _ _ _ _ c.args.progress.now c.lines.progress _ _ c.args.bytes.now _ _ _ split c.lines.invariant.1 c.in_err-take_line.ensures.broken)
 
 pub returns-in_err-extend-clause-broken : goal.returns-in_err-extend-clause-broken
 returns-in_err-extend-clause-broken g c =
     let p = err_from_is_err_and c.from_residual-in_err-extend.result c.from_residual-in_err-extend.ensures.1 in
     let rest = rest_from c.args.bytes.now c.lines.at in
     let split = ap (λ (b : List ℕ). take c.lines.at c.args.bytes.now ++ b) (append-nil rest) ∙ rest_behind c.args.bytes.now c.lines.at in
-    rw (p.1, p.2) (feed_breaks g.H.LineHandler.takes g.H.LineHandler.stops g.H.LineHandler.longest _ _ _ _ _ _ c.args.progress.now c.lines.progress _ _ c.args.bytes.now _ rest [] split c.lines.invariant.1
-    (part_breaks g.H.LineHandler.takes g.H.LineHandler.stops g.H.LineHandler.longest _ _ c.lines.progress rest _ refl))
+    rw (p.1, p.2) (feed_breaks g.H.LineHandler.meaning.takes g.H.LineHandler.meaning.stops g.H.LineHandler.meaning.longest _ _ _ _ _ _ c.args.progress.now c.lines.progress _ _ c.args.bytes.now _ rest [] split c.lines.invariant.1
+    (part_breaks g.H.LineHandler.meaning.takes g.H.LineHandler.meaning.stops g.H.LineHandler.meaning.longest _ _ c.lines.progress rest _ refl))
 
 pub returns-clause-feeds : goal.returns-clause-feeds
 returns-clause-feeds g c =
     let mid : Progress = record c.lines.progress { part = c.extend.new.self } in
     let rest = rest_from c.args.bytes.now c.lines.at in
     let inside = rest_inside c.args.bytes.now c.lines.at c.in_default.ensures in
-    feeds_both g.H.LineHandler.takes g.H.LineHandler.longest _ _ _ _ _ _ c.args.progress.now c.lines.progress mid c.args.bytes.now _ rest (rest_behind c.args.bytes.now c.lines.at) c.lines.invariant.1
-    (feeds_inside g.H.LineHandler.takes g.H.LineHandler.longest _ _ c.lines.progress mid rest inside (λ line part. c.in_ok-extend.ensures _ line part) refl)
+    feeds_both g.H.LineHandler.meaning.takes g.H.LineHandler.meaning.longest _ _ _ _ _ _ c.args.progress.now c.lines.progress mid c.args.bytes.now _ rest (rest_behind c.args.bytes.now c.lines.at) c.lines.invariant.1
+    (feeds_inside g.H.LineHandler.meaning.takes g.H.LineHandler.meaning.longest _ _ c.lines.progress mid rest inside (λ line part. c.in_ok-extend.ensures _ line part) refl)

@@ -5,7 +5,7 @@ use Rattle.street_stream.proofs.driver.feed.Given as goal
 abbrev pub invariant-lines : goal.invariant-lines
 invariant-lines g l =
     (l.at ≤ length l.bytes)
-    × Feeds g.H.LineHandler.takes g.H.LineHandler.longest l.fn.handler (g.W.Write.contents l.fn.writer.stream) l.fn.progress (take l.at l.bytes)
+    × Feeds g.H.LineHandler.meaning.takes g.H.LineHandler.meaning.longest l.fn.handler (g.W.Write.contents l.fn.writer.stream) l.fn.progress (take l.at l.bytes)
     l.handler (g.W.Write.contents l.writer.stream) l.progress
     × Grows l.fn.progress.tally l.progress.tally l.at
 

@@ -1,12 +1,11 @@
 use Rattle.std.proofs.Common.{◌≡◌, ℕ, ◌*◌, ◌<◌, length, map, get_or}
 use Rattle.std.specs.Prelude.{Some, slice_get}
-use Rattle.street_base.specs.Network.{Place}
-use Rattle.street_net.specs.Tables.{place_of}
+use Rattle.street_base.specs.declared.names.Place.{Place}
 use Rattle.street_net.specs.Slots.{slot_of}
 use Rattle.street_tile.proofs.cut.numbers_of.Given as goal
 
 abbrev pub invariant-loop-n : goal.invariant-loop-n
 invariant-loop-n l = record {
   wide : length l.numbers.items ≡ 2 * l.links;
-  at : (k : ℕ) (p : Place) → k < l.n → slice_get (map place_of l.own) k ≡ Some p → get_or l.numbers.items (slot_of p) 0 ≡ k;
+  at : (k : ℕ) (p : Place) → k < l.n → slice_get l.own k ≡ Some p → get_or l.numbers.items (slot_of p) 0 ≡ k;
 }

@@ -4,10 +4,10 @@ use Rattle.std.specs.List.{range_with_len}
 use Rattle.std.proofs.lemmas.Bool.{le-leb, lt-leb, le-ltb}
 use Rattle.std.proofs.lemmas.List.{map-append}
 use Rattle.street_base.specs.Limits.{most_lanes}
-use Rattle.street_base.specs.Network.{Place, link_at, node_of, no_link}
+use Rattle.street_base.specs.declared.names.Place.{Place}
+use Rattle.street_base.specs.Network.{link_at, node_of, no_link}
 use Rattle.street_base.proofs.FaultLemmas.{link_below, link_keeps_limits}
-use Rattle.street_net.specs.Tables.{place_of}
-use Rattle.street_net.proofs.InLanes.{places_below, named}
+use Rattle.street_net.proofs.InLanes.{places_below}
 use Rattle.street_tile.specs.Tiles.{is_own}
 use Rattle.street_tile.proofs.EmptyTile.{own-more, own-elsewhere}
 use Rattle.street_tile.proofs.cut.own_lanes.Goals as goal
@@ -35,10 +35,9 @@ loop-at-preserved c =
     let is : (get_or c.as_slice-links.result.now i no_link).lanes ≡ (link_at net i).lanes = rw (c.as_slice-links.ensures, c.spec.ensures.value) refl in
     elim c.if-low-node.branch [
       | then-low-node+then-node-high+in_ok-add_lanes w ↦ rw w.own-is (
-          ap (map place_of) w.in_ok-add_lanes.ensures
-          ∙ map-append place_of c.loop-at.own.items _
-          ∙ ap (λ (ps : List Place). ps ++ map place_of (map (λ k. record { link = c.new-link.result; lane = k }) (range_with_len 0 (get_or c.as_slice-links.result.now i no_link).lanes))) c.loop-at.invariant
-          ∙ ap (λ (ps : List Place). filter (is_own net c.args.low c.args.high) (places_below net i) ++ ps) (named c.new-link.result 0 (get_or c.as_slice-links.result.now i no_link).lanes ∙ rw (link, is) refl)
+          w.in_ok-add_lanes.ensures
+          ∙ ap (λ (ps : List Place). ps ++ (map (λ k. record { link = c.new-link.result; lane = k }) (range_with_len 0 (get_or c.as_slice-links.result.now i no_link).lanes))) c.loop-at.invariant
+          ∙ ap (λ (ps : List Place). filter (is_own net c.args.low c.args.high) (places_below net i) ++ ps) (rw (link, is) refl)
           ∙ sym (own-more net c.args.low c.args.high i c.position-node.result node w.if-low-node.true w.if-node-high.true))
       | else-low-node w ↦ rw w.own-is (c.loop-at.invariant ∙ sym (own-elsewhere net c.args.low c.args.high i c.position-node.result node (elim w.else-low-node.branch [
         | else-low-node-via-then-low-node+else-node-high w' ↦ rw (le-leb c.args.low c.position-node.result w'.if-low-node.true, le-ltb c.position-node.result c.args.high w'.if-node-high.false) refl

@@ -1,9 +1,8 @@
 use Rattle.std.proofs.Common.{◌≡◌, map}
 use Rattle.std.specs.Prelude.{filter}
-use Rattle.street_net.specs.Tables.{place_of}
 use Rattle.street_net.proofs.InLanes.{places_below}
 use Rattle.street_tile.specs.Tiles.{is_own}
 use Rattle.street_tile.proofs.cut.own_lanes.Given as goal
 
 abbrev pub invariant-loop-at : goal.invariant-loop-at
-invariant-loop-at l = map place_of l.own.items ≡ filter (is_own l.net l.low l.high) (places_below l.net l.at)
+invariant-loop-at l = l.own.items ≡ filter (is_own l.net l.low l.high) (places_below l.net l.at)

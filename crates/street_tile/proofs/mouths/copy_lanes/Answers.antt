@@ -2,8 +2,7 @@ use Rattle.std.proofs.Common.{◌≡◌, ℕ, ◌+◌, ◌*◌, ◌<◌, false, 
 use Rattle.std.specs.Prelude.{slice_set}
 use Rattle.std.proofs.lemmas.List.{length-set}
 use Rattle.std.proofs.lemmas.Option.{slice_get_within}
-use Rattle.street_base.specs.Network.{Place}
-use Rattle.street_net.specs.Tables.{place_of}
+use Rattle.street_base.specs.declared.names.Place.{Place}
 use Rattle.street_lanes.specs.Lanes.{place_at}
 use Rattle.street_net.specs.Slots.{mouth, slot_of}
 use Rattle.street_tile.proofs.SameLanes.{place-is}
@@ -15,7 +14,7 @@ loop-n-init c = λ roads there. shown-start c.args.net.now roads c.args.own.now.
 
 pub slot-requires : goal.slot-requires
 slot-requires c =
-    let small : slot_of (place_of c.at-at.result) < 65536 = subst (λ (p : Place). slot_of p < 65536) (sym c.at-at.ensures) (slot-inside c.args.net.now c.requires.roads c.args.own.now c.requires.there c.loop-n.n (omega arith)).0 in
+    let small : slot_of c.at-at.result < 65536 = subst (λ (p : Place). slot_of p < 65536) (sym c.at-at.ensures) (slot-inside c.args.net.now c.requires.roads c.args.own.now c.requires.there c.loop-n.n (omega arith)).0 in
     omega arith
 
 pub bounds-mouths-slot : goal.bounds-mouths-slot
@@ -44,7 +43,7 @@ loop-n-preserved c = λ roads there.
     let before = c.loop-n.invariant roads there in
     let within : n < length own.places = omega arith in
     let at : c.show.new.self ≡ slice_set c.loop-n.view (slot_of p) (mouth held p) = c.show.ensures
-    ∙ ap (λ (k : ℕ). slice_set c.loop-n.view (slot_of (place_of c.at-at.result)) (get_or held k false)) c.slot.ensures
+    ∙ ap (λ (k : ℕ). slice_set c.loop-n.view (slot_of c.at-at.result) (get_or held k false)) c.slot.ensures
     ∙ ap (λ (q : Place). slice_set c.loop-n.view (slot_of q) (mouth held q)) c.at-at.ensures in
     rw at
     (shown-next c.args.net.now roads own.places there (IsHeld held) c.args.view.now n c.loop-n.view p (mouth held p) before (place-is own n within) refl

@@ -1,10 +1,9 @@
 use Rattle.std.proofs.Common.{◌≡◌, ℕ, ◌<◌, List, Bool, length, arith, refl, sym, ap, subst, ◌∙◌, inl, inr}
 use Rattle.std.specs.Prelude.{Some, None}
 use Rattle.std.proofs.lemmas.Bool.{cases_Bool}
-use Rattle.street_base.specs.Network.{Place}
+use Rattle.street_base.specs.declared.names.Place.{Place}
 use Rattle.street_base.specs.State.{Traffic, lane_at}
 use Rattle.street_base.specs.Release.{target}
-use Rattle.street_net.specs.Tables.{place_of}
 use Rattle.street_lanes.specs.Views.{LaneStands}
 use Rattle.street_lanes.specs.Lanes.{Lanes, lane_of, place_at}
 use Rattle.street_tile.specs.Halves.{Transfer}
@@ -63,7 +62,7 @@ loop-n-preserved c =
       | in-Some w ↦ (
           let e = w.release_front.ensures in
           rw (w.own-is, w.mouths-is, w.handed-is) (record {
-            same = elim (cases_Bool (mouth c.loop-n.mouths (place_of w.in-Some.to))) [
+            same = elim (cases_Bool (mouth c.loop-n.mouths w.in-Some.to)) [
               | inl is_open ↦ same-then c.args.own.now c.loop-n.own w.release_front.new.own c.loop-n.invariant.same (e.front.goes is_open).same
               | inr is_shut ↦ rw (e.front.shut is_shut).0 c.loop-n.invariant.same
             ];
@@ -71,20 +70,20 @@ loop-n-preserved c =
             left = omega (arith, c.loop-n.invariant.left, e.grown, e.kept);
             kept = omega (arith, c.loop-n.invariant.kept, e.kept);
             released = λ roads even m r.
-                let leads : target m (place_at c.args.own.now c.loop-n.n) ≡ Some (place_of w.in-Some.to) =
+                let leads : target m (place_at c.args.own.now c.loop-n.n) ≡ Some w.in-Some.to =
                 ap (target m) (sym (same_place c roads even m r)) ∙ sym (c.candidate.ensures.goes m r.on.network r.in_time (here_too c roads even m r)) ∙ rw w.in-Some.is refl in
                 let inside = w.in-Some.ensures.inside in
-                elim (cases_Bool (mouth c.loop-n.mouths (place_of w.in-Some.to))) [
+                elim (cases_Bool (mouth c.loop-n.mouths w.in-Some.to)) [
                   | inl is_open ↦ (
-                      let lead = leads-of m (place_at c.args.own.now c.loop-n.n) (place_of w.in-Some.to) leads in
+                      let lead = leads-of m (place_at c.args.own.now c.loop-n.n) w.in-Some.to leads in
                       rw (e.front.mouths is_open lead.0 (record { lane = lane_at m (place_at c.args.own.now c.loop-n.n); stands = here c roads even m r; first = lead.1.front }))
-                      (released-goes c.args.net.now roads c.args.clock c.args.own.now even c.args.mouths.now c.args.handed.now.items m r c.loop-n.n c.loop-n.own c.loop-n.mouths c.loop-n.handed.items (within c roads even m r) (so_far c roads even m r) (place_of w.in-Some.to) leads inside
+                      (released-goes c.args.net.now roads c.args.clock c.args.own.now even c.args.mouths.now c.args.handed.now.items m r c.loop-n.n c.loop-n.own c.loop-n.mouths c.loop-n.handed.items (within c roads even m r) (so_far c roads even m r) w.in-Some.to leads inside
                       w.release_front.new.own w.release_front.new.handed.items (omega (arith, c.requires.wide)) is_open (e.front.goes is_open)
                       (λ q l. e.front.handed is_open q (record { lane = lane_at m (place_at c.args.own.now c.loop-n.n); stands = here c roads even m r; first = l.front }) l.next)))
                   | inr is_shut ↦ (
                       let kept = e.front.shut is_shut in
                       rw (kept.0, kept.1, kept.2)
-                      (released-shut c.args.net.now roads c.args.clock c.args.own.now even c.args.mouths.now c.args.handed.now.items m r c.loop-n.n c.loop-n.own c.loop-n.mouths c.loop-n.handed.items (within c roads even m r) (so_far c roads even m r) (place_of w.in-Some.to) leads inside is_shut))
+                      (released-shut c.args.net.now roads c.args.clock c.args.own.now even c.args.mouths.now c.args.handed.now.items m r c.loop-n.n c.loop-n.own c.loop-n.mouths c.loop-n.handed.items (within c roads even m r) (so_far c roads even m r) w.in-Some.to leads inside is_shut))
                 ];
           }))
       | in_default w ↦ rw (w.own-is, w.mouths-is, w.handed-is) (record {

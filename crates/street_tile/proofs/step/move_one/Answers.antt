@@ -3,8 +3,7 @@ use Rattle.std.specs.Prelude.{if◌then◌else◌, ◌==◌}
 use Rattle.std.specs.List.{All}
 use Rattle.std.proofs.lemmas.List.{get_or-set_same, get_or-set_other, get_or_default, length-set, length-append, same_from_push}
 use Rattle.street_base.specs.declared.net.NetSpec.{NetSpec}
-use Rattle.street_base.specs.Network.{Place}
-use Rattle.street_net.specs.Tables.{place_of}
+use Rattle.street_base.specs.declared.names.Place.{Place}
 use Rattle.street_lanes.specs.Lanes.{IsLane}
 use Rattle.street_tile.specs.Halves.{Transfer, entry_in}
 use Rattle.street_tile.specs.Tiles.{Part, AreTiles, is_own}
@@ -57,10 +56,10 @@ returns-in-Some-clause-moved c = λ left e es d is awaits.
     ap (λ (t : Part). t.coming) at_j ∙ awaits j c.index-tiles-j.result hj ∙ ap (λ (t : Part). map (entry_in es) t.own.places) (sym at_j) in
     let brought : c.bring.new.self ≡ record (get_or ys j c.index-tiles-j.result) { coming = map (entry_in (e ∷ es)) (get_or ys j c.index-tiles-j.result).own.places } =
     c.bring.ensures es awaits_j ∙ ap (λ (f : Transfer). record (get_or ys j c.index-tiles-j.result) { coming = map (entry_in (f ∷ es)) (get_or ys j c.index-tiles-j.result).own.places }) parts.1 in
-    let to : place_of c.to.result ≡ e.to = c.to.ensures ∙ ap (λ (f : Transfer). f.to) parts.1 in
+    let to : c.to.result ≡ e.to = c.to.ensures ∙ ap (λ (f : Transfer). f.to) parts.1 in
     moves-one c.args.net.now xs ys (set ys j c.bring.new.self) i j left e es (in-row c.args.net.now xs c.requires.tiles) long (length-set ys j c.bring.new.self ∙ long) c.requires.inside hj
     (λ k d' h. popped k d' h ∙ ap (λ (hs : List Transfer). record (get_or xs k d') { handed = if k == i then hs else (get_or xs k d').handed }) parts.0)
-    (λ d'. subst (λ (p : Place). is_own c.args.net.now (get_or xs j d').low (get_or xs j d').high p ≡ true) to (subst (λ (t : Part). is_own c.args.net.now t.low t.high (place_of c.to.result) ≡ true) (popped j d' hj) (c.tile_of-j.ensures.own d')))
+    (λ d'. subst (λ (p : Place). is_own c.args.net.now (get_or xs j d').low (get_or xs j d').high p ≡ true) to (subst (λ (t : Part). is_own c.args.net.now t.low t.high c.to.result ≡ true) (popped j d' hj) (c.tile_of-j.ensures.own d')))
     (λ d'. get_or-set_same ys j c.bring.new.self d' inside ∙ brought ∙ ap (λ (t : Part). record t { coming = map (entry_in (e ∷ es)) t.own.places }) (get_or_default ys j c.index-tiles-j.result d' inside))
     (λ k d' ne. get_or-set_other ys j k c.bring.new.self d' ne)
     awaits

@@ -1,5 +1,4 @@
 use Rattle.std.proofs.Common.{◌≡◌, ◌<◌, length, refl, arith}
-use Rattle.street_net.specs.Tables.{place_of}
 use Rattle.street_tile.proofs.Rows.{roads-of, one-tile}
 use Rattle.street_tile.proofs.LaneOwners.{all-own, share-owns}
 use Rattle.street_tile.proofs.step.tile_of.Goals as goal
@@ -11,7 +10,7 @@ returns-then-tiles-eq1-clause-own c = λ d.
     let xs = c.args.tiles.now in
     let one : length xs ≡ 1 = omega arith in
     let all = one-tile net xs c.requires.tiles one d in
-    rw (all.0, all.1) (all-own net (roads-of net xs c.requires.tiles) (place_of c.args.to) c.requires.lane)
+    rw (all.0, all.1) (all-own net (roads-of net xs c.requires.tiles) c.args.to c.requires.lane)
 
 pub returns-clause-own : goal.returns-clause-own
-returns-clause-own c = λ d. share-owns c.args.net.now c.args.tiles.now c.requires.tiles (length c.args.tiles.now) c.owner.result c.end_of.result (place_of c.args.to) refl c.owner.ensures.inside c.owner.ensures.low c.owner.ensures.high c.end_of.ensures.position d
+returns-clause-own c = λ d. share-owns c.args.net.now c.args.tiles.now c.requires.tiles (length c.args.tiles.now) c.owner.result c.end_of.result c.args.to refl c.owner.ensures.inside c.owner.ensures.low c.owner.ensures.high c.end_of.ensures.position d

@@ -2,7 +2,6 @@ use Rattle.std.proofs.Common.{◌≡◌, ◌<◌, List, [], ◌∷◌, ◌++◌,
 use Rattle.street_base.specs.Effects.{metered}
 use Rattle.street_base.specs.State.{Traffic}
 use Rattle.street_base.specs.Limits.{most_detectors}
-use Rattle.street_net.specs.Tables.{place_of}
 use Rattle.street_lanes.specs.Lanes.{IsLane}
 use Rattle.street_engine.specs.declared.sites.DetectorSite.{DetectorSite}
 use Rattle.street_engine.specs.Streets.{StreetsView, IsKept, StreetsGo, streets_of}
@@ -33,10 +32,10 @@ pub invariant_of-self-2 : goal.invariant_of-self-2
 invariant_of-self-2 c =
     let s = c.self.inside in
     let y = c.place_meter.new.self in
-    let f : Traffic → Traffic = λ m. metered m (place_of c.args.at) c.args.cell c.args.period in
+    let f : Traffic → Traffic = λ m. metered m c.args.at c.args.cell c.args.period in
     let site : DetectorSite = record { at = c.args.at; number = c.in_ok-number.number } in
     let pushed : c.push_reserved.new.self.items ≡ s.sites.items ++ site ∷ [] = c.push_reserved.ensures.items ∙ ap (λ (ss : List DetectorSite). ss ++ site ∷ []) c.reserve.ensures.items in
-    let lane : IsLane s.tiles.network (place_of c.args.at) = subst (λ (v : StreetsView). IsLane v.tiles.network (place_of c.args.at)) (sym c.self.view_is) c.requires.lane in
+    let lane : IsLane s.tiles.network c.args.at = subst (λ (v : StreetsView). IsLane v.tiles.network c.args.at) (sym c.self.view_is) c.requires.lane in
     let room : length s.sites.items < most_detectors = subst (λ (v : StreetsView). length v.sites < most_detectors) (sym c.self.view_is) c.requires.few in
     subst (λ (ss : List DetectorSite). IsKept (streets_of y ss s.clock s.ends.ends)) (sym pushed)
     (kept-goes (λ m. Unit {0}) f f s.sites.items (s.sites.items ++ site ∷ []) s.clock s.tiles y s.ends.ends s.ends.ends c.self.invariant c.in_ok-number.ensures.placed
@@ -46,10 +45,10 @@ pub returns-clause-placed : goal.returns-clause-placed
 returns-clause-placed c =
     let s = c.self.inside in
     let y = c.place_meter.new.self in
-    let f : Traffic → Traffic = λ m. metered m (place_of c.args.at) c.args.cell c.args.period in
+    let f : Traffic → Traffic = λ m. metered m c.args.at c.args.cell c.args.period in
     let site : DetectorSite = record { at = c.args.at; number = c.in_ok-number.number } in
     let pushed : c.push_reserved.new.self.items ≡ s.sites.items ++ site ∷ [] = c.push_reserved.ensures.items ∙ ap (λ (ss : List DetectorSite). ss ++ site ∷ []) c.reserve.ensures.items in
-    let lane : IsLane s.tiles.network (place_of c.args.at) = subst (λ (v : StreetsView). IsLane v.tiles.network (place_of c.args.at)) (sym c.self.view_is) c.requires.lane in
+    let lane : IsLane s.tiles.network c.args.at = subst (λ (v : StreetsView). IsLane v.tiles.network c.args.at) (sym c.self.view_is) c.requires.lane in
     let room : length s.sites.items < most_detectors = subst (λ (v : StreetsView). length v.sites < most_detectors) (sym c.self.view_is) c.requires.few in
     subst (λ (ss : List DetectorSite). StreetsGo f c.args.self.now (streets_of y ss s.clock s.ends.ends)) (sym pushed)
     (goes-with f (streets_of s.tiles s.sites.items s.clock s.ends.ends) (streets_of y (s.sites.items ++ site ∷ []) s.clock s.ends.ends) c.args.self.now c.self.view_is

@@ -3,8 +3,8 @@ use Rattle.std.specs.Option.{option_map_or}
 use Rattle.street_engine.proofs.streets.Streets.team_steps.Given as goal
 
 -- the network, and the locks that were made
-abbrev pub ghosts-run_with_locks-K-Course : goal.ghosts-run_with_locks-K-Course
-ghosts-run_with_locks-K-Course g a = record { net = a.net.now; lock = λ k. option_map_or (λ l. l.id) (slice_get a.locks.now k) 0 }
+abbrev pub ghosts-run_with_locks-K-TeamNetwork : goal.ghosts-run_with_locks-K-TeamNetwork
+ghosts-run_with_locks-K-TeamNetwork g a = record { net = a.net.now; lock = λ k. option_map_or (λ l. l.id) (slice_get a.locks.now k) 0 }
 
 -- the streets as they begin
 abbrev pub ghosts-run_with_locks-B-Begun : goal.ghosts-run_with_locks-B-Begun

@@ -6,12 +6,12 @@ use Rattle.street_base.specs.declared.net.Turn.{Turn}
 use Rattle.street_base.specs.Faults.{network_fault}
 use Rattle.street_net.specs.Keys.{ids_of_nodes, ids_of_links}
 use Rattle.street_net.specs.declared.briefs.Brief.{Brief}
-use Rattle.street_net.specs.declared.lanes.LaneId.{LaneId}
+use Rattle.street_base.specs.declared.names.Place.{Place}
 use Rattle.street_net.specs.declared.nexts.Pair.{Pair}
 use Rattle.street_net.specs.Tables.{AreBriefs, AreInLanes, IsTurnTable, AreKept, IsChecked}
 use Rattle.street_net.proofs.network.Network.build.Goals as goal
 
-module _ (net given : NetSpec) (nodes links : List ℕ) (briefs : List Brief) (in_lanes : List (Vec LaneId Global)) (starts : List ℕ) (turns : List Turn) (nexts : List Pair) where
+module _ (net given : NetSpec) (nodes links : List ℕ) (briefs : List Brief) (in_lanes : List (Vec Place Global)) (starts : List ℕ) (turns : List Turn) (nexts : List Pair) where
   checked : net ≡ given → network_fault given ≡ None → nodes ≡ ids_of_nodes given.nodes → links ≡ ids_of_links given.links → AreBriefs net briefs → AreInLanes net in_lanes → IsTurnTable net starts turns → AreKept net nexts
       → IsChecked net nodes links briefs in_lanes starts turns nexts
   checked same good nodes_are links_are briefs_are in_lanes_are turns_are nexts_are = record {

@@ -1,4 +1,4 @@
-use Rattle.std.proofs.Common.{◌≡◌, ◌∷◌, [], length, length-append, sym, ap, subst, arith}
+use Rattle.std.proofs.Common.{◌∷◌, [], length, length-append, sym, ap, subst, arith}
 use Rattle.street_base.proofs.FaultLemmas.{few_links}
 use Rattle.street_net.specs.declared.nexts.Pair.{Pair}
 use Rattle.street_net.specs.Tables.{AreServed, IsKept, AreKept}

@@ -1,5 +1,5 @@
 use Rattle.std.proofs.Common.{◌≡◌, ◌+◌, ◌%◌, ◌∙◌, refl, sym}
-use Rattle.street_base.specs.Network.{Place}
+use Rattle.street_base.specs.declared.names.Place.{Place}
 use Rattle.street_base.specs.Signal.{cycle}
 use Rattle.street_node.specs.Greens.{shown, plan_seen}
 use Rattle.street_node.proofs.Shown.{shown-at}

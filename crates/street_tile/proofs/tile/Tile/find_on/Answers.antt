@@ -1,10 +1,9 @@
 use Rattle.std.proofs.Common.{◌≡◌, subst}
 use Rattle.std.specs.Prelude.{IfOk}
 use Rattle.std.proofs.lemmas.Option.{slice_get_within, get_or_from_slice_get}
-use Rattle.street_base.specs.Network.{Place}
+use Rattle.street_base.specs.declared.names.Place.{Place}
 use Rattle.street_base.specs.State.{Traffic, lane_at}
 use Rattle.street_base.specs.Machine.{seen_in}
-use Rattle.street_net.specs.Tables.{place_of}
 use Rattle.street_lanes.specs.Lanes.{place_at, no_place}
 use Rattle.street_lanes.specs.Whole.{IsOn}
 use Rattle.street_tile.specs.Tiles.{StandsFor}
@@ -12,9 +11,9 @@ use Rattle.street_tile.specs.Commands.{HaveAtMostOne}
 use Rattle.street_tile.proofs.tile.Tile.find_on.Goals as goal
 
 pub find_at-requires-clause-lane : goal.find_at-requires-clause-lane
-find_at-requires-clause-lane c = slice_get_within c.args.self.now.own.places c.number-n.result (place_of c.args.at) c.number-n.ensures
+find_at-requires-clause-lane c = slice_get_within c.args.self.now.own.places c.number-n.result c.args.at c.number-n.ensures
 
 pub returns : goal.returns
 returns c =
-    let here : place_at c.args.self.now.own c.number-n.result ≡ place_of c.args.at = get_or_from_slice_get c.args.self.now.own.places c.number-n.result (place_of c.args.at) no_place c.number-n.ensures in
+    let here : place_at c.args.self.now.own c.number-n.result ≡ c.args.at = get_or_from_slice_get c.args.self.now.own.places c.number-n.result c.args.at no_place c.number-n.ensures in
     subst (λ (p : Place). IfOk c.find_at.result (λ found. (m : Traffic) → IsOn c.args.net.now m → StandsFor c.args.self.now m → HaveAtMostOne c.args.self.now.own.places m c.args.number → found ≡ seen_in c.args.net.now p c.args.number (lane_at m p))) here c.find_at.ensures.found

@@ -2,12 +2,11 @@ use Rattle.std.proofs.Common.{◌≡◌, ◌-◌, ◌<◌, ◌≤◌, List, leng
 use Rattle.std.specs.Prelude.{Option, Some, None, slice_get, option_map}
 use Rattle.std.proofs.lemmas.List.{length-map, length-replicate}
 use Rattle.std.proofs.lemmas.Option.{slice_get-map, slice_get-get_or}
-use Rattle.street_base.specs.Network.{Place}
+use Rattle.street_base.specs.declared.names.Place.{Place}
 use Rattle.street_base.specs.Machine.{loaded}
 use Rattle.street_base.specs.Signal.{SignalPlan}
 use Rattle.street_base.specs.Limits.{last_clock}
 use Rattle.street_base.proofs.FaultLemmas.{few_links, good_start}
-use Rattle.street_net.specs.Tables.{place_of}
 use Rattle.street_lanes.specs.Lanes.{Lanes, IsLane, AllLanes}
 use Rattle.street_lanes.specs.Whole.{LanesStand}
 use Rattle.street_lanes.specs.Motion.{cells_on}
@@ -21,7 +20,7 @@ use Rattle.street_tile.proofs.tile.Tile.of_nodes.Goals as goal
 
 pub lanes_of-requires : goal.lanes_of-requires
 lanes_of-requires c =
-    let is : map place_of c.deref.result.now ≡ own_places c.args.net.now c.args.low c.args.high = ap (map place_of) c.deref.ensures.value ∙ c.in_ok-places.ensures in
+    let is : c.deref.result.now ≡ own_places c.args.net.now c.args.low c.args.high = c.deref.ensures.value ∙ c.in_ok-places.ensures in
     subst (AllLanes c.args.net.now) (sym is) (own-lanes c.args.net.now c.args.low c.args.high)
 
 pub tables_of-requires-clause-few : goal.tables_of-requires-clause-few
@@ -34,9 +33,9 @@ pub tables_of-requires-clause-inside : goal.tables_of-requires-clause-inside
 tables_of-requires-clause-inside c = λ k d h.
     let net = c.args.net.now in
     let own = c.deref-2.result.now in
-    let p : Place = place_of (get_or own k d) in
-    let is : map place_of own ≡ own_places net c.args.low c.args.high = ap (map place_of) c.deref-2.ensures.value ∙ c.in_ok-places.ensures in
-    let at : slice_get (map place_of own) k ≡ Some p = slice_get-map place_of own k ∙ ap (option_map place_of) (slice_get-get_or own k d h) in
+    let p : Place = (get_or own k d) in
+    let is : own ≡ own_places net c.args.low c.args.high = c.deref-2.ensures.value ∙ c.in_ok-places.ensures in
+    let at : slice_get own k ≡ Some p = slice_get-get_or own k d h in
     let lane : IsLane net p = own-lanes net c.args.low c.args.high k p (ap (λ (ps : List Place). slice_get ps k) (sym is) ∙ at) in
     let two = (faultless-roads net c.spec.ensures.faultless).two p.link in
     let long : length c.as_slice-links.result.now ≡ length net.links = rw (c.as_slice-links.ensures, c.spec.ensures.value) refl in
@@ -46,7 +45,7 @@ tables_of-requires-clause-inside c = λ k d h.
 
 pub tables_of-requires-clause-once : goal.tables_of-requires-clause-once
 tables_of-requires-clause-once c =
-    let is : map place_of c.deref-2.result.now ≡ own_places c.args.net.now c.args.low c.args.high = ap (map place_of) c.deref-2.ensures.value ∙ c.in_ok-places.ensures in
+    let is : c.deref-2.result.now ≡ own_places c.args.net.now c.args.low c.args.high = c.deref-2.ensures.value ∙ c.in_ok-places.ensures in
     subst AtMostOnce (sym is) (own-once c.args.net.now c.args.low c.args.high)
 
 pub overflow_cast-result : goal.overflow_cast-result
@@ -57,7 +56,7 @@ overflow_cast-result c =
 
 pub returns-clause-tile : goal.returns-clause-tile
 returns-clause-tile c =
-    let is : map place_of c.deref.result.now ≡ own_places c.args.net.now c.args.low c.args.high = ap (map place_of) c.deref.ensures.value ∙ c.in_ok-places.ensures in
+    let is : c.deref.result.now ≡ own_places c.args.net.now c.args.low c.args.high = c.deref.ensures.value ∙ c.in_ok-places.ensures in
     record {
       roads = faultless-roads c.args.net.now c.spec.ensures.faultless;
       links = rw (c.as_slice-links.ensures, c.spec.ensures.value) refl;
@@ -69,10 +68,9 @@ returns-clause-tile c =
 
 pub returns-clause-idle : goal.returns-clause-idle
 returns-clause-idle c =
-    let places : c.in_ok-own.own.places ≡ map place_of c.deref.result.now = ap (λ (x : Lanes). x.places) c.in_ok-own.ensures.fresh in
+    let places : c.in_ok-own.own.places ≡ c.deref.result.now = ap (λ (x : Lanes). x.places) c.in_ok-own.ensures.fresh in
     let items : length c.deref-2.result.now ≡ length c.deref.result.now = ap length (c.deref-2.ensures.value ∙ sym c.deref.ensures.value) in
-    let mapped = length-map c.deref.result.now place_of in
-    let same : length c.in_ok-own.own.places ≡ length (map place_of c.deref.result.now) = ap length places in
+    let same : length c.in_ok-own.own.places ≡ length c.deref.result.now = ap length places in
     let long : length c.deref-2.result.now ≡ length c.in_ok-own.own.places = omega arith in
     record {
       handed = c.in_ok-tables.ensures.handed.0;
@@ -83,8 +81,8 @@ returns-clause-idle c =
 pub returns-clause-stands : goal.returns-clause-stands
 returns-clause-stands c =
     let net = c.args.net.now in
-    let ps = map place_of c.deref.result.now in
-    let is : ps ≡ own_places net c.args.low c.args.high = ap (map place_of) c.deref.ensures.value ∙ c.in_ok-places.ensures in
+    let ps = c.deref.result.now in
+    let is : ps ≡ own_places net c.args.low c.args.high = c.deref.ensures.value ∙ c.in_ok-places.ensures in
     let all : AllLanes net ps = subst (AllLanes net) (sym is) (own-lanes net c.args.low c.args.high) in
     let start : c.spec-2.result.now.start ≡ net.start = rw c.spec-2.ensures.value refl in
     record {
@@ -101,12 +99,11 @@ pub invariant_of-result : goal.invariant_of-result
 invariant_of-result c =
     let net = c.args.net.now in
     let ps = c.in_ok-own.own.places in
-    let places : ps ≡ map place_of c.deref.result.now = ap (λ (x : Lanes). x.places) c.in_ok-own.ensures.fresh in
+    let places : ps ≡ c.deref.result.now = ap (λ (x : Lanes). x.places) c.in_ok-own.ensures.fresh in
     let items : length c.deref-2.result.now ≡ length c.deref.result.now = ap length (c.deref-2.ensures.value ∙ sym c.deref.ensures.value) in
-    let mapped = length-map c.deref.result.now place_of in
-    let same : length ps ≡ length (map place_of c.deref.result.now) = ap length places in
+    let same : length ps ≡ length c.deref.result.now = ap length places in
     let long : length c.deref-2.result.now ≡ length ps = omega arith in
-    let numbers : map place_of c.deref-2.result.now ≡ ps = ap (map place_of) (c.deref-2.ensures.value ∙ sym c.deref.ensures.value) ∙ sym places in
+    let numbers : c.deref-2.result.now ≡ ps = (c.deref-2.ensures.value ∙ sym c.deref.ensures.value) ∙ sym places in
     let plans : length c.in_ok-tables.tables.2.items ≡ c.args.high - c.args.low = ap length c.in_ok-tables.ensures.plans ∙ length-replicate (c.args.high - c.args.low) None in
     let slots : length c.in_ok-tables.tables.1.1 ≡ length c.deref-2.result.now = ap length c.in_ok-tables.ensures.coming ∙ length-replicate (length c.deref-2.result.now) None in
     let order = c.requires.order in

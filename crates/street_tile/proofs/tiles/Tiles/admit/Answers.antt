@@ -2,7 +2,6 @@ use Rattle.std.proofs.Common.{◌≡◌, List, length, set, refl}
 use Rattle.street_base.specs.State.{Traffic, lane_at}
 use Rattle.street_base.specs.Census.{in_lane}
 use Rattle.street_base.specs.Machine.{with_waiting}
-use Rattle.street_net.specs.Tables.{place_of}
 use Rattle.street_lanes.specs.Views.{waiting_of}
 use Rattle.street_tile.specs.Commands.{at_place}
 use Rattle.street_tile.specs.Tiles.{Part}
@@ -14,7 +13,7 @@ use Rattle.street_tile.proofs.tiles.Tiles.admit.Goals as goal
 pub admit-requires-clause-own : goal.admit-requires-clause-own
 admit-requires-clause-own c =
     let s = c.self.inside in
-    owns-here s.network.value c.deref.result.now s.tiles.items c.owner_of-i.result c.index_mut.result.now c.deref.ensures c.index_mut.ensures.value c.args.self.now c.args.at.link (place_of c.args.at) c.self.view_is c.owner_of-i.ensures.own refl
+    owns-here s.network.value c.deref.result.now s.tiles.items c.owner_of-i.result c.index_mut.result.now c.deref.ensures c.index_mut.ensures.value c.args.self.now c.args.at.link c.args.at c.self.view_is c.owner_of-i.ensures.own refl
 
 pub invariant_of-self-in_err-admit : goal.invariant_of-self-in_err-admit
 invariant_of-self-in_err-admit c =
@@ -47,8 +46,8 @@ invariant_of-self-2 c =
     let x : Part = c.index_mut.result.now in
     let y : Part = c.admit.new.self in
     let h = inside-seen net xs c.args.self.now i c.self.view_is c.owner_of-i.ensures.inside in
-    let P : Traffic → Type 0 = λ m. in_lane c.args.car.number (lane_at m (place_of c.args.at)) ≡ 0 in
-    let f : Traffic → Traffic = at_place (place_of c.args.at) (with_waiting (waiting_of c.args.car)) in
+    let P : Traffic → Type 0 = λ m. in_lane c.args.car.number (lane_at m c.args.at) ≡ 0 in
+    let f : Traffic → Traffic = at_place c.args.at (with_waiting (waiting_of c.args.car)) in
     kept-does net P f xs i y x (length s.view) c.self.invariant h (does-here net c.deref.result.now xs i x c.deref.ensures c.index_mut.ensures.value P f y c.in_ok-admit.ensures.waits)
 
 pub returns-clause-waits : goal.returns-clause-waits
@@ -60,7 +59,7 @@ returns-clause-waits c =
     let x : Part = c.index_mut.result.now in
     let y : Part = c.admit.new.self in
     let h = inside-seen net xs c.args.self.now i c.self.view_is c.owner_of-i.ensures.inside in
-    let p = place_of c.args.at in
+    let p = c.args.at in
     let P : Traffic → Type 0 = λ m. in_lane c.args.car.number (lane_at m p) ≡ 0 in
     let f : Traffic → Traffic = at_place p (with_waiting (waiting_of c.args.car)) in
     let own = owns-any net c.deref.result.now xs i x c.deref.ensures c.index_mut.ensures.value c.args.self.now c.args.at.link p c.self.view_is c.owner_of-i.ensures.own refl in

@@ -2,7 +2,6 @@ use Rattle.std.proofs.Common.{◌≡◌, ◌<◌, List, length, set, refl, sym, 
 use Rattle.std.proofs.lemmas.Result.{on_ok_weaker, on_err_weaker, IfOk-weaker}
 use Rattle.street_base.specs.Effects.{metered}
 use Rattle.street_base.specs.State.{Traffic}
-use Rattle.street_net.specs.Tables.{place_of}
 use Rattle.street_tile.specs.Tiles.{Part, SameTile}
 use Rattle.street_tile.specs.TileDetectors.{MetersStand, PlacesMeter}
 use Rattle.street_tile.specs.Together.{tiles_of, AreKept}
@@ -13,7 +12,7 @@ use Rattle.street_tile.proofs.tiles.Tiles.place_meter.Goals as goal
 pub place_meter-requires-clause-own : goal.place_meter-requires-clause-own
 place_meter-requires-clause-own c =
     let s = c.self.inside in
-    owns-here s.network.value c.deref.result.now s.tiles.items c.owner_of-i.result c.index_mut.result.now c.deref.ensures c.index_mut.ensures.value c.args.self.now c.args.at.link (place_of c.args.at) c.self.view_is c.owner_of-i.ensures.own refl
+    owns-here s.network.value c.deref.result.now s.tiles.items c.owner_of-i.result c.index_mut.result.now c.deref.ensures c.index_mut.ensures.value c.args.self.now c.args.at.link c.args.at c.self.view_is c.owner_of-i.ensures.own refl
 
 pub invariant_of-self : goal.invariant_of-self
 invariant_of-self c =
@@ -38,7 +37,7 @@ returns-clause-placed c =
     let x : Part = c.index_mut.result.now in
     let y : Part = c.place_meter.new.self in
     let h = inside-seen net xs c.args.self.now i c.self.view_is c.owner_of-i.ensures.inside in
-    let p = place_of c.args.at in
+    let p = c.args.at in
     let own = owns-any net c.deref.result.now xs i x c.deref.ensures c.index_mut.ensures.value c.args.self.now c.args.at.link p c.self.view_is c.owner_of-i.ensures.own refl in
     on_ok_weaker c.place_meter.result (λ placed. goes-seen (λ m. Unit {0}) (λ m. metered m p c.args.cell c.args.period) (tiles_of net xs) c.args.self.now (tiles_of net (set xs i y)) c.self.view_is
     (meter-does net p c.args.cell c.args.period xs i y x c.self.invariant.tiles h own (subst (λ (t : Part). PlacesMeter p c.args.cell c.args.period t y) c.index_mut.ensures.value placed))) c.place_meter.ensures.placed

@@ -1,6 +1,5 @@
 use Rattle.std.proofs.Common.{refl, sym, subst}
 use Rattle.std.proofs.lemmas.Result.{IfOk-weaker}
-use Rattle.street_net.specs.Tables.{place_of}
 use Rattle.street_tile.specs.Tiles.{Part}
 use Rattle.street_tile.specs.TileDetectors.{MetersStand}
 use Rattle.street_tile.proofs.Together.{owns-here, inside-seen, stands-seen}
@@ -9,7 +8,7 @@ use Rattle.street_tile.proofs.tiles.Tiles.read_meter.Goals as goal
 pub read_meter-requires-clause-own : goal.read_meter-requires-clause-own
 read_meter-requires-clause-own c =
     let s = c.self.inside in
-    owns-here s.network.value c.deref.result.now s.tiles.items c.owner_of-i.result c.index.result.now c.deref.ensures c.index.ensures c.args.self.now c.args.at.link (place_of c.args.at) c.self.view_is c.owner_of-i.ensures.own refl
+    owns-here s.network.value c.deref.result.now s.tiles.items c.owner_of-i.result c.index.result.now c.deref.ensures c.index.ensures c.args.self.now c.args.at.link c.args.at c.self.view_is c.owner_of-i.ensures.own refl
 
 pub returns : goal.returns
 returns c =

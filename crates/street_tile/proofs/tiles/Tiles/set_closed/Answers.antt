@@ -3,7 +3,6 @@ use Rattle.std.proofs.lemmas.Result.{on_ok_weaker, on_err_weaker, IfOk-weaker}
 use Rattle.street_base.specs.declared.net.NetSpec.{NetSpec}
 use Rattle.street_base.specs.State.{Traffic}
 use Rattle.street_base.specs.Closing.{with_marks}
-use Rattle.street_net.specs.Tables.{place_of}
 use Rattle.street_lanes.specs.Whole.{IsOn}
 use Rattle.street_tile.specs.Commands.{at_place}
 use Rattle.street_tile.specs.Tiles.{Part, StandsFor}
@@ -15,7 +14,7 @@ use Rattle.street_tile.proofs.tiles.Tiles.set_closed.Goals as goal
 pub set_closed-requires-clause-own : goal.set_closed-requires-clause-own
 set_closed-requires-clause-own c =
     let s = c.self.inside in
-    owns-here s.network.value c.deref.result.now s.tiles.items c.owner_of-i.result c.index_mut.result.now c.deref.ensures c.index_mut.ensures.value c.args.self.now c.args.at.link (place_of c.args.at) c.self.view_is c.owner_of-i.ensures.own refl
+    owns-here s.network.value c.deref.result.now s.tiles.items c.owner_of-i.result c.index_mut.result.now c.deref.ensures c.index_mut.ensures.value c.args.self.now c.args.at.link c.args.at c.self.view_is c.owner_of-i.ensures.own refl
 
 pub invariant_of-self : goal.invariant_of-self
 invariant_of-self c =
@@ -26,7 +25,7 @@ invariant_of-self c =
     let x : Part = c.index_mut.result.now in
     let y : Part = c.set_closed.new.self in
     let h = inside-seen net xs c.args.self.now i c.self.view_is c.owner_of-i.ensures.inside in
-    let f : Traffic → Traffic = at_place (place_of c.args.at) (with_marks c.args.closed c.args.first c.args.last) in
+    let f : Traffic → Traffic = at_place c.args.at (with_marks c.args.closed c.args.first c.args.last) in
     either-way (AreKept net (set xs i y) (length s.view)) c.set_closed.result
     (on_ok_weaker c.set_closed.result (λ does. kept-does net (λ m. Unit {0}) f xs i y x (length s.view) c.self.invariant h (does-here net c.deref.result.now xs i x c.deref.ensures c.index_mut.ensures.value (λ m. Unit {0}) f y does)) c.set_closed.ensures.marks)
     (on_err_weaker c.set_closed.result (λ same. kept-room net xs i x y (length s.view) c.self.invariant h c.index_mut.ensures.value same) c.set_closed.ensures.starved)
@@ -40,7 +39,7 @@ returns-clause-marks c =
     let x : Part = c.index_mut.result.now in
     let y : Part = c.set_closed.new.self in
     let h = inside-seen net xs c.args.self.now i c.self.view_is c.owner_of-i.ensures.inside in
-    let p = place_of c.args.at in
+    let p = c.args.at in
     let f : Traffic → Traffic = at_place p (with_marks c.args.closed c.args.first c.args.last) in
     let own = owns-any net c.deref.result.now xs i x c.deref.ensures c.index_mut.ensures.value c.args.self.now c.args.at.link p c.self.view_is c.owner_of-i.ensures.own refl in
     on_ok_weaker c.set_closed.result (λ does. goes-seen (λ m. Unit {0}) f (tiles_of net xs) c.args.self.now (tiles_of net (set xs i y)) c.self.view_is

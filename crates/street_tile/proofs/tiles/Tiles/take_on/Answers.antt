@@ -4,7 +4,6 @@ use Rattle.std.proofs.lemmas.Bool.{cases_Bool}
 use Rattle.street_base.specs.declared.net.NetSpec.{NetSpec}
 use Rattle.street_base.specs.State.{Traffic, lane_at}
 use Rattle.street_base.specs.Census.{in_lane, IsWhole}
-use Rattle.street_net.specs.Tables.{place_of}
 use Rattle.street_lanes.specs.Lanes.{IsLane}
 use Rattle.street_tile.specs.Commands.{without, DoesIf, HaveAtMostOne, WhereOnce}
 use Rattle.street_tile.specs.Tiles.{Part}
@@ -16,7 +15,7 @@ use Rattle.street_tile.proofs.tiles.Tiles.take_on.Goals as goal
 pub take_out_on-requires-clause-own : goal.take_out_on-requires-clause-own
 take_out_on-requires-clause-own c =
     let s = c.self.inside in
-    owns-here s.network.value c.deref.result.now s.tiles.items c.owner_of-i.result c.index_mut.result.now c.deref.ensures c.index_mut.ensures.value c.args.self.now c.args.at.link (place_of c.args.at) c.self.view_is c.owner_of-i.ensures.own refl
+    owns-here s.network.value c.deref.result.now s.tiles.items c.owner_of-i.result c.index_mut.result.now c.deref.ensures c.index_mut.ensures.value c.args.self.now c.args.at.link c.args.at c.self.view_is c.owner_of-i.ensures.own refl
 
 pub invariant_of-self : goal.invariant_of-self
 invariant_of-self c =
@@ -45,7 +44,7 @@ returns-clause-taken c = λ taken.
     let h = inside-seen net xs c.args.self.now i c.self.view_is c.owner_of-i.ensures.inside in
     let is = c.index_mut.ensures.value in
     let number = c.args.number in
-    let p = place_of c.args.at in
+    let p = c.args.at in
     let some : is_some c.take_out_on.result ≡ true = sym c.is_some.ensures ∙ taken in
     let lane : IsLane net p = subst (λ (v : TilesView). IsLane v.network p) (sym c.self.view_is) c.requires in
     let own = owns-any net c.deref.result.now xs i x c.deref.ensures is c.args.self.now c.args.at.link p c.self.view_is c.owner_of-i.ensures.own refl x in

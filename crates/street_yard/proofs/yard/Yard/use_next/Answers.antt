@@ -1,8 +1,8 @@
-use Rattle.std.proofs.Common.{◌<◌, ◌-◌, vec_len, length, arith}
+use Rattle.std.proofs.Common.{◌-◌, arith}
 use Rattle.std.specs.Prelude.{vec_capacity}
 use Rattle.std.proofs.lemmas.List.Sorted.{IsPermutation-swap}
 use Rattle.std.specs.List.Sorted.{IsPermutation}
-use Rattle.street_yard.proofs.Spare.{reordered-sound, reordered-seen}
+use Rattle.street_yard.proofs.Spare.{reordered-sound}
 use Rattle.street_yard.proofs.yard.Yard.use_next.Goals as goal
 
 moved : (c : goal.After-swap) → IsPermutation c.self.inside.spare.items c.swap.new.self.items

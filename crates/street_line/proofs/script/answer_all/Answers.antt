@@ -1,0 +1,13 @@
+use Rattle.street_stream.specs.Lines.{lines_of}
+use Rattle.street_line.proofs.Alone.{goes_desk}
+use Rattle.street_line.proofs.script.answer_all.Goals as goal
+
+pub returns-in-Ok-clause-desk : goal.returns-in-Ok-clause-desk
+returns-in-Ok-clause-desk g c =
+    let run = c.in-Ok.ensures.runs.served in
+    goes_desk c.args.session.now (lines_of run.text) run.out c.run_lines.new.service run.served
+
+pub returns-in-Err-clause-desk : goal.returns-in-Err-clause-desk
+returns-in-Err-clause-desk g c =
+    let breaks = c.in-Err.ensures.runs.broken.breaks in
+    goes_desk c.args.session.now breaks.done breaks.out c.run_lines.new.service breaks.served

@@ -1,0 +1,136 @@
+-- What the parser reads of the command, and what it finds, as rows.
+use Rattle.std.proofs.Common.{IfErr, Ok, Err, Result, inr, ◌≡◌, ◌∙◌, ◌≤◌, suc, List, [], ◌∷◌, Option, None, Some, All, IsSome, false, true, length, map, codes, is_some, option_map, true≢false, unwrap_or, vec_len, refl, sym, ap, subst, arith, append_assoc, append-nil}
+use Rattle.std.specs.Borrow.{Bor}
+use Rattle.clap.proofs.OnLiterals.{clap_on_literals}
+use Rattle.clap.specs.Words.{AddsArg, AddsInTurn, App, FailsBy, HasMatchesOf, Row, Rule, Text}
+use Rattle.clap.specs.Words.{app_of, fault_of, first_of, first_value, found_of, is_simple, is_simple_and_free, matched_of, matches_of, raw_values, rows_of, rule_of}
+use Rattle.clap.proofs.WalkLemmas.{first_value-rows, raw_values-rows}
+use Rattle.clap.specs.declared.error.Error.{Error}
+use Rattle.clap.specs.declared.error.kind.ErrorKind.{ErrorKind}
+use Rattle.clap.specs.declared.builder.arg.Arg.{Arg}
+use Rattle.clap.specs.declared.builder.command.Command.{Command}
+use Rattle.clap.specs.declared.parser.matches.ArgMatches.{ArgMatches}
+use Rattle.street_runs.specs.declared.words.Options.{Options}
+use Rattle.street_runs.specs.declared.words.WordsFault.{WordsFault}
+use Rattle.street_runs.specs.declared.words.WordsFault.TheVariants.{Bad, Help, Starved}
+use Rattle.street_runs.specs.Parser.{IsCountIfSaid, IsFit, IsFound, IsNumberOf, IsRefused, IsUnfit}
+use Rattle.street_runs.specs.Parser.{found_in, refusals_of, scripts_in, streetsim_app, with_rules}
+use Rattle.street_runs.specs.Words.{StandsTogether, TellsBad}
+
+-- a command to which arguments are added in turn has their rules behind its own
+pub rules_in_turn : (old : Command) (args : List Arg) (new : Command) → AddsInTurn AddsArg old args new → All (λ a. a.global ≡ false) args
+    → app_of new ≡ with_rules (app_of old) (map rule_of args)
+rules_in_turn old [] new same local = ap app_of (sym same) ∙ ap (λ (rules : List Rule). record (app_of old) { top = record (app_of old).top { rules = rules } }) (sym (append-nil (app_of old).top.rules))
+rules_in_turn old (a ∷ args) new (m, adds, more) local =
+    rules_in_turn m args new more (λ k d within. local (suc k) d (omega (arith, within)))
+    ∙ ap (λ (app : App). with_rules app (map rule_of args)) (adds.shape (local 0 a (omega arith)))
+    ∙ ap (λ (rules : List Rule). record (app_of old) { top = record (app_of old).top { rules = rules } }) (append_assoc (app_of old).top.rules (rule_of a ∷ []) (map rule_of args))
+
+-- ---- options and rows
+
+some_back : (o : Option (Bor Text)) → IsSome (option_map (λ s. s.now) o) → IsSome o
+some_back None h = h
+some_back (Some x) h = refl
+
+some_there : (o : Option (Bor Text)) → IsSome o → IsSome (option_map (λ s. s.now) o)
+some_there None h = h
+some_there (Some x) h = refl
+
+none_back : (o : Option (Bor Text)) → option_map (λ s. s.now) o ≡ None → o ≡ None
+none_back None e = refl
+none_back (Some x) e = absurd (true≢false (ap is_some e))
+
+length_of_texts : (xs : List (Bor Text)) → length (map (λ s. s.now) xs) ≡ length xs
+length_of_texts [] = refl
+length_of_texts (x ∷ xs) = ap suc (length_of_texts xs)
+
+none_of_texts : (xs : List (Bor Text)) → length xs ≡ 0 → map (λ s. s.now) xs ≡ []
+none_of_texts [] e = refl
+none_of_texts (x ∷ xs) e = absurd (omega arith)
+
+-- what the getters give is what the rows say
+pub first_row : (matches : ArgMatches) (name : Text) (value : Option Text) → value ≡ first_value (found_of matches) name
+    → value ≡ first_of name (rows_of (found_of matches))
+first_row matches name value is = is ∙ first_value-rows (found_of matches) name
+
+pub found_rows : (matches : ArgMatches) (found : Options) → IsNumberOf (first_of (codes "workers") (rows_of (found_of matches))) 1 found.workers
+    → IsNumberOf (first_of (codes "calls") (rows_of (found_of matches))) 65536 found.calls
+    → option_map (λ s. s.now) found.tape ≡ first_value (found_of matches) (codes "tape")
+    → option_map (λ s. s.now) found.replay ≡ first_value (found_of matches) (codes "replay")
+    → option_map (λ s. s.now) found.upgrade ≡ first_value (found_of matches) (codes "upgrade")
+    → map (λ s. s.now) found.scripts.items ≡ unwrap_or (option_map raw_values (matched_of (found_of matches) (codes "script"))) []
+    → IsFound (rows_of (found_of matches)) found
+found_rows matches found workers calls tape replay upgrade scripts = record {
+  workers = workers;
+  calls = calls;
+  tape = first_row matches (codes "tape") _ tape;
+  replay = first_row matches (codes "replay") _ replay;
+  upgrade = first_row matches (codes "upgrade") _ upgrade;
+  scripts = scripts ∙ ap (λ (o : Option (List Text)). unwrap_or o []) (raw_values-rows (found_of matches) (codes "script"));
+}
+
+-- words that are told bad are not fit
+pub bad_unfit : (kind : ErrorKind) (fault : WordsFault) (fit : Type 0) → TellsBad kind fault → (fit → ⊥) → IsUnfit fit fault
+bad_unfit kind (Bad error) fit bad unfit = unfit
+bad_unfit kind (Help error) fit bad unfit = bad
+bad_unfit kind Starved fit bad unfit = tt
+
+-- options that stand together are found in fit words
+pub fit : (rows : List Row) (found : Options) → vec_len found.scripts ≡ length found.scripts.items → IsFound rows found
+    → IsCountIfSaid 64 (first_of (codes "workers") rows) → IsCountIfSaid 1000000 (first_of (codes "calls") rows)
+    → StandsTogether found → vec_len found.scripts ≤ 1024 → IsFit rows
+fit rows found whole is workers calls stands few =
+    let many : length (scripts_in rows) ≡ vec_len found.scripts = sym (ap length is.scripts) ∙ length_of_texts found.scripts.items ∙ sym whole in
+    let none : vec_len found.scripts ≡ 0 → scripts_in rows ≡ [] = λ e. sym is.scripts ∙ none_of_texts found.scripts.items (sym whole ∙ e) in
+    record {
+      workers = workers;
+      calls = calls;
+      scripts = omega (arith, many, few);
+      replay = λ some. let alone = stands.replay (some_back found.replay (subst IsSome (sym is.replay) some)) in
+          (sym is.tape ∙ ap (option_map (λ s. s.now)) alone.0, none alone.1);
+      upgrade = λ some. let alone = stands.upgrade (some_back found.upgrade (subst IsSome (sym is.upgrade) some)) in
+          (sym is.tape ∙ ap (option_map (λ s. s.now)) alone.0, sym is.replay ∙ ap (option_map (λ s. s.now)) alone.1, none alone.2);
+    }
+
+-- and options that are found in fit words stand together
+pub stands : (rows : List Row) (found : Options) → vec_len found.scripts ≡ length found.scripts.items → IsFound rows found → IsFit rows → StandsTogether found
+stands rows found whole is fits =
+    let none : scripts_in rows ≡ [] → vec_len found.scripts ≡ 0 = λ e. whole ∙ sym (length_of_texts found.scripts.items) ∙ ap length (is.scripts ∙ e) in
+    record {
+      replay = λ some. let alone = fits.replay (subst IsSome is.replay (some_there found.replay some)) in
+          (none_back found.tape (is.tape ∙ alone.0), none alone.1);
+      upgrade = λ some. let alone = fits.upgrade (subst IsSome is.upgrade (some_there found.upgrade some)) in
+          (none_back found.tape (is.tape ∙ alone.0), none_back found.replay (is.replay ∙ alone.1), none alone.2);
+    }
+
+pub few : (rows : List Row) (found : Options) → vec_len found.scripts ≡ length found.scripts.items → IsFound rows found → IsFit rows → vec_len found.scripts ≤ 1024
+few rows found whole is fits = omega (arith, whole, length_of_texts found.scripts.items, ap length is.scripts, fits.scripts)
+
+-- ---- a parse
+
+plain : is_simple streetsim_app ≡ true
+unfolding clap_on_literals
+plain = refl
+
+free : is_simple_and_free streetsim_app ≡ true
+unfolding clap_on_literals
+free = refl
+
+-- the parser's rules speak of the command
+pub found : (app : App) (words : List Text) (matches : ArgMatches) → app ≡ streetsim_app → HasMatchesOf app words matches → rows_of (found_of matches) ≡ found_in words
+found app words matches is has = (has (ap is_simple is ∙ plain)).0 ∙ ap (λ (a : App). matches_of a words) is
+
+pub refused : (app : App) (words : List Text) (parse : Result ArgMatches Error) → app ≡ streetsim_app
+    → (is_simple_and_free app ≡ true → FailsBy (fault_of app words) parse) → FailsBy (refusals_of words) parse
+refused app words parse is fails = subst (λ (a : App). FailsBy (fault_of a words) parse) is (fails (ap is_simple_and_free is ∙ free))
+
+unfit_refused : (words : List Text) (rows : List Row) (fault : WordsFault) → refusals_of words ≡ [] → rows ≡ found_in words
+    → IsUnfit (IsFit rows) fault → IsRefused words fault
+unfit_refused words rows (Bad error) taken same unfit = inr (taken, λ fits. unfit (subst IsFit (sym same) fits))
+unfit_refused words rows (Help error) taken same unfit = absurd unfit
+unfit_refused words rows Starved taken same unfit = tt
+
+pub options_refused : (words : List Text) (rows : List Row) (result : Result Options WordsFault) → refusals_of words ≡ [] → rows ≡ found_in words
+    → IfErr result (IsUnfit (IsFit rows)) → IfErr result (IsRefused words)
+options_refused words rows (Ok options) taken same unfit = tt
+options_refused words rows (Err fault) taken same unfit = unfit_refused words rows fault taken same unfit

@@ -1,0 +1,103 @@
+-- What the parser makes of the words of the command line, by its own rules.
+-- Source: this profile.
+use Rattle.std.specs.Prelude.{◌≡◌, ◌≤◌, ◌⊎◌, ◌++◌, ℕ, List, [], ◌∷◌, Option, None, Some, codes, length, option_map, IsSome, unwrap_or, map, ⊤}
+use Rattle.std.specs.Str.Parse.{IsNumeral, digits_value, without_leading_plus}
+use Rattle.clap.specs.Lexer.{usize_max}
+use Rattle.clap.specs.Words.{App, IsAmong, Kinds, Row, Rule, Text, all_of, fault_of, first_of, kind_of, matches_of, new_app, new_rule}
+use Rattle.clap.specs.declared.builder.action.ArgAction.TheVariants.{Append, Set}
+use Rattle.clap.specs.declared.error.kind.ErrorKind.TheVariants.{DisplayHelp}
+use Rattle.street_runs.specs.declared.words.Options.{Options}
+use Rattle.street_runs.specs.declared.words.WordsFault.{WordsFault}
+use Rattle.street_runs.specs.declared.words.WordsFault.TheVariants.{Bad, Help, Starved}
+
+-- ---- the command
+
+-- an option with one value
+abbrev pub option_rule : Text → Rule
+option_rule name = record (new_rule name) { long = Some name; action = Some Set; value_names = 1 }
+
+-- the scripts, of which there may be any number
+abbrev pub script_rule : Rule
+script_rule = record (new_rule (codes "script")) {
+  action = Some Append;
+  range = Some (record { start_inclusive = 0; end_inclusive = usize_max });
+  value_names = 1;
+}
+
+-- the options, and then the scripts
+abbrev pub streetsim_rules : List Rule
+streetsim_rules = option_rule (codes "workers") ∷ option_rule (codes "calls") ∷ option_rule (codes "tape") ∷ option_rule (codes "replay")
+    ∷ option_rule (codes "upgrade") ∷ script_rule ∷ []
+
+-- a command that has more arguments
+abbrev pub with_rules : App → List Rule → App
+with_rules app rules = record app { top = record app.top { rules = app.top.rules ++ rules } }
+
+-- all that a parse reads of the command `streetsim`
+abbrev pub streetsim_app : App
+streetsim_app = with_rules (new_app (codes "streetsim")) streetsim_rules
+
+-- ---- what it finds
+
+-- what the parser finds in these words, the first of which is the program's name
+abbrev pub found_in : List Text → List Row
+found_in = matches_of streetsim_app
+
+-- why it refuses them: no kind where it takes them
+abbrev pub refusals_of : List Text → Kinds
+refusals_of = fault_of streetsim_app
+
+-- the scripts that it found, in their order
+abbrev pub scripts_in : List Row → List Text
+scripts_in rows = unwrap_or (all_of (codes "script") rows) []
+
+-- a number that may have a plus before it, from 1 to `most`
+abbrev pub IsCount : ℕ → Text → Type 0
+IsCount most word = IsNumeral 10 (without_leading_plus word) × (1 ≤ digits_value 10 (without_leading_plus word))
+    × (digits_value 10 (without_leading_plus word) ≤ most)
+
+-- where the option is used its word is such a number
+abbrev pub IsCountIfSaid : ℕ → Option Text → Type 0
+IsCountIfSaid most None = ⊤
+IsCountIfSaid most (Some word) = IsCount most word
+
+-- what was found is fit: the numbers are in their ranges, and the options stand together
+pub record IsFit (rows : List Row) : Type 0 where
+  pub workers : IsCountIfSaid 64 (first_of (codes "workers") rows)
+  pub calls : IsCountIfSaid 1000000 (first_of (codes "calls") rows)
+  pub scripts : length (scripts_in rows) ≤ 1024
+  pub replay : IsSome (first_of (codes "replay") rows) → (first_of (codes "tape") rows ≡ None) × (scripts_in rows ≡ [])
+  pub upgrade : IsSome (first_of (codes "upgrade") rows)
+      → (first_of (codes "tape") rows ≡ None) × (first_of (codes "replay") rows ≡ None) × (scripts_in rows ≡ [])
+
+-- the number of an option: what its word says in decimal digits, or the default where the option is not used
+abbrev pub IsNumberOf : Option Text → ℕ → ℕ → Type 0
+IsNumberOf None default n = n ≡ default
+IsNumberOf (Some word) default n = n ≡ digits_value 10 (without_leading_plus word)
+
+-- the options are those that were found
+pub record IsFound (rows : List Row) (found : Options) : Type 0 where
+  pub workers : IsNumberOf (first_of (codes "workers") rows) 1 found.workers
+  pub calls : IsNumberOf (first_of (codes "calls") rows) 65536 found.calls
+  pub tape : option_map (λ s. s.now) found.tape ≡ first_of (codes "tape") rows
+  pub replay : option_map (λ s. s.now) found.replay ≡ first_of (codes "replay") rows
+  pub upgrade : option_map (λ s. s.now) found.upgrade ≡ first_of (codes "upgrade") rows
+  pub scripts : map (λ s. s.now) found.scripts.items ≡ scripts_in rows
+
+-- there are options: the parser takes the words, and what it finds is fit
+pub record IsAsked (words : List Text) (found : Options) : Type 0 where
+  pub taken : refusals_of words ≡ []
+  pub fit : IsFit (found_in words)
+  pub is : IsFound (found_in words) found
+
+-- what was found is not fit, or memory ran out
+abbrev pub IsUnfit : Type 0 → WordsFault → Type 0
+IsUnfit fit (Bad error) = fit → ⊥
+IsUnfit fit (Help error) = ⊥
+IsUnfit fit Starved = ⊤
+
+-- there are none: the parser refuses the words, as it does where they ask for help, or takes them and finds what is not fit, or memory ran out
+abbrev pub IsRefused : List Text → WordsFault → Type 0
+IsRefused words (Bad error) = IsAmong (kind_of error) (refusals_of words) ⊎ ((refusals_of words ≡ []) × (IsFit (found_in words) → ⊥))
+IsRefused words (Help error) = IsAmong DisplayHelp (refusals_of words)
+IsRefused words Starved = ⊤

@@ -1,0 +1,14 @@
+use Rattle.std.proofs.Common.{◌≡◌, ◌≤◌, length}
+use Rattle.street_base.specs.State.{Traffic}
+use Rattle.street_lanes.specs.Lanes.{Same, IsOf}
+use Rattle.street_lanes.specs.Whole.{IsOn, LanesStand}
+use Rattle.street_tile.specs.Tiles.{IsRoads, ArePairs}
+use Rattle.street_tile.proofs.TileChanges.{ChangedTo}
+use Rattle.street_tile.proofs.change.change_lanes.Given as goal
+
+abbrev pub invariant-loop-n : goal.invariant-loop-n
+invariant-loop-n l = record {
+  same : Same l.fn.own l.own;
+  room : l.fn.own.room ≤ l.own.room;
+  done : (m : Traffic) (on : IsOn l.net m) (roads : IsRoads l.net) (of : IsOf l.net l.fn.own) (pairs : ArePairs l.net l.fn.own.places) (even : length l.fn.own.lanes ≡ length l.fn.own.places) (stand : LanesStand l.fn.own.places l.fn.own.lanes m) → m.clock ≡ l.clock → ChangedTo l.net m on roads l.fn.own of pairs even stand l.n l.own;
+}

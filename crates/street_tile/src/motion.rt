@@ -1,0 +1,105 @@
+//! Motion on a tile's own lanes.
+//!
+//! Source: the order of the phases is this profile.
+ghost use Rattle.std.specs.Prelude.{◌≡◌, [], ◌+◌, ◌*◌, ◌<◌, ◌≤◌, length, false, vec_len, vec_capacity, Some};
+ghost use Rattle.street_base.specs.Limits.{last_clock};
+ghost use Rattle.street_lanes.specs.Lanes.{IsOf, lane_of, place_at};
+ghost use Rattle.street_tile.specs.Tiles.{IsTileOf, IsBare};
+ghost use Rattle.street_tile.specs.Phases.{MotionPhase};
+ghost use Rattle.street_tile.specs.Motion.{HasPlanFor, DrivesLane, WatchesLane, MayDrive, DrivesLanes, WatchLanes, ShowLanes};
+
+use crate::tile::Tile;
+use street_base::{CarNo, Step};
+use street_lanes::{Detectors, Lanes};
+use street_net::{Network, slot};
+use street_node::{Signal, SignalPlan};
+
+/// What motion on a tile's lanes reads of the step.
+#[derive(Clone, Copy)]
+pub(crate) struct MotionStep<'a> {
+    pub(crate) net: &'a Network,
+    pub(crate) clock: Step,
+    /// Whether a detector was ever placed in the tile. While none was, none is looked at.
+    pub(crate) has_meters: bool,
+    /// The first of the tile's nodes.
+    pub(crate) low: usize,
+    /// The signal plans of the tile's nodes, from `low` on.
+    pub(crate) signals: &'a [Option<SignalPlan>],
+}
+
+/// Motion on lane `n`, by the signal plan of the node that its link runs to. The lane's detectors watch. Answers who arrived.
+fn drive_lane(
+    own: &mut Lanes,
+    detectors: &mut Detectors,
+    step: &MotionStep<'_>,
+    n: usize,
+) -> Option<CarNo>
+    requires lane { n < length own.old.lanes }
+    requires of { IsOf step.now.net.now own.old }
+    requires in_time { step.now.clock ≤ last_clock }
+    requires node { HasPlanFor step.now (place_at own.old n) }
+    requires size { detectors.old.size ≡ length (lane_of own.old n).track.cells }
+    requires bare { step.now.has_meters ≡ false → IsBare detectors.old }
+    ensures drives { DrivesLane step.now n own.old own.new result }
+    ensures watches { WatchesLane step.now n own.old detectors.old detectors.new }
+{
+    let node = step.net.end_of(own.at(n).link);
+    let signal = Signal::new(step.signals, node.position() - step.low);
+    if step.has_meters {
+        own.drive_watched(step.net, n, step.clock, &signal, detectors)
+    } else {
+        own.drive(step.net, n, step.clock, &signal)
+    }
+}
+
+/// Motion on each of these lanes, which their detectors watch. The numbers of those who arrived are added to `arrived`, and
+/// of each lane, while it is at hand, the list of mouths gets whether its cell 0 is free.
+fn drive_lanes(
+    own: &mut Lanes,
+    detectors: &mut [Detectors],
+    step: &MotionStep<'_>,
+    arrived: &mut Vec<CarNo>,
+    mouths: &mut [bool],
+)
+    requires ready { MayDrive step.now own.old detectors.old }
+    requires room { vec_len arrived.old + length own.old.places ≤ vec_capacity arrived.old }
+    requires wide { length mouths.old ≡ 2 * length step.now.net.now.links }
+    ensures drives { DrivesLanes step.now own.old own.new arrived.old.items arrived.new.items }
+    ensures watches { WatchLanes step.now own.old detectors.old detectors.new }
+    ensures capacity { vec_capacity arrived.old ≤ vec_capacity arrived.new }
+    ensures shown { ShowLanes own.new mouths.new }
+{
+    for n in 0..own.len() {
+        let at = own.at(n);
+        if let Some(number) = drive_lane(own, &mut detectors[n], step, n) {
+            arrived.push_reserved(number);
+        }
+        mouths[slot(at.link, at.lane)] = own.is_open(n);
+    }
+}
+
+impl Tile {
+    /// Motion on each own lane, seen by its detectors; the tile then holds the numbers of those who arrived, and of each own
+    /// lane whether its cell 0 is empty and not closed. Takes no memory.
+    pub fn phase_motion(&mut self, net: &Network)
+        requires tile { IsTileOf net.now self.old }
+        requires none { self.old.arrived ≡ [] }
+        requires in_time { self.old.clock < last_clock }
+        ensures { MotionPhase net.now self.old self.new }
+    {
+        let step = MotionStep {
+            net,
+            clock: self.clock,
+            has_meters: self.has_meters,
+            low: self.low,
+            signals: &self.signals,
+        };
+        drive_lanes(
+            &mut self.own,
+            &mut self.detectors,
+            &step,
+            &mut self.arrived,
+            &mut self.mouths,
+        );
+    }
+}
