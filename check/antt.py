@@ -6,9 +6,11 @@ A tree is a tuple whose first part says what it is:
     ("list", [tree, ..], tree)   the first elements, and the rest or None for []
     ("operator", text, tree, tree, line)                          ("function", [name, ..], tree)    for λ
     ("choice", tree, tree, tree) ("naming", name, tree, tree)     for `if` and for `let`
-    ("record", tree or None, [(field, tree), ..])                 ("quantified", [name, ..], type, tree, line)    for all or some of a type
+    ("record", tree or None, [(field, tree), ..])
+    ("quantified", [name, ..], type, tree, line)                  for all or some of a type
 
-Operators bind as the kit declares them (LEVELS); application binds closest. What is not understood is refused by file and line.
+Operators bind as the kit declares them (LEVELS); application binds closest.
+What is not understood is refused by file and line.
 """
 import re
 from dataclasses import dataclass, field
@@ -16,9 +18,10 @@ from pathlib import Path
 
 # How closely an operator binds, and whether it associates to the left, to the right, or not at all.
 LEVELS = {
-    "^": (75, "right"), "*": (70, "left"), "/": (70, "left"), "%": (70, "left"), "∷": (67, "right"), "+": (65, "left"), "-": (65, "left"),
-    "++": (65, "left"), "with": (60, "left"), "<": (50, "none"), "≤": (50, "none"), "==": (40, "none"), "&&": (35, "left"), "||": (30, "left"),
-    "≡": (4, "none"), "≢": (4, "none"), "×": (2, "right"), "⊎": (1, "right"), "→": (0, "right"),
+    "^": (75, "right"), "*": (70, "left"), "/": (70, "left"), "%": (70, "left"), "∷": (67, "right"), "+": (65, "left"),
+    "-": (65, "left"), "++": (65, "left"), "with": (60, "left"), "<": (50, "none"), "≤": (50, "none"),
+    "==": (40, "none"), "&&": (35, "left"), "||": (30, "left"), "≡": (4, "none"), "≢": (4, "none"), "×": (2, "right"),
+    "⊎": (1, "right"), "→": (0, "right"),
 }
 TOKEN = re.compile(
     r'"[^"]*"|\d+|==|\+\+|\|\||&&|[λ∷×→≡≢≤<⊤⊥⊎ℕℤ(){}\[\],;:=]|[-+*/%^]|◌[^\s◌:]+◌(?:[^\s◌:]+◌)?'
@@ -56,11 +59,13 @@ class Definition:
 
 @dataclass
 class Source:
-    """A file: what its words stand for (by `use`), its definitions, its statements, and its records with parameters."""
+    """A file: what its words stand for (by `use`), what it passes on (by `pub use`), its definitions, its statements,
+    and its records with parameters."""
 
     path: Path
     title: str
     used: dict = field(default_factory=dict)
+    passed_on: dict = field(default_factory=dict)
     definitions: dict = field(default_factory=dict)
     statements: dict = field(default_factory=dict)
     records: dict = field(default_factory=dict)
@@ -114,6 +119,8 @@ def read_file(path, title):
             shared = parameters(tokens)
         elif words[0] == "use":
             source.used.update(used_words(text, f"{title} line {line}"))
+        elif words[:2] == ["pub", "use"] or words[:3] == ["unfoldable", "pub", "use"]:
+            source.passed_on.update(used_words(text[text.index("use "):], f"{title} line {line}"))
         elif words[0] in ("abbrev", "unfoldable") or words[0] == "pub" and words[1] not in ("record", "data", "mod"):
             current = signature(tokens, shared, module if shared else 0)
             kept = source.definitions if words[0] != "pub" else source.statements
@@ -177,7 +184,8 @@ def signature(tokens, shared, module):
 
 
 def add_type(source, tokens, words):
-    """A record with parameters states that all its fields hold; a `data` has constructors; of others nothing is kept."""
+    """A record with parameters states that all its fields hold; a `data` has constructors;
+    of others nothing is kept."""
     if words[1] == "data":
         source.constructors |= {tokens[at - 1].text for at, word in enumerate(words) if word == ":" and at > 3}
     if words[1] == "record" and words[3] == "(":

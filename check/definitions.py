@@ -5,7 +5,8 @@
     check/definitions.py serve < LINES    serves a session from nothing loaded, as the program does
     check/definitions.py words            lists which words of which files are evaluated, and which are not
 
-`--top FOLDER` names another repository, or a copy of its folder `crates`. What is not understood is refused by file and line.
+`--top FOLDER` names another repository, or a copy of its folder `crates`. \
+What is not understood is refused by file and line.
 """
 import argparse
 import sys
@@ -36,7 +37,8 @@ def without_end(line):
 
 @dataclass
 class Served:
-    """The reply to each line of a session, none for a blank one; the calls that were made, the reply to each, and the state that they leave."""
+    """The reply to each line of a session, none for a blank one; the calls that were made, the reply to each,
+    and the state that they leave."""
 
     replies: list
     calls: list
@@ -58,7 +60,8 @@ class Definitions:
     def serve(self, lines, most=65536):
         """What a session gives from nothing loaded; a command after `most` calls has no place."""
         said, served_line = self.word(RUNNING, "said"), self.word(RUNNING, "served_line")
-        fault_line, entry = self.word("street_text.specs.FaultLines", "fault_line"), self.word("street_desk.specs.History", "entry")
+        fault_line = self.word("street_text.specs.FaultLines", "fault_line")
+        entry = self.word("street_desk.specs.History", "entry")
         served = Served([], [], [], NONE)
         for line in lines:
             what = said(list(line))
@@ -105,14 +108,18 @@ class Definitions:
 
     def count(self, state):
         """The reply to a count, with which a replay ends."""
-        return without_end(self.word("street_text.specs.ReplyLines", "reply_line")(self.call(state, Variant("Command.Count"))[0]))
+        return without_end(
+            self.word("street_text.specs.ReplyLines", "reply_line")(self.call(state, Variant("Command.Count"))[0])
+        )
 
     # ---- rows
 
     def row_files(self):
         """The paths of all files of worked rows: they begin with these words."""
         crates = self.program.top / "crates"
-        files = [file for file in sorted(crates.glob("*/proofs/**/*.antt")) if file.read_text().startswith("-- Worked rows")]
+        files = [
+            file for file in sorted(crates.glob("*/proofs/**/*.antt")) if file.read_text().startswith("-- Worked rows")
+        ]
         return [".".join(file.relative_to(crates).with_suffix("").parts) for file in files]
 
     def rows(self):
@@ -150,7 +157,10 @@ class Definitions:
         """Values for the names of a statement, by their type."""
         _, names, kind, _, line = tree
         loaded = self.word("street_base.specs.Machine", "loaded")(self.word(STATES, "two_links"))
-        known = {"ℕ": [0, 1, 7], "Traffic": [loaded], "State": [NONE, some(loaded)], "List ℕ": [[], [10]], "List GreenSpec": [[GREEN]]}
+        known = {
+            "ℕ": [0, 1, 7], "Traffic": [loaded], "State": [NONE, some(loaded)], "List ℕ": [[], [10]],
+            "List GreenSpec": [[GREEN]],
+        }
         word = kind[1] if kind[0] == "name" else f"{kind[1][1]} {kind[2][0][1]}" if kind[0] == "apply" else None
         if word not in known:
             raise Refused(f"{path} line {line}: no samples of this type")

@@ -1,24 +1,28 @@
-"""Makes random sessions: a small network, and commands of all twelve kinds, many of them good, some refused, some no commands at all."""
+"""Makes random sessions: a small network, and commands of all twelve kinds, many of them good, some refused,
+some no commands at all."""
 import json
 import random
 
-# Bounds of a load: part, position of the number in an entry (none for a value), a good number at the bound, bad ones beyond it.
+# Bounds of a load: part, position of the number in an entry (none for a value),
+# a good number at the bound, bad ones beyond it.
 BOUNDS = [
     ("nodes", 0, 4294967295, [4294967296]), ("nodes", 1, 60, [0, 61]), ("nodes", 2, 64, [0, 65]),
-    ("links", 0, 4294967295, [4294967296]), ("links", 1, None, [99]), ("links", 2, None, [99]), ("links", 3, None, [0, 3]),
-    ("links", 4, None, [0, 1000001]), ("links", 5, None, [0, 6]),
-    ("turns", 0, None, [99]), ("turns", 1, None, [2]), ("turns", 2, None, [99]), ("turns", 3, None, [2]),
-    ("zone", None, 1000, [1001]), ("dawdle", None, 1000, [1001]), ("change", None, 1000, [1001]), ("start", None, 10 ** 9, [10 ** 9 + 1]),
+    ("links", 0, 4294967295, [4294967296]), ("links", 1, None, [99]), ("links", 2, None, [99]),
+    ("links", 3, None, [0, 3]), ("links", 4, None, [0, 1000001]), ("links", 5, None, [0, 6]), ("turns", 0, None, [99]),
+    ("turns", 1, None, [2]), ("turns", 2, None, [99]), ("turns", 3, None, [2]), ("zone", None, 1000, [1001]),
+    ("dawdle", None, 1000, [1001]), ("change", None, 1000, [1001]), ("start", None, 10 ** 9, [10 ** 9 + 1]),
 ]
 # What may stand in a field where a number is wanted, and is none, or makes the line no JSON.
 NO_NUMBERS = [
-    "-1", "-0", "1.0", "1e3", "18446744073709551616", '"7"', "null", "true", "[1]", "{}", "01", "+1", "NaN", "1e999", "", "18446744073709551615",
+    "-1", "-0", "1.0", "1e3", "18446744073709551616", '"7"', "null", "true", "[1]", "{}", "01", "+1", "NaN", "1e999",
+    "", "18446744073709551615",
 ]
 # Lines that are no command, or are blank; or are `count` in another dress.
 ODD_LINES = [
-    b"", b" ", b"\t \r", b"advance", b"[]", b"{}", b"null", b'"count"', b'{"cmd":"stop"}', b'{"cmd":7}', b'{"cmd":"Count"}', b'{"cmd":"count"',
-    b'{"cmd":"count"} x', b'\xef\xbb\xbf{"cmd":"count"}', b'{"cmd":"count","x":"\xff"}', b'{"cmd":"count","x":"\\ud800"}',
-    b'{"cmd":"count","x":"\\ud83d\\ude00"}', b'{"cmd":"count","x":1e999}', b'{"cmd":"count","x":[1,]}', b'{"cmd":"count","x":"a\tb"}',
+    b"", b" ", b"\t \r", b"advance", b"[]", b"{}", b"null", b'"count"', b'{"cmd":"stop"}', b'{"cmd":7}',
+    b'{"cmd":"Count"}', b'{"cmd":"count"', b'{"cmd":"count"} x', b'\xef\xbb\xbf{"cmd":"count"}',
+    b'{"cmd":"count","x":"\xff"}', b'{"cmd":"count","x":"\\ud800"}', b'{"cmd":"count","x":"\\ud83d\\ude00"}',
+    b'{"cmd":"count","x":1e999}', b'{"cmd":"count","x":[1,]}', b'{"cmd":"count","x":"a\tb"}',
     b'{"cmd":"count","cmd":"stop"}', b'{"cmd":"stop","cmd":"count"}', b'{"\\u0063md":"count"}',
     b'{"cmd":"count","x":' + b"[" * 126 + b"]" * 126 + b"}", b'{"cmd":"count","x":' + b"[" * 127 + b"]" * 127 + b"}",
     b" \t{ \"cmd\" : \"count\" , \"x\" : -1.5e-3 }\r",
@@ -64,7 +68,9 @@ class Maker:
         links = []
         for name in self.random.sample(range(1, 60), self.pick(1, 1, 2, 3, 4, 5, 6)):
             cells = self.pick(1, 2, 4, 8, 12, 16, 20, self.random.randint(3, 24))
-            links.append([name, self.pick(*ids), self.pick(*ids), self.pick(1, 2, 2), cells, self.pick(1, 2, 3, 5, 5, 5)])
+            links.append(
+                [name, self.pick(*ids), self.pick(*ids), self.pick(1, 2, 2), cells, self.pick(1, 2, 3, 5, 5, 5)]
+            )
         nodes = [[name, self.pick(1, 1, 2, 3, self.random.randint(1, 6)), self.pick(1, 1, 2, 3, 6)] for name in ids]
         self.load = {
             "cmd": "load", "nodes": nodes, "links": links, "turns": self.turns_of(links),
@@ -78,7 +84,12 @@ class Maker:
     def turns_of(self, links):
         """Most of the turns that a network may have, in any order."""
         turns = [
-            [a[0], lane, b[0], self.random.randrange(b[3])] for a in links for b in links if a[2] == b[1] for lane in range(a[3]) if self.some(.65)
+            [a[0], lane, b[0], self.random.randrange(b[3])]
+            for a in links
+            for b in links
+            if a[2] == b[1]
+            for lane in range(a[3])
+            if self.some(.65)
         ]
         self.random.shuffle(turns)
         return turns
@@ -102,7 +113,10 @@ class Maker:
 
     def one(self):
         """One command more, or a few that belong together."""
-        kinds = [self.enter, self.advance, self.close, self.take_out, self.signal, self.meter, self.read, self.vehicle, self.lane, self.count, self.odd]
+        kinds = [
+            self.enter, self.advance, self.close, self.take_out, self.signal, self.meter, self.read, self.vehicle,
+            self.lane, self.count, self.odd,
+        ]
         self.random.choices([*kinds, self.load_again], [26, 30, 8, 4, 7, 5, 4, 6, 4, 2, 6, .5])[0]()
 
     def link(self):
@@ -118,7 +132,11 @@ class Maker:
         for _ in range(self.pick(1, 1, 2, 3)):
             if first:
                 lane = self.lane_of(first[0])
-            depart = self.pick(0, self.clock, self.clock, self.clock + self.random.randint(0, 8)) if self.some(.98) else self.pick(10 ** 9, 10 ** 9 + 1)
+            depart = (
+                self.pick(0, self.clock, self.clock, self.clock + self.random.randint(0, 8))
+                if self.some(.98)
+                else self.pick(10 ** 9, 10 ** 9 + 1)
+            )
             size = self.pick(1, 1, 2, 3, 4) if self.some(.97) else self.pick(0, 5, 2 ** 64 - 1)
             command = {"cmd": "enter", "plan": plan, "lane": lane, "depart": depart, "size": size}
             if size == 1 and self.some(.5):
@@ -161,8 +179,17 @@ class Maker:
 
     def close(self):
         link = self.link()
-        first, last = sorted(self.random.randint(0, link[4] - 1) for _ in range(2)) if self.some(.9) else self.random.choices(range(link[4] + 1), k=2)
-        self.say({"cmd": self.pick("close", "close", "reopen"), "link": link[0], "lane": self.lane_of(link), "first": first, "last": last})
+        first, last = (
+            sorted(self.random.randint(0, link[4] - 1) for _ in range(2))
+            if self.some(.9)
+            else self.random.choices(range(link[4] + 1), k=2)
+        )
+        self.say(
+            {
+                "cmd": self.pick("close", "close", "reopen"), "link": link[0], "lane": self.lane_of(link),
+                "first": first, "last": last,
+            }
+        )
 
     def load_again(self):
         self.say(self.load)

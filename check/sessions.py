@@ -5,8 +5,10 @@
     check/sessions.py --seconds 3600 --first 1000000
     check/sessions.py --file SESSION.jsonl        one session from a file
 
-The program serves each session with 1, 3 and 64 workers, writes its tape and replays it. The first session in which anything differs is made
-small and printed as lines to paste; the status is then 1. `--program PATH` names the program, and `--top FOLDER` another repository's definitions.
+The program serves each session with 1, 3 and 64 workers, writes its tape and replays it. \
+The first session in which anything differs is made
+small and printed as lines to paste; the status is then 1. \
+`--program PATH` names the program, and `--top FOLDER` another repository's definitions.
 """
 import argparse
 import concurrent.futures
@@ -36,7 +38,8 @@ BATCH = 100
 
 @dataclass
 class Difference:
-    """What differs in a session: the words of the command line, and those of a second run if it is that one's; to which line; what is wanted."""
+    """What differs in a session: the words of the command line, and those of a second run if it is that one's;
+    to which line; what is wanted."""
 
     lines: list
     words: list
@@ -70,7 +73,8 @@ class Comparison:
         return Difference(lines, [*places, "--tape", "FILE"], *found) if found else None
 
     def run(self, words, text=b""):
-        """The lines that the program writes; its status and what it says of it stand behind them where the status is not 0."""
+        """The lines that the program writes; its status and what it says of it stand behind them
+        where the status is not 0."""
         done = subprocess.run([self.program, *words], input=text, capture_output=True, timeout=60, check=False)
         ended = b"" if done.returncode == 0 else b"status %d: %s\n" % (done.returncode, done.stderr.strip())
         return (done.stdout + ended).split(b"\n")
@@ -87,11 +91,14 @@ class Comparison:
         """Whether the tape is replayed to the replies of its calls and a count."""
         words = ["--workers", "3", "--replay"]
         entries = tape.read_bytes().split(b"\n")[1:]
-        found = first_difference(entries, [*served.answers, self.definitions.count(served.state)], self.run([*words, tape]))
+        found = first_difference(
+            entries, [*served.answers, self.definitions.count(served.state)], self.run([*words, tape])
+        )
         return found and ([*words, "FILE"], *found, [])
 
     def of_changed_tape(self, lines, tape):
-        """Of a quarter of the sessions: whether the tape with changes made at random is replayed as defined, or refused at its bad line."""
+        """Of a quarter of the sessions: whether the tape with changes made at random is replayed as defined,
+        or refused at its bad line."""
         if len(lines) % 4:
             return None
         entries = tape.read_bytes().split(b"\n")[:-1]
@@ -127,7 +134,8 @@ def first_difference(lines, wanted, got):
 
 
 def shorter(lines):
-    """Shorter sessions: without a half, a quarter and so on of the lines, without one line, and with one entry less in a list of a line."""
+    """Shorter sessions: without a half, a quarter and so on of the lines, without one line,
+    and with one entry less in a list of a line."""
     size = len(lines) // 2
     while size > 0:
         for at in range(0, len(lines), size):
@@ -157,7 +165,11 @@ def shown(difference):
         parts += ["cat >FILE <<'END'", *difference.tape, "END"]
     if difference.then:
         parts.append(f"./streetsim {' '.join(difference.then)}" if difference.then[0][0] == "-" else difference.then[0])
-    parts += ["to the line:     " + plain(difference.line), "the definitions: " + plain(difference.wanted), "the program:     " + plain(difference.got)]
+    parts += [
+        "to the line:     " + plain(difference.line),
+        "the definitions: " + plain(difference.wanted),
+        "the program:     " + plain(difference.got),
+    ]
     return "\n".join(map(plain, parts))
 
 
@@ -184,9 +196,12 @@ def fault_of_seed(seed):
 
 
 def compare(program, top, seeds, until=None):
-    """Compares the sessions of these seeds, until a time if one is given: how many sessions and lines, and the first fault shown, or none."""
+    """Compares the sessions of these seeds, until a time if one is given: how many sessions and lines,
+    and the first fault shown, or none."""
     sessions = lines = 0
-    with concurrent.futures.ProcessPoolExecutor(len(os.sched_getaffinity(0)), initializer=start_worker, initargs=(program, top)) as pool:
+    with concurrent.futures.ProcessPoolExecutor(
+        len(os.sched_getaffinity(0)), initializer=start_worker, initargs=(program, top)
+    ) as pool:
         for start in range(0, len(seeds), BATCH):
             batch = seeds[start:start + BATCH]
             for seed, (fault, count) in zip(batch, pool.map(fault_of_seed, batch)):
@@ -216,7 +231,10 @@ def main():
     sessions, lines, fault = compare(words.program, words.top, range(words.first, words.first + count), until)
     if fault:
         print(fault)
-    print(f"{sessions} sessions of {lines} lines, {time.monotonic() - start:.0f} s: {'one differs' if fault else 'no difference'}")
+    print(
+        f"{sessions} sessions of {lines} lines, {time.monotonic() - start:.0f} s: "
+        f"{'one differs' if fault else 'no difference'}"
+    )
     return 1 if fault else 0
 
 

@@ -1,4 +1,5 @@
-"""The sessions that the repository keeps with their replies: those of LINES.md, and each `.jsonl` with a `.out` beside it."""
+"""The sessions that the repository keeps with their replies: those of LINES.md,
+and each `.jsonl` with a `.out` beside it."""
 import json
 import re
 
@@ -16,7 +17,8 @@ def stored_sessions():
     for folder in FOLDERS:
         for script in sorted((TOP / folder).glob("*.jsonl")):
             if script.with_suffix(".out").exists():
-                lines, replies = script.read_bytes().split(b"\n")[:-1], script.with_suffix(".out").read_bytes().split(b"\n")[:-1]
+                lines = script.read_bytes().split(b"\n")[:-1]
+                replies = script.with_suffix(".out").read_bytes().split(b"\n")[:-1]
                 found.append((f"{folder}/{script.name}", lines, replies))
     return found
 
@@ -29,17 +31,21 @@ def page():
 def session_and_tape_of_page():
     """The lines of the example whose tape stands on the page, and this tape."""
     tape = re.search(r'^```\n(\{[^\n]*"tape":.*?)^```', page(), re.MULTILINE | re.DOTALL)[1].encode()
-    script = next(TOP / folder / "one-vehicle.jsonl" for folder in FOLDERS if (TOP / folder / "one-vehicle.jsonl").exists())
+    script = next(
+        TOP / folder / "one-vehicle.jsonl" for folder in FOLDERS if (TOP / folder / "one-vehicle.jsonl").exists()
+    )
     return script.read_bytes().split(b"\n")[:-1], tape
 
 
 def sessions_of_page(text):
-    """The sessions of a page: in each of its sections the blocks marked so together, and each row of a table that has a line and its reply."""
+    """The sessions of a page: in each of its sections the blocks marked so together, and each row of a table that
+    has a line and its reply."""
     for section in re.split(r"^## ", text, flags=re.MULTILINE)[1:]:
         title = section.split("\n")[0]
         blocks = "".join(re.findall(r"^```session\n(.*?)^```", section, re.MULTILINE | re.DOTALL)).encode().splitlines()
         if blocks:
-            yield f"LINES.md, {title}", [line[2:] for line in blocks if line[:2] == b"> "], [line for line in blocks if line[:2] != b"> "]
+            sent = [line[2:] for line in blocks if line[:2] == b"> "]
+            yield f"LINES.md, {title}", sent, [line for line in blocks if line[:2] != b"> "]
         for line, reply in re.findall(r"^\| `(\{.*\})` \| `(\{.*\})` \|$", section, re.MULTILINE):
             yield f"LINES.md, {title}: {line}", [line.encode()], [reply.encode()]
 

@@ -1,11 +1,12 @@
-"""Tapes that are changed at random, and what their replay gives by the definitions: replies, a count, or where the tape is bad."""
+"""Tapes that are changed at random, and what their replay gives by the definitions: replies, a count,
+or where the tape is bad."""
 import json
 
 from words import NONE
 
 HEADS = [
-    '{"tape":1}', '{"tape":2}', '{"tape":3}', '{"tape":"2"}', '{"calls":%d,"tape":2}', '{ "tape" : 2, "calls" : %d, "x" : null }', '{"calls":-1,"tape":2}',
-    "", "tape",
+    '{"tape":1}', '{"tape":2}', '{"tape":3}', '{"tape":"2"}', '{"calls":%d,"tape":2}',
+    '{ "tape" : 2, "calls" : %d, "x" : null }', '{"calls":-1,"tape":2}', "", "tape",
 ]
 OUTCOMES = ['"whole"', '"starved"', '"half"', "0", "1", "2", "3", "-1", "18446744073709551616", "null"]
 TAPES = "street_tape.specs.Entries"
@@ -46,7 +47,11 @@ def changed_call(random, line):
         call["session"] = random.choice([5, -1, "0"])
     if change >= 2 and "outcome" in call:
         call["outcome"] = "here"
-    return json.dumps(call, separators=random.choice([(",", ":"), (", ", ": ")])).replace('"here"', random.choice(OUTCOMES)).encode()
+    return (
+        json.dumps(call, separators=random.choice([(",", ":"), (", ", ": ")]))
+        .replace('"here"', random.choice(OUTCOMES))
+        .encode()
+    )
 
 
 class Replay:
@@ -89,8 +94,9 @@ class Replay:
         """How many of the first calls the machine can have answered so, and the state after these."""
         state = NONE
         for at, call in enumerate(calls):
-            if not self.definitions.word("street_tape.specs.Replies", "IsReplayable")(state, call.v_command, call.v_outcome):
+            told = state, call.v_command, call.v_outcome
+            if not self.definitions.word("street_tape.specs.Replies", "IsReplayable")(*told):
                 return at, state
-            state = self.definitions.word("street_base.specs.Outcomes", "state_after")(state, call.v_command, call.v_outcome)
+            state = self.definitions.word("street_base.specs.Outcomes", "state_after")(*told)
             self.definitions.program.forget()
         return len(calls), state

@@ -1,15 +1,18 @@
-"""Translates definitions, as trees, to Python: each word to a function, each clause to a test of its patterns and a return.
+"""Translates definitions, as trees, to Python: each word to a function,
+each clause to a test of its patterns and a return.
 
-A statement is translated like any other word: it is evaluated to True or False. What ranges over all of a type cannot be; such a place
-is translated to a refusal, which is raised when it is reached.
+A statement is translated like any other word: it is evaluated to True or False.
+What ranges over all of a type cannot be; such a place is translated to a refusal, which is raised when it is reached.
 """
 from functools import partial
 
 from antt import Parser, Refused, clause_parts, read_file
 from words import CONSTRUCTORS, NONE, VALUES, WORDS, Record, Variant
 
-SIGNS = {"||": "or", "&&": "and", "==": "==", "≡": "==", "≢": "!=", "<": "<", "≤": "<=", "+": "+", "++": "+", "*": "*", "/": "//", "%": "%", "^": "**",
-         "×": "and", "⊎": "or"}
+SIGNS = {
+    "||": "or", "&&": "and", "==": "==", "≡": "==", "≢": "!=", "<": "<", "≤": "<=", "+": "+", "++": "+", "*": "*",
+    "/": "//", "%": "%", "^": "**", "×": "and", "⊎": "or",
+}
 
 # Words that are asked the same again and again in a step; what they return is kept until a command is done.
 REMEMBERED = {"front_over", "moved", "changes"}
@@ -49,7 +52,9 @@ class Program:
     def __init__(self, top):
         self.top, self.sources, self.answers = top, {}, {}
         self.functions, self.waiting = {}, []
-        self.world = {"Variant": Variant, "Record": Record, "NONE": NONE, "minus": minus, "curried": curried, "refuse": refuse}
+        self.world = {
+            "Variant": Variant, "Record": Record, "NONE": NONE, "minus": minus, "curried": curried, "refuse": refuse,
+        }
         self.world.update({f"std_{name}": f for name, (_, f) in WORDS.items()})
 
     def source(self, path):
@@ -59,6 +64,15 @@ class Program:
             title = f"{crate}/{'/'.join(folders)}/{name}.antt"
             self.sources[path] = read_file(self.top / "crates" / title, title)
         return self.sources[path]
+
+    def origin(self, path, name):
+        """The path and the name of a word where it is defined: files that pass it on are followed."""
+        while path.startswith("Rattle.street_") and ".declared." not in path:
+            passed_on = self.source(path.removeprefix("Rattle.")).passed_on
+            if name not in passed_on:
+                break
+            path, name = passed_on[name]
+        return path, name
 
     def word(self, path, name):
         """The function of a word, or its value if it takes no argument."""
@@ -122,7 +136,9 @@ class Program:
         patterns, body = clause_parts(tokens, definition.name, source.title)
         shared = len(definition.shared)
         if len(patterns) + shared != self.functions[path, definition.name][1]:
-            raise Refused(f"{source.title} line {tokens[0].line}: clauses of {definition.name} differ in their arguments")
+            raise Refused(
+                f"{source.title} line {tokens[0].line}: clauses of {definition.name} differ in their arguments"
+            )
         tests, names = [], {}
         translator = Translator(self, path, set(), definition)
         for at, pattern in enumerate(patterns):
@@ -140,7 +156,10 @@ class Program:
         names, fields, _ = self.source(path).records[name]
         translator = Translator(self, path, set(names), None)
         codes = [translator.code(Parser(tokens, title).whole()) for _, tokens in fields]
-        return [f"def {function}({', '.join(f'v_{name}' for name in names)}):", f"  return {' and '.join(f'({code})' for code in codes)}"]
+        return [
+            f"def {function}({', '.join(f'v_{name}' for name in names)}):",
+            f"  return {' and '.join(f'({code})' for code in codes)}",
+        ]
 
 
 def definition_arity(definition, title):
@@ -163,16 +182,22 @@ class Translator:
         return getattr(self, tree[0])(*tree[1:])
 
     def returning(self, tree):
-        """Lines that return the value of a tree. A word that ends with itself goes round again, so that long lists need no deep calls."""
+        """Lines that return the value of a tree. A word that ends with itself goes round again,
+        so that long lists need no deep calls."""
         if tree[0] == "choice":
-            return [f"if {self.code(tree[1])}:", *("  " + line for line in self.returning(tree[2])), *self.returning(tree[3])]
+            return [
+                f"if {self.code(tree[1])}:",
+                *("  " + line for line in self.returning(tree[2])),
+                *self.returning(tree[3]),
+            ]
         if tree[0] == "apply" and tree[1][:2] == ("name", self.definition.name) and self.goes_round(tree[2]):
             names = ", ".join(f"a{at}" for at in range(len(tree[2])))
             return [f"{names} = {', '.join(map(self.code, tree[2]))}", "continue"]
         return [f"return {self.code(tree)}"]
 
     def goes_round(self, arguments):
-        """Whether a word may be a loop: it is called with all its arguments, and none of its functions could see a name change."""
+        """Whether a word may be a loop: it is called with all its arguments, and none of its functions
+        could see a name change."""
         if self.definition.shared or self.definition.name in self.locals:
             return False
         has_functions = any(token.text == "λ" for tokens in self.definition.clauses for token in tokens)
@@ -181,7 +206,8 @@ class Translator:
     # ---- words
 
     def meaning(self, name, line):
-        """What a word is: ("function", Python name, arity, first arguments), ("variant", name), ("value", Python) or ("kind", name of a type)."""
+        """What a word is: ("function", Python name, arity, first arguments), ("variant", name), ("value",
+        Python) or ("kind", name of a type)."""
         if name in self.locals:
             return ("value", f"v_{name}")
         source = self.program.source(self.path)
@@ -193,7 +219,7 @@ class Translator:
             if name in VALUES:
                 return ("value", VALUES[name])
             raise Refused(f"{self.title} line {line}: {name} is not known")
-        path, original = self.used[name]
+        path, original = self.program.origin(*self.used[name])
         if ".declared." in path or original is None:
             return self.declared(path, original)
         if path.startswith("Rattle.street_"):
@@ -211,7 +237,12 @@ class Translator:
         function, arity = self.program.function(path, name)
         source = self.program.source(path)
         definition = source.definitions.get(name)
-        inside = self.definition is not None and definition is not None and path == self.path and definition.module == self.definition.module > 0
+        inside = (
+            self.definition is not None
+            and definition is not None
+            and path == self.path
+            and definition.module == self.definition.module > 0
+        )
         return ("function", function, arity, [f"v_{shared}" for shared in definition.shared] if inside else [])
 
     def imported(self, path, name):
@@ -238,7 +269,8 @@ class Translator:
     def applied(self, meaning, codes, name, line):
         """A word with arguments: with all of them it is called, with fewer it waits for the rest."""
         if meaning[0] == "variant":
-            found, codes = (f"Variant({meaning[1]!r}, ({''.join(code + ', ' for code in codes)}))" if codes else f"Variant({meaning[1]!r})"), []
+            held = f", ({''.join(code + ', ' for code in codes)})" if codes else ""
+            found, codes = f"Variant({meaning[1]!r}{held})", []
         elif meaning[0] == "value":
             found = meaning[1]
         elif meaning[0] == "function":
@@ -343,7 +375,7 @@ class Translator:
             tests.append(f"{value}.name == {self.constructor(pattern)!r}")
             return
         word = pattern[1]
-        original = self.used.get(word, (None, None))[1]
+        _, original = self.stands_for(word)
         if original in ("true", "false", "zero"):
             tests.append({"true": f"{value} is True", "false": f"{value} is False", "zero": f"{value} == 0"}[original])
         elif original == "None":
@@ -354,8 +386,15 @@ class Translator:
             names[word] = value
 
     def is_constructor(self, word):
-        path, original = self.used.get(word, ("", None))
-        return path.endswith(".TheVariants") or original in CONSTRUCTORS or word in self.program.source(self.path).constructors
+        path, original = self.stands_for(word)
+        if path.startswith("Rattle.street_") and ".declared." not in path:
+            return original in self.program.source(path.removeprefix("Rattle.")).constructors
+        return path.endswith(".TheVariants") or original in CONSTRUCTORS
+
+    def stands_for(self, word):
+        """The path and the name of a word of this file, where it is defined; no name where it is not used."""
+        here = (f"Rattle.{self.path}", word) if word in self.program.source(self.path).constructors else ("", None)
+        return self.program.origin(*self.used[word]) if word in self.used else here
 
     def constructor(self, tree):
         """The name of a constructor that a pattern names."""

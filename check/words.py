@@ -1,7 +1,8 @@
 """What the definitions take for granted: values, the words of the kit's library, JSON, and the cipher of the draws.
 
-A number is an int, a list of type `List` a list, a pair or a longer tuple a tuple, a text the list of its bytes, and a statement True or False.
-A record is a Record; every other value is a Variant: its name and what it holds. Functions that are handed on take one argument at a time.
+A number is an int, a list of type `List` a list, a pair or a longer tuple a tuple, a text the list of its bytes, and a
+statement True or False. A record is a Record; every other value is a Variant: its name and what it holds. Functions
+that are handed on take one argument at a time.
 """
 import functools
 import json
@@ -94,7 +95,8 @@ PARTS = re.compile(r'"(?:[^"\\]|\\.)*"|[\[{]|[\]}]', re.DOTALL)
 
 
 def number_data(text):
-    """A number below 2^64 that is written with digits alone; else a negative one or a float, of which nothing more is asked."""
+    """A number below 2^64 that is written with digits alone; else a negative one or a float,
+    of which nothing more is asked."""
     if text.isdigit() and len(text) <= 20 and int(text) < 2 ** 64:
         return Variant("number", (Variant("unsigned", (int(text),)),))
     if len(text) > 400 and re.fullmatch(r"-?\d+", text) or math.isinf(float(text)):
@@ -109,7 +111,9 @@ def text_data(text):
 def object_data(pairs):
     """The last value of a key stays, and keys stand in the order of their bytes."""
     members = Variant("no_members")
-    for key, value in sorted(((text_data(key), value) for key, value in dict(pairs).items()), reverse=True, key=lambda pair: pair[0]):
+    for key, value in sorted(
+        ((text_data(key), value) for key, value in dict(pairs).items()), reverse=True, key=lambda pair: pair[0]
+    ):
         members = Variant("member", (key, data_of(value), members))
     return Variant("object", (members,))
 
@@ -142,13 +146,20 @@ def no_constant(name):
 
 
 def read_json(line):
-    """The value of a line of UTF-8; none if it is no JSON, has a lone half of a surrogate pair, a number too great for a float, or too many levels."""
+    """The value of a line of UTF-8; none if it is no JSON, has a lone half of a surrogate pair,
+    a number too great for a float, or too many levels."""
     text = bytes(line).decode()
     if levels(text) > MOST_LEVELS:
         return NONE
     try:
-        return some(data_of(json.loads(
-            text, parse_int=number_data, parse_float=number_data, parse_constant=no_constant, object_pairs_hook=object_data)))
+        return some(
+            data_of(
+                json.loads(
+                    text, parse_int=number_data, parse_float=number_data, parse_constant=no_constant,
+                    object_pairs_hook=object_data,
+                )
+            )
+        )
     except ValueError:
         return NONE
 
@@ -190,7 +201,10 @@ def written(data):
 
 # ---- ChaCha20: the block function of RFC 8439, with a counter and a stream of 64 bits each
 
-ROUNDS = [(0, 4, 8, 12), (1, 5, 9, 13), (2, 6, 10, 14), (3, 7, 11, 15), (0, 5, 10, 15), (1, 6, 11, 12), (2, 7, 8, 13), (3, 4, 9, 14)]
+ROUNDS = [
+    (0, 4, 8, 12), (1, 5, 9, 13), (2, 6, 10, 14), (3, 7, 11, 15), (0, 5, 10, 15), (1, 6, 11, 12), (2, 7, 8, 13),
+    (3, 4, 9, 14),
+]
 WORD = 0xFFFFFFFF
 
 
@@ -207,7 +221,10 @@ def quarter_round(x, a, b, c, d):
 @functools.lru_cache(65536)
 def block(double_rounds, key, stream, counter):
     """The 16 words of a block."""
-    words = [int.from_bytes(part, "little") for part in (b"expa", b"nd 3", b"2-by", b"te k", *(key[at:at + 4] for at in range(0, 32, 4)))]
+    words = [
+        int.from_bytes(part, "little")
+        for part in (b"expa", b"nd 3", b"2-by", b"te k", *(key[at : at + 4] for at in range(0, 32, 4)))
+    ]
     start = [*words, counter & WORD, counter >> 32, stream & WORD, stream >> 32]
     mixed = start[:]
     for _ in range(double_rounds):
@@ -223,28 +240,55 @@ def word_at(double_rounds, key, stream, place):
 # ---- each word: how many arguments it takes, and what it does with them
 
 WORDS = {
-    "nat_lt": (2, lambda a, b: a < b), "nat_le": (2, lambda a, b: a <= b), "min": (2, min), "not": (1, lambda a: not a),
-    "length": (1, len), "map": (2, lambda f, xs: [f(x) for x in xs]), "filter": (2, lambda test, xs: [x for x in xs if test(x)]),
-    "filter_map": (2, filter_map), "flat_map": (2, lambda f, xs: [y for x in xs for y in f(x)]), "position": (2, position), "find": (2, find),
-    "take": (2, lambda n, xs: xs[:n]), "drop": (2, lambda n, xs: xs[n:]), "reverse": (1, lambda xs: xs[::-1]),
-    "replicate": (2, lambda n, x: [x] * n), "remove_key": (2, remove_key), "slice_set": (3, slice_set),
+    "nat_lt": (2, lambda a, b: a < b),
+    "nat_le": (2, lambda a, b: a <= b),
+    "min": (2, min),
+    "not": (1, lambda a: not a),
+    "length": (1, len),
+    "map": (2, lambda f, xs: [f(x) for x in xs]),
+    "filter": (2, lambda test, xs: [x for x in xs if test(x)]),
+    "filter_map": (2, filter_map),
+    "flat_map": (2, lambda f, xs: [y for x in xs for y in f(x)]),
+    "position": (2, position),
+    "find": (2, find),
+    "take": (2, lambda n, xs: xs[:n]),
+    "drop": (2, lambda n, xs: xs[n:]),
+    "reverse": (1, lambda xs: xs[::-1]),
+    "replicate": (2, lambda n, x: [x] * n),
+    "remove_key": (2, remove_key),
+    "slice_set": (3, slice_set),
     "slice_get": (2, lambda xs, at: some(xs[at]) if at < len(xs) else NONE),
     "slice_index_or": (3, lambda xs, at, other: xs[at] if at < len(xs) else other),
-    "sum_by": (2, lambda f, xs: sum(f(x) for x in xs)), "count_by": (2, lambda test, xs: sum(1 for x in xs if test(x))),
-    "list_any": (2, lambda test, xs: any(test(x) for x in xs)), "list_all": (2, lambda test, xs: all(test(x) for x in xs)),
-    "All": (2, lambda test, xs: all(test(x) for x in xs)), "enumerate_from": (2, lambda n, xs: list(enumerate(xs, n))),
+    "sum_by": (2, lambda f, xs: sum(f(x) for x in xs)),
+    "count_by": (2, lambda test, xs: sum(1 for x in xs if test(x))),
+    "list_any": (2, lambda test, xs: any(test(x) for x in xs)),
+    "list_all": (2, lambda test, xs: all(test(x) for x in xs)),
+    "All": (2, lambda test, xs: all(test(x) for x in xs)),
+    "enumerate_from": (2, lambda n, xs: list(enumerate(xs, n))),
     "range_with_len": (2, lambda low, n: list(range(low, low + n))),
-    "unwrap_or": (2, lambda o, other: other if o is NONE else o.parts[0]), "is_some": (1, lambda o: o is not NONE),
-    "is_none": (1, lambda o: o is NONE), "option_map": (2, lambda f, o: o if o is NONE else some(f(o.parts[0]))),
+    "unwrap_or": (2, lambda o, other: other if o is NONE else o.parts[0]),
+    "is_some": (1, lambda o: o is not NONE),
+    "is_none": (1, lambda o: o is NONE),
+    "option_map": (2, lambda f, o: o if o is NONE else some(f(o.parts[0]))),
     "option_and_then": (2, lambda f, o: o if o is NONE else f(o.parts[0])),
-    "option_map_or": (3, lambda f, o, other: other if o is NONE else f(o.parts[0])), "option_or": (2, lambda a, b: b if a is NONE else a),
-    "codes": (1, lambda text: list(text.encode())), "bytes_eq": (2, lambda a, b: a == b), "is_utf8": (1, is_utf8),
-    "to_le_bytes": (2, lambda width, n: list(n.to_bytes(width, "little"))), "key_of": (1, lambda key: key), "word_at": (4, word_at),
-    "read": (1, read_json), "get": (2, get), "as_number": (1, part_of("number")), "as_u64": (1, part_of("unsigned")),
-    "as_str": (1, part_of("string")), "as_array": (1, part_of("array")), "compact_text": (1, compact_text),
+    "option_map_or": (3, lambda f, o, other: other if o is NONE else f(o.parts[0])),
+    "option_or": (2, lambda a, b: b if a is NONE else a),
+    "codes": (1, lambda text: list(text.encode())),
+    "bytes_eq": (2, lambda a, b: a == b),
+    "is_utf8": (1, is_utf8),
+    "to_le_bytes": (2, lambda width, n: list(n.to_bytes(width, "little"))),
+    "key_of": (1, lambda key: key),
+    "word_at": (4, word_at),
+    "read": (1, read_json),
+    "get": (2, get),
+    "as_number": (1, part_of("number")),
+    "as_u64": (1, part_of("unsigned")),
+    "as_str": (1, part_of("string")),
+    "as_array": (1, part_of("array")),
+    "compact_text": (1, compact_text),
 }
 VALUES = {"true": "True", "false": "False", "zero": "0", "⊤": "True", "⊥": "False", "None": "NONE", "w64": "8"}
 CONSTRUCTORS = {
-    "Some", "Ok", "Err", "null", "boolean", "number", "string", "array", "object", "unsigned", "negative", "float", "no_items", "item",
-    "no_members", "member",
+    "Some", "Ok", "Err", "null", "boolean", "number", "string", "array", "object", "unsigned", "negative", "float",
+    "no_items", "item", "no_members", "member",
 }

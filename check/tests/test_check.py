@@ -1,4 +1,5 @@
-"""The definitions as a program: all worked rows, all stored sessions, random sessions beside the built program, and spoilt words that must be noticed."""
+"""The definitions as a program: all worked rows, all stored sessions, random sessions beside the built program,
+and spoilt words that must be noticed."""
 import concurrent.futures
 import os
 import re
@@ -28,7 +29,11 @@ SPOILT = [
     (f"{BASE}/Search.antt", "first_among test (low + 1) count", "first_among test (low + 2) count"),
     (f"{BASE}/Limits.antt", "most_size = 4", "most_size = 5"),
     (f"{BASE}/Network.antt", "(t.lane == place.lane)", "(t.lane == place.link)"),
-    (f"{BASE}/Vehicle.antt", "next_link v = slice_get (remaining_plan v) 1", "next_link v = slice_get (remaining_plan v) 0"),
+    (
+        f"{BASE}/Vehicle.antt",
+        "next_link v = slice_get (remaining_plan v) 1",
+        "next_link v = slice_get (remaining_plan v) 0",
+    ),
     (f"{BASE}/Lane.antt", "rear x v = x - (v.size - 1)", "rear x v = x - v.size"),
     (f"{BASE}/Draw.antt", "* 1000 / 2 ^ 32", "* 1000 / 2 ^ 31"),
     (f"{BASE}/Signal.antt", "((step + plan.offset) % cycle plan)", "((step - plan.offset) % cycle plan)"),
@@ -38,7 +43,11 @@ SPOILT = [
     (f"{BASE}/Release.antt", "nat_le q.ready m.clock", "nat_lt q.ready m.clock"),
     (f"{BASE}/Departure.antt", "nat_le w.depart clock", "nat_lt w.depart clock"),
     (f"{BASE}/Detector.antt", "nat_lt c (x + v.speed)", "nat_le c (x + v.speed)"),
-    (f"{BASE}/Step.antt", "nat_lt (length (lane_at m place).queue) node.capacity", "nat_le (length (lane_at m place).queue) node.capacity"),
+    (
+        f"{BASE}/Step.antt",
+        "nat_lt (length (lane_at m place).queue) node.capacity",
+        "nat_le (length (lane_at m place).queue) node.capacity",
+    ),
     (f"{BASE}/Faults.antt", "not (is_within 1 most_lanes link.lanes)", "not (is_within 2 most_lanes link.lanes)"),
     (f"{BASE}/Closing.antt", "last = unwrap_or", "first = x; last = 1 + unwrap_or"),
     (f"{BASE}/Effects.antt", "Some (Taken m.clock)", "Some (Taken 0)"),
@@ -46,7 +55,11 @@ SPOILT = [
     (f"{BASE}/Machine.antt", "nat_lt last_clock (m.clock + n)", "nat_lt last_clock m.clock"),
     (f"{BASE}/Outcomes.antt", "state_of_whole m c (Some r) = m", "state_of_whole m c (Some r) = None"),
     (f"{BASE}/Refusals.antt", "number_of Gone = 11", "number_of Gone = 12"),
-    ("street_text/specs/LineCommands.antt", "option_and_then node_from (row_in 3 d)", "option_and_then node_from (row_in 4 d)"),
+    (
+        "street_text/specs/LineCommands.antt",
+        "option_and_then node_from (row_in 3 d)",
+        "option_and_then node_from (row_in 4 d)",
+    ),
     ("street_text/specs/Faults.antt", "Some 20", "Some 22"),
     ("street_text/specs/ReplyLines.antt", "(e.car ∷ e.cell ∷ e.speed", "(e.car ∷ e.speed ∷ e.cell"),
     ("street_text/specs/FaultLines.antt", "(error_data n (name_of fault))", "(error_data 21 (name_of fault))"),
@@ -152,7 +165,10 @@ class Stored(Timed):
     def test_lines_are_cut_as_defined(self):
         definitions = Definitions()
         for text in (b"", b"\n", b"a", b"a\n", b"\n\na", b"a\n\nb\r\n", b"\r", b"a\nb\nc"):
-            self.assertEqual(definitions.lines(text), text.split(b"\n")[:-1] + ([text.split(b"\n")[-1]] if text.split(b"\n")[-1] else []))
+            self.assertEqual(
+                definitions.lines(text),
+                text.split(b"\n")[:-1] + ([text.split(b"\n")[-1]] if text.split(b"\n")[-1] else []),
+            )
 
 
 @needs_program
@@ -167,7 +183,10 @@ class Sessions(Timed):
         """A program whose detectors are wrong with 64 workers."""
         with tempfile.TemporaryDirectory() as folder:
             wrong = Path(folder) / "wrong"
-            wrong.write_text(f'#!/bin/sh\nif [ "$2" = 64 ]; then "{PROGRAM}" "$@" | sed \'s/"rows":\\[\\]/"rows":[7]/\'; else exec "{PROGRAM}" "$@"; fi\n')
+            wrong.write_text(
+                f'#!/bin/sh\nif [ "$2" = 64 ]; then "{PROGRAM}" "$@" | sed \'s/"rows":\\[\\]/"rows":[7]/\'; '
+                f'else exec "{PROGRAM}" "$@"; fi\n'
+            )
             wrong.chmod(wrong.stat().st_mode | stat.S_IXUSR)
             comparison = Comparison(wrong)
             found = next(found for seed in range(50) if (found := comparison.difference(Maker(seed).session())))
