@@ -5,11 +5,15 @@
     bench/costs.py rt ci NAME..               runs and watches a part of it
     bench/costs.py --beside PID --log FILE    watches a gate, or a part, that runs and whose output goes to FILE
     bench/costs.py --log FILE                 writes the table once more: FILE has the output of a gate that passed
-    bench/costs.py --rows NAME,..             puts the rows of some crates into the table, of the runs that were watched; the others stay
+    bench/costs.py --rows NAME,..             puts the rows of some crates into the table, \
+of the runs that were watched; the others stay
 
-`rt ci` proves and tries nothing again that an earlier run on this machine passed and that has not changed since. What each watched run
-proved and tried is noted in out/costs.json; where the gate takes something from an earlier run, its figure is that run's, which the
-table then says. Where no watched run has it (it was ./build's, say), the table is not written, and what is lacking is named:
+`rt ci` proves and tries nothing again that an earlier run on this machine passed and that has not changed since. \
+What each watched run
+proved and tried is noted in out/costs.json; where the gate takes something from an earlier run, \
+its figure is that run's, which the
+table then says. Where no watched run has it (it was ./build's, say), the table is not written, \
+and what is lacking is named:
 bench/costs.py rt ci --anew NAME.. proves it and the crates below again, and --gaps writes the table all the same.
 """
 import argparse
@@ -32,8 +36,12 @@ TICKS = os.sysconf("SC_CLK_TCK")
 # Seconds between two looks at the processes.
 PAUSE = 0.25
 KINDS = ("proof", "tests", "edits", "compiled")
-HEAD = "| Crate | Code lines | Definition and proof lines | Functions | Tests | Edits | Proof, s | Tests, s | Edits, s | Compiling, s |"
-# The begin of a crate's part of the gate's output, the last line of a check, and what the gate says of a check and of edits.
+HEAD = (
+    "| Crate | Code lines | Definition and proof lines | Functions | Tests | Edits | Proof, s | Tests, s | "
+    "Edits, s | Compiling, s |"
+)
+# The begin of a crate's part of the gate's output, the last line of a check,
+# and what the gate says of a check and of edits.
 PART = re.compile(r"== \w")
 VERDICT = re.compile(r"logic=proved (?:tests=(\d+) )?functions=(\d+)")
 PROVED = re.compile(r"rt: (\w+)(: its tests are)? proved$")
@@ -112,7 +120,8 @@ class Watch:
 
 
 def done_in(output):
-    """What a run has done itself: {(crate, kind): functions that were proved, tests that were, edits that were tried}."""
+    """What a run has done itself: {(crate, kind): functions that were proved, tests that were,
+    edits that were tried}."""
     done, tried, count = {}, Counter(), 0
     for line in output.splitlines():
         if PART.match(line):
@@ -185,8 +194,8 @@ def noted(command, output, watch, sums):
 
 
 def figures(runs, crate, kind, total):
-    """What a crate's proof, tests or edits cost: (seconds, count, numbers of the runs), of the newest run that has them; edits of
-    as many runs as tried them all. None where no run has them."""
+    """What a crate's proof, tests or edits cost: (seconds, count, numbers of the runs), of the newest run that has
+    them; edits of as many runs as tried them all. None where no run has them."""
     seconds, count, used = 0.0, 0, []
     for number, run in reversed(list(enumerate(runs))):
         for part in run["parts"]:
@@ -204,7 +213,8 @@ def all_figures(runs):
 
 
 def table(found, names, own, crates=None):
-    """A row for each crate, in the order of crates.txt, and the sums; `own`: whether a row ends with the names of its runs."""
+    """A row for each crate, in the order of crates.txt, and the sums;
+    `own`: whether a row ends with the names of its runs."""
     rows = []
     for crate in crates or listed():
         of = {kind: found.get((crate, kind)) for kind in KINDS}
@@ -234,7 +244,8 @@ def minutes_of(parts):
 
 def rows_of_runs(runs, names):
     return [
-        f"| {name} | `{runs[number]['command']}` | {runs[number]['minutes']:.0f} | {minutes_of(runs[number]['parts']):.0f} | {runs[number]['load']:.1f} |"
+        f"| {name} | `{runs[number]['command']}` | {runs[number]['minutes']:.0f} | "
+        f"{minutes_of(runs[number]['parts']):.0f} | {runs[number]['load']:.1f} |"
         for number, name in names.items()
     ]
 
@@ -249,7 +260,14 @@ def told_of(runs, names):
         )
     rows = rows_of_runs(runs, names)
     head = "| Run | Command | Minutes by the clock | Processor minutes of checks | Mean load |\n|---|---|---|---|---|"
-    return "\n".join(["of these runs, each of which proved what no earlier one had, up to one of the whole gate that passed:", "", head, *rows])
+    return "\n".join(
+        [
+            "of these runs, each of which proved what no earlier one had, up to one of the whole gate that passed:",
+            "",
+            head,
+            *rows,
+        ]
+    )
 
 
 def write(runs, gaps):
@@ -259,21 +277,32 @@ def write(runs, gaps):
     if lacking:
         print(f"costs: no watched run has what the gate took from earlier ones: {', '.join(lacking)}", file=sys.stderr)
     if lacking and not gaps:
-        print("costs: docs/COSTS.md stays; bench/costs.py rt ci --anew NAME.. proves them again, --gaps writes it all the same", file=sys.stderr)
+        print(
+            "costs: docs/COSTS.md stays; bench/costs.py rt ci --anew NAME.. proves them again, "
+            "--gaps writes it all the same",
+            file=sys.stderr,
+        )
         return False
     used = sorted({number for one in found.values() if one for number in one[2]})
     names = {number: str(at) for at, number in enumerate(used, 1)}
     kit = subprocess.run(["rt", "version"], capture_output=True, text=True, check=False).stdout.strip()
     own = len(names) > 1
+    whose = (
+        "The last column says which runs a crate's figures are of."
+        if own
+        else "Other work on the machine makes them greater."
+    )
     text = f"""# What the gate costs
 
 Written by [bench/costs.py](../bench/costs.py), on {processor()}, with {kit or "an unknown kit"},
 {told_of(runs, names)}
 
-Lines are those of `.rt` and of `.antt` files. Functions were proved, tests passed, edits were refused. The columns of seconds are processor
-seconds: of the proof, of the proof with its tests, of all edits, and of compiling programs. A crate is proved once more for its tests, and once
+Lines are those of `.rt` and of `.antt` files. Functions were proved, tests passed, edits were refused. \
+The columns of seconds are processor
+seconds: of the proof, of the proof with its tests, of all edits, and of compiling programs. \
+A crate is proved once more for its tests, and once
 more under its edits.
-{"The last column says which runs a crate's figures are of." if own else "Other work on the machine makes them greater."}
+{whose}
 
 {HEAD}{" Runs |" if own else ""}
 |{"---|" * (10 + own)}
@@ -294,15 +323,21 @@ def summed(lines):
 
 
 def insert(runs, crates):
-    """Puts the rows of some crates into docs/COSTS.md, of the runs here, behind whose runs these are told; the other rows stay as they
-    are. Gives whether it could."""
+    """Puts the rows of some crates into docs/COSTS.md, of the runs here, behind whose runs these are told;
+    the other rows stay as they are. Gives whether it could."""
     path, figured = TOP / "docs/COSTS.md", all_figures(runs)
     lines = path.read_text().splitlines()
     told = [at for at, line in enumerate(lines) if re.match(r"\| \d+ \| `", line)]
     found = {pair: one for pair, one in figured.items() if pair[0] in crates}
-    lacking = [f"{crate} ({kind})" for (crate, kind), one in found.items() if one is None] + sorted(set(crates) - set(listed()))
+    lacking = [
+        *(f"{crate} ({kind})" for (crate, kind), one in found.items() if one is None),
+        *sorted(set(crates) - set(listed())),
+    ]
     if lacking or not told:
-        print(f"costs: no watched run has {', '.join(lacking)}" if lacking else "costs: the table is of one run", file=sys.stderr)
+        print(
+            f"costs: no watched run has {', '.join(lacking)}" if lacking else "costs: the table is of one run",
+            file=sys.stderr,
+        )
         return False
     used = sorted({number for one in found.values() for number in one[2]})
     names = {number: str(at) for at, number in enumerate(used, int(cells_of(lines[told[-1]])[0]) + 1)}

@@ -1,11 +1,15 @@
 #!/usr/bin/python3
 """A day of a city: 900 signals and 240,000 vehicles by the tools, and the processor time of both sides.
 
-Usage: bench/day.py PROGRAM [--side N] [--junctions TYPE] [--vehicles N] [--folder FOLDER] [--until S] [WORDS for streetsim-run ..]
-       bench/day.py PROGRAM --route ITERATIONS [--vehicles N] [--folder FOLDER] [--until S] [WORDS for streetsim-route ..]
+Usage: bench/day.py PROGRAM [--side N] [--junctions TYPE] [--vehicles N] [--folder FOLDER] [--until S] \
+[WORDS for streetsim-run ..]
+       bench/day.py PROGRAM --route ITERATIONS [--vehicles N] [--folder FOLDER] [--until S] \
+[WORDS for streetsim-route ..]
 
-Makes the network by SUMO's netgenerate (30 by 30 junctions 200 m apart, one lane; with --side and --junctions others: priority has
-no lights), and vehicles between random edges along the grid with two peaks, where the folder does not have them yet; imports them and runs them, or with --route finds ways for their
+Makes the network by SUMO's netgenerate (30 by 30 junctions 200 m apart, one lane; with --side and --junctions others: \
+priority has
+no lights), and vehicles between random edges along the grid with two peaks, where the folder does not have them yet; \
+imports them and runs them, or with --route finds ways for their
 trips by streetsim-route. Prints calls, seconds and memory.
 """
 import argparse
@@ -32,7 +36,8 @@ def make_network(path, side, kind):
 
 
 def name_of(column, row, side):
-    """A junction as netgenerate names it: a letter for the column, two where there are more than 26, and a number for the row."""
+    """A junction as netgenerate names it: a letter for the column, two where there are more than 26,
+    and a number for the row."""
     letters = "ABCDEFGHIJKLMNOPQRSTUVWXYZ"
     return f"{letters[column // 26] if side > 26 else ''}{letters[column % 26]}{row}"
 
@@ -63,13 +68,17 @@ def make_routes(path, vehicles, side):
     with open(path, "w", encoding="utf-8") as file:
         file.write("<routes>\n")
         for number, depart in enumerate(departs):
-            file.write(f'<vehicle id="{number}" depart="{depart}"><route edges="{" ".join(route(draws, side))}"/></vehicle>\n')
+            file.write(
+                f'<vehicle id="{number}" depart="{depart}"><route edges="{" ".join(route(draws, side))}"/></vehicle>\n'
+            )
         file.write("</routes>\n")
 
 
 def make_trips(routes, path):
     """The vehicles of a file as trips from their first to their last edge."""
-    text = re.sub(r'<vehicle (.*?)><route edges="(\S+).* (\S+)"/></vehicle>', r'<trip \1 from="\2" to="\3"/>', routes.read_text())
+    text = re.sub(
+        r'<vehicle (.*?)><route edges="(\S+).* (\S+)"/></vehicle>', r'<trip \1 from="\2" to="\3"/>', routes.read_text()
+    )
     path.write_text(text)
 
 
@@ -78,12 +87,18 @@ def find_ways(words, more, network, routes, trips):
     if not trips.exists():
         make_trips(routes, trips)
     until = ["--until", words.until] if words.until else []
-    command = [TOP / "tools/streetsim-route", network, "--trips", trips, "-o", words.folder / "found.rou.xml", "--out", words.folder / "ways"]
+    command = [
+        TOP / "tools/streetsim-route", network, "--trips", trips, "-o", words.folder / "found.rou.xml",
+        "--out", words.folder / "ways",
+    ]
     command += ["--iterations", words.route, "--gap", 0, "--program", words.program, *until, *more]
     begin, before = time.monotonic(), spent(resource.RUSAGE_CHILDREN)
     status = subprocess.run([str(word) for word in command], check=False).returncode
     took = spent(resource.RUSAGE_CHILDREN) - before
-    print(f"status {status}; {time.monotonic() - begin:.0f} s by the clock, {took:.0f} s of processor time, streetsim's in it")
+    print(
+        f"status {status}; {time.monotonic() - begin:.0f} s by the clock, {took:.0f} s of processor time, "
+        "streetsim's in it"
+    )
     print(f"memory of the largest process: {megabytes(resource.RUSAGE_CHILDREN):.0f} MB")
 
 
@@ -103,7 +118,10 @@ class Counted(running.Recorder):
     def record(self):
         records = super().record()
         asking = records.asking
-        print(f"{records.calls:,} calls; polls every {asking.every:,} s, {len(asking.measured):,} lanes counted", flush=True)
+        print(
+            f"{records.calls:,} calls; polls every {asking.every:,} s, {len(asking.measured):,} lanes counted",
+            flush=True,
+        )
         return records
 
 
@@ -132,11 +150,20 @@ def main():
         print(f"import: {spent(resource.RUSAGE_SELF) - begin:.1f} s of processor time", flush=True)
     running.Recorder = Counted
     begin, here, there = time.monotonic(), spent(resource.RUSAGE_SELF), spent(resource.RUSAGE_CHILDREN)
-    arguments = [run, "--map", mapped, "--until", words.until or 86_400, "--program", words.program, "--out", folder / "out", *more]
+    arguments = [
+        run, "--map", mapped, "--until", words.until or 86_400, "--program", words.program, "--out", folder / "out",
+        *more,
+    ]
     running.main([str(word) for word in arguments])
     here, there = spent(resource.RUSAGE_SELF) - here, spent(resource.RUSAGE_CHILDREN) - there
-    print(f"{time.monotonic() - begin:.1f} s by the clock; processor: tools {here:.1f} s, streetsim and further runs {there:.1f} s")
-    print(f"memory: tools {megabytes(resource.RUSAGE_SELF):.0f} MB, streetsim {megabytes(resource.RUSAGE_CHILDREN):.0f} MB")
+    print(
+        f"{time.monotonic() - begin:.1f} s by the clock; processor: tools {here:.1f} s, "
+        f"streetsim and further runs {there:.1f} s"
+    )
+    print(
+        f"memory: tools {megabytes(resource.RUSAGE_SELF):.0f} MB, "
+        f"streetsim {megabytes(resource.RUSAGE_CHILDREN):.0f} MB"
+    )
 
 
 if __name__ == "__main__":

@@ -3,8 +3,10 @@
 
 Usage: bench/detectors.py PROGRAM --work FOLDER [--seed N]
 
-Each of the 240 lanes has an induction loop (e1) 5 m before its stop line, one in its middle, and an area (e2) on its last
-100 m, quarter hours. Prints, over all detectors and periods of the first hour, both means, and how they go together by lane
+Each of the 240 lanes has an induction loop (e1) 5 m before its stop line, one in its middle, \
+and an area (e2) on its last
+100 m, quarter hours. Prints, over all detectors and periods of the first hour, both means, \
+and how they go together by lane
 and by edge. It needs Debian's sumo, and keeps what SUMO wrote in FOLDER.
 """
 
@@ -68,7 +70,9 @@ def write_detectors(path):
                 words = f'id="{sort} {name}" lane="{name}" pos="{place:.2f}" freq="{PERIOD}" file="e1.xml"'
                 file.write(f"<inductionLoop {words}/>\n")
             begin = max(0.0, metres - AREA)
-            words = f'id="area {name}" lane="{name}" pos="{begin:.2f}" endPos="{metres:.2f}" freq="{PERIOD}" file="e2.xml"'
+            words = (
+                f'id="area {name}" lane="{name}" pos="{begin:.2f}" endPos="{metres:.2f}" freq="{PERIOD}" file="e2.xml"'
+            )
             file.write(f"<laneAreaDetector {words}/>\n")
         file.write("</additional>\n")
 
@@ -127,8 +131,12 @@ def main():
     added = folder / "detectors.add.xml"
     if not (folder / "e2.xml").exists():
         write_detectors(added)
-        run(["sumo", "-n", NET, "-r", ROUTES, "-a", added, "--seed", args.seed, "--end", UNTIL, "--no-step-log"], folder)
-    run([TOP / "tools/streetsim-import", NET, added, "--routes", ROUTES, "-o", "x.jsonl", "--map", "x.map.json"], folder)
+        run(
+            ["sumo", "-n", NET, "-r", ROUTES, "-a", added, "--seed", args.seed, "--end", UNTIL, "--no-step-log"], folder
+        )
+    run(
+        [TOP / "tools/streetsim-import", NET, added, "--routes", ROUTES, "-o", "x.jsonl", "--map", "x.map.json"], folder
+    )
     words = ["x.jsonl", "--map", "x.map.json", "--until", UNTIL, "--out", "out", "--program", args.program]
     run([TOP / "tools/streetsim-run", *words], folder)
     here, there = ours(folder), sumos(folder)

@@ -1,9 +1,11 @@
 #!/usr/bin/python3
-"""Prints the edges on which the vehicles of a run spend more seconds, and fewer, than in SUMO, for the causes in tools/README.md.
+"""Prints the edges on which the vehicles of a run spend more seconds, and fewer, than in SUMO, \
+for the causes in tools/README.md.
 
 Usage: bench/edges.py RUN COUNTS.xml [--most 6]
 
-RUN: the folder of a seed that streetsim-run wrote; COUNTS.xml: SUMO's edgeData of the same demand and periods, which bench/closeness
+RUN: the folder of a seed that streetsim-run wrote; COUNTS.xml: \
+SUMO's edgeData of the same demand and periods, which bench/closeness
 keeps as counts-SEED.xml. Vehicles that wait outside the network are on no edge.
 """
 
@@ -52,7 +54,10 @@ def main():
     print("| Edge | vehicles | vehicle seconds more here | s a vehicle in SUMO, here |\n|---|---|---|---|")
     for edge in [*order[: args.most], *order[-args.most :]]:
         each = max(1, vehicles[edge])
-        print(f"| {edge} | {vehicles[edge]:,} | {ours[edge] - theirs[edge]:+,.0f} | {theirs[edge] / each:.0f}, {ours[edge] / each:.0f} |")
+        print(
+            f"| {edge} | {vehicles[edge]:,} | {ours[edge] - theirs[edge]:+,.0f} | {theirs[edge] / each:.0f}, "
+            f"{ours[edge] / each:.0f} |"
+        )
 
 
 main()

@@ -3,9 +3,12 @@
 
 Usage: bench/environment.py [--seconds N]     (STREETSIM_PROGRAM names the program; sumo and sumo-tools are installed)
 
-An environment's step is five seconds. Greens go in turn, each for 30 s, on the cross of examples/actuated (one light) and on the grid
-of the tests (36 lights). Over SUMO vehicles, standing vehicles and waiting times of the lanes before each light are subscribed to, which is
-the least that it can cost; what a step gives is made of the same figures. Processor seconds of all processes count, so that other work on
+An environment's step is five seconds. Greens go in turn, each for 30 s, \
+on the cross of examples/actuated (one light) and on the grid
+of the tests (36 lights). Over SUMO vehicles, \
+standing vehicles and waiting times of the lanes before each light are subscribed to, which is
+the least that it can cost; what a step gives is made of the same figures. \
+Processor seconds of all processes count, so that other work on
 the machine changes little; the load is printed beside.
 """
 import argparse
@@ -41,16 +44,28 @@ class OverSumo:
         light, lane = traci.trafficlight, traci.lane
         self.lanes = {name: list(dict.fromkeys(light.getControlledLanes(name))) for name in light.getIDList()}
         states = {name: [phase.state for phase in light.getAllProgramLogics(name)[0].phases] for name in self.lanes}
-        self.greens = {name: [state for state in of if "y" not in state.lower() and "g" in state.lower()] for name, of in states.items()}
+        self.greens = {
+            name: [state for state in of if "y" not in state.lower() and "g" in state.lower()]
+            for name, of in states.items()
+        }
         self.now = dict.fromkeys(self.lanes, 0)
         for name in {name for lanes in self.lanes.values() for name in lanes}:
-            lane.subscribe(name, [traci.constants.LAST_STEP_VEHICLE_NUMBER, traci.constants.LAST_STEP_VEHICLE_HALTING_NUMBER, traci.constants.VAR_WAITING_TIME])
+            lane.subscribe(
+                name,
+                [
+                    traci.constants.LAST_STEP_VEHICLE_NUMBER,
+                    traci.constants.LAST_STEP_VEHICLE_HALTING_NUMBER,
+                    traci.constants.VAR_WAITING_TIME,
+                ],
+            )
 
     def step(self, actions: dict[str, int]) -> dict[str, list[float]]:
         changed = [name for name, action in actions.items() if action != self.now[name]]
         for name in changed:
             before, after = self.greens[name][self.now[name]], self.greens[name][actions[name]]
-            yellow = "".join("y" if now in "Gg" and then not in "Gg" else now for now, then in zip(before, after, strict=True))
+            yellow = "".join(
+                "y" if now in "Gg" and then not in "Gg" else now for now, then in zip(before, after, strict=True)
+            )
             traci.trafficlight.setRedYellowGreenState(name, yellow)
             self.now[name] = actions[name]
         for second in range(EVERY):

@@ -52,7 +52,8 @@ class Lane:
 
 
 def vehicle_steps(limit, batches):
-    """How often a vehicle in a cell was moved, and how many arrived; a batch is how many enter and then how many steps."""
+    """How often a vehicle in a cell was moved, and how many arrived;
+    a batch is how many enter and then how many steps."""
     lane, moved = Lane(limit, 0), 0
     for entered, steps in batches:
         lane.waiting += entered
@@ -104,7 +105,9 @@ def main():
     assert json.loads(said[-3])["clock"] == steps, said[-3]
     assert (first, second) == ("arrived", "cell"), (first, second)
     spent = whole - base
-    print(f"link of {LENGTH} cells, limit {args.limit}, {steps} steps, {moved / steps:.1f} vehicles in cells on average")
+    print(
+        f"link of {LENGTH} cells, limit {args.limit}, {steps} steps, {moved / steps:.1f} vehicles in cells on average"
+    )
     print(f"  advance      {spent:.3f} s (best of 5; median of the whole {median:.3f} s)")
     print(f"  vehicle steps a second  {moved / spent / 1e6:.2f} million")
     print(f"  cell steps a second     {LENGTH * steps / spent / 1e6:.1f} million")

@@ -1,11 +1,15 @@
 #!/usr/bin/env python3
-"""Counts instructions of steps, for a vehicle in a cell and a step, by function; and reads that miss caches of 32 KB and of 1 MB.
+"""Counts instructions of steps, for a vehicle in a cell and a step, by function; \
+and reads that miss caches of 32 KB and of 1 MB.
 
 Usage: bench/instructions.py PROGRAM [--only 'ring 0.3,grid 20000,grid 100000'] [--before N] [--steps N] [--least N]
 
-It needs Debian's valgrind, whose callgrind runs the program, some fifty times slower. The sessions are those of steps.py. Steps
-before those that are counted: --before (200) after what a session begins with, the last 32 of them with the caches. In 32 steps
-(--steps) each vehicle makes its draws once. Functions with fewer instructions than --least (1) are left out. What was counted is
+It needs Debian's valgrind, whose callgrind runs the program, some fifty times slower. \
+The sessions are those of steps.py. Steps
+before those that are counted: --before (200) after what a session begins with, the last 32 of them with the caches. \
+In 32 steps
+(--steps) each vehicle makes its draws once. Functions with fewer instructions than --least (1) are left out. \
+What was counted is
 the same for each run, however busy the machine is.
 """
 
@@ -27,7 +31,9 @@ NUMBER = re.compile(r"([\d,]+|\.)(?: \( ?[\d.]+%\))?(?=\s)")
 
 def control(program, *words):
     """Tells callgrind what to do."""
-    told = subprocess.run(["callgrind_control", *words, str(program.process.pid)], capture_output=True, text=True, check=False)
+    told = subprocess.run(
+        ["callgrind_control", *words, str(program.process.pid)], capture_output=True, text=True, check=False
+    )
     if told.returncode:
         raise SystemExit(told.stdout + told.stderr)
 
@@ -37,9 +43,13 @@ def cells(program):
 
 
 def counted(path, lines, before, steps, folder):
-    """Runs a session up to the steps that are counted, and these; gives callgrind's file and how many updates they are."""
+    """Runs a session up to the steps that are counted, and these;
+    gives callgrind's file and how many updates they are."""
     found = Path(folder) / "callgrind.out"
-    words = ["valgrind", "--tool=callgrind", "--instr-atstart=no", *CACHES, f"--callgrind-out-file={found}", f"--log-file={folder}/log"]
+    words = [
+        "valgrind", "--tool=callgrind", "--instr-atstart=no", *CACHES, f"--callgrind-out-file={found}",
+        f"--log-file={folder}/log",
+    ]
     program = Program("counted", [*words, path, "--workers", "1", *CALLS])
     program.ask(lines)
     if before > WARM:
@@ -70,7 +80,9 @@ def by_function(path):
 
 def main():
     parser = shared.parser_of(__doc__)
-    parser.add_argument("--only", default="ring 0.3,grid 20000,grid 100000", help="names of sessions, with commas between")
+    parser.add_argument(
+        "--only", default="ring 0.3,grid 20000,grid 100000", help="names of sessions, with commas between"
+    )
     parser.add_argument("--before", type=int, default=200)
     parser.add_argument("--steps", type=int, default=32)
     parser.add_argument("--least", type=float, default=1.0)

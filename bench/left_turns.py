@@ -1,6 +1,8 @@
 #!/usr/bin/python3
-"""Prints what leaves in each green of RiLSA 1's side street in SUMO when nobody turns left and when more want to than can: in the
-network as sumo-tools ships it, which an early netconvert made, and in the same one made anew by the netconvert that is installed.
+"""Prints what leaves in each green of RiLSA 1's side street in SUMO when nobody turns left and when more want to than \
+can: in the
+network as sumo-tools ships it, which an early netconvert made, \
+and in the same one made anew by the netconvert that is installed.
 
 Usage: bench/left_turns.py --work FOLDER
 
@@ -32,7 +34,8 @@ def demand(flows):
         while (clock := clock + draws.expovariate(hourly / 3600)) < LAST:
             found.append((clock, f"{edges[:2]}{edges[3:]}.{len(found)}", edges))
     lines = (
-        f'<vehicle id="{name}" type="PKW" depart="{clock:.1f}" departLane="best" departSpeed="max"><route edges="{edges}"/></vehicle>'
+        f'<vehicle id="{name}" type="PKW" depart="{clock:.1f}" departLane="best" departSpeed="max"><route '
+        f'edges="{edges}"/></vehicle>'
         for clock, name, edges in sorted(found)
     )
     return f"<routes>{''.join(lines)}</routes>"
@@ -42,7 +45,9 @@ def leaving(net, green, flows, folder):
     """Vehicles in each green that come from the north and the south."""
     phases = [*RED, (green, GREEN), *AFTER]
     plan = "".join(f'<phase duration="{seconds}" state="{state}"/>' for seconds, state in phases)
-    (folder / "plan.add.xml").write_text(f'<add><tlLogic id="0" type="static" programID="own" offset="0">{plan}</tlLogic></add>')
+    (folder / "plan.add.xml").write_text(
+        f'<add><tlLogic id="0" type="static" programID="own" offset="0">{plan}</tlLogic></add>'
+    )
     (folder / "demand.rou.xml").write_text(demand(flows))
     words = ["sumo", "-n", net, "-r", "demand.rou.xml", "-a", f"{RILSA / 'vtypes.add.xml'},plan.add.xml", "--end", LAST]
     run([*words, "--time-to-teleport", -1, "--no-step-log", "--no-warnings", "--tripinfo-output", "trips.xml"], folder)
@@ -59,7 +64,10 @@ def main():
     folder.mkdir(parents=True, exist_ok=True)
     shipped, anew = RILSA / "rilsa1.net.xml", folder / "anew.net.xml"
     run(["netconvert", "-s", shipped, "-o", anew], folder)
-    print("| Network | green, s | full lane, nobody turns left | full lane, left turns | left turns |\n|---|---|---|---|---|")
+    print(
+        "| Network | green, s | full lane, nobody turns left | full lane, left turns | left turns |\n"
+        "|---|---|---|---|---|"
+    )
     for name, net in (("as shipped", shipped), ("made anew", anew)):
         for green in (12, 40):
             alone, both = (leaving(net, green, flows, folder) for flows in (NORTH, {**NORTH, **LEFT}))

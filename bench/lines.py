@@ -46,7 +46,8 @@ SMALL_LOADED = line({"links": 1, "nodes": 2, "turns": 0})
 
 
 def great():
-    """A load with as many nodes, links and turns as there may be, and its reply. All links run from the first node to itself."""
+    """A load with as many nodes, links and turns as there may be, and its reply.
+    All links run from the first node to itself."""
     nodes = [[number, 1, 2] for number in range(1, MOST_NODES + 1)]
     links = [[FIRST_LINK + at, 1, 1, 1, 10, 5] for at in range(MOST_LINKS)]
     turns = [
@@ -103,7 +104,8 @@ def processor_time(program, text, wanted):
 
 
 def peak(process):
-    """The most memory that a running program has had in use, in bytes. What is told of an ended one counts this script's too."""
+    """The most memory that a running program has had in use, in bytes.
+    What is told of an ended one counts this script's too."""
     with open(f"/proc/{process.pid}/status") as status:
         return next(int(row.split()[1]) * 1_024 for row in status if row.startswith("VmHWM:"))
 
@@ -120,7 +122,8 @@ def ask(process, text, wanted):
 
 
 def one_line(program, text, wanted, wanted_next):
-    """The time of a line, which stands between two that advance by 0 steps so that the program has begun, and the memory."""
+    """The time of a line, which stands between two that advance by 0 steps so that the program has
+    begun, and the memory."""
     with subprocess.Popen([program], stdin=subprocess.PIPE, stdout=subprocess.PIPE) as process:
         ask(process, NOTHING, NOT_LOADED)
         spent = ask(process, text, wanted)

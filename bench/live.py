@@ -3,8 +3,10 @@
 
 Usage: bench/live.py PAGE_PROGRAM CORRIDOR_RUN CORRIDOR_MAP [--module STREET_PAGE_WASM] [--seconds N] [--picture FILE]
 
-The corridor is a run file and a map as streetsim-import wrote them; the grid is that of steps.py, with 10,000 vehicles, in four
-views: the whole, a scale at which some hundred lanes are seen, one junction, and the view with as many lanes as are asked in each step,
+The corridor is a run file and a map as streetsim-import wrote them; \
+the grid is that of steps.py, with 10,000 vehicles, in four
+views: the whole, a scale at which some hundred lanes are seen, one junction, \
+and the view with as many lanes as are asked in each step,
 which costs the most. With --module the same pages run by the engine
 inside them. It needs Debian's python3-selenium and chromium-driver. The load of the machine is printed beside.
 """
@@ -42,7 +44,9 @@ return lanes();
 COUNT = """
 const [seconds, done] = arguments, from = performance.now(), clock = session.clock;
 let frames = 0;
-const count = () => { frames++; if (performance.now() - from < 1000 * seconds) requestAnimationFrame(count); else done([frames, session.clock - clock, performance.now() - from]); };
+const count = () => { frames++; \
+if (performance.now() - from < 1000 * seconds) requestAnimationFrame(count); \
+else done([frames, session.clock - clock, performance.now() - from]); };
 requestAnimationFrame(count);
 """
 
@@ -66,7 +70,12 @@ def grid(folder: Path) -> tuple[Run, Map]:
 @contextmanager
 def browser() -> Iterator[webdriver.Chrome]:
     options = webdriver.ChromeOptions()
-    for word in ("--headless=new", "--no-sandbox", "--window-size=1366,768", "--host-resolver-rules=MAP * ~NOTFOUND, EXCLUDE 127.0.0.1"):
+    for word in (
+        "--headless=new",
+        "--no-sandbox",
+        "--window-size=1366,768",
+        "--host-resolver-rules=MAP * ~NOTFOUND, EXCLUDE 127.0.0.1",
+    ):
         options.add_argument(word)
     made = webdriver.Chrome(options=options, service=webdriver.chrome.service.Service("/usr/bin/chromedriver"))
     made.set_script_timeout(600)
@@ -102,12 +111,21 @@ def measure(page: webdriver.Chrome, name: str, scale: float | str | None, second
     frames, made, spent = page.execute_async_script(COUNT, seconds)
     shown = json.loads(page.execute_script("if (playing) toggle(); return document.body.dataset.shown"))
     load = os.getloadavg()[0]
-    print(f"| {name} | {lanes:,} | {shown['driving']:,} | {1000 * frames / spent:.0f} | {1000 * made / spent:.1f} | {load:.1f} |", flush=True)
+    print(
+        f"| {name} | {lanes:,} | {shown['driving']:,} | {1000 * frames / spent:.0f} | "
+        f"{1000 * made / spent:.1f} | {load:.1f} |",
+        flush=True,
+    )
 
 
-def measure_all(page: webdriver.Chrome, words: argparse.Namespace, folder: Path, how: str, module: bytes | None) -> None:
+def measure_all(
+    page: webdriver.Chrome, words: argparse.Namespace, folder: Path, how: str, module: bytes | None
+) -> None:
     corridor = read_run(words.corridor), read_map(words.map)
-    for name, (run, mapping), begin, views in (("corridor", corridor, 900, {"whole": None}), (f"grid of {VEHICLES:,}", grid(folder), 500, VIEWS)):
+    for name, (run, mapping), begin, views in (
+        ("corridor", corridor, 900, {"whole": None}),
+        (f"grid of {VEHICLES:,}", grid(folder), 500, VIEWS),
+    ):
         if module:
             path = folder / "page.html"
             path.write_bytes(page_of(run, mapping, module))
@@ -133,7 +151,10 @@ def main() -> None:
     parser.add_argument("--seconds", type=int, default=6)
     parser.add_argument("--picture")
     words = parser.parse_args()
-    print("| Page | lanes in view | vehicles driving | frames a second | steps a second | load |\n|---|---|---|---|---|---|")
+    print(
+        "| Page | lanes in view | vehicles driving | frames a second | steps a second | load |\n"
+        "|---|---|---|---|---|---|"
+    )
     with tempfile.TemporaryDirectory() as folder, browser() as page:
         measure_all(page, words, Path(folder), "bridge", None)
         if words.module:

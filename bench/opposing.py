@@ -1,10 +1,12 @@
 #!/usr/bin/python3
-"""Prints how many vehicles an hour leave the minor street of a lone cross without a light that is always full, from one side or
+"""Prints how many vehicles an hour leave the minor street of a lone cross without a light that is always full, \
+from one side or
 from both, with and without left turns, in SUMO and here.
 
 Usage: bench/opposing.py PROGRAM --work FOLDER [--seed 1]
 
-Arms of 500 m, one lane, 50 km/h; the main street's vehicles go straight on, half of them from each side. It needs Debian's sumo.
+Arms of 500 m, one lane, 50 km/h; the main street's vehicles go straight on, half of them from each side. \
+It needs Debian's sumo.
 """
 import random
 from collections import Counter
@@ -70,7 +72,9 @@ def demand(seed):
 def passed(trips):
     """Minor vehicles an hour that arrived, by cross; trips: {name: (departure, arrival)}."""
     names = [name for name, (_, arrival) in trips.items() if ".minor." in name and FIRST <= arrival < LAST]
-    return {cross: count * 3600 / (LAST - FIRST) for cross, count in Counter(name.split(".")[0] for name in names).items()}
+    return {
+        cross: count * 3600 / (LAST - FIRST) for cross, count in Counter(name.split(".")[0] for name in names).items()
+    }
 
 
 def main():
@@ -84,8 +88,17 @@ def main():
     (folder / "demand.rou.xml").write_text(demand(args.seed), encoding="utf-8")
     usual = ["--end", LAST, "--time-to-teleport", -1, "--no-step-log", "--no-warnings", "--seed", args.seed]
     run(["sumo", "-n", "net.net.xml", "-r", "demand.rou.xml", *usual, "--tripinfo-output", trips], folder)
-    run([TOP / "tools/streetsim-import", "net.net.xml", "--routes", "demand.rou.xml", "-o", "run.jsonl", "--map", "run.map.json"], folder)
-    words = ["run.jsonl", "--map", "run.map.json", "--until", LAST, "--every", 0, "--rescue", 0, "--counted", "busiest", "--out", "out"]
+    run(
+        [
+            TOP / "tools/streetsim-import", "net.net.xml", "--routes", "demand.rou.xml", "-o", "run.jsonl",
+            "--map", "run.map.json",
+        ],
+        folder,
+    )
+    words = [
+        "run.jsonl", "--map", "run.map.json", "--until", LAST, "--every", 0, "--rescue", 0, "--counted", "busiest",
+        "--out", "out",
+    ]
     run([TOP / "tools/streetsim-run", *words, "--program", Path(args.program).resolve()], folder)
     theirs, ours = passed(read_tripinfo(str(trips))), passed(trips_of(read_folder(str(folder / "out"))))
     print(f"| SUMO / here, main street | {' | '.join(map(str, FLOWS))} |\n|{'---|' * (len(FLOWS) + 1)}")

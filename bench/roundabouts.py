@@ -1,4 +1,5 @@
-"""A town of roundabouts, in SUMO's plain XML: a grid of streets of unequal lengths whose crossings are rings of one lane."""
+"""A town of roundabouts, in SUMO's plain XML: a grid of streets of unequal lengths whose crossings
+are rings of one lane."""
 import math
 import random
 from itertools import accumulate
@@ -29,7 +30,10 @@ def ring_nodes(place: tuple[int, int], x: float, y: float, radius: int) -> list[
     """The four nodes of a ring, and the far ends of the streets that lead out of town."""
     lines = []
     for side, (right, up) in SIDES.items():
-        lines.append(f'<node id="{name_of(place, side)}" x="{x + radius * right:.2f}" y="{y + radius * up:.2f}" type="priority"/>')
+        lines.append(
+            f'<node id="{name_of(place, side)}" x="{x + radius * right:.2f}" y="{y + radius * up:.2f}" '
+            'type="priority"/>'
+        )
         if not is_inside(beyond(place, side)):
             away = radius + ARM
             lines.append(f'<node id="{other_end(place, side)}" x="{x + away * right:.2f}" y="{y + away * up:.2f}"/>')
@@ -43,7 +47,9 @@ def ring_edges(place: tuple[int, int], x: float, y: float, radius: int) -> list[
         angles = (at * math.pi / 2 + part * math.pi / 8 for part in range(5))
         shape = " ".join(f"{x + radius * math.cos(angle):.2f},{y + radius * math.sin(angle):.2f}" for angle in angles)
         ends = f'from="{name_of(place, side)}" to="{name_of(place, order[(at + 1) % 4])}"'
-        lines.append(f'<edge id="ring{name_of(place, side)}" {ends} numLanes="1" speed="{RING}" priority="10" shape="{shape}"/>')
+        lines.append(
+            f'<edge id="ring{name_of(place, side)}" {ends} numLanes="1" speed="{RING}" priority="10" shape="{shape}"/>'
+        )
     return lines
 
 
@@ -53,7 +59,9 @@ def streets(place: tuple[int, int]) -> list[str]:
     for side in SIDES:
         here, there = name_of(place, side), other_end(place, side)
         ends = [(here, there)] + ([] if is_inside(beyond(place, side)) else [(there, here)])
-        lines += [f'<edge id="{a}-{b}" from="{a}" to="{b}" numLanes="1" speed="{SPEED}" priority="5"/>' for a, b in ends]
+        lines += [
+            f'<edge id="{a}-{b}" from="{a}" to="{b}" numLanes="1" speed="{SPEED}" priority="5"/>' for a, b in ends
+        ]
     return lines
 
 

@@ -1,5 +1,6 @@
 #!/usr/bin/python3
-"""Prints what rounds of giving way cost, and how much the seconds between their polls and their number change mean trips.
+"""Prints what rounds of giving way cost, and how much the seconds between their polls and their number change mean \
+trips.
 
 Usage: bench/rounds.py PROGRAM RUN.jsonl MAP.json --until S [--seeds 1-3]
 
@@ -15,7 +16,8 @@ import shared
 from streetsim.run import rounds, running
 from streetsim.run.folder import read_folder
 
-CASES = [(0, 10), (1, 10), (2, 10), (3, 10), (2, 30), (2, 120), (2, 300), (2, 600), (2, 1800)]  # rounds, seconds between their polls
+# Rounds, and seconds between their polls.
+CASES = [(0, 10), (1, 10), (2, 10), (3, 10), (2, 30), (2, 120), (2, 300), (2, 600), (2, 1800)]
 
 
 def run(args, count, every):
@@ -23,7 +25,10 @@ def run(args, count, every):
     rounds.INTERVALS, rounds.COARSEST = (every,), every
     before = os.times()
     with tempfile.TemporaryDirectory() as folder:
-        words = [args.run, "--map", args.map, "--until", str(args.until), "--every", "600", "--seeds", args.seeds, "--jobs", "1"]
+        words = [
+            args.run, "--map", args.map, "--until", str(args.until), "--every", "600", "--seeds", args.seeds,
+            "--jobs", "1",
+        ]
         running.main([*words, "--rounds", str(count), "--out", folder, "--program", args.program])
         found = [read_folder(str(one)).trips() for one in sorted(Path(folder).glob("seed-*"))]
     spent = sum(os.times()[:4]) - sum(before[:4])

@@ -1,5 +1,6 @@
 #!/usr/bin/env python3
-"""Runs many short sessions with 2 to 64 workers on threads: each has the replies of one worker, byte for byte, and none hangs.
+"""Runs many short sessions with 2 to 64 workers on threads: \
+each has the replies of one worker, byte for byte, and none hangs.
 
 Usage: bench/short_sessions.py PROGRAM [--runs N] [--jobs N]
 

@@ -3,10 +3,14 @@
 
 Usage: bench/steps.py PROGRAM [--workers N,N..] [--beside OTHER] [--only WORD] [--times N]
 
-Sessions: a ring of 100 one-lane links of 1,000 cells, filled to a density; a grid of 32 by 32 nodes with signals and two-lane
-links of 100 cells, on which vehicles drive through 20 links; 4,096 two-lane links of 1,000,000 cells with 10,000 vehicles.
-OTHER is another program for the same lines and the option --calls. All take turns, advance by advance, and their replies must
-be the same, byte for byte. Times are those of the clock on the wall, so that workers on threads count; the best of the runs of
+Sessions: a ring of 100 one-lane links of 1,000 cells, filled to a density; \
+a grid of 32 by 32 nodes with signals and two-lane
+links of 100 cells, on which vehicles drive through 20 links; \
+4,096 two-lane links of 1,000,000 cells with 10,000 vehicles.
+OTHER is another program for the same lines and the option --calls. \
+All take turns, advance by advance, and their replies must
+be the same, byte for byte. Times are those of the clock on the wall, so that workers on threads count; \
+the best of the runs of
 each advance is taken.
 """
 
@@ -78,7 +82,10 @@ def grid(vehicles, advances=20):
     for node in nodes:
         into = [at for at, (_, _, end) in enumerate(links) if end == node]
         phases = [
-            [30, [[at, lane, then] for at in into if links[at][0] % 2 == axis for then in onward[at] for lane in (0, 1)]]
+            [
+                30,
+                [[at, lane, then] for at in into if links[at][0] % 2 == axis for then in onward[at] for lane in (0, 1)],
+            ]
             for axis in (0, 1)
         ]
         lines.append(line(cmd="signal", node=number[node], offset=draws.randrange(60), phases=phases))
@@ -94,7 +101,9 @@ def sparse(vehicles):
     draws, links = random.Random(1), 4_096
     lines = [load([[1, 1, 2], [2, 1, 2]], [[at, 1, 2, 2, 1_000_000, 5] for at in range(links)], [], zone=0, change=800)]
     for _ in range(vehicles):
-        lines.append(line(cmd="enter", plan=[draws.randrange(links)], lane=draws.randrange(2), depart=draws.randrange(150)))
+        lines.append(
+            line(cmd="enter", plan=[draws.randrange(links)], lane=draws.randrange(2), depart=draws.randrange(150))
+        )
     return lines + [line(cmd="advance", steps=200)], [200] * 10
 
 
@@ -174,7 +183,9 @@ def main():
             best = {it: [min(pair) for pair in zip(spent[it], best.get(it, spent[it]), strict=True)] for it in spent}
         rates = {it: sum(updates) / sum(best[it]) / 1e6 for it in best}
         of = rates[next(iter(rates))]
-        print(f"  {name:<14}" + ", ".join(f"{it} {rate:.1f} ({rate / of:.2f})" for it, rate in rates.items()), flush=True)
+        print(
+            f"  {name:<14}" + ", ".join(f"{it} {rate:.1f} ({rate / of:.2f})" for it, rate in rates.items()), flush=True
+        )
 
 
 if __name__ == "__main__":

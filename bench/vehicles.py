@@ -3,7 +3,8 @@
 
 Usage: bench/vehicles.py PROGRAM [--beside OTHER] [--vehicles N] [--lines N] [--waiting N] [--times N]
 
-The vehicles drive on 1,000 one-lane links of 2,000 cells, each from a node to itself. OTHER is another program for the same
+The vehicles drive on 1,000 one-lane links of 2,000 cells, each from a node to itself. \
+OTHER is another program for the same
 lines: the runs of both take turns, and their replies must be the same, byte for byte.
 """
 
@@ -40,7 +41,8 @@ def driving(vehicles):
 
 
 def sessions(vehicles, lines, waiting):
-    """For each session its name, the lines that it stands on, the lines that are timed, and what each reply to these has."""
+    """For each session its name, the lines that it stands on, the lines that are timed,
+    and what each reply to these has."""
     draws = random.Random(1)
     base, cars = driving(vehicles), [draws.randrange(vehicles) for _ in range(lines)]
     asked = "".join(line({"cmd": "vehicle", "car": car}) for car in cars)
@@ -62,7 +64,8 @@ class Program:
         self.words = [path, "--calls", str(MOST_CALLS)] if "--calls" in told.stdout else [path]
 
     def run(self, text):
-        """The processor time of one run, which other programs disturb less than the time on the wall, and its replies."""
+        """The processor time of one run, which other programs disturb less than the time on the
+        wall, and its replies."""
         with tempfile.TemporaryFile() as source, tempfile.TemporaryFile() as target:
             source.write(text.encode())
             source.seek(0)

@@ -3,8 +3,10 @@
 
 Usage: bench/walks.py PROGRAM --work FOLDER [--only README,SIGNALS,ROUTES]
 
-The commands of a page's sections are run in one folder, in the page's order and with the tools as they are here; of the text that
-a page shows right after a command each line must be printed, in that order ('..' stands for any line, and within one for any
+The commands of a page's sections are run in one folder, in the page's order and with the tools as they are here; \
+of the text that
+a page shows right after a command each line must be printed, in that order ('..' stands for any line, \
+and within one for any
 text). It needs Debian's sumo. The status is 1 where a line is lacking or a command fails.
 """
 
@@ -79,7 +81,9 @@ def main():
         "example": str(CORRIDOR),
         "data": str(SAMPLES),
     }
-    wrong = sum(walk(page, heading, folder, surroundings) for page in args.only.split(",") for heading in SECTIONS[page])
+    wrong = sum(
+        walk(page, heading, folder, surroundings) for page in args.only.split(",") for heading in SECTIONS[page]
+    )
     print("each walk prints what its page says" if not wrong else f"{wrong} commands print other lines, or fail")
     sys.exit(1 if wrong else 0)
 

@@ -5,9 +5,9 @@ Usage: bench/works.py PROGRAM --work FOLDER [--seeds 1-2] [--only NAME,..] [--ed
 
 Of each network and number of lanes the edges of 120 m and more are put in order by the vehicles that pass them, and of
 so many equal parts of these (of the busier half, where there are several lanes) the middle one is taken; lane, length
-and time of the works go round with the rows. In SUMO the works are a vehicle as long as they, which stands there. A trip
-lasts from the wished departure to the arrival or the end. It needs Debian's sumo and sumo-tools. What SUMO wrote is kept
-in FOLDER and used again. Prints the table of tools/README.md.
+and time of the works go round with the rows. In SUMO the works are a vehicle as long as they, which stands there. A
+trip lasts from the wished departure to the arrival or the end. It needs Debian's sumo and sumo-tools. What SUMO wrote
+is kept in FOLDER and used again. Prints the table of tools/README.md.
 """
 
 import argparse
@@ -161,9 +161,15 @@ def main():
                 continue
             cells = []
             if "sumo" in args.sides:
-                cells.append(told(*([sumo_trip(name, one, seed, folder) for seed in numbers(args.seeds)] for one in (None, works))))
+                cells.append(
+                    told(
+                        *([sumo_trip(name, one, seed, folder) for seed in numbers(args.seeds)] for one in (None, works))
+                    )
+                )
             if "here" in args.sides:
-                cells.append(told(*(here_trip(name, works, closing, args.seeds, folder, program) for closing in (False, True))))
+                cells.append(
+                    told(*(here_trip(name, works, closing, args.seeds, folder, program) for closing in (False, True)))
+                )
             stretch = f"lane {works.lane}, {works.end - works.begin} m, {works.seconds // 60} min"
             print(f"| {name} {works.edge} ({works.lanes}) | {stretch} | {' | '.join(cells)} |", flush=True)
 

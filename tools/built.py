@@ -27,7 +27,8 @@ def page_module(top: Path = TOP) -> Path:
 
 
 def crates(top: Path = TOP, crate: str = CRATE) -> dict[str, list[str]]:
-    """The crates of the repository that the program stands on, each with what its line of crates.txt names; lowest first, the program's last."""
+    """The crates of the repository that the program stands on, each with what its line of crates.txt names;
+    lowest first, the program's last."""
     lines = (line.partition("#")[0].partition(":") for line in (top / "crates.txt").read_text().splitlines())
     uses = {head.split()[0]: tail.split() for head, colon, tail in lines if colon}
     found, left = {}, [crate]

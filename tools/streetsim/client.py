@@ -30,7 +30,9 @@ class Refused(Exception):
         super().__init__(f"{self.number} {type(self).__name__}{'' if at is None else place}")
 
     def __eq__(self, other: object) -> bool:
-        return isinstance(other, Refused) and type(self) is type(other) and (self.at, self.part) == (other.at, other.part)
+        return (
+            isinstance(other, Refused) and type(self) is type(other) and (self.at, self.part) == (other.at, other.part)
+        )
 
     __hash__ = Exception.__hash__
 

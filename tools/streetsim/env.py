@@ -1,8 +1,8 @@
 """An environment for learning signal control: many junctions, phases as actions, exact resets.
 
-It has the form that the field uses: `reset` gives observations, `step` takes an action for each light and gives observations,
-rewards, whether the run is over, whether its time is, and further figures; all by the names of lights. No library of learning is
-needed for it.
+It has the form that the field uses: `reset` gives observations, `step` takes an action for each light and gives
+observations, rewards, whether the run is over, whether its time is, and further figures; all by the names of lights. No
+library of learning is needed for it.
 """
 from __future__ import annotations
 
@@ -34,16 +34,19 @@ class Signals:
 
 
 class SignalEnv:
-    """The lights of a network as agents, of the words of SUMO's command line (without its name), as `traci.start` takes them.
+    """The lights of a network as agents, of the words of SUMO's command line (without its name),
+    as `traci.start` takes them.
 
-    An action is the number of a green phase; where it is another one than now, and the present one was green for `least` seconds,
-    yellow is shown for `yellow` seconds first. A step has `every` seconds; after `seconds` of the run its time is over. An
-    observation of a light: which phase is green (a number for each, 0 or 1), whether it may be changed, and for each lane before
-    it the share of its room that vehicles take, and that standing ones do. A reward is the fall of the time, in hundreds of
-    seconds, that the vehicles before the light have waited.
+    An action is the number of a green phase; where it is another one than now, and the present one was green for
+    `least` seconds, yellow is shown for `yellow` seconds first. A step has `every` seconds; after `seconds` of the run
+    its time is over. An observation of a light: which phase is green (a number for each, 0 or 1), whether it may be
+    changed, and for each lane before it the share of its room that vehicles take, and that standing ones do. A reward
+    is the fall of the time, in hundreds of seconds, that the vehicles before the light have waited.
     """
 
-    def __init__(self, words: Sequence[str], every: int = 5, yellow: int = 3, least: int = 5, seconds: int = 3600) -> None:
+    def __init__(
+        self, words: Sequence[str], every: int = 5, yellow: int = 3, least: int = 5, seconds: int = 3600
+    ) -> None:
         if not 0 < yellow < every or least < 0 or seconds < every:
             raise ValueError("a step must be longer than yellow, and the run at least one step")
         self.words, self.every, self.yellow, self.least, self.seconds = list(words), every, yellow, least, seconds
@@ -115,7 +118,8 @@ class SignalEnv:
         return before - one.waited
 
     def pressure(self, name: str, action: int) -> int:
-        """Those who stand before a green of a light, less those who stand behind it: the policy of max-pressure takes the greatest."""
+        """Those who stand before a green of a light, less those who stand behind it: the policy of
+        max-pressure takes the greatest."""
         one, queue = self.signals[name], {}
         shown = zip(one.greens[action], one.links, strict=True)
         for lane in {lane for state, link in shown if state in GREEN for lane in link}:
@@ -165,6 +169,8 @@ class SignalEnv:
 
 def signals_of(light: Light) -> Signals:
     links = [(link[0], link[1]) if link else ("", "") for link in light.links]
-    greens = list(dict.fromkeys(state for _, state in light.phases if set(state) & set(GREEN) and "y" not in state.lower()))
+    greens = list(
+        dict.fromkeys(state for _, state in light.phases if set(state) & set(GREEN) and "y" not in state.lower())
+    )
     lanes = [lane for lane in dict.fromkeys(lane for lane, _ in links) if lane]
     return Signals(greens or [light.phases[0][1]], lanes, links=links)

@@ -235,7 +235,8 @@ def refuse_equal(outputs: Mapping[str, FilePath], inputs: Iterable[FilePath] = (
 
 @contextlib.contextmanager
 def whole_path(path: FilePath) -> Iterator[str]:
-    """A path to write to, whose file takes the place of an output when all is written; after a fault nothing is left."""
+    """A path to write to, whose file takes the place of an output when all is written;
+    after a fault nothing is left."""
     place = place_of(path)
     try:
         with half_file(place) as half:
@@ -279,7 +280,9 @@ def whole_folder(path: FilePath, last: str) -> Iterator[str]:
 
 def move_files(source: str, target: FilePath, last: str) -> None:
     """Moves all files below a folder to their places below another; those of the name `last` at the end."""
-    names = [os.path.relpath(os.path.join(folder, name), source) for folder, _, files in os.walk(source) for name in files]
+    names = [
+        os.path.relpath(os.path.join(folder, name), source) for folder, _, files in os.walk(source) for name in files
+    ]
     for name in names:
         os.makedirs(os.path.dirname(os.path.join(target, name)), exist_ok=True)
         place_of(os.path.join(target, name))

@@ -17,7 +17,9 @@ def find_program(given: str | None = None) -> str:
     """
     named = given or os.environ.get(VARIABLE)
     if not named:
-        raise Fault(f"no simulator: give --program PATH or set {VARIABLE}; `./build` in streetsim's repository makes {BUILT}")
+        raise Fault(
+            f"no simulator: give --program PATH or set {VARIABLE}; `./build` in streetsim's repository makes {BUILT}"
+        )
     found = shutil.which(named)
     if found is None:
         raise Fault(f"{named}: no program that can be run; `./build` in streetsim's repository makes {BUILT}")

@@ -72,14 +72,16 @@ class Phases:
 
 
 class Scenario:
-    """A running simulation of a run file and its map: its network, signals and vehicles are loaded at once. Edges or lanes
-    that are to be closed later are told as joint, where they are not yet so in the import. Where vehicles of the file give
-    way without a light, so many rounds of the run come first; `yielding` says what they gave. Those that a script adds wait for
-    nobody's gaps but the file's, and nobody of the file waits for them."""
+    """A running simulation of a run file and its map: its network, signals and vehicles are loaded at once. Edges or
+    lanes that are to be closed later are told as joint, where they are not yet so in the import. Where vehicles of the
+    file give way without a light, so many rounds of the run come first; `yielding` says what they gave. Those that a
+    script adds wait for nobody's gaps but the file's, and nobody of the file waits for them."""
 
-    forgotten: frozenset[int] = frozenset()  # nodes whose light the script has set: lines of the file for them are no longer sent
+    # Nodes whose light the script has set: lines of the file for them are no longer sent.
+    forgotten: frozenset[int] = frozenset()
     coming: tuple[tuple[int, Phases], ...] = ()  # nodes with the phases of the programs that are sent phase by phase
-    signals: dict[int, Command] = {}  # the command that holds at a node of a light; a new dictionary where a script sets one
+    # The command that holds at a node of a light; a new dictionary where a script sets one.
+    signals: dict[int, Command] = {}
 
     def __init__(
         self,
@@ -103,7 +105,8 @@ class Scenario:
         self.plans: dict[str, tuple[int, ...]] = {}  # links
         self.sizes: dict[str, int] = {}  # cells
         self.departs: dict[str, int] = {}  # wished departure
-        self.later: list[tuple[int, int, str]] = []  # (depart, number, name) of vehicles that may not have departed, the earliest first
+        # Of vehicles that may not have departed: (depart, number, name), the earliest first.
+        self.later: list[tuple[int, int, str]] = []
         self.going: dict[int, str] = {}  # number: name, of vehicles that may be on their way
         self.turning: dict[str, Turning] = {}  # by name, those on the road who are to take another way
         self.begun: dict[str, int] = {}  # by name, the links that were driven before it was entered anew on the road
@@ -179,7 +182,9 @@ class Scenario:
 
     def departure_lane(self, plan: Sequence[int]) -> int:
         """The first lane from which a plan can be driven."""
-        return next((turn.lane for turn in self.map.turns if len(plan) > 1 and (turn.link, turn.next) == tuple(plan[:2])), 0)
+        return next(
+            (turn.lane for turn in self.map.turns if len(plan) > 1 and (turn.link, turn.next) == tuple(plan[:2])), 0
+        )
 
     def plan(self, edges: Sequence[str]) -> tuple[int, ...]:
         """Links along edges, each with a turn to the next; ValueError where there are none."""
@@ -225,9 +230,9 @@ class Scenario:
         return self.divert(self.map.links[link].edge, until) if divert else []
 
     def divert(self, edge: str, until: float) -> list[str]:
-        """Those who have not departed or are on the road take the shortest ways round an edge that is shut: they are taken out
-        and entered anew, with another number, who is on the road where its new way begins. Gives the names of those for whom
-        there is a way."""
+        """Those who have not departed or are on the road take the shortest ways round an edge that is shut: they are
+        taken out and entered anew, with another number, who is on the road where its new way begins. Gives the names of
+        those for whom there is a way."""
         places = [(link, lane) for link in self.map.links_of[edge] for lane in range(len(self.map.links[link].lanes))]
         closed = {place: self.client.lane(*place).closed for place in places}
         shut = shut_edges(self.map, [edge], closed)
@@ -283,7 +288,9 @@ class Scenario:
             if reply.state not in ("cell", "buffer") or reply.link not in one.ahead:
                 del self.turning[name]
             elif reply.state == "cell" or reply.link != one.ahead[-1]:
-                one.due = self.clock + one.soonest(self.map.links, reply.link, reply.cell if reply.state == "cell" else None)
+                one.due = self.clock + one.soonest(
+                    self.map.links, reply.link, reply.cell if reply.state == "cell" else None
+                )
             else:
                 del self.turning[name]
                 self.begun[name] = self.plans[name].index(reply.link, self.begun.get(name, 0)) + 1
@@ -502,7 +509,9 @@ class TrafficLight(Part):
     def own(self, name: str, node: int, phases: Iterable[Sequence[Any]], offset: float, report: Report) -> Own:
         """The words of `signal` for a program at one node."""
         mapping, program = self.scenario.map, Program(offset, [(seconds, state) for seconds, state in phases], "static")
-        turns = [(turn.link, turn.lane, turn.next, turn) for turn in mapping.turns if mapping.links[turn.link].end == node]
+        turns = [
+            (turn.link, turn.lane, turn.next, turn) for turn in mapping.turns if mapping.links[turn.link].end == node
+        ]
         edges = {link: mapping.links[link].edge for link, *_ in turns}
         return node, turns, edges, name, program, mapping.options["permissive"], report, {}
 

@@ -33,7 +33,9 @@ class ClusterCase(Case):
         place = self.folder / "dask"
         place.mkdir(exist_ok=True)
         with open(place / f"{words[0]}-{time.time_ns()}.log", "w", encoding="utf-8") as log:
-            process = subprocess.Popen([DEBIAN, "-m", "distributed.cli." + words[0], *words[1:]], cwd=place, stdout=log, stderr=log)
+            process = subprocess.Popen(
+                [DEBIAN, "-m", "distributed.cli." + words[0], *words[1:]], cwd=place, stdout=log, stderr=log
+            )
         self.addCleanup(process.wait)
         self.addCleanup(process.kill)
         return process
@@ -42,12 +44,19 @@ class ClusterCase(Case):
         port = free_port()
         self.start("dask_scheduler", "--host", "127.0.0.1", "--port", str(port), "--no-dashboard")
         words = ["--host", "127.0.0.1", "--nthreads", "1", "--no-nanny", "--no-dashboard"]
-        workers = [self.start("dask_worker", f"tcp://127.0.0.1:{port}", *words, "--local-directory", str(self.folder / f"w{at}")) for at in (1, 2)]
+        workers = [
+            self.start(
+                "dask_worker", f"tcp://127.0.0.1:{port}", *words, "--local-directory", str(self.folder / f"w{at}")
+            )
+            for at in (1, 2)
+        ]
         self.wait_for(port)
         return port, workers
 
     def wait_for(self, port):
-        script = f"from distributed import Client; Client('127.0.0.1:{port}', timeout=100).wait_for_workers(2, timeout=100)"
+        script = (
+            f"from distributed import Client; Client('127.0.0.1:{port}', timeout=100).wait_for_workers(2, timeout=100)"
+        )
         subprocess.run([DEBIAN, "-c", script], check=True, capture_output=True, timeout=200)
 
     def kill_worker_during(self, worker, words):

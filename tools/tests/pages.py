@@ -1,4 +1,5 @@
-"""A small street as a live page, and what tests of it share: the bridge that serves it, Chromium, and what a hand does."""
+"""A small street as a live page, and what tests of it share: the bridge that serves it,
+Chromium, and what a hand does."""
 import json
 import shutil
 import threading
@@ -52,7 +53,10 @@ class PageCase(LiveCase):
 
         options = webdriver.ChromeOptions()
         # No name is resolved: a page that asked another machine for something would lack it.
-        words = ["--headless=new", "--no-sandbox", "--disable-gpu", f"--window-size={wide},{high}", "--host-resolver-rules=MAP * ~NOTFOUND, EXCLUDE 127.0.0.1"]
+        words = [
+            "--headless=new", "--no-sandbox", "--disable-gpu", f"--window-size={wide},{high}",
+            "--host-resolver-rules=MAP * ~NOTFOUND, EXCLUDE 127.0.0.1",
+        ]
         for word in words:
             options.add_argument(word)
         options.set_capability("goog:loggingPrefs", {"browser": "ALL"})
@@ -60,7 +64,14 @@ class PageCase(LiveCase):
         made = webdriver.Chrome(options=options, service=webdriver.chrome.service.Service(DRIVER))
         try:
             yield made
-            self.assertEqual([entry["message"] for entry in made.get_log("browser") if entry["level"] == "SEVERE" and "favicon" not in entry["message"]], [])
+            self.assertEqual(
+                [
+                    entry["message"]
+                    for entry in made.get_log("browser")
+                    if entry["level"] == "SEVERE" and "favicon" not in entry["message"]
+                ],
+                [],
+            )
         finally:
             made.quit()
 
@@ -76,7 +87,10 @@ class PageCase(LiveCase):
 
     def click(self, browser, name):
         """Clicks a button by its id or text, and waits until what it began is done."""
-        script = "return document.getElementById(arguments[0]) || [...document.querySelectorAll('button')].find(one => one.textContent === arguments[0])"
+        script = (
+            "return document.getElementById(arguments[0]) || [...document.querySelectorAll('button')].find(one => "
+            "one.textContent === arguments[0])"
+        )
         browser.execute_script(script, name).click()
         self.idle(browser)
 
@@ -88,7 +102,10 @@ class PageCase(LiveCase):
 
     def choose(self, browser, link, lane, share):
         """Clicks at a share of a lane's length."""
-        script = "const link = session.data.links[arguments[0]], [x, y] = scene.screen(...scene.place(link, arguments[1], arguments[2])), box = at('map').getBoundingClientRect(); return [x + box.left, y + box.top]"
+        script = (
+            "const link = session.data.links[arguments[0]], [x, y] = scene.screen(...scene.place(link, "
+            "arguments[1], arguments[2])), box = at('map').getBoundingClientRect(); return [x + box.left, y + box.top]"
+        )
         x, y = browser.execute_script(script, link, lane, share)
         from selenium.webdriver.common.action_chains import ActionChains
 
@@ -98,5 +115,8 @@ class PageCase(LiveCase):
         self.idle(browser)
 
     def put(self, browser, name, value):
-        script = "const box = document.getElementById(arguments[0]); box.value = arguments[1]; box.dispatchEvent(new Event('input'))"
+        script = (
+            "const box = document.getElementById(arguments[0]); box.value = arguments[1]; "
+            "box.dispatchEvent(new Event('input'))"
+        )
         browser.execute_script(script, name, value)

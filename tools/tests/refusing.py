@@ -47,7 +47,10 @@ class RefusingCase(Case):
     def setUp(self):
         super().setUp()
         self.library = self.folder / "refuse.so"
-        words = [found("clang"), "-shared", "-fPIC", "-O1", "-nostdlib", f"--ld-path={found('ld.lld')}", "-o", self.library, SOURCE]
+        words = [
+            found("clang"), "-shared", "-fPIC", "-O1", "-nostdlib", f"--ld-path={found('ld.lld')}", "-o", self.library,
+            SOURCE,
+        ]
         subprocess.run(words, check=True, timeout=60)
 
     def run_refusing(self, command, first, last, text=b"", folder=None):
@@ -56,13 +59,16 @@ class RefusingCase(Case):
             count.write(bytes(2 * WORD))
             count.flush()
             environment = {"LD_PRELOAD": str(self.library), "FIRST": str(first), "LAST": str(last), "COUNT": count.name}
-            done = subprocess.run(command, env=environment, input=text, capture_output=True, timeout=60, cwd=folder, check=False)
+            done = subprocess.run(
+                command, env=environment, input=text, capture_output=True, timeout=60, cwd=folder, check=False
+            )
             count.seek(0)
             requests, unfreed = (int.from_bytes(count.read(WORD), "little", signed=True) for _ in range(2))
         return Run(first, done.returncode, done.stdout, done.stderr, requests, unfreed)
 
     def refuse_each(self, run_of, check):
-        """Checks the runs to which a request is refused, from the first one on, until no run of a batch meets its refusal.
+        """Checks the runs to which a request is refused, from the first one on,
+        until no run of a batch meets its refusal.
 
         `run_of` makes the run to which a request of this number is refused. How many runs met theirs.
         """

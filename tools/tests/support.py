@@ -20,13 +20,16 @@ needs_simulator = unittest.skipIf(PROGRAM is None, "no simulator: build streetsi
 BUILT_PAGE = TOOLS.parent / "crates/street_page/out/street_page"
 PAGE_PROGRAM = os.environ.get("STREETSIM_PAGE") or (str(BUILT_PAGE) if BUILT_PAGE.exists() else None)
 PAGE_MODULE = Path(os.environ.get("STREETSIM_PAGE_MODULE") or BUILT_PAGE.with_suffix(".wasm"))
-needs_page_program = unittest.skipIf(PAGE_PROGRAM is None, "no program of a page: ./build --page makes it, or set STREETSIM_PAGE")
+needs_page_program = unittest.skipIf(
+    PAGE_PROGRAM is None, "no program of a page: ./build --page makes it, or set STREETSIM_PAGE"
+)
 # Where the kit's insides changed, ./test and `./build --page` say what changed, and leave the module out.
 needs_page_module = unittest.skipUnless(PAGE_MODULE.exists(), "kit without a page")
 
 
 def needs_package(name, found):
-    """Skips a test where a package of Debian's is not installed. ./test knows these packages by their list, packages.txt."""
+    """Skips a test where a package of Debian's is not installed.
+    ./test knows these packages by their list, packages.txt."""
     return unittest.skipUnless(found, f"Debian's {name} is not installed")
 
 

@@ -56,7 +56,8 @@ class Formulas(unittest.TestCase):
 
     def test_starts(self):
         # SUMO's vehicles a green at the lone cross, straight on and to the right (6.5 m/s), by seconds of green.
-        straight, right = {9: 4.0, 12: 5.5, 20: 10.0, 42: 21.1, 60: 30.2}, {9: 3.7, 12: 4.9, 20: 7.9, 42: 16.4, 60: 23.2}
+        straight = {9: 4.0, 12: 5.5, 20: 10.0, 42: 21.1, 60: 30.2}
+        right = {9: 3.7, 12: 4.9, 20: 7.9, 42: 16.4, 60: 23.2}
         for speed, measured in ((13.89, straight), (6.5, right)):
             for seconds, vehicles in measured.items():
                 self.assertAlmostEqual(leaving(seconds, speed), vehicles, delta=0.4)

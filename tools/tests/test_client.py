@@ -103,7 +103,11 @@ class Simulator(Case):
         self.assertEqual(sim.vehicle(0), Vehicle(0, "arrived", step=4))
 
     def test_each_command_is_done(self):
-        street = {"nodes": [[0, 1, 1], [1, 1, 1]], "links": [[0, 0, 1, 2, 9, 5], [1, 1, 0, 1, 9, 5]], "turns": [[0, 0, 1, 0]]}
+        street = {
+            "nodes": [[0, 1, 1], [1, 1, 1]],
+            "links": [[0, 0, 1, 2, 9, 5], [1, 1, 0, 1, 9, 5]],
+            "turns": [[0, 0, 1, 0]],
+        }
         closed = {"link": 0, "lane": 1, "first": 0, "last": 3}
         commands = [
             {"cmd": "load", **street, "zone": 1, "dawdle": 1, "change": 1, "seed": 1},

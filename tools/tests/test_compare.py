@@ -56,7 +56,12 @@ class Compare(Case):
     def test_edges(self):
         # Quarter hours: 25 against 20 is 100 against 80 an hour, GEH 2.1; 30 against 90 is 120 against 360, GEH 15.5.
         # The second period is not SUMO's; of edge c no lane is known here; d is not SUMO's.
-        here = {(0, 900, "a"): (25, 1800.0), (0, 900, "b"): (30, None), (900, 1800, "a"): (9, 9.0), (0, 900, "d"): (7, 7.0)}
+        here = {
+            (0, 900, "a"): (25, 1800.0),
+            (0, 900, "b"): (30, None),
+            (900, 1800, "a"): (9, 9.0),
+            (0, 900, "d"): (7, 7.0),
+        }
         there = {(0, 900, "a"): (20, 1440.0), (0, 900, "b"): (90, 5.0), (0, 900, "c"): (50, 5.0)}
         self.assertEqual(
             list(compare.compare_edges(here, there, 900, 4))[:1] + list(compare.compare_edges(here, there, 900, 4))[2:],
@@ -65,7 +70,9 @@ class Compare(Case):
                 "time on these edges: 0.5 vehicle hours here, 0.4 in SUMO (+25.0 %)",
             ],
         )
-        self.assertIn("GEH below 5 for 50.0 % of 2 counts of 900 s", list(compare.compare_edges(here, there, 900, 4))[1])
+        self.assertIn(
+            "GEH below 5 for 50.0 % of 2 counts of 900 s", list(compare.compare_edges(here, there, 900, 4))[1]
+        )
         [line] = compare.compare_edges(here, {(0, 300, "a"): (1, 1.0)}, 900, 4)
         self.assertEqual(line, "counts: no period of 900 s and edge in common")
 
@@ -74,7 +81,11 @@ class Compare(Case):
             def isatty(self):
                 return True
 
-        for stream, wait, told in ((Terminal(), 0.01, "\rreading x, 0 s\r              \r"), (Terminal(), 9, ""), (io.StringIO(), 0.01, "")):
+        for stream, wait, told in (
+            (Terminal(), 0.01, "\rreading x, 0 s\r              \r"),
+            (Terminal(), 9, ""),
+            (io.StringIO(), 0.01, ""),
+        ):
             with Slow("reading x", stream, wait):
                 time.sleep(0.2)
             self.assertEqual(stream.getvalue(), told)
@@ -84,7 +95,10 @@ class Compare(Case):
         self.write("trips.csv", ",".join(TRIPS) + "\nv,0,30,30,4,26,2,0,arrived\n")
         self.write("edges.csv", ",".join(EDGES) + "\n0,900,a,1,1,0.50,40.50,6.67\n")
         trips = '<tripinfos><tripinfo id="{}" depart="0.00" arrival="40.00"/></tripinfos>'
-        edges = '<meandata><interval begin="0.00" end="{}.00"><edge id="a" left="1" sampledSeconds="9"/></interval></meandata>'
+        edges = (
+            '<meandata><interval begin="0.00" end="{}.00"><edge id="a" left="1" '
+            'sampledSeconds="9"/></interval></meandata>'
+        )
         for name, end, status in (("v", 900, 0), ("other", 900, 1), ("v", 300, 1)):
             files = self.write("t.xml", trips.format(name)), self.write("e.xml", edges.format(end))
             told = self.tool("compare", self.folder, "--sumo", *files, status=status)

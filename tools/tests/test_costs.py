@@ -1,4 +1,5 @@
-"""bench/costs.py: the table of what the gate costs, of made-up gates; figures of what was kept are those of the run that proved it."""
+"""bench/costs.py: the table of what the gate costs, of made-up gates;
+figures of what was kept are those of the run that proved it."""
 import importlib.util
 import json
 import os
@@ -21,8 +22,14 @@ rt: street_base: its tests are proved
 """
 KEPT = "rt: street_base is kept: an earlier run on this machine proved the same files over the same libraries\n"
 PROGRAM = "== street_sim\nlogic=proved functions=3 main=Threads+Wait\nrt: street_sim proved\n"
-TRIED = "rt: must-fail street_base/one.edit: refused, as it must be: src/lib.rt:1:1: error\nrt: must-fail street_base/two.edit: refused, as it must be\n"
-KNOWN = "rt: street_base: {} of its 2 must-fail edits were tried by an earlier run on this machine, and nothing that they stand on has changed\n"
+TRIED = (
+    "rt: must-fail street_base/one.edit: refused, as it must be: src/lib.rt:1:1: error\n"
+    "rt: must-fail street_base/two.edit: refused, as it must be\n"
+)
+KNOWN = (
+    "rt: street_base: {} of its 2 must-fail edits were tried by an earlier run on this machine, "
+    "and nothing that they stand on has changed\n"
+)
 PASSED = "rt: ok; handles allowed: Threads, Wait; must-fail edits: 2 refused\n4 passed, 0 failed\n"
 
 
@@ -59,9 +66,12 @@ class Costs(Case):
         spec.loader.exec_module(self.costs)
 
     def gate(self, prints, checks=(), status=0, words=(), seconds=0.5):
-        """Runs a made-up gate: checks that take some processor time, (folder, words), and what it prints. What costs.py says."""
+        """Runs a made-up gate: checks that take some processor time, (folder, words),
+        and what it prints. What costs.py says."""
         rattle = str(self.folder / "rattle")
-        (self.top / "gate.py").write_text(SCRIPT.format(seconds=seconds, checks=list(checks), rattle=rattle, prints=prints))
+        (self.top / "gate.py").write_text(
+            SCRIPT.format(seconds=seconds, checks=list(checks), rattle=rattle, prints=prints)
+        )
         command = [sys.executable, "bench/costs.py", *words, sys.executable, "gate.py"]
         done = subprocess.run(command, cwd=self.top, capture_output=True, text=True, check=False)
         self.assertEqual((done.returncode, done.stdout), (status, prints), done.stderr)
@@ -74,7 +84,10 @@ class Costs(Case):
         """Notes of earlier runs, of (command, parts): a part is (crate, kind, seconds, count)."""
         made = []
         for command, parts in runs:
-            parts = [dict(zip(("crate", "kind", "seconds", "count", "sum"), (*part, self.costs.sum_of(part[0])))) for part in parts]
+            parts = [
+                dict(zip(("crate", "kind", "seconds", "count", "sum"), (*part, self.costs.sum_of(part[0]))))
+                for part in parts
+            ]
             made.append({"command": command, "minutes": 12.0, "load": 4.0, "parts": parts})
         (self.top / "out").mkdir(exist_ok=True)
         (self.top / "out/costs.json").write_text(json.dumps(made))
@@ -107,7 +120,11 @@ class Costs(Case):
     def test_parts_that_were_kept_have_the_figures_of_the_run_that_proved_them(self):
         base = [("street_base", "proof", 61.4, 43), ("street_base", "tests", 1002.0, 7)]
         sim = [("street_sim", "proof", 9.0, 3), ("street_sim", "compiled", 4.6, 0)]
-        self.earlier(("rt ci street_base", base), ("rt ci street_other", []), ("./test", [("street_base", "edits", 30.0, 2), *sim]))
+        self.earlier(
+            ("rt ci street_base", base),
+            ("rt ci street_other", []),
+            ("./test", [("street_base", "edits", 30.0, 2), *sim]),
+        )
         self.gate(KEPT + KNOWN.format(2) + TRIED + PASSED)
         self.assertEqual(self.row("street_base"), ["3", "2", "43", "7", "2", "61", "1,002", "30", "", "1, 2"])
         self.assertEqual(self.row("street_sim"), ["1", "", "3", "", "", "9", "", "", "5", "2"])
@@ -116,14 +133,22 @@ class Costs(Case):
         self.assertIn("| 1 | `rt ci street_base` | 12 | 18 | 4.0 |\n| 2 | `./test` | 12 | 1 | 4.0 |\n", told)
 
     def test_the_newest_run_counts(self):
-        whole = [("street_base", "proof", 50.0, 43), ("street_base", "tests", 60.0, 7), ("street_base", "edits", 70.0, 2)]
+        whole = [
+            ("street_base", "proof", 50.0, 43),
+            ("street_base", "tests", 60.0, 7),
+            ("street_base", "edits", 70.0, 2),
+        ]
         sim = [("street_sim", "proof", 9.0, 3), ("street_sim", "compiled", 4.6, 0)]
         self.earlier(("./test", [*whole, *sim]), ("rt ci street_base", [("street_base", "proof", 51.0, 44)]))
         self.gate(KEPT + KNOWN.format(2) + TRIED + PASSED)
         self.assertEqual(self.row("street_base")[2:9], ["44", "7", "2", "51", "60", "70", ""])
 
     def test_edits_of_several_runs(self):
-        whole = [("street_base", "proof", 50.0, 43), ("street_base", "tests", 60.0, 7), ("street_base", "edits", 40.0, 1)]
+        whole = [
+            ("street_base", "proof", 50.0, 43),
+            ("street_base", "tests", 60.0, 7),
+            ("street_base", "edits", 40.0, 1),
+        ]
         self.earlier(("rt ci street_base", whole))
         self.gate(KEPT + PROGRAM + KNOWN.format(1) + TRIED + PASSED)
         self.assertEqual([part["count"] for part in self.notes()[-1]["parts"] if part["kind"] == "edits"], [1])
@@ -132,7 +157,11 @@ class Costs(Case):
 
     def test_refuses_what_no_watched_run_has(self):
         said = self.gate(KEPT + PROGRAM + KNOWN.format(2) + TRIED + PASSED, status=1)
-        self.assertIn("no watched run has what the gate took from earlier ones: street_base (proof), street_base (tests), street_base (edits)\n", said)
+        self.assertIn(
+            "no watched run has what the gate took from earlier ones: street_base (proof), street_base (tests), "
+            "street_base (edits)\n",
+            said,
+        )
         self.assertFalse((self.top / "docs/COSTS.md").exists())
         self.gate(KEPT + PROGRAM + KNOWN.format(2) + TRIED + PASSED, words=["--gaps"])
         self.assertEqual(self.row("street_base")[5:9], ["not known", "not known", "not known", ""])
@@ -170,7 +199,9 @@ class Costs(Case):
         text = (self.top / "docs/COSTS.md").read_text()
         self.assertIn("| 2 | `./test` | 12 | 1 | 4.0 |\n| 3 | `rt ci street_page` | 12 | 0 | 4.0 |\n", text)
         done = subprocess.run([*words, "street_sim"], cwd=self.top, capture_output=True, text=True, check=False)
-        self.assertEqual((done.returncode, done.stderr), (1, "costs: no watched run has street_sim (proof), street_sim (compiled)\n"))
+        self.assertEqual(
+            (done.returncode, done.stderr), (1, "costs: no watched run has street_sim (proof), street_sim (compiled)\n")
+        )
         self.assertEqual((self.top / "docs/COSTS.md").read_text(), text)
 
     def test_beside(self):

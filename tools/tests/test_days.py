@@ -32,7 +32,9 @@ class Schedules(Case):
         times, clock = [], 0
         while (clock := samples.after(clock)) <= 9000:
             times.append(clock)
-        self.assertEqual([sum(begin < time <= begin + 180 for time in times) for begin in range(0, 9000, 180)], [1] * 50)
+        self.assertEqual(
+            [sum(begin < time <= begin + 180 for time in times) for begin in range(0, 9000, 180)], [1] * 50
+        )
         places = [(time - 1) % 180 for time in times]
         # Spread over a cycle of 90 s: each third has about a third.
         for third in range(3):
@@ -40,8 +42,8 @@ class Schedules(Case):
 
     def test_edge_rows(self):
         """One vehicle was there at the begin; nine left, one was taken out, three are there at the end: twelve entered.
-        Samples saw 2 and 4 vehicles on 75 m, which are 40 a kilometre, at 18 cells a step in all: 3 cells a step or 22.5 m/s,
-        so 75 m take 10 / 3 s."""
+        Samples saw 2 and 4 vehicles on 75 m, which are 40 a kilometre, at 18 cells a step in all: 3 cells a step or
+        22.5 m/s, so 75 m take 10 / 3 s."""
         data = Edgedata(0, 900)
         data.end(900, [(0, ((7, 3, 2),))])
         data.sample(1000, [(0, ((7, 3, 2), (8, 2, 4)))])
@@ -67,16 +69,19 @@ class FewCalls(Case):
             return list(csv.DictReader(file))
 
     def test_a_late_vehicle_is_rescued(self):
-        """At red for ever; two lanes a minute do not fit. Free flow is 10 / 5 + 1 + 10 / 5 = 5 s, so it is asked at 180, the first minute 120 s after;
-        it stands, and is watched until 300, 120 s later; on the second link it arrives in step 304."""
+        """At red for ever; two lanes a minute do not fit. Free flow is 10 / 5 + 1 + 10 / 5 = 5 s, so it is asked
+        at 180, the first minute 120 s after; it stands, and is watched until 300, 120 s later; on the second link
+        it arrives in step 304."""
         words = self.given(RED, {"cmd": "enter", "plan": [0, 1], "lane": 0, "depart": 0}, cars=["v"])
         told, _ = self.tool(
-            "run", *words, "--until", 6000, "--rescue", 120, "--every", 6000, "--calls", 500, "--out", self.folder / "out"
+            "run", *words, "--until", 6000, "--rescue", 120, "--every", 6000, "--calls", 500,
+            "--out", self.folder / "out",
         )
         self.assertEqual(told, "1 vehicles, 1 arrived, mean trip 305.0 s, 1 rescues\n")
 
     def test_edges_by_hand(self):
-        """Cells 0, 1, 3, 6 at clocks 1 to 4, then out: 4 of 60 polls see it on 75 m, at 1.5 cells a step or 40.5 km/h."""
+        """Cells 0, 1, 3, 6 at clocks 1 to 4, then out: 4 of 60 polls see it on 75 m,
+        at 1.5 cells a step or 40.5 km/h."""
         words = self.given({"cmd": "enter", "plan": [0], "lane": 0, "depart": 0}, cars=["v"])
         self.tool("run", *words, "--until", 60, "--every", 1, "--out", self.folder / "out")
         row = self.table("edges.csv")[0]
@@ -105,25 +110,32 @@ class Repeated(Case):
             self.tool("import", *words_)
             node = json.loads(mapped.read_text())["signals"][14][1]
             with open(run, "a", encoding="utf-8") as file:  # a junction that is red from 60 s on
-                file.write(json.dumps({"cmd": "signal", "node": node, "offset": 0, "phases": [[600, []]], "at": 60}) + "\n")
+                file.write(
+                    json.dumps({"cmd": "signal", "node": node, "offset": 0, "phases": [[600, []]], "at": 60}) + "\n"
+                )
         arguments = [run, "--map", mapped, "--program", PROGRAM, "--until", 900, "--period", 300, "--rescue", 60]
         with open(os.devnull, "w") as null, patch("sys.stdout", null), patch("sys.stderr", null):
             running.main([str(word) for word in (*arguments, "--out", self.folder / out, *words)])
 
     def test_further_runs_count_what_one_would(self):
-        """All 240 lanes in one run, and 100 in each of three, with rescues that are repeated at their clocks: equal counts."""
+        """All 240 lanes in one run, and 100 in each of three, with rescues that are repeated at
+        their clocks: equal counts."""
         self.run_grid("one")
         with patch.object(limits, "METERS", 100):
             self.run_grid("three")
         for name in ("counts.csv", "trips.csv", "queues.csv", "summary.csv"):
-            self.assertEqual((self.folder / "three" / name).read_bytes(), (self.folder / "one" / name).read_bytes(), name)
+            self.assertEqual(
+                (self.folder / "three" / name).read_bytes(), (self.folder / "one" / name).read_bytes(), name
+            )
         with open(self.folder / "one/trips.csv", encoding="utf-8") as file:
             self.assertGreater(sum(int(row["rescues"]) for row in csv.DictReader(file)), 0)
         tables = [self.edges(name) for name in ("one", "three")]
         self.assertEqual(tables[0].keys(), tables[1].keys())
         self.assertEqual(len(tables[0]), 3 * 120)
         for key, row in tables[0].items():
-            self.assertEqual([row[name] for name in ("entered", "left")], [tables[1][key][name] for name in ("entered", "left")])
+            self.assertEqual(
+                [row[name] for name in ("entered", "left")], [tables[1][key][name] for name in ("entered", "left")]
+            )
         vehicles = [sum(float(row["density_per_km"]) for row in table.values()) for table in tables]
         self.assertAlmostEqual(vehicles[1] / vehicles[0], 1, delta=0.05)
 

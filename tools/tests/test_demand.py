@@ -77,7 +77,8 @@ class Demand(Case):
                 "skipped: 1 vehicles: a person, which streetsim does not have",
                 "skipped: 1 vehicles: depart='triggered' is no time",
                 "skipped: 1 vehicles: two edges of the route have no connection",
-                "warning: 1 stops of vehicles or routes are not made: x (who stands in others' way: streetsim-run --close, for as long)",
+                "warning: 1 stops of vehicles or routes are not made: x (who stands in others' way: streetsim-run "
+                "--close, for as long)",
                 "warning: 1 edges became parallel links of one or two lanes, between which nobody changes lane: a "
                 "(--joint EDGES joins their lanes)",
                 "warning: no vehicle drives",
@@ -88,33 +89,47 @@ class Demand(Case):
     def test_what_is_not_done_is_told_with_names(self):
         report = Report()
         stop = '<stop lane="a_0" duration="9"/>'
-        route, buses = f'<route id="line" edges="a b">{stop}{stop}</route>', '<flow id="bus" number="1" end="9" route="line"/>'
+        route = f'<route id="line" edges="a b">{stop}{stop}</route>'
+        buses = '<flow id="bus" number="1" end="9" route="line"/>'
         vehicle = f'<vehicle id="v" depart="3"><route edges="a b"/>{stop}</vehicle>'
         self.assertEqual(self.enters(route + buses + vehicle, report=report), [("bus.0", 0), ("v", 3)])
         [row] = [row for row in report.rows() if "stops" in row[1]]
         self.assertEqual(row[:3], ["changes results", "3 stops of vehicles or routes are not made: line, v", "line v"])
         report = Report()
         self.assertEqual(self.enters('<vehicel id="v" depart="3"/>', report=report), [])
-        self.assertEqual(list(report.lines())[-2:], ["warning: no vehicle drives", "ignored: 1 x <vehicel> of route files"])
+        self.assertEqual(
+            list(report.lines())[-2:], ["warning: no vehicle drives", "ignored: 1 x <vehicel> of route files"]
+        )
 
     def test_repeated_routes(self):
         """SUMO drives the edges once, and so many times again."""
-        ring = net([("a", "A", "B", [lane("a", 0)]), ("b", "B", "A", [lane("b", 0)])], [("a", 0, "b", 0, ""), ("b", 0, "a", 0, "")])
+        ring = net(
+            [("a", "A", "B", [lane("a", 0)]), ("b", "B", "A", [lane("b", 0)])],
+            [("a", 0, "b", 0, ""), ("b", 0, "a", 0, "")],
+        )
         route = '<routes><vehicle id="v" depart="0"><route edges="a b" repeat="2"/></vehicle></routes>'
-        _, _, commands, _ = convert(self.write("x.net.xml", ring), [], [self.write("r.rou.xml", route)], Options(), Report())
+        _, _, commands, _ = convert(
+            self.write("x.net.xml", ring), [], [self.write("r.rou.xml", route)], Options(), Report()
+        )
         self.assertEqual([one["plan"] for one in commands if one["cmd"] == "enter"], [[0, 1, 0, 1, 0, 1]])
 
     def test_distributions_of_routes(self):
         # 2 of 3 by weights: of 3,000 vehicles 2,000, with a standard deviation of 26.
         flow = '<flow id="f" begin="0" end="3000" period="1" route="d"/>'
         told = '<routeDistribution id="d"><route edges="a b" probability="2"/><route edges="a c"/></routeDistribution>'
-        named = '<route id="r" edges="a b"/><route id="s" edges="a c"/><routeDistribution id="d" routes="r s" probabilities="2 1"/>'
+        named = (
+            '<route id="r" edges="a b"/><route id="s" edges="a c"/><routeDistribution id="d" routes="r s" '
+            'probabilities="2 1"/>'
+        )
         for text in (told, named):
             self.assertEqual(len(self.enters(text + flow)), 3000)
             ends = [command["plan"][-1] for command in self.commands if command["cmd"] == "enter"]
             self.assertTrue(1890 < ends.count(2) < 2110, ends.count(2))
         self.assertEqual(self.network.kinds["route"][0], "r")
-        inside = '<routeDistribution last="0"><route edges="a b" probability="0"/><route cost="9" edges="a c"/></routeDistribution>'
+        inside = (
+            '<routeDistribution last="0"><route edges="a b" probability="0"/><route cost="9" edges="a '
+            'c"/></routeDistribution>'
+        )
         self.assertEqual(self.enters(f'<vehicle id="v" depart="1">{inside}</vehicle>'), [("v", 1)])
         self.assertEqual(self.network.kinds["route"], ["!v#1"])
         both = '<route id="r" edges="a b"/><routeDistribution id="d"><route refId="r"/></routeDistribution>'
@@ -127,7 +142,8 @@ class Demand(Case):
         self.assertIn("3 vehicles that depart at the end, 4 s, or later are left out", list(report.lines()))
 
     def test_demand_in_additional_files(self):
-        street, more = self.write("x.net.xml", FORK), self.write("m.add.xml", '<additional><route id="r" edges="a b"/></additional>')
+        street = self.write("x.net.xml", FORK)
+        more = self.write("m.add.xml", '<additional><route id="r" edges="a b"/></additional>')
         routes = self.write("r.rou.xml", '<routes><vehicle id="v" depart="1" route="r"/></routes>')
         for additional, files in (([more], [routes]), ([more, routes], [])):
             _, _, _, names = convert(street, additional, files, Options(), Report())
@@ -135,7 +151,10 @@ class Demand(Case):
 
     def test_faults_name_file_and_element(self):
         for text, words in (
-            ('<trip id="t" depart="0" from="a" to="b"/>', r"r0.rou.xml: <trip 't'> has no route: streetsim-import --trips FILE"),
+            (
+                '<trip id="t" depart="0" from="a" to="b"/>',
+                r"r0.rou.xml: <trip 't'> has no route: streetsim-import --trips FILE",
+            ),
             (
                 '<vehicle id="v" depart="0"><route edges="a z"/></vehicle>',
                 r"r0.rou.xml: <vehicle 'v'>: the network has no edge 'z'",
@@ -147,18 +166,27 @@ class Demand(Case):
             ),
             ('<vehicle depart="0"><route edges="a"/></vehicle>', r"r0.rou.xml: <vehicle>: no attribute 'id'"),
             ('<flow id="f" begin="0" end="9"><route edges="a"/></flow>', r"<flow 'f'>: no rate"),
-            ('<flow id="f" end="9" vehsPerHour="1e9"><route edges="a"/></flow>', r"<flow 'f'>: more than 1,000,000 vehicles"),
+            (
+                '<flow id="f" end="9" vehsPerHour="1e9"><route edges="a"/></flow>',
+                r"<flow 'f'>: more than 1,000,000 vehicles",
+            ),
             ('<vehicle id="v" depart="0"><route edges="a"/></vehicle>' * 2, r"two vehicles are named 'v'"),
             ('<vehicle id="v" depart="0"><route', r"r0.rou.xml: not XML"),
             ('<vehicle id="v" depart="-5"><route edges="a"/></vehicle>', r"<vehicle 'v'>: depart='-5' cannot be read"),
-            ('<flow id="f" begin="9" end="0" period="1"><route edges="a"/></flow>', r"'f'>: ends at 0 s, before it begins at 9 s"),
+            (
+                '<flow id="f" begin="9" end="0" period="1"><route edges="a"/></flow>',
+                r"'f'>: ends at 0 s, before it begins at 9 s",
+            ),
             (
                 '<flow id="f" begin="1" end="2" period="1"><route edges="a b c"/></flow>',
                 "vehicle 'f.0': the network has no connection from edge 'b' to edge 'c'",
             ),
             ('<routeDistribution id="d"/>', r"<routeDistribution 'd'>: a distribution without a route"),
             ('<routeDistribution id="d" routes="q"/>', r"<routeDistribution 'd'>: there is no route 'q'"),
-            ('<routeDistribution id="d"><route edges="a z"/></routeDistribution>', r"'d'>: the network has no edge 'z'"),
+            (
+                '<routeDistribution id="d"><route edges="a z"/></routeDistribution>',
+                r"'d'>: the network has no edge 'z'",
+            ),
         ):
             with self.subTest(text), self.assertRaisesRegex(Fault, words):
                 self.enters(text)

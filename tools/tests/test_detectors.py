@@ -36,7 +36,10 @@ class Detectors(Case):
             ('<inductionLoop id="x" lane="z_0" pos="0" freq="60" file="f"/>', "the network has no lane 'z_0'"),
             ('<inductionLoop id="x" lane="a_0" pos="0" freq="0" file="f"/>', "freq='0' is no period"),
             ('<inductionLoop id="x" lane="a_0" freq="60" file="f"/>', "no attribute 'pos'"),
-            ('<inductionLoop id="x" lane="a_0" pos="1"/><inductionLoop id="x" lane="a_0" pos="2"/>', "a second detector"),
+            (
+                '<inductionLoop id="x" lane="a_0" pos="1"/><inductionLoop id="x" lane="a_0" pos="2"/>',
+                "a second detector",
+            ),
             ('<inductionLoop id="x" lane="a_0" pos="76"/>', "begins at 76 m, and lane 'a_0' is 75 m long"),
             ('<inductionLoop id="x" lane="a_0" pos="-76"/>', "begins at -76 m, and lane 'a_0' is 75 m long"),
             ('<e2Detector id="x" lane="a_0" pos="90" length="10"/>', "begins at 90 m, and lane 'a_0' is 75 m long"),
@@ -73,9 +76,9 @@ class Detectors(Case):
 
     @needs_simulator
     def test_tables(self):
-        """The vehicle is in cells 0, 1, 3 and 6 at clocks 1 to 4 and out in the fifth step with speed 4. It stands in cell 3,
-        at 29 m, at clock 3 and goes on from it with speed 3; the area sees it four times in ten polls, at 0 to 3 cells a
-        step, with its 5 m on 75; cells 2 and 3 see it once in sixty, at 2 cells a step, with 5 of 15 m."""
+        """The vehicle is in cells 0, 1, 3 and 6 at clocks 1 to 4 and out in the fifth step with speed 4. It stands in
+        cell 3, at 29 m, at clock 3 and goes on from it with speed 3; the area sees it four times in ten polls, at 0 to
+        3 cells a step, with its 5 m on 75; cells 2 and 3 see it once in sixty, at 2 cells a step, with 5 of 15 m."""
         self.run_import(LOOPS)
         words = [self.folder / "run.jsonl", "--map", self.folder / "map.json", "--until", 60, "--every", 1]
         self.tool("run", *words, "--program", PROGRAM, "--out", self.folder / "out")
@@ -88,14 +91,18 @@ class Detectors(Case):
 
     @needs_simulator
     def test_beside_sumo(self):
-        """The grid's 240 lanes with a loop in the middle and an area on the last 100 m of each, four quarter hours; the means
-        of SUMO 1.15 are printed by bench/detectors.py."""
+        """The grid's 240 lanes with a loop in the middle and an area on the last 100 m of each, four quarter hours;
+        the means of SUMO 1.15 are printed by bench/detectors.py."""
         with gzip.open(DATA / "grid.net.xml.gz", "rt", encoding="utf-8") as file:
-            lanes = [(lane.get("id"), float(lane.get("length"))) for lane in ElementTree.parse(file).iterfind("edge[@from]/lane")]
+            lanes = [
+                (lane.get("id"), float(lane.get("length")))
+                for lane in ElementTree.parse(file).iterfind("edge[@from]/lane")
+            ]
         self.assertEqual(len(lanes), 240)
         added = "".join(
             f'<inductionLoop id="{name}" lane="{name}" pos="{metres / 2}" freq="900" file="x"/>'
-            f'<laneAreaDetector id="area {name}" lane="{name}" pos="{max(0, metres - 100)}" endPos="{metres}" freq="900" file="x"/>'
+            f'<laneAreaDetector id="area {name}" lane="{name}" pos="{max(0, metres - 100)}" endPos="{metres}" '
+            'freq="900" file="x"/>'
             for name, metres in lanes
         )
         run, mapped = self.folder / "run.jsonl", self.folder / "map.json"

@@ -33,7 +33,10 @@ class Endings(Case):
         # Red for ever, whose cycle is 600 s: the census stays from 60 s on, and the cells for 601 s and more.
         told = self.run_lines([0, 1], "--rescue", "0", more=[RED])
         self.assertIn("0 arrived", told)
-        self.assertRegex(told, "ended at 1,[0-9]{3} s: no vehicle has changed its cell for 660 s, longer than the longest cycle, 600 s")
+        self.assertRegex(
+            told,
+            "ended at 1,[0-9]{3} s: no vehicle has changed its cell for 660 s, longer than the longest cycle, 600 s",
+        )
 
     def test_the_calls_are_spent(self):
         told = self.run_lines([0], "--rescue", "0", "--calls", "600", more=[{**RED, "phases": [[600, []]] * 16}])
@@ -48,11 +51,17 @@ class Endings(Case):
         edges = [("a", "A", "C", [lane("a", 0)]), ("b", "B", "C", [lane("b", 0)]), ("c", "C", "D", [lane("c", 0)])]
         text = net(edges, [("a", 0, "c", 0, 'via=":C_0_0"'), ("b", 0, "c", 0, 'via=":C_1_0"')]).replace(
             '<junction id="C" type="priority" x="0" y="0"/>',
-            '<junction id="C" type="priority" x="0" y="0"><request index="0" response="00"/><request index="1" response="01"/></junction>',
+            '<junction id="C" type="priority" x="0" y="0"><request index="0" response="00"/><request index="1" '
+            'response="01"/></junction>',
         )
-        flows = "".join(f'<flow id="{name}" begin="0" end="300" period="7"><route edges="{name} c"/></flow>' for name in "ab")
+        flows = "".join(
+            f'<flow id="{name}" begin="0" end="300" period="7"><route edges="{name} c"/></flow>' for name in "ab"
+        )
         outputs = (run := self.folder / "r.jsonl", "--map", self.folder / "m.json")
-        self.tool("import", self.write("x.net.xml", text), "--routes", self.write("x.rou.xml", f"<routes>{flows}</routes>"), "-o", *outputs)
+        self.tool(
+            "import", self.write("x.net.xml", text), "--routes", self.write("x.rou.xml", f"<routes>{flows}</routes>"),
+            "-o", *outputs,
+        )
         words = (run, *outputs[1:], "--program", PROGRAM, "--out", self.folder / "out")
         for more in ((), ("--until", 600)):
             told = self.tool("run", *words, *more)[0]

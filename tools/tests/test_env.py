@@ -55,7 +55,9 @@ class Environment(Case):
             total = sum(env.step({})[1]["J"] for _ in range(30))
             session = env.session
             lanes = env.signals["J"].lanes
-            waited = sum(session.waited.get(car, 0) for lane in lanes for car in session.on_lane.get(session.lane_of[lane], ()))
+            waited = sum(
+                session.waited.get(car, 0) for lane in lanes for car in session.on_lane.get(session.lane_of[lane], ())
+            )
         self.assertGreater(waited, 0)
         self.assertAlmostEqual(total, -waited / 100)
 

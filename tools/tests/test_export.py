@@ -12,7 +12,9 @@ from streetsim.sumo.net import read_net
 from streetsim.sumo.report import Report
 
 OGR = shutil.which("ogr2ogr")
-HAS_PYPROJ = subprocess.run(["/usr/bin/python3", "-c", "import pyproj"], capture_output=True, check=False).returncode == 0
+HAS_PYPROJ = (
+    subprocess.run(["/usr/bin/python3", "-c", "import pyproj"], capture_output=True, check=False).returncode == 0
+)
 needs_pyproj = needs_package("python3-pyproj", HAS_PYPROJ)
 UTM = "+proj=utm +zone=32 +ellps=WGS84 +datum=WGS84 +units=m +no_defs"
 # The point (500000, 0) of each UTM zone is the equator at its central meridian, 9 degrees east in zone 32.
@@ -23,8 +25,8 @@ LOST = {"vehicles": 10, "stopped_delay_s": 5.0, "stops_per_vehicle": 0.5, "error
 
 class Numbers(Case):
     def test_periods_by_their_share(self):
-        """Half of the first period and all of the second: 5 + 20 vehicles in 1,350 s; 10 vehicles a kilometre for 450 s and
-        20 for 900 are 16.67; speeds by vehicles: (4,500 * 30 + 18,000 * 45) / 22,500."""
+        """Half of the first period and all of the second: 5 + 20 vehicles in 1,350 s; 10 vehicles a kilometre for 450 s
+        and 20 for 900 are 16.67; speeds by vehicles: (4,500 * 30 + 18,000 * 45) / 22,500."""
         rows = [
             {"begin": "0", "end": "900", "edge": "a", "left": "10", "density_per_km": "10", "mean_speed_kmh": "30"},
             {"begin": "900", "end": "1800", "edge": "a", "left": "20", "density_per_km": "20", "mean_speed_kmh": "45"},
@@ -54,7 +56,10 @@ class Given(Case):
         for table, columns in (("movements", MOVEMENTS), ("approaches", APPROACHES), ("junctions", JUNCTIONS)):
             rows = []
             for begin, delay in ((0, 20.5), (1800, 36.0)):
-                row = {**LOST, **QUEUED, "begin": begin, "end": begin + 1800, "control_delay_s": delay, "v_c": 0.5, "los": "?"}
+                row = {
+                    **LOST, **QUEUED, "begin": begin, "end": begin + 1800, "control_delay_s": delay, "v_c": 0.5,
+                    "los": "?",
+                }
                 row.update(junction="B", control="signals", approach="a", to="b", movement="T", vehicles_per_hour=20)
                 rows.append([{**row, "saturation_flow": 1760, "capacity_per_hour": 40}[column] for column in columns])
             write_table(f"{self.folder}/{table}.csv", columns, rows)
@@ -78,7 +83,9 @@ class Files(Given):
         edges = [("edge", "a"), ("edge", "b"), ("junction", "B")]
         self.assertEqual(kinds, [(*one, begin) for begin in (0, 1800) for one in edges])
         first, other, junction, later, *_ = (row["properties"] for row in rows)
-        self.assertEqual((first["vehicles_per_hour"], first["mean_speed_kmh"], first["los"], first["to"]), (20.0, 30.0, "C", "B"))
+        self.assertEqual(
+            (first["vehicles_per_hour"], first["mean_speed_kmh"], first["los"], first["to"]), (20.0, 30.0, "C", "B")
+        )
         self.assertEqual((later["vehicles_per_hour"], later["mean_speed_kmh"], later["los"]), (60.0, None, "D"))
         self.assertEqual((other["vehicles_per_hour"], other["control_delay_s"], other["los"]), (None, None, None))
         self.assertEqual((junction["control_delay_s"], junction["v_c"], first["queue_95_m"]), (20.5, 0.5, 15.0))
@@ -99,7 +106,11 @@ class Files(Given):
 
     def test_faults(self):
         for location, words, told in (
-            ({"offset": [0, 0], "projection": "!"}, (), "the network has no projection: say where it lies by --projection"),
+            (
+                {"offset": [0, 0], "projection": "!"},
+                (),
+                "the network has no projection: say where it lies by --projection",
+            ),
             ({}, (), "import again"),
             (LOCATION, ("--projection", "+proj=none"), "'+proj=none' is no projection that pyproj knows"),
             ({"offset": [-9e9, 0], "projection": UTM}, (), "nowhere on Earth"),
@@ -139,7 +150,10 @@ class Whole(Case):
         from test_reports import CORRIDOR
 
         run, mapped, out = self.folder / "run.jsonl", self.folder / "map.json", self.folder / "out"
-        self.tool("import", CORRIDOR / "corridor.net.xml.gz", "--routes", CORRIDOR / "corridor.rou.xml", "-o", run, "--map", mapped)
+        self.tool(
+            "import", CORRIDOR / "corridor.net.xml.gz", "--routes", CORRIDOR / "corridor.rou.xml", "-o", run,
+            "--map", mapped,
+        )
         words = (run, "--map", mapped, "--until", 600, "--period", 600, "--program", PROGRAM, "--out", out)
         self.tool("run", *words, "--seeds", "1-2", "--junctions", "600")
         told = self.tool("export", out, "-o", self.folder / "x.geojson", "--projection", "EPSG:32632")[0]
@@ -151,7 +165,12 @@ class Whole(Case):
         self.assertAlmostEqual(edge["vehicles_per_hour"], sum(left) / 2 * 6, delta=0.05)
 
 
-@needs_package("python3-matplotlib", subprocess.run(["/usr/bin/python3", "-c", "import matplotlib, PIL"], capture_output=True, check=False).returncode == 0)
+@needs_package(
+    "python3-matplotlib",
+    subprocess.run(
+        ["/usr/bin/python3", "-c", "import matplotlib, PIL"], capture_output=True, check=False
+    ).returncode == 0,
+)
 class Maps(Given):
     def drawn(self, what, *words):
         path = self.folder / f"{what}.svg"
@@ -160,14 +179,18 @@ class Maps(Given):
 
     def test_each_is_drawn_with_its_units(self):
         """The texts of an SVG stand beside its glyphs as comments; the busiest interval is the first of two alike."""
-        for what, told in (("delay", "seconds"), ("vc", "v/c"), ("flow", "vehicles/h"), ("queue", "metres"), ("los", "Level of service")):
+        for what, told in (
+            ("delay", "seconds"), ("vc", "v/c"), ("flow", "vehicles/h"), ("queue", "metres"),
+            ("los", "Level of service"),
+        ):
             with self.subTest(what):
                 text = self.drawn(what)
                 self.assertIn(told, text)
                 self.assertIn("0:00 to 0:30", text)
 
     def test_letters_have_the_reports_colours(self):
-        """20.5 s are C on the edge and the junction, 36 s are D: besides the legend's, two marks more of that colour."""
+        """20.5 s are C on the edge and the junction, 36 s are D: besides the legend's,
+        two marks more of that colour."""
         for begin, letter, other in ((0, "C", "D"), (1800, "D", "C")):
             text = self.drawn("los", "--begin", begin).lower()
             self.assertEqual(text.count(COLOURS[letter]) - text.count(COLOURS[other]), 2)
@@ -178,7 +201,9 @@ class Maps(Given):
             (("--begin", 0), "--begin: the map of density is of all polls"),
         ):
             with self.subTest(told):
-                self.assertIn(told, self.tool("plot", "map", self.folder, *words, "-o", self.folder / "x.png", status=2)[1])
+                self.assertIn(
+                    told, self.tool("plot", "map", self.folder, *words, "-o", self.folder / "x.png", status=2)[1]
+                )
         (self.folder / "junctions.csv").unlink()
         said = self.tool("plot", "map", self.folder, "--what", "los", "-o", self.folder / "x.png", status=2)[1]
         self.assertIn("a map of los needs streetsim-run --junctions", said)

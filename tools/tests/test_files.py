@@ -1,4 +1,5 @@
-"""Outputs: written whole or not at all, over regular files alone; inputs and words that do not fit are told in a line."""
+"""Outputs: written whole or not at all, over regular files alone;
+inputs and words that do not fit are told in a line."""
 import json
 import os
 import signal
@@ -20,7 +21,8 @@ class Written(Case):
         pipe = self.folder / "pipe"
         os.mkfifo(pipe)
         for path in ("/dev/full", "/dev/null", str(pipe), str(self.folder)):
-            with self.subTest(path), self.assertRaisesRegex(Fault, "exists and is no regular file"), whole_file(path) as file:
+            refused = self.assertRaisesRegex(Fault, "exists and is no regular file")
+            with self.subTest(path), refused, whole_file(path) as file:
                 file.write("x")
         self.assertTrue(stat.S_ISCHR(os.stat("/dev/full").st_mode) and stat.S_ISFIFO(os.stat(pipe).st_mode))
 
@@ -139,7 +141,10 @@ class Ended(Case):
 
     def test_files_that_sigkill_left(self):
         made = f"import os, sys; sys.path.insert(0, {str(TOOLS)!r}); from streetsim.files import whole_path"
-        ended = f"with whole_path({str(self.folder / 'x.add.xml')!r}) as half:\n open(half, 'w').write('x')\n os.kill(os.getpid(), 9)"
+        ended = (
+            f"with whole_path({str(self.folder / 'x.add.xml')!r}) as half:\n open(half, 'w').write('x')\n"
+            " os.kill(os.getpid(), 9)"
+        )
         subprocess.run([sys.executable, "-c", f"{made}\n{ended}"], check=False)
         self.assertEqual(len(list(self.folder.glob(".x.*.half.add.xml"))), 1)
         with whole_file(self.folder / "x.add.xml") as first, whole_file(self.folder / "x.xml") as second:
@@ -175,8 +180,11 @@ class Words(Case):
         return told
 
     def test_import(self):
-        network, routes = self.write("x.net.xml", STREET), '<routes><vehicle id="v" depart="0"><route edges="a"/></vehicle></routes>'
-        self.assertIn("SUMO has no vehicle class 'foo'; it has private", self.refused(network, "--classes", "passenger,foo"))
+        network = self.write("x.net.xml", STREET)
+        routes = '<routes><vehicle id="v" depart="0"><route edges="a"/></vehicle></routes>'
+        self.assertIn(
+            "SUMO has no vehicle class 'foo'; it has private", self.refused(network, "--classes", "passenger,foo")
+        )
         told = self.refused(network, self.write("x.rou.xml", routes), "--trips", self.write("y.rou.xml", "<routes/>"))
         self.assertIn("x.rou.xml: <vehicle 'v'> in an additional file: give files of routes after --routes", told)
         same = self.folder / "same.json"
@@ -188,7 +196,9 @@ class Words(Case):
     def test_a_link_to_a_device(self):
         link = self.folder / "run.json"
         link.symlink_to("/dev/full")
-        told = self.tool("import", self.write("x.net.xml", FORK), "-o", link, "--map", self.folder / "map.json", status=2)[1]
+        told = self.tool(
+            "import", self.write("x.net.xml", FORK), "-o", link, "--map", self.folder / "map.json", status=2
+        )[1]
         self.assertIn("run.json: exists and is no regular file", told)
         self.assertFalse((self.folder / "map.json").exists())
 

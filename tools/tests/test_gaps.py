@@ -3,7 +3,9 @@ import json
 import unittest
 
 from support import Case, lane
-from streetsim.run.gaps import PATIENCE, be_patient, followings, gap_lines, phases_of, red_seconds, slow_down, with_wishes
+from streetsim.run.gaps import (
+    PATIENCE, be_patient, followings, gap_lines, phases_of, red_seconds, slow_down, with_wishes,
+)
 from streetsim.run.mapping import MapLink, MapTurn
 from streetsim.run.passings import Passings
 from streetsim.run.runs import Line
@@ -133,7 +135,8 @@ class Lines(unittest.TestCase):
         self.assertEqual([length for length, _ in phases_of([bytearray(1300)])], [600, 600, 100])
 
     def test_a_signal_line(self):
-        # Link 0 gives way at node 1 to one who comes from link 1 at second 130: red from 130 - 4 on, with what rounding owes.
+        # Link 0 gives way at node 1 to one who comes from link 1 at second 130:
+        # red from 130 - 4 on, with what rounding owes.
         class Yielding(Links):
             yields = [Waiting(1, ((0, 0, 1),), (Foe(1, 0, 2, Gap(4.0, 0.0, 0.0), False),))]
 
@@ -144,34 +147,46 @@ class Lines(unittest.TestCase):
         self.assertEqual(line.text, f'{{"cmd":"signal","node":1,"offset":560,"phases":[{phases}]}}')
 
 
-STREETS = {"s": ("S", "X", 13.89), "t": ("X", "T", 13.89), "before": ("R", "X", 8.33), "after": ("X", "Q", 8.33)}  # metres a second
-WAYS = (("s", "after", 6.55, "10"), ("before", "t", 6.55, "00"), ("before", "after", 8.33, "00"))  # speed inside, response
+# From, to, and metres a second.
+STREETS = {"s": ("S", "X", 13.89), "t": ("X", "T", 13.89), "before": ("R", "X", 8.33), "after": ("X", "Q", 8.33)}
+# From, to, the speed inside, and the response.
+WAYS = (("s", "after", 6.55, "10"), ("before", "t", 6.55, "00"), ("before", "after", 8.33, "00"))
 
 
 def ring_junction(more, metres):
-    """A junction X of a ring, which goes on from edge before to after, each of so many metres; a street s enters there and t
-    leaves."""
+    """A junction X of a ring, which goes on from edge before to after, each of so many metres;
+    a street s enters there and t leaves."""
     inner = "".join(
-        f'<edge id=":X_{at}" function="internal"><lane id=":X_{at}_0" index="0" speed="{speed}" length="9" shape="0,0 9,0"/></edge>'
+        f'<edge id=":X_{at}" function="internal"><lane id=":X_{at}_0" index="0" speed="{speed}" length="9" '
+        'shape="0,0 9,0"/></edge>'
         for at, (_, _, speed, _) in enumerate(WAYS)
     )
     edges = "".join(
-        f'<edge id="{name}" from="{begin}" to="{end}">{lane(name, 0, metres, speed)}</edge>' for name, (begin, end, speed) in STREETS.items()
+        f'<edge id="{name}" from="{begin}" to="{end}">{lane(name, 0, metres, speed)}</edge>'
+        for name, (begin, end, speed) in STREETS.items()
     )
     ends = "".join(f'<junction id="{name}" type="dead_end" x="0" y="0"/>' for name in "STRQ")
-    requests = "".join(f'<request index="{at}" response="{response.zfill(3)}"/>' for at, (*_, response) in enumerate(WAYS))
+    requests = "".join(
+        f'<request index="{at}" response="{response.zfill(3)}"/>' for at, (*_, response) in enumerate(WAYS)
+    )
     ways = "".join(
         f'<connection from="{one}" to="{other}" fromLane="0" toLane="0" via=":X_{at}_0" state="M"/>'
         for at, (one, other, *_) in enumerate(WAYS)
     )
-    return f'<net version="1.9">{inner}{edges}{ends}<junction id="X" type="priority" x="0" y="0">{requests}</junction>{ways}{more}</net>'
+    return (
+        f'<net version="1.9">{inner}{edges}{ends}<junction id="X" type="priority" x="0" '
+        f'y="0">{requests}</junction>{ways}{more}</net>'
+    )
 
 
 class Stays(Case):
     def stay(self, ways, more='<roundabout nodes="X" edges="before after"/>', metres=18.0):
         """The seconds in the junction, of vehicles on some ways."""
-        vehicles = "".join(f'<vehicle id="{at}" depart="{at}"><route edges="{way}"/></vehicle>' for at, way in enumerate(ways))
-        net, routes = self.write("x.net.xml", ring_junction(more, metres)), self.write("x.rou.xml", f"<routes>{vehicles}</routes>")
+        vehicles = "".join(
+            f'<vehicle id="{at}" depart="{at}"><route edges="{way}"/></vehicle>' for at, way in enumerate(ways)
+        )
+        net = self.write("x.net.xml", ring_junction(more, metres))
+        routes = self.write("x.rou.xml", f"<routes>{vehicles}</routes>")
         network, *_ = convert(net, [], [routes], Options(), Report())
         return network.residences[network.nodes.index("X")]
 

@@ -1,4 +1,5 @@
-"""./test and ./build where the gate, or the tests, only seem to pass: with a made-up rt, and beside a program that was built before."""
+"""./test and ./build where the gate, or the tests, only seem to pass: with a made-up rt,
+and beside a program that was built before."""
 import shutil
 import unittest
 
@@ -40,7 +41,9 @@ class GateCase(RepositoryCase):
         for name in ("test", "tools/tests/packages.txt", "tools/tests/support.py"):
             (self.top / name).parent.mkdir(exist_ok=True)
             shutil.copy(TOP / name, self.top / name)
-        shutil.copytree(TOP / "tools/streetsim", self.top / "tools/streetsim", ignore=shutil.ignore_patterns("__pycache__"))
+        shutil.copytree(
+            TOP / "tools/streetsim", self.top / "tools/streetsim", ignore=shutil.ignore_patterns("__pycache__")
+        )
         (self.top / "check/tests").mkdir(parents=True)
         self.program = self.top / "crates/street_sim/out/street_sim"
         self.program.parent.mkdir()
@@ -71,7 +74,9 @@ class Tests(GateCase):
         self.assertTrue(self.is_marked())
 
     def test_a_listed_reason_is_a_reason_to_skip(self):
-        self.write_test(GOOD + SKIPPED.format(why="Debian's chromium is not installed").removeprefix("import unittest\n"))
+        self.write_test(
+            GOOD + SKIPPED.format(why="Debian's chromium is not installed").removeprefix("import unittest\n")
+        )
         output, _ = self.runs("test", LAST=PASSED)
         self.assertEqual(output.splitlines()[-1], "13 passed, 0 failed, 1 skipped")
 
@@ -82,7 +87,12 @@ class Tests(GateCase):
         self.assertEqual(output.splitlines()[-1], "13 passed, 0 failed, 1 skipped")
 
     def test_a_gate_without_a_count(self):
-        for last in ("", "all is well", "12 passed", "12 passed, 0 failed (street_base and the crates below alone: not the gate)"):
+        for last in (
+            "",
+            "all is well",
+            "12 passed",
+            "12 passed, 0 failed (street_base and the crates below alone: not the gate)",
+        ):
             with self.subTest(last=last):
                 _, count = self.fails(last)
                 self.assertEqual(count, "1 passed, 1 failed")
@@ -122,7 +132,9 @@ class Tests(GateCase):
 
 class Builds(GateCase):
     def test_the_gate_has_to_pass_by_its_last_line(self):
-        for last, ends in (("", "0"), ("all is well", "0"), ("0 passed, 0 failed", "0"), ("2 passed, 1 failed", "0"), (PASSED, "1")):
+        for last, ends in (
+            ("", "0"), ("all is well", "0"), ("0 passed, 0 failed", "0"), ("2 passed, 1 failed", "0"), (PASSED, "1"),
+        ):
             with self.subTest(last=last, ends=ends):
                 output, _ = self.runs("build", status=1, LAST=last, ENDS=ends)
                 self.assertIn("not proved", output)

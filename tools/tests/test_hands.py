@@ -38,9 +38,17 @@ class Hands(PageCase):
             self.near((x, y), (75, 0))
             self.press(browser, "+")
             self.near(self.seen(browser), (x, y, 1.25 * scale, 0))
-            for key, east, north in ((Keys.ARROW_LEFT, -1, 0), (Keys.ARROW_UP, -1, 1), (Keys.ARROW_RIGHT, 0, 1), (Keys.ARROW_DOWN, 0, 0)):
+            for key, east, north in (
+                (Keys.ARROW_LEFT, -1, 0),
+                (Keys.ARROW_UP, -1, 1),
+                (Keys.ARROW_RIGHT, 0, 1),
+                (Keys.ARROW_DOWN, 0, 0),
+            ):
                 self.press(browser, key)
-                self.near(self.seen(browser), (x + 60 * east / (1.25 * scale), y + 60 * north / (1.25 * scale), 1.25 * scale, 0))
+                self.near(
+                    self.seen(browser),
+                    (x + 60 * east / (1.25 * scale), y + 60 * north / (1.25 * scale), 1.25 * scale, 0),
+                )
             self.press(browser, "-")
             self.press(browser, "-")
             self.near(self.seen(browser), (x, y, 0.8 * scale, 0))
@@ -63,7 +71,8 @@ class Hands(PageCase):
             self.assertEqual(browser.execute_script("return [chosen, at('chosen').textContent]"), [None, ""])
 
     def test_a_vehicle_is_followed(self):
-        """From the stop line to the next link: after each step the picture's middle is where the engine says that it is."""
+        """From the stop line to the next link: after each step the picture's middle is where the
+        engine says that it is."""
         from selenium.webdriver.common.keys import Keys
 
         with self.bridge() as bridge, self.browser() as browser:
@@ -75,7 +84,9 @@ class Hands(PageCase):
             for _ in range(8):
                 self.press(browser, "+")
             self.steps(browser, 14)
-            where = browser.execute_async_script("const done = arguments[0]; session.ask({ cmd: 'vehicle', car: 0 }).then(done)")
+            where = browser.execute_async_script(
+                "const done = arguments[0]; session.ask({ cmd: 'vehicle', car: 0 }).then(done)"
+            )
             self.assertEqual((where["state"], where["link"]), ("cell", 1))
             x, y, scale, _ = self.seen(browser)
             self.near((x, y), (75 + 7.5 * (where["cell"] + 0.5), 0))
@@ -86,8 +97,8 @@ class Hands(PageCase):
             self.assertIsNone(browser.execute_script("return followed"))
 
     def test_a_detector_and_the_queues(self):
-        """By hand: three vehicles stand before the red, all of them pass the detector behind it, and the queue is none any more. The queues
-        are those of all lanes, also of one that is out of view."""
+        """By hand: three vehicles stand before the red, all of them pass the detector behind it,
+        and the queue is none any more. The queues are those of all lanes, also of one that is out of view."""
         with self.bridge() as bridge, self.browser() as browser:
             self.open(browser, bridge.address)
             self.choose(browser, 1, 0, 0.55)
@@ -98,7 +109,9 @@ class Hands(PageCase):
             self.assertEqual(self.charts(browser), ["no period is over yet"])
             browser.execute_script("scene.scale = 40; scene.x = 140; scene.moved = true; draw(1)")
             self.steps(browser, 18)
-            rows = browser.execute_script("return [...at('queues').rows].map(row => [...row.cells].slice(0, 3).map(cell => cell.textContent))")
+            rows = browser.execute_script(
+                "return [...at('queues').rows].map(row => [...row.cells].slice(0, 3).map(cell => cell.textContent))"
+            )
             self.assertEqual(rows[1:], [["a_0", "3", "0"]])
             browser.execute_script("at('queues').rows[1].click()")
             self.assertIn("Lane a_0", browser.execute_script("return at('title').textContent"))
@@ -110,7 +123,9 @@ class Hands(PageCase):
             self.assertEqual(flows[:4], [0] * 4)
 
     def charts(self, browser):
-        return browser.execute_script("return [...document.querySelectorAll('#detectors canvas')].map(chart => chart.title)")
+        return browser.execute_script(
+            "return [...document.querySelectorAll('#detectors canvas')].map(chart => chart.title)"
+        )
 
     def test_a_plan_by_its_ticks(self):
         """One phase more, green for the movement: it is sent, and the vehicles go before the run's own green comes."""
@@ -126,7 +141,9 @@ class Hands(PageCase):
             self.assertIn("set: a cycle of 55 s", browser.execute_script("return at('chosen').textContent"))
             self.assertEqual(browser.execute_script("return session.plans.get(1).phases"), [[5, []], [50, [[0, 0, 1]]]])
             self.steps(browser, 16)
-            passed = browser.execute_script("return session.count.arrived + [...cars.values()].filter(([link]) => link.number === 1).length")
+            passed = browser.execute_script(
+                "return session.count.arrived + [...cars.values()].filter(([link]) => link.number === 1).length"
+            )
             self.assertEqual(passed, 3)
 
     def test_names_appear_where_one_points(self):
@@ -134,9 +151,16 @@ class Hands(PageCase):
 
         with self.bridge() as bridge, self.browser() as browser:
             self.open(browser, bridge.address)
-            browser.execute_script("globalThis.named = []; const draws = scene.drawName; scene.drawName = function (...words) { named.push(words[0]); draws.apply(this, words); }")
+            browser.execute_script(
+                "globalThis.named = []; const draws = scene.drawName; scene.drawName = function (...words) { "
+                "named.push(words[0]); draws.apply(this, words); }"
+            )
             for x in (75, 110):
-                place = browser.execute_script("const box = at('map').getBoundingClientRect(), [x, y] = scene.screen(arguments[0], 0); return [x + box.left, y + box.top]", x)
+                place = browser.execute_script(
+                    "const box = at('map').getBoundingClientRect(), [x, y] = scene.screen(arguments[0], 0); "
+                    "return [x + box.left, y + box.top]",
+                    x,
+                )
                 actions = ActionChains(browser)
                 actions.w3c_actions.pointer_action.move_to_location(*map(round, place))
                 actions.perform()
@@ -150,7 +174,9 @@ class Hands(PageCase):
         """One finger moves, two zoom, a touch chooses; so do the wheel and the mouse."""
         with self.bridge() as bridge, self.browser(420, 800) as browser:
             self.open(browser, bridge.address)
-            box = browser.execute_script("const box = at('map').getBoundingClientRect(); return [box.left, box.top, box.width, box.height]")
+            box = browser.execute_script(
+                "const box = at('map').getBoundingClientRect(); return [box.left, box.top, box.width, box.height]"
+            )
             middle_x, middle_y = box[0] + box[2] / 2, box[1] + box[3] / 2
             x, y, scale, _ = self.seen(browser)
             self.touch(browser, "touchStart", (middle_x, middle_y))
@@ -166,11 +192,16 @@ class Hands(PageCase):
             self.touch(browser, "touchEnd")
             self.assertAlmostEqual(self.seen(browser)[2] / scale, 80 / 42, delta=0.1)
             wide = self.seen(browser)[2]
-            browser.execute_cdp_cmd("Input.dispatchMouseEvent", {"type": "mouseWheel", "x": middle_x, "y": middle_y, "deltaX": 0, "deltaY": 100})
+            browser.execute_cdp_cmd(
+                "Input.dispatchMouseEvent",
+                {"type": "mouseWheel", "x": middle_x, "y": middle_y, "deltaX": 0, "deltaY": 100},
+            )
             self.wait(browser, f"return scene.scale < {wide}")
             self.click(browser, "whole")
             self.near(self.seen(browser), (x, y, scale, 0))
-            place = browser.execute_script("const [px, py] = scene.screen(...scene.place(session.data.links[1], 0, .55)); return [px, py]")
+            place = browser.execute_script(
+                "const [px, py] = scene.screen(...scene.place(session.data.links[1], 0, .55)); return [px, py]"
+            )
             touched = (box[0] + place[0], box[1] + place[1])
             self.touch(browser, "touchStart", touched)
             self.touch(browser, "touchEnd")

@@ -28,7 +28,9 @@ class Networks(Case):
         given, mapping = self.write("x.net.xml", FORK), self.folder / "map.json"
         self.tool("import", given, "-o", self.folder / "run.jsonl", "--map", mapping)
         self.tool("import", given, "-o", self.folder / "run.jsonl.gz", "--map", mapping)
-        self.assertEqual(gzip.decompress((self.folder / "run.jsonl.gz").read_bytes()), (self.folder / "run.jsonl").read_bytes())
+        self.assertEqual(
+            gzip.decompress((self.folder / "run.jsonl.gz").read_bytes()), (self.folder / "run.jsonl").read_bytes()
+        )
 
     def test_speeds_and_lengths(self):
         # With dawdle 170 a limit of L cells gives (L - 0.17) * 27 km/h when free: 22, 49, 76, 103, 130.
@@ -48,11 +50,20 @@ class Networks(Case):
         )
 
     def test_warnings_of_lengths_and_merges(self):
-        # 12 m are two cells, a quarter longer; 75 m are ten. On a motorway two roads become one, on a street of 50 km/h too.
+        # 12 m are two cells, a quarter longer; 75 m are ten. On a motorway two roads become one,
+        # on a street of 50 km/h too.
         for kmh, count in ((100, 1), (50, 0)):
-            ends = [("a", "A", "C", [lane("a", 0, 12)]), ("b", "B", "C", [lane("b", 0)]), ("c", "C", "D", [lane("c", 0, speed=kmh / 3.6)])]
+            ends = [
+                ("a", "A", "C", [lane("a", 0, 12)]),
+                ("b", "B", "C", [lane("b", 0)]),
+                ("c", "C", "D", [lane("c", 0, speed=kmh / 3.6)]),
+            ]
             self.network(net(ends, [("a", 0, "c", 0, ""), ("b", 0, "c", 0, "")]))
-            merges = [text for text in self.said.warnings if "fast roads begin where others merge" in text and text.endswith("long: c")]
+            merges = [
+                text
+                for text in self.said.warnings
+                if "fast roads begin where others merge" in text and text.endswith("long: c")
+            ]
             self.assertEqual(len(merges), count)
             longer = "1 edges are longer here than in SUMO by more than a tenth, as lengths are whole cells: a"
             self.assertIn(longer, self.said.warnings)
@@ -159,7 +170,10 @@ class Networks(Case):
     def test_too_many_vehicles_and_too_long_a_line(self):
         network, *_ = self.network(FORK)
         refuse_over_limits(network, "x" * 1_048_576, range(1_000_000))
-        words = "too large for streetsim: 1,000,001 vehicles, at most 1,000,000; a load line of 1,048,577 bytes, at most 1,048,576"
+        words = (
+            "too large for streetsim: 1,000,001 vehicles, at most 1,000,000; a load line of 1,048,577 bytes, "
+            "at most 1,048,576"
+        )
         with self.assertRaisesRegex(Fault, words):
             refuse_over_limits(network, "x" * 1_048_577, range(1_000_001))
 

@@ -47,7 +47,8 @@ class Bytes(Case):
         self.assertIn("/dev/stdin: not XML", said)
 
 
-CONFIGURATION = """<configuration><input><net-file value="x.net.xml"/><route-files value="a.rou.xml, b.rou.xml"/></input>
+CONFIGURATION = """<configuration><input><net-file value="x.net.xml"/>\
+<route-files value="a.rou.xml, b.rou.xml"/></input>
 <time><begin value="0:0:10"/><end value="60"/><step-length value="0.5"/></time><seed value="7"/>
 <tripinfo-output value="t.xml"/><no-step-log value="true"/></configuration>"""
 
@@ -61,7 +62,10 @@ class Configurations(Case):
         return self.tool("import", "-c", self.folder / "x.sumocfg", *outputs, *words, status=status)[1]
 
     def test_a_configuration(self):
-        text = '<vehicle id="soon" depart="9"><route edges="a b"/></vehicle><vehicle id="v" depart="12"><route edges="a b"/></vehicle>'
+        text = (
+            '<vehicle id="soon" depart="9"><route edges="a b"/></vehicle><vehicle id="v" depart="12"><route '
+            'edges="a b"/></vehicle>'
+        )
         said = self.imported(CONFIGURATION, text)
         self.assertEqual(read_json(self.folder / "m.json", ["cars"])["cars"], ["v"])
         load = read_run(self.folder / "r.jsonl").load.command
@@ -81,7 +85,9 @@ class Configurations(Case):
         said = self.imported(CONFIGURATION, '<trip id="t" depart="12" from="a" to="c"/>')
         self.assertIn("trips have the ways that are shortest", said)
         run, value = read_run(self.folder / "r.jsonl"), read_json(self.folder / "m.json", ["links"])
-        self.assertEqual([[value["links"][link][0] for link in line.command["plan"]] for line in run.enters], [["a", "c"]])
+        self.assertEqual(
+            [[value["links"][link][0] for link in line.command["plan"]] for line in run.enters], [["a", "c"]]
+        )
 
     def test_a_table_of_all_that_is_said(self):
         table = self.folder / "w.csv"
@@ -98,7 +104,9 @@ class Configurations(Case):
         self.assertLess(max(at for at, word in enumerate(first) if word == "warning"), first.index("ignored"))
 
     def test_faults(self):
-        self.assertIn("x.sumocfg: names no network (net-file)", self.imported("<c><begin value='1'/></c>", "", status=2))
+        self.assertIn(
+            "x.sumocfg: names no network (net-file)", self.imported("<c><begin value='1'/></c>", "", status=2)
+        )
         said = self.imported("<c><n v='x.net.xml'/><net v='x.net.xml'/><begin v='soon'/></c>", "", status=2)
         self.assertIn("--begin: 'soon' is not 0 to 1,000,000,000 s", said)
         said = self.tool("import", "-o", self.folder / "r", "--map", self.folder / "m", status=2)[1]

@@ -32,12 +32,18 @@ class Install(Case):
         variables = environment(PIP_NO_INDEX="1", PIP_FIND_LINKS="", PYTHONPATH=str(place))
         subprocess.run(words, cwd=TOOLS.parent, env=variables, check=True, capture_output=True)
         self.assertEqual({path for path in TOOLS.iterdir() if path.name != "__pycache__"}, before)
-        self.assertEqual(sorted(path.name for path in (place / "bin").iterdir()), [f"streetsim-{name}" for name in COMMANDS])
+        self.assertEqual(
+            sorted(path.name for path in (place / "bin").iterdir()), [f"streetsim-{name}" for name in COMMANDS]
+        )
         for name in COMMANDS:
-            told = subprocess.run([place / f"bin/streetsim-{name}", "--help"], env=variables, capture_output=True, text=True, check=True)
+            told = subprocess.run(
+                [place / f"bin/streetsim-{name}", "--help"], env=variables, capture_output=True, text=True, check=True
+            )
             self.assertTrue(told.stdout.startswith(f"usage: streetsim-{name} "), told.stdout)
         given = self.write("x.net.xml", net([("a", "A", "B", [lane("a", 0)])], []))
-        words = [place / "bin/streetsim-import", given, "-o", self.folder / "run.jsonl", "--map", self.folder / "map.json"]
+        words = [
+            place / "bin/streetsim-import", given, "-o", self.folder / "run.jsonl", "--map", self.folder / "map.json",
+        ]
         told = subprocess.run(words, env=variables, capture_output=True, text=True, check=True).stderr
         self.assertIn("2 nodes, 1 links, 0 turns, 0 signals, 0 vehicles", told)
 
@@ -53,14 +59,21 @@ class Installed(Case):
         cls.addClassCleanup(made.cleanup)
         cls.place = Path(made.name).resolve() / "installed"
         cls.do([sys.executable, "-m", "venv", "--system-site-packages", "--without-pip", cls.place])
-        cls.do([*PIP, "--python", cls.place / "bin/python", "install", "--quiet", "--no-index", "--no-deps", "--no-build-isolation", TOOLS])
+        cls.do(
+            [
+                *PIP, "--python", cls.place / "bin/python", "install", "--quiet", "--no-index", "--no-deps",
+                "--no-build-isolation", TOOLS,
+            ]
+        )
 
     @staticmethod
     def do(words, folder="/"):
         """Runs a command where no path leads to the sources; gives what it prints."""
         variables = environment(STREETSIM_PROGRAM=PROGRAM)
         variables.pop("PYTHONPATH", None)
-        done = subprocess.run([*map(str, words)], cwd=folder, env=variables, capture_output=True, text=True, check=False)
+        done = subprocess.run(
+            [*map(str, words)], cwd=folder, env=variables, capture_output=True, text=True, check=False
+        )
         if done.returncode:
             raise AssertionError(f"{words[0]}: status {done.returncode}: {done.stderr}")
         return done.stdout
@@ -70,18 +83,29 @@ class Installed(Case):
 
     def imported(self):
         corridor = TOOLS / "examples/corridor"
-        words = [corridor / "corridor.net.xml.gz", "--routes", corridor / "corridor.rou.xml", "-o", "zero.jsonl", "--map", "zero.map.json"]
+        words = [
+            corridor / "corridor.net.xml.gz", "--routes", corridor / "corridor.rou.xml", "-o", "zero.jsonl",
+            "--map", "zero.map.json",
+        ]
         self.installed("import", *words)
         return words
 
     def test_what_is_imported_lies_in_the_environment(self):
-        told = self.do([self.place / "bin/python", "-c", "import streetsim.client, streetsim.traci; print(streetsim.client.__file__)"])
+        told = self.do(
+            [
+                self.place / "bin/python",
+                "-c",
+                "import streetsim.client, streetsim.traci; print(streetsim.client.__file__)",
+            ]
+        )
         self.assertTrue(Path(told.strip()).resolve().is_relative_to(self.place), told)
 
     def test_walk(self):
         """The figures are those of the walk in tools/README.md."""
         words = self.imported()
-        told = self.installed("run", "zero.jsonl", "--map", "zero.map.json", "--until", 4500, "--sumo-output", "tripinfo", "--out", "zero")
+        told = self.installed(
+            "run", "zero.jsonl", "--map", "zero.map.json", "--until", 4500, "--sumo-output", "tripinfo", "--out", "zero"
+        )
         self.assertEqual(told, "2,400 vehicles, 2,400 arrived, mean trip 134.3 s, 0 rescues\n")
         told = self.installed("compare", "zero", "--sumo", "zero/sumo/tripinfo.xml")
         self.assertIn("mean trip of these: 134.3 s here, 134.3 s in SUMO (+0.0 %)\ntrip by trip: r = 1.00\n", told)
@@ -139,7 +163,9 @@ class WhichProgram(Case):
         self.assertEqual(find_program(script), built)
 
     def test_a_run_without_a_program_ends_at_once(self):
-        done = subprocess.run([TOOLS / "streetsim-run", *self.words()], env=environment(), capture_output=True, text=True, check=False)
+        done = subprocess.run(
+            [TOOLS / "streetsim-run", *self.words()], env=environment(), capture_output=True, text=True, check=False
+        )
         self.assertEqual((done.returncode, done.stdout, len(done.stderr.splitlines())), (2, "", 1))
         self.assertIn("`./build`", done.stderr)
         self.assertFalse((self.folder / "out").exists())
@@ -147,7 +173,9 @@ class WhichProgram(Case):
     @needs_simulator
     def test_a_run_takes_that_of_the_environment(self):
         variables = environment(STREETSIM_PROGRAM=PROGRAM)
-        done = subprocess.run([TOOLS / "streetsim-run", *self.words()], env=variables, capture_output=True, text=True, check=False)
+        done = subprocess.run(
+            [TOOLS / "streetsim-run", *self.words()], env=variables, capture_output=True, text=True, check=False
+        )
         self.assertEqual((done.returncode, done.stdout), (0, "0 vehicles, 0 arrived, no trip, 0 rescues\n"))
 
 

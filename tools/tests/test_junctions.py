@@ -45,8 +45,8 @@ def at_rest(count, first=9):
 
 
 def cross(left):
-    """A cross whose vertical street goes first: from the west straight on or left, from the east straight on; in an hour so many
-    vehicles go left and 100 straight on from each side."""
+    """A cross whose vertical street goes first: from the west straight on or left, from the east straight on;
+    in an hour so many vehicles go left and 100 straight on from each side."""
     names = ["wc", "cw", "ec", "ce", "nc", "cn", "sc", "cs"]
     at = {name: number for number, name in enumerate(names)}
     gap = Gap(7.0, 3.6, 3.5)
@@ -86,8 +86,8 @@ class Definitions(unittest.TestCase):
         self.assertEqual(percentile([], 0.5), 0.0)
 
     def test_queues(self):
-        """From the stop line of a link of 75 m to the rear of the last of those who stand, 2.5 m before its cell ends; a gap
-        of 15 m joins, one of 30 m does not."""
+        """From the stop line of a link of 75 m to the rear of the last of those who stand, 2.5 m before its cell ends;
+        a gap of 15 m joins, one of 30 m does not."""
         link = map_from("", MAP).links[0]
         self.assertEqual(queue_metres(at_rest(3), link), 20.0)
         self.assertEqual(queue_metres([[0, 9, 0], [1, 6, 0]], link), 27.5)
@@ -179,7 +179,9 @@ class ByHand(unittest.TestCase):
         self.assertEqual(self.measures.queues((0, 0), 0, 10), [12.5])
 
     def test_a_second_of_standing_is_no_stop(self):
-        frames = [(clock, [[0, 0, [[0, 5, speed]], []]]) for clock, speed in ((1, 2), (2, 0), (3, 1), (4, 0), (5, 0), (6, 0))]
+        frames = [
+            (clock, [[0, 0, [[0, 5, speed]], []]]) for clock, speed in ((1, 2), (2, 0), (3, 1), (4, 0), (5, 0), (6, 0))
+        ]
         [passage] = passages([*frames, (7, [[0, 0, [], [0]]])]).done
         self.assertEqual((passage.stops, passage.stood), (1, 4))
 
@@ -207,9 +209,9 @@ class Sampling(unittest.TestCase):
         self.assertEqual([int((clock - 1) // part) for clock in found], list(range(2 * LOOKS)))
 
     def test_littles_law(self):
-        """With a look at every clock it is the time on the approach: both vehicles are there for 7 s, where 3 s and 2 s for
-        gaining speed would do, and stand 5 s together. Half of the time is green, and 360 vehicles an hour come to a lane
-        that passes 2,400."""
+        """With a look at every clock it is the time on the approach: both vehicles are there for 7 s, where 3 s and 2 s
+        for gaining speed would do, and stand 5 s together. Half of the time is green, and 360 vehicles an hour come to
+        a lane that passes 2,400."""
         mapping = map_from("", MAP)
         made = Sampled(mapping, approaches_of(mapping), [[0, SIGNAL]], 0, PLANS, [0, 2, 5], [10, 12, 12], 20, 0)
         for clock, lanes in [*FRAMES, *((clock, []) for clock in range(11, 21))]:
@@ -260,11 +262,15 @@ class OfARun(Case):
         from streetsim.run.running import main
 
         run, mapped = self.folder / "run.jsonl", self.folder / "map.json"
-        words = [run, "--map", mapped, "--until", 1800, "--every", 0, "--junctions", 1800, "--out", self.folder / "looked"]
+        words = [
+            run, "--map", mapped, "--until", 1800, "--every", 0, "--junctions", 1800, "--out", self.folder / "looked",
+        ]
         main([str(word) for word in (*words, "--program", PROGRAM)])
         exact = {row["approach"]: float(row["control_delay_s"]) for row in self.table("out", "approaches", APPROACHES)}
         looked = self.table("looked", "approaches", APPROACHES)
-        near = sum(abs(float(row["control_delay_s"]) - exact[row["approach"]]) <= float(row["error_s"]) for row in looked)
+        near = sum(
+            abs(float(row["control_delay_s"]) - exact[row["approach"]]) <= float(row["error_s"]) for row in looked
+        )
         self.assertEqual(len(looked), 20)
         self.assertGreaterEqual(near, 17)
 

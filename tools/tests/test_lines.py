@@ -1,7 +1,7 @@
 """docs/LINES.md and examples/ stand where a reader looks; the gate serves the copies below crates/street_examples/data.
 
-The gate's LINES.md has the sessions alone: the titles of chapters, the blocks `session`, and the rows of a line and its reply.
-`python3 tools/tests/test_lines.py --copy` makes the copies anew.
+The gate's LINES.md has the sessions alone: the titles of chapters, the blocks `session`, and the rows of a line and its
+reply. `python3 tools/tests/test_lines.py --copy` makes the copies anew.
 """
 import filecmp
 import re

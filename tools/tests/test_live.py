@@ -12,7 +12,8 @@ from streetsim.live.page import data_of, page_of
 
 # Changes of a page by its buttons: each that was not refused counts.
 CHANGES = """
-globalThis.press = name => [...document.querySelectorAll('#chosen button')].find(one => one.textContent === name).click();
+globalThis.press = name => [...document.querySelectorAll('#chosen button')]\
+.find(one => one.textContent === name).click();
 globalThis.fill = (name, value) => { const box = at(name); box.value = value; box.dispatchEvent(new Event('input')); };
 globalThis.changes = () => session.sent.filter(([line]) => JSON.parse(line).cmd !== 'advance').length;
 globalThis.changeOnce = async i => {
@@ -24,14 +25,18 @@ globalThis.changeOnce = async i => {
   await turn;
   if (i % 4 === 0) { at('step').click(); await turn; }
 };
-globalThis.makeChanges = async count => { for (let i = 0; changes() < count && i < 3 * count; i++) await changeOnce(i); };
+globalThis.makeChanges = async count => { \
+for (let i = 0; changes() < count && i < 3 * count; i++) await changeOnce(i); };
 """
 
 
 class Data(LiveCase):
     def test_what_a_page_knows(self):
         data = data_of(self.run_file, self.mapping)
-        self.assertEqual([(link["name"], link["begin"], link["end"], link["cells"]) for link in data["links"]], [("a", 0, 1, 10), ("b", 1, 2, 10)])
+        self.assertEqual(
+            [(link["name"], link["begin"], link["end"], link["cells"]) for link in data["links"]],
+            [("a", 0, 1, 10), ("b", 1, 2, 10)],
+        )
         self.assertEqual([clock for clock, _ in data["timed"]], [20])
         self.assertEqual([plan["node"] for plan in data["signals"]], [1])
 
@@ -41,7 +46,9 @@ class Data(LiveCase):
         self.assertIn("the map is of another run", told)
 
     def test_nothing_to_run(self):
-        told = self.tool("live", self.run_path, "--map", self.map_path, "--program", self.folder / "no", "--no-open", status=2)[1]
+        told = self.tool(
+            "live", self.run_path, "--map", self.map_path, "--program", self.folder / "no", "--no-open", status=2
+        )[1]
         self.assertIn("no program that can be run", told)
 
 
@@ -64,12 +71,16 @@ class Requests(LiveCase):
             self.assertEqual((status, b"<!DOCTYPE html>" in page), (200, True))
             status, told = self.ask(bridge, "POST", f"{token}/one/begin")
             self.assertEqual((status, told.count(b"\n")), (200, 5))
-            status, told = self.ask(bridge, "POST", f"{token}/one/lines", b'{"cmd":"advance","steps":3}\n{"cmd":"count"}\n')
+            status, told = self.ask(
+                bridge, "POST", f"{token}/one/lines", b'{"cmd":"advance","steps":3}\n{"cmd":"count"}\n'
+            )
             self.assertEqual((status, told.splitlines()[0]), (200, b'{"clock":3}'))
             # A page that leaves makes room for the next one, which begins anew.
             self.ask(bridge, "POST", f"{token}/one/leave")
             self.assertEqual(self.ask(bridge, "POST", f"{token}/two/begin")[0], 200)
-            self.assertEqual(self.ask(bridge, "POST", f"{token}/two/lines", b'{"cmd":"advance","steps":1}\n')[1], b'{"clock":1}\n')
+            self.assertEqual(
+                self.ask(bridge, "POST", f"{token}/two/lines", b'{"cmd":"advance","steps":1}\n')[1], b'{"clock":1}\n'
+            )
 
     def test_refused(self):
         line = b'{"cmd":"count"}\n'
@@ -81,7 +92,10 @@ class Requests(LiveCase):
                 ("another token", 403, "/wrong/one/lines", line, {}),
                 ("no token", 403, "/", line, {}),
                 ("a foreign page", 403, f"{token}/one/lines", line, {"Origin": "http://example.org"}),
-                ("a foreign name of this machine", 403, f"{token}/one/lines", line, {"Host": f"example.org:{bridge.server_port}"}),
+                (
+                    "a foreign name of this machine", 403, f"{token}/one/lines", line,
+                    {"Host": f"example.org:{bridge.server_port}"},
+                ),
                 ("a second page", 409, f"{token}/two/begin", b"", {}),
                 ("lines of a second page", 409, f"{token}/two/lines", line, {}),
                 ("a line of 2 MiB", 413, f"{token}/one/lines", long, {}),
@@ -119,7 +133,8 @@ class Page(PageCase):
         return done.stdout.splitlines()
 
     def test_a_clicked_session(self):
-        """Steps, a plan, a closure, a detector, a vehicle taken out, and back: what is saved replays to what the page was answered."""
+        """Steps, a plan, a closure, a detector, a vehicle taken out, and back: what is saved replays to what
+        the page was answered."""
         with self.bridge() as bridge, self.browser() as browser:
             self.open(browser, bridge.address)
             self.click(browser, "step")
@@ -158,7 +173,8 @@ class Page(PageCase):
         replies = self.replayed(saved)
         self.assertEqual(replies[5:], [reply for _, reply in record])
         self.assertTrue(any('"cmd":"close"' in line for line, _ in record))
-        # The run's own green at second 20 is among the lines, and what was done at second 9 is not, as the page went back there.
+        # The run's own green at second 20 is among the lines, and what was done at second 9 is not,
+        # as the page went back there.
         self.assertTrue(any('"at": 20' in line for line, _ in record))
         self.assertFalse(any("takeout" in line for line, _ in record))
 
@@ -171,10 +187,14 @@ class Page(PageCase):
         return self.fail(f"{name} was not saved")
 
     def change_often(self, browser, count):
-        """Makes so many changes by the page's own buttons, with steps between them: closures, reopenings, plans, detectors."""
+        """Makes so many changes by the page's own buttons, with steps between them: closures,
+        reopenings, plans, detectors."""
         browser.execute_script(CHANGES)
         browser.set_script_timeout(300)
-        told = browser.execute_async_script("const done = arguments[1]; makeChanges(arguments[0]).then(() => done(''), fault => done(String(fault)))", count)
+        told = browser.execute_async_script(
+            "const done = arguments[1]; makeChanges(arguments[0]).then(() => done(''), fault => done(String(fault)))",
+            count,
+        )
         self.assertEqual(told, "")
         return browser.execute_script("return [session.saved(), session.record()]")
 
@@ -193,7 +213,8 @@ class Page(PageCase):
 
     @needs_page_module
     def test_one_file(self):
-        """The page with its engine inside, from a file, with no name resolved: it asks nobody for anything, and its session replays."""
+        """The page with its engine inside, from a file, with no name resolved: it asks nobody for anything,
+        and its session replays."""
         page = self.folder / "page.html"
         told = self.tool("live", self.run_path, "--map", self.map_path, "--program", PAGE_MODULE, "-o", page)[0]
         self.assertIn("its translation for browsers, the browser and the page's script are tested, not proved", told)
@@ -209,15 +230,25 @@ class Page(PageCase):
         page = self.folder / "page.html"
         page.write_bytes(page_of(self.run_file, self.mapping, b"never compiled"))
         for taken, named in (
-            ("delete WebAssembly.Suspending", "it cannot suspend a WebAssembly program (JavaScript Promise Integration)"),
-            ("WebAssembly.Memory = class { constructor() { throw new TypeError(); } }", "it has no WebAssembly memory of 64 bits"),
+            (
+                "delete WebAssembly.Suspending",
+                "it cannot suspend a WebAssembly program (JavaScript Promise Integration)",
+            ),
+            (
+                "WebAssembly.Memory = class { constructor() { throw new TypeError(); } }",
+                "it has no WebAssembly memory of 64 bits",
+            ),
         ):
             with self.subTest(named), self.browser() as browser:
                 browser.execute_cdp_cmd("Page.addScriptToEvaluateOnNewDocument", {"source": taken})
                 browser.get(page.as_uri())
                 self.assertEqual(self.wait(browser, "return document.body.dataset.ready || ''"), "no")
                 told = browser.execute_script("return at('fault').textContent")
-                self.assertEqual(told, f"This browser cannot run the page: {named}. Chromium and its kin can; or let streetsim-live serve the page.")
+                self.assertEqual(
+                    told,
+                    f"This browser cannot run the page: {named}. Chromium and its kin can; "
+                    "or let streetsim-live serve the page.",
+                )
 
     def test_no_request_leaves_the_machine(self):
         with self.bridge() as bridge, self.browser() as browser:
@@ -238,10 +269,16 @@ class Page(PageCase):
             browser.find_element("tag name", "body").send_keys(Keys.SPACE)
             self.idle(browser)
             self.assertEqual(browser.execute_script("return at('play').textContent"), "Play")
-            box = browser.execute_script("const box = at('map').getBoundingClientRect(); return [box.width, box.height, document.documentElement.scrollWidth]")
+            box = browser.execute_script(
+                "const box = at('map').getBoundingClientRect(); return [box.width, box.height, "
+                "document.documentElement.scrollWidth]"
+            )
             self.assertGreater(min(box[:2]), 100)
             # The bar above grew by a line when it told the traffic: the picture ends where its place ends.
-            heights = "return [at('map').height, at('scene').clientHeight, document.documentElement.scrollHeight - innerHeight]"
+            heights = (
+                "return [at('map').height, at('scene').clientHeight, "
+                "document.documentElement.scrollHeight - innerHeight]"
+            )
             self.wait(browser, heights.replace("return [", "const [map, place] = [") + "; return map === place")
             self.assertLessEqual(browser.execute_script(heights)[2], 0)
             self.assertLessEqual(box[2], browser.execute_script("return innerWidth"))

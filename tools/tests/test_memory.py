@@ -20,7 +20,10 @@ class RefusedMemory(RefusingCase):
 
     def check(self, run, status, output):
         """It ends so, and what it was given is freed."""
-        told = f"request {run.number} of {run.requests}: status {run.status}, {run.unfreed} blocks not freed\n{run.output.decode()}"
+        told = (
+            f"request {run.number} of {run.requests}: status {run.status}, {run.unfreed} blocks not freed\n"
+            f"{run.output.decode()}"
+        )
         self.assertEqual((run.status, run.unfreed), (status, 0), told)
         self.assertEqual(run.output, output, told)
 

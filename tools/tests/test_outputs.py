@@ -124,7 +124,8 @@ class ByHand(Case):
         self.assertEqual([lane["queueing_length"] for lane in lanes[7]], ["15.00"])
 
     def test_edgedata(self):
-        """In the first four seconds vehicle 0 is 4 s on the edge for 7 cells, and vehicle 1 is 2 s there for 2 cells."""
+        """In the first four seconds vehicle 0 is 4 s on the edge for 7 cells,
+        and vehicle 1 is 2 s there for 2 cells."""
         first, _, second, other = self.rows("edgedata", "edge")
         self.assertEqual((first["id"], first["sampledSeconds"]), ("a", "6.00"))
         self.assertEqual((first["departed"], first["left"]), ("2", "0"))

@@ -6,13 +6,18 @@ import unittest
 from pathlib import Path
 
 from pages import DRIVER, needs_driver, needs_selenium
-from support import PAGE_MODULE, PAGE_PROGRAM, PROGRAM, TOOLS, Case, needs_page_module, needs_page_program, needs_simulator
+from support import (
+    PAGE_MODULE, PAGE_PROGRAM, PROGRAM, TOOLS, Case, needs_page_module, needs_page_program, needs_simulator,
+)
 from streetsim.live.page import PLACE, packed
 
 TOP = TOOLS.parent
 MUTATED = 3_000
 # What a mutation puts into a line: bytes of JSON, of numbers, beyond ASCII, and of no use.
-PIECES = ['"', "{", "}", "[", "]", ",", ":", "-", "0", "9", "1e3", ".", "null", "true", "\\", "\\u00e9", "é", "\t", "18446744073709551616", "x"]
+PIECES = [
+    '"', "{", "}", "[", "]", ",", ":", "-", "0", "9", "1e3", ".", "null", "true", "\\", "\\u00e9", "é", "\t",
+    "18446744073709551616", "x",
+]
 
 
 def examples() -> dict[str, list[str]]:
@@ -26,7 +31,10 @@ def sessions() -> dict[str, list[str]]:
     """The lines of each session of LINES.md."""
     text = (TOP / "crates/street_examples/data/LINES.md").read_text(encoding="utf-8")
     blocks = [block.partition("\n```")[0].splitlines() for block in text.split("```session\n")[1:]]
-    return {f"session {number}": [line.removeprefix("> ") for line in block if line.startswith("> ")] for number, block in enumerate(blocks)}
+    return {
+        f"session {number}": [line.removeprefix("> ") for line in block if line.startswith("> ")]
+        for number, block in enumerate(blocks)
+    }
 
 
 def mutated(seed: int = 1) -> list[str]:
@@ -50,7 +58,9 @@ def all_lines() -> dict[str, list[str]]:
 
 
 def answered(program: str, lines: list[str]) -> list[str]:
-    done = subprocess.run([program], input="".join(line + "\n" for line in lines).encode(), capture_output=True, check=True)
+    done = subprocess.run(
+        [program], input="".join(line + "\n" for line in lines).encode(), capture_output=True, check=True
+    )
     return done.stdout.decode().split("\n")[:-1]
 
 
@@ -85,9 +95,11 @@ ASKING = """<!DOCTYPE html><meta charset="utf-8"><script id="engine" type="text/
 @ENGINES@
 async function answer() {
   const bytes = Uint8Array.from(atob(document.getElementById("engine").textContent), one => one.charCodeAt(0));
-  const module = await WebAssembly.compile(await new Response(new Blob([bytes]).stream().pipeThrough(new DecompressionStream("gzip"))).arrayBuffer());
+  const module = await WebAssembly.compile(await new Response(new Blob([bytes]).stream()\
+.pipeThrough(new DecompressionStream("gzip"))).arrayBuffer());
   const found = {};
-  for (const [name, lines] of Object.entries(JSON.parse(document.getElementById("sessions").textContent))) found[name] = await new ModuleEngine(module, lines).begin();
+  for (const [name, lines] of Object.entries(JSON.parse(document.getElementById("sessions").textContent))) \
+found[name] = await new ModuleEngine(module, lines).begin();
   return found;
 }
 answer().then(found => { globalThis.found = found; }, fault => { globalThis.found = String(fault.stack); });

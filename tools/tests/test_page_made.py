@@ -1,5 +1,5 @@
-"""./test's step that makes the module of a page, end to end over a made-up compiler: the kit's own clang and linker make a module that
-Chromium runs, and where the kit is another one ./test says what it did not find, and goes on."""
+"""./test's step that makes the module of a page, end to end over a made-up compiler: the kit's own clang and linker
+make a module that Chromium runs, and where the kit is another one ./test says what it did not find, and goes on."""
 import os
 import shutil
 import subprocess
@@ -12,7 +12,8 @@ from test_page import Answering
 
 KIT = Path(shutil.which("rt") or "").resolve().parents[1] if shutil.which("rt") else None
 needs_kit = unittest.skipIf(KIT is None, "no kit: the command rt is not on the path")
-# A program as the kit's compiler hands it to clang: it says each line again. A kit's module is larger than the least one.
+# A program as the kit's compiler hands it to clang: it says each line again.
+# A kit's module is larger than the least one.
 PROGRAM = """target datalayout = "e-m:e-p270:32:32-p271:32:32-p272:64:64-i64:64-i128:128-f80:128-n8:16:32:64-S128"
 target triple = "x86_64-unknown-linux-gnu"
 @room = internal global [65536 x i8] zeroinitializer
@@ -72,7 +73,10 @@ class MadeCase(GateCase):
 
     def module(self, text):
         """The module that the compiler hands on, of its text."""
-        words = [KIT / "toolchain/bin/clang", "-x", "ir", self.write("program.ll", text), "-c", "-emit-llvm", "-Xclang", "-disable-llvm-passes"]
+        words = [
+            KIT / "toolchain/bin/clang", "-x", "ir", self.write("program.ll", text), "-c", "-emit-llvm", "-Xclang",
+            "-disable-llvm-passes",
+        ]
         subprocess.run([*words, "-o", self.folder / "program.bc"], check=True)
 
     def passes(self):
@@ -97,10 +101,22 @@ class Made(MadeCase):
     def test_another_kit_is_told_and_nothing_else_fails(self):
         other_main = PROGRAM.replace("define i32 @main()", "define i32 @main(i32 %words)")
         for name, change, told in (
-            ("compiler", lambda: self.compiler("#!/bin/bash\necho error: no such word >&2; exit 1\n"), "the program was not compiled: error: no such word"),
-            ("small", lambda: self.module(PROGRAM.replace(200_000 * "g", "g").replace("200000", "1")), "0 modules were made, not one"),
+            (
+                "compiler",
+                lambda: self.compiler("#!/bin/bash\necho error: no such word >&2; exit 1\n"),
+                "the program was not compiled: error: no such word",
+            ),
+            (
+                "small",
+                lambda: self.module(PROGRAM.replace(200_000 * "g", "g").replace("200000", "1")),
+                "0 modules were made, not one",
+            ),
             ("main", lambda: self.module(other_main), "the module's main is not the one that is known"),
-            ("library", lambda: (self.top / "crates/street_line/out/rlib/street_line.rlib").unlink(), "the proved library of street_line is not where it was"),
+            (
+                "library",
+                lambda: (self.top / "crates/street_line/out/rlib/street_line.rlib").unlink(),
+                "the proved library of street_line is not where it was",
+            ),
         ):
             with self.subTest(name):
                 self.compiler(RATTLE.replace("@MODULE@", str(self.folder / "program.bc")))
@@ -121,7 +137,9 @@ class Run(MadeCase, Answering):
     def test_chromium_runs_it(self):
         self.passes()
         lines = ['{"cmd":"count"}', '{"é":1}', "x" * 100_000]
-        self.assertEqual(self.answers(self.made, {"echo": lines, "again": lines[:1]}), {"echo": lines, "again": lines[:1]})
+        self.assertEqual(
+            self.answers(self.made, {"echo": lines, "again": lines[:1]}), {"echo": lines, "again": lines[:1]}
+        )
 
 
 if __name__ == "__main__":

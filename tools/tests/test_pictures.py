@@ -61,22 +61,26 @@ class Numbers(Given):
         # Between clocks 1 and 2 the first drives from the front of cell 0 (7.5 m) to that of cell 1 (15 m), and so the
         # second a step later.
         self.assertEqual(
-            series.trajectories(self.given, ["a", "b"], 0, 10), [((1, 7.5), (2, 15.0), 1, 7.5), ((2, 7.5), (3, 15.0), 1, 7.5)]
+            series.trajectories(self.given, ["a", "b"], 0, 10),
+            [((1, 7.5), (2, 15.0), 1, 7.5), ((2, 7.5), (3, 15.0), 1, 7.5)],
         )
         self.assertEqual(series.stretches(self.given, ["a", "b"]), ({0: (0.0, 75.0, 10), 1: (75.0, 75.0, 10)}, 150.0))
         self.assertEqual(series.reds(self.given, ["a", "b"], 0, 40), [(75.0, 5, 15), (75.0, 25, 35)])
 
     def test_green_band(self):
-        """Green 10 of 20 seconds, from 15 of one cycle to 4 of the next: alone the signal's band is its green. A second one
-        with the same plan, 10 s away, is red in
-        these seconds; 20 s away it is green again; 23 s away 3 s fewer are common."""
+        """Green 10 of 20 seconds, from 15 of one cycle to 4 of the next: alone the signal's band is its green. A
+        second one with the same plan, 10 s away, is red in these seconds; 20 s away it is green again; 23 s away
+        3 s fewer are common."""
         self.assertEqual(series.green_band(self.given, ["a", "b"], 0), (10, 20))
         self.assertIsNone(series.green_band(self.given, ["a"], 0))
         command = self.given.signals[0][1]
         stops = {gap: [(0.0, 1, [0], [1]), (gap, 1, [0], [1])] for gap in (10.0, 20.0, 23.0)}
         for gap, width in ((10.0, 0), (20.0, 10), (23.0, 7)):
             with mock.patch.object(series, "stop_lines", return_value=stops[gap]):
-                self.assertEqual(series.green_band(self.given, ["a", "b"], 0), (width, sum(seconds for seconds, _ in command["phases"])))
+                self.assertEqual(
+                    series.green_band(self.given, ["a", "b"], 0),
+                    (width, sum(seconds for seconds, _ in command["phases"])),
+                )
 
     def test_along_the_path(self):
         self.assertEqual(series.junctions_along(self.given, ["a", "b"]), [(75.0, "B")])
@@ -95,9 +99,10 @@ class Numbers(Given):
         self.assertEqual(series.flows(self.given, []), [(20.0, 360.0)])
 
     def test_fundamental_at_mid_link(self):
-        """Cells 3 to 6 of ten are the middle. In a period of two looks vehicle 0 is there once, at 2 cells a second, and 1
-        twice, at 1 and 0: 3 vehicles over 2 looks of 30 m are 50 a kilometre, and 3 cells a second over 2 looks of 4 cells
-        1,350 vehicles an hour. Vehicles before and behind count nothing, and the period that was cut short neither."""
+        """Cells 3 to 6 of ten are the middle. In a period of two looks vehicle 0 is there once, at 2 cells a
+        second, and 1 twice, at 1 and 0: 3 vehicles over 2 looks of 30 m are 50 a kilometre, and 3 cells a second
+        over 2 looks of 4 cells 1,350 vehicles an hour. Vehicles before and behind count nothing, and the period
+        that was cut short neither."""
         looks = [[[0, 5, 2], [1, 3, 1]], [[0, 7, 2], [1, 6, 0], [2, 2, 1]], [[1, 5, 1]]]
         self.write_polls([{"clock": clock, "lanes": [[0, 0, cells, [], []]]} for clock, cells in enumerate(looks, 1)])
         self.given.period, self.given.made = 2, {"start": 0, "until": 3}
@@ -110,7 +115,9 @@ class Numbers(Given):
         self.assertEqual(series.difference([1, 1, 3], [2, 3]), ([1, 2, 3], [2, 1, 1]))
 
     def test_scale(self):
-        self.assertEqual([series.round_length(metres) for metres in (1, 4.9, 50, 199, 1999, 2000)], [1, 2, 50, 100, 1000, 2000])
+        self.assertEqual(
+            [series.round_length(metres) for metres in (1, 4.9, 50, 199, 1999, 2000)], [1, 2, 50, 100, 1000, 2000]
+        )
 
     def test_ring_in_units_of_planners(self):
         # 0.08 vehicles a cell of 7.5 m and 0.32 vehicles a second.
@@ -158,7 +165,10 @@ class Pictures(Given):
             (("corridor", self.folder, "--edges", "b a"), "no turn leads from 'b' to 'a'"),
             (("corridor", self.folder, "--edges", " "), "no edge is named"),
             (("corridor", self.folder, "--edges", "a b", "--first", 50), "nothing was polled from 50 to 600 s"),
-            (("corridor", self.folder, "--edges", "a b", "--first", 5, "--last", 5), "--first 5 is not before --last 5"),
+            (
+                ("corridor", self.folder, "--edges", "a b", "--first", 5, "--last", 5),
+                "--first 5 is not before --last 5",
+            ),
         ):
             with self.subTest(told):
                 more = () if "-o" in words else ("-o", self.folder / "x.png")
@@ -192,11 +202,17 @@ class Player(Given):
         bar = {"scale": "20 m", "street": ""}
         self.assertEqual(
             self.shown(page, 3),
-            {"clock": 3, "time": "00:00:03", **bar, "vehicles": 1, "covered": 1, "buffered": 1, "standing": 0, "red": 0, "closed": 1},
+            {
+                "clock": 3, "time": "00:00:03", **bar, "vehicles": 1, "covered": 1, "buffered": 1, "standing": 0,
+                "red": 0, "closed": 1,
+            },
         )
         self.assertEqual(
             self.shown(page, 2),
-            {"clock": 2, "time": "00:00:02", **bar, "vehicles": 2, "covered": 2, "buffered": 0, "standing": 1, "red": 0, "closed": 0},
+            {
+                "clock": 2, "time": "00:00:02", **bar, "vehicles": 2, "covered": 2, "buffered": 0, "standing": 1,
+                "red": 0, "closed": 0,
+            },
         )
 
     @needs_chromium
@@ -220,20 +236,27 @@ class Player(Given):
         """Street b in the middle, 2.7 times as near: 10 m are then 121 pixels, and 20 m more than 200."""
         page = self.page()
         place = "canvas.getBoundingClientRect()"
-        mouse = f"new PointerEvent('pointermove', {{clientX: canvas.width / 2, clientY: {place}.top + canvas.height / 2}})"
+        mouse = (
+            f"new PointerEvent('pointermove', {{clientX: canvas.width / 2, clientY: {place}.top + canvas.height / 2}})"
+        )
         zoom = "canvas.dispatchEvent(new WheelEvent('wheel', {deltaY: -500, cancelable: true}))"
-        script = f"setTimeout(() => {{ {zoom}; dispatchEvent(new Event('resize')); canvas.dispatchEvent({mouse}); }}, 1000)"
+        script = (
+            f"setTimeout(() => {{ {zoom}; dispatchEvent(new Event('resize')); canvas.dispatchEvent({mouse}); }}, 1000)"
+        )
         page.write_text(page.read_text().replace("</html>", f"<script>{script}</script></html>"))
         told = self.shown(page, "3,130,0")
         self.assertEqual((told["scale"], told["street"]), ("10 m", "b"))
 
     @needs_chromium
     def test_keys(self):
-        """A minute on from 2 is the last step; left is one back; + zooms 1.3 times, four times make the 89 pixels of 20 m 254."""
+        """A minute on from 2 is the last step; left is one back; + zooms 1.3 times,
+        four times make the 89 pixels of 20 m 254."""
         page = self.page()
         keys = [("PageDown", ""), ("ArrowLeft", ""), *[("+", "")] * 4, ("ArrowRight", ", shiftKey: true")]
         sent = "; ".join(f"dispatchEvent(new KeyboardEvent('keydown', {{key: '{key}'{more}}}))" for key, more in keys)
-        page.write_text(page.read_text().replace("</html>", f"<script>setTimeout(() => {{ {sent} }}, 1000)</script></html>"))
+        page.write_text(
+            page.read_text().replace("</html>", f"<script>setTimeout(() => {{ {sent} }}, 1000)</script></html>")
+        )
         shown = self.shown(page, 2)
         self.assertEqual((shown["clock"], shown["scale"]), (3, "10 m"))
 
@@ -244,7 +267,10 @@ class Player(Given):
         other.mkdir()
         shutil.copy(self.folder / "setting.json", other)
         with gzip.open(other / "lanes.jsonl.gz", "wt") as file:
-            file.writelines(json.dumps({"clock": clock, "lanes": [[0, 0, [[0, 0, 0], [1, 2, 0], [2, 4, 0]], [], []]]}) + "\n" for clock in (1, 3))
+            file.writelines(
+                json.dumps({"clock": clock, "lanes": [[0, 0, [[0, 0, 0], [1, 2, 0], [2, 4, 0]], [], []]]}) + "\n"
+                for clock in (1, 3)
+            )
         page = self.folder / "two.html"
         self.tool("play", self.folder, other, "-o", page)
         text = self.dom(page, 3)
@@ -300,7 +326,10 @@ class Whole(Case):
             "plot", "corridor", out, "--edges", "A0A1 A1A2 A2A3", "--last", 400, "-o", self.folder / "corridor.png"
         )
         self.assertEqual(self.tool("play", out, "-o", self.folder / "play.html")[0].split(",")[0], "200 steps")
-        self.assertIn(f", {(self.folder / 'play.html').stat().st_size:,} bytes\n", self.tool("play", out, "-o", self.folder / "play.html")[0])
+        self.assertIn(
+            f", {(self.folder / 'play.html').stat().st_size:,} bytes\n",
+            self.tool("play", out, "-o", self.folder / "play.html")[0],
+        )
 
 
 if __name__ == "__main__":

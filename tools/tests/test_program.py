@@ -61,15 +61,18 @@ class ProgramCase(Case):
     def ends(self, words, text="", status=0, error=""):
         """What the program writes to standard output; its status and its standard error are these."""
         done = subprocess.run(
-            [PROGRAM, *map(str, words)], input=text, capture_output=True, text=True, timeout=60, cwd=self.folder, check=False
+            [PROGRAM, *map(str, words)], input=text, capture_output=True, text=True, timeout=60, cwd=self.folder,
+            check=False,
         )
         self.assertEqual((done.returncode, done.stderr), (status, error))
         return done.stdout
 
     def is_refused(self, words, why):
-        """The words are bad: nothing is written to standard output, and standard error says which word is bad and why."""
+        """The words are bad: nothing is written to standard output,
+        and standard error says which word is bad and why."""
         done = subprocess.run(
-            [PROGRAM, *map(str, words)], input=PLANNER.read_text(), capture_output=True, text=True, timeout=60, cwd=self.folder, check=False
+            [PROGRAM, *map(str, words)], input=PLANNER.read_text(), capture_output=True, text=True, timeout=60,
+            cwd=self.folder, check=False,
         )
         self.assertEqual((done.returncode, done.stdout, done.stderr), (2, "", f"streetsim: bad arguments\n{why}\n"))
 
@@ -194,12 +197,16 @@ class Scripts(ProgramCase):
     def test_a_script_that_is_not_there_is_told_and_the_others_are_printed(self):
         told = self.ends([PLANNER, "none.jsonl"], status=1, error="streetsim: cannot read none.jsonl\n")
         self.assertEqual(told, ONE_VEHICLE)
-        told = self.ends(["--tape", "run.tape", PLANNER, "none.jsonl"], status=1, error="streetsim: cannot read none.jsonl\n")
+        told = self.ends(
+            ["--tape", "run.tape", PLANNER, "none.jsonl"], status=1, error="streetsim: cannot read none.jsonl\n"
+        )
         self.assertEqual(told, ONE_VEHICLE)
         self.assertEqual((self.folder / "run.tape").read_text(), tape_in_lines())
 
     def test_a_tape_that_cannot_be_made_is_told_after_the_replies(self):
-        told = self.ends(["--tape", "none/run.tape", PLANNER], status=1, error="streetsim: cannot write none/run.tape\n")
+        told = self.ends(
+            ["--tape", "none/run.tape", PLANNER], status=1, error="streetsim: cannot write none/run.tape\n"
+        )
         self.assertEqual(told, ONE_VEHICLE)
 
     def test_many_scripts_share_one_network(self):
@@ -303,7 +310,10 @@ class Tapes(ProgramCase):
 
     def test_a_size_is_on_the_tape_where_it_is_not_1(self):
         load = PLANNER.read_text().splitlines(keepends=True)[0]
-        self.ends(["--tape", "run.tape"], load + "".join(f'{{"cmd":"enter","plan":[10],"lane":0,"depart":0,"size":{size}}}\n' for size in (1, 4, 5)))
+        self.ends(
+            ["--tape", "run.tape"],
+            load + "".join(f'{{"cmd":"enter","plan":[10],"lane":0,"depart":0,"size":{size}}}\n' for size in (1, 4, 5)),
+        )
         sizes = [command.get("size") for command in calls_of((self.folder / "run.tape").read_text(), 0)[1:]]
         self.assertEqual(sizes, [None, 4, 5])
 
@@ -332,19 +342,30 @@ class Tapes(ProgramCase):
 class LastNumbers(ProgramCase):
     """The numbers up to which LINES.md says that something goes, and what is answered one beyond."""
 
-    LOAD = '{"cmd":"load","nodes":[[1,1,2]],"links":[[10,1,1,1,10,5]],"turns":[[10,0,10,0]],"zone":0,"dawdle":0,"change":0,"seed":0}\n'
+    LOAD = (
+        '{"cmd":"load","nodes":[[1,1,2]],"links":[[10,1,1,1,10,5]],"turns":[[10,0,10,0]],"zone":0,"dawdle":0,'
+        '"change":0,"seed":0}\n'
+    )
     LOADED = '{"links":1,"nodes":1,"turns":1}\n'
 
     def answers(self, *pairs):
         """In one session on a link that runs in a circle, each line gets its reply."""
-        self.assertEqual(self.ends([], self.LOAD + "".join(f"{line}\n" for line, _ in pairs)), self.LOADED + "".join(reply for _, reply in pairs))
+        self.assertEqual(
+            self.ends([], self.LOAD + "".join(f"{line}\n" for line, _ in pairs)),
+            self.LOADED + "".join(reply for _, reply in pairs),
+        )
 
     def test_the_greatest_network(self):
         greatest = 4_294_967_295
         nodes = [[id, 60, 64] for id in (*range(4_095), greatest)]
-        links = [[id, 0, 0, 2, 1_000_000, 5] for id in range(128)] + [[id, 0, greatest, 1, 1, 1] for id in (*range(128, 4_095), greatest)]
+        links = [[id, 0, 0, 2, 1_000_000, 5] for id in range(128)] + [
+            [id, 0, greatest, 1, 1, 1] for id in (*range(128, 4_095), greatest)
+        ]
         turns = [[link, lane, next, 0] for link in range(128) for lane in (0, 1) for next in range(128)]
-        network = {"nodes": nodes, "links": links, "turns": turns, "zone": 1_000, "dawdle": 1_000, "change": 1_000, "seed": 2**64 - 1, "start": 10**9}
+        network = {
+            "nodes": nodes, "links": links, "turns": turns, "zone": 1_000, "dawdle": 1_000, "change": 1_000,
+            "seed": 2**64 - 1, "start": 10**9,
+        }
         another = [4_095, 0, 0, 1, 1, 1]
         bad_nodes = [greatest + 1, 1, 1], [4_095, 0, 1], [4_095, 61, 1], [4_095, 1, 0], [4_095, 1, 65]
         bad_lanes_lengths_and_limits = [0, 1, 1], [3, 1, 1], [1, 0, 1], [1, 1_000_001, 1], [1, 1, 0], [1, 1, 6]
@@ -355,7 +376,10 @@ class LastNumbers(ProgramCase):
             ("turns", 32_768, {"links": [*links[:-1], another], "turns": [*turns, [4_095, 0, 0, 0]]}),
             *(("nodes", 4_095, {"nodes": [*nodes[:-1], node]}) for node in bad_nodes),
             *(("links", 4_095, {"links": [*links[:-1], link]}) for link in bad_links),
-            *(("values", at, {name: network[name] + 1}) for at, name in enumerate(("zone", "dawdle", "change", "start"))),
+            *(
+                ("values", at, {name: network[name] + 1})
+                for at, name in enumerate(("zone", "dawdle", "change", "start"))
+            ),
         ]
         loads = [{"cmd": "load", **network, **other} for *_, other in faults] + [{"cmd": "load", **network}]
         told = self.ends([], "".join(json.dumps(load, separators=(",", ":")) + "\n" for load in loads))
@@ -415,7 +439,9 @@ class LastNumbers(ProgramCase):
 
     def test_the_longest_line(self):
         count = '{"cmd":"count"}'
-        told = self.ends([], f"{count:1048576}\n{count:1048577}\n{' ' * 3_000_000}\n{'x' * 1_048_576}\n{'x' * 1_048_577}\n{count}")
+        told = self.ends(
+            [], f"{count:1048576}\n{count:1048577}\n{' ' * 3_000_000}\n{'x' * 1_048_576}\n{'x' * 1_048_577}\n{count}"
+        )
         self.assertEqual(told, NOT_LOADED + TOO_LONG + NOT_JSON + TOO_LONG + NOT_LOADED)
 
     def test_the_deepest_line_and_the_greatest_number(self):
@@ -445,7 +471,9 @@ class Limits(ProgramCase):
         return (self.folder / "replies").read_text(), done.returncode, done.stderr
 
     def test_128_kib_of_stack_are_enough(self):
-        lines = ['{"cmd":"count","x":' + begin * 126 + "1" + end * 126 + "}\n" for begin, end in (("[", "]"), ('{"x":', "}"))]
+        lines = [
+            '{"cmd":"count","x":' + begin * 126 + "1" + end * 126 + "}\n" for begin, end in (("[", "]"), ('{"x":', "}"))
+        ]
         script = self.write("deep.jsonl", "".join(lines))
         for words, text in (([], "".join(lines)), ([script], "")):
             told = self.limited(words, text, resource.RLIMIT_STACK, 128 << 10, env={})
@@ -456,18 +484,29 @@ class Limits(ProgramCase):
 
     def test_a_refused_enter_of_100_links_keeps_a_kib_at_most(self):
         calls = 60_000
-        lines = PLANNER.read_text().splitlines(keepends=True)[0] + f'{{"cmd":"enter","plan":[{",".join(["10"] * 100)}],"lane":0,"depart":0}}\n' * (calls - 1)
+        load = PLANNER.read_text().splitlines(keepends=True)[0]
+        lines = load + f'{{"cmd":"enter","plan":[{",".join(["10"] * 100)}],"lane":0,"depart":0}}\n' * (calls - 1)
         told, status, error = self.limited(["--calls", calls], lines, resource.RLIMIT_AS, (calls << 10) + (8 << 20))
         self.assertEqual((status, error), (0, ""))
-        self.assertEqual(told, ONE_VEHICLE.splitlines(keepends=True)[0] + '{"at":1,"error":8,"name":"BadPlan"}\n' * (calls - 1))
+        self.assertEqual(
+            told, ONE_VEHICLE.splitlines(keepends=True)[0] + '{"at":1,"error":8,"name":"BadPlan"}\n' * (calls - 1)
+        )
 
     def test_the_largest_network_takes_no_memory_for_its_cells(self):
-        """A vehicle in each of 8,192 lanes of 1,000,000 cells: a bit for each cell would be 1 GB, in lanes with somebody alone too."""
+        """A vehicle in each of 8,192 lanes of 1,000,000 cells: a bit for each cell would be 1 GB,
+        in lanes with somebody alone too."""
         links = [[link, 1, 2, 2, 1_000_000, 5] for link in range(4_096)]
-        load = {"cmd": "load", "nodes": [[1, 1, 2], [2, 1, 2]], "links": links, "turns": [], "zone": 0, "dawdle": 0, "change": 0, "seed": 0}
-        enters = [f'{{"cmd":"enter","plan":[{link}],"lane":{lane},"depart":0}}' for link in range(4_096) for lane in (0, 1)]
+        load = {
+            "cmd": "load", "nodes": [[1, 1, 2], [2, 1, 2]], "links": links, "turns": [], "zone": 0, "dawdle": 0,
+            "change": 0, "seed": 0,
+        }
+        enters = [
+            f'{{"cmd":"enter","plan":[{link}],"lane":{lane},"depart":0}}' for link in range(4_096) for lane in (0, 1)
+        ]
         asked = ['{"cmd":"advance","steps":5}', '{"cmd":"count"}', '{"cmd":"lane","link":4095,"lane":1}']
-        told, status, error = self.limited([], "\n".join([json.dumps(load), *enters, *asked]), resource.RLIMIT_AS, 64 << 20)
+        told, status, error = self.limited(
+            [], "\n".join([json.dumps(load), *enters, *asked]), resource.RLIMIT_AS, 64 << 20
+        )
         self.assertEqual((status, error), (0, ""))
         # Departed in step 0, and 1, 2, 3 and 4 cells on.
         self.assertEqual(told.splitlines(), [
@@ -506,7 +545,9 @@ class Limits(ProgramCase):
         (top / "crates/street_sim/out").mkdir(parents=True)
         shutil.copy(PROGRAM, top / "crates/street_sim/out/street_sim")
         subprocess.run([sys.executable, "-c", "import built; built.mark()"], cwd=top / "tools", check=True)
-        _, status, said = self.limited([], '{"cmd":"count"}\n' * 400, resource.RLIMIT_FSIZE, 4_096, program=top / "streetsim")
+        _, status, said = self.limited(
+            [], '{"cmd":"count"}\n' * 400, resource.RLIMIT_FSIZE, 4_096, program=top / "streetsim"
+        )
         self.assertEqual((status, said), (1, "streetsim: cannot write standard output\n"))
 
 
@@ -516,12 +557,19 @@ class Workers(ProgramCase):
         nodes = [[id, 1, 1] for id in range(7)]
         links = [[id, id, (id + 1) % 7, 1, 10, 5] for id in range(7)]
         turns = [[id, 0, (id + 1) % 7, 0] for id in range(7)]
-        load = json.dumps({"cmd": "load", "nodes": nodes, "links": links, "turns": turns, "zone": 0, "dawdle": 0, "change": 0, "seed": 0})
+        load = json.dumps(
+            {
+                "cmd": "load", "nodes": nodes, "links": links, "turns": turns, "zone": 0, "dawdle": 0, "change": 0,
+                "seed": 0,
+            }
+        )
         text = f'{load}\n{{"cmd":"advance","steps":10000}}\n'
 
         def seconds(workers):
             began = time.monotonic()
-            self.assertEqual(self.ends(["--workers", workers], text), '{"links":7,"nodes":7,"turns":7}\n{"clock":10000}\n')
+            self.assertEqual(
+                self.ends(["--workers", workers], text), '{"links":7,"nodes":7,"turns":7}\n{"clock":10000}\n'
+            )
             return time.monotonic() - began
 
         alone = min(seconds(1) for _ in range(3))
@@ -601,7 +649,9 @@ class Words(ProgramCase):
         calls = "invalid value '{}' for '--calls <N>': it is not a number from 1 to 1000000"
         twice = "the argument '{}' cannot be used multiple times"
         no_value = "a value is required for '{}' but none was supplied"
-        upgrade_alone = "the argument '--upgrade <FILE>' cannot be used with scripts, '--tape <FILE>' or '--replay <FILE>'"
+        upgrade_alone = (
+            "the argument '--upgrade <FILE>' cannot be used with scripts, '--tape <FILE>' or '--replay <FILE>'"
+        )
         alone = "the argument '--replay <FILE>' cannot be used with scripts or with '--tape <FILE>'"
         for words, why in (
             (["--fast"], "unexpected argument '--fast' found"),
@@ -632,8 +682,12 @@ class Words(ProgramCase):
         self.assertEqual(list(self.folder.iterdir()), [])
 
     def test_a_word_that_is_no_utf_8(self):
-        done = subprocess.run([PROGRAM, b"a\xffz"], input=b"", capture_output=True, timeout=60, cwd=self.folder, check=False)
-        self.assertEqual((done.returncode, done.stdout, done.stderr), (2, b"", b"streetsim: bad arguments\na word is not UTF-8\n"))
+        done = subprocess.run(
+            [PROGRAM, b"a\xffz"], input=b"", capture_output=True, timeout=60, cwd=self.folder, check=False
+        )
+        self.assertEqual(
+            (done.returncode, done.stdout, done.stderr), (2, b"", b"streetsim: bad arguments\na word is not UTF-8\n")
+        )
 
 
 if __name__ == "__main__":

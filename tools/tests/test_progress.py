@@ -25,7 +25,9 @@ class Lines(unittest.TestCase):
         line.show(60, census(60, 4, 4))
         line.show(100, census(100, 2, 7))
         first = f"\r[{'#' * 15}{' ' * 15}] 50 s, 5 on their way, 3 arrived, 5 steps/s "
-        self.assertEqual(line.stream.getvalue(), f"{first}\r[{'#' * 30}] 100 s, 2 on their way, 7 arrived, 10 steps/s \n")
+        self.assertEqual(
+            line.stream.getvalue(), f"{first}\r[{'#' * 30}] 100 s, 2 on their way, 7 arrived, 10 steps/s \n"
+        )
 
     def test_runs_side_by_side(self):
         line = UnderWay(100, 2, Terminal())

@@ -84,7 +84,10 @@ class Given(Case):
         setting = {"map": {**MAP, "warnings": WARNINGS}, "signals": [], "dawdle": 170, "every": 10, "period": 900}
         (folder / "setting.json").write_text(json.dumps({**setting, "made": made, "not_trusted": list(doubts)}))
         (folder / "trips.csv").write_text(",".join(TRIPS) + f"\nv,0,{100 + seed},{100 + seed},4,26,2,0,arrived\n")
-        rows = {**LOST, **QUEUED, "control_delay_s": delay, "error_s": "", "saturation_flow": 1760, "capacity_per_hour": 800}
+        rows = {
+            **LOST, **QUEUED, "control_delay_s": delay, "error_s": "", "saturation_flow": 1760,
+            "capacity_per_hour": 800,
+        }
         rows.update(junction="B", control="signals", approach="a", to="b", movement="T", v_c=0.05, los="?")
         for table, columns in (("movements", MOVEMENTS), ("approaches", APPROACHES), ("junctions", JUNCTIONS)):
             rows.update(begin=0, end=900)
@@ -137,7 +140,9 @@ class Pages(Given):
     def test_by_keyboard(self):
         """The first thing that has the focus leads past the navigation; all else is links, the map's junctions too."""
         page = self.page(*self.plans()).read_text()
-        self.assertEqual(re.search(r"<body>|<a [^>]*>", page[page.index("</style>") :]).group(0), '<a class="skip" href="#main">')
+        self.assertEqual(
+            re.search(r"<body>|<a [^>]*>", page[page.index("</style>") :]).group(0), '<a class="skip" href="#main">'
+        )
         self.assertIn('<main id="main" tabindex="-1">', page)
         self.assertRegex(page, r'<svg.*<a href="#junction-B">')
         self.assertNotRegex(page, r"onclick|<div[^>]* role=|tabindex=\"[1-9]")
@@ -178,7 +183,8 @@ class InABrowser(Given):
 
     @needs_package("python3-matplotlib", has_pillow())
     def test_a_picture_of_it(self):
-        """The colours of the letters that the page has, dark ones in white writing, and none of the others in the map."""
+        """The colours of the letters that the page has, dark ones in white writing,
+        and none of the others in the map."""
         page = self.page(self.folder / "before")
         self.chromium(page, "--window-size=1000,1400", f"--screenshot={self.folder}/shot.png")
         words = ["/usr/bin/python3", "-c", COUNT, self.folder / "shot.png"]

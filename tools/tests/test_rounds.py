@@ -23,7 +23,10 @@ LAST = 4500  # seconds; counted from 600 on
 
 
 def inner(name, speed):
-    return f'<edge id=":C_{name}" function="internal"><lane id=":C_{name}_0" index="0" speed="{speed}" length="9" shape="0,0 9,0"/></edge>'
+    return (
+        f'<edge id=":C_{name}" function="internal"><lane id=":C_{name}_0" index="0" speed="{speed}" length="9" '
+        'shape="0,0 9,0"/></edge>'
+    )
 
 
 def junction(metres=300.0, joining=9.0):
@@ -33,9 +36,12 @@ def junction(metres=300.0, joining=9.0):
         '<net version="1.9">'
         + inner(0, 13.89)
         + inner(1, joining)
-        + "".join(f'<edge id="{name}" from="{begin}" to="{end}">{lane(name, 0, metres)}</edge>' for name, begin, end in edges)
+        + "".join(
+            f'<edge id="{name}" from="{begin}" to="{end}">{lane(name, 0, metres)}</edge>' for name, begin, end in edges
+        )
         + "".join(f'<junction id="{name}" type="dead_end" x="0" y="0"/>' for name in "ABD")
-        + '<junction id="C" type="priority" x="0" y="0"><request index="0" response="00"/><request index="1" response="01"/></junction>'
+        + '<junction id="C" type="priority" x="0" y="0"><request index="0" response="00"/><request index="1" '
+        'response="01"/></junction>'
         + '<connection from="w" to="e" fromLane="0" toLane="0" via=":C_0_0" state="M"/>'
         + '<connection from="s" to="e" fromLane="0" toLane="0" via=":C_1_0" state="m"/></net>'
     )
@@ -44,7 +50,8 @@ def junction(metres=300.0, joining=9.0):
 def routes(departs):
     """The demand of (second, first edge), by second."""
     vehicles = (
-        f'<vehicle id="{edge}.{second}" depart="{second}"><route edges="{edge} e"/></vehicle>' for second, edge in sorted(departs)
+        f'<vehicle id="{edge}.{second}" depart="{second}"><route edges="{edge} e"/></vehicle>'
+        for second, edge in sorted(departs)
     )
     return f"<routes>{''.join(vehicles)}</routes>"
 
@@ -72,7 +79,8 @@ class Rounds(Case):
 class Minor(Rounds):
     def setUp(self):
         super().setUp()
-        # 30 vehicles, 4 s apart; each is at the stop line after 300 m, some 22 s. The last one of the street passes at 138 s.
+        # 30 vehicles, 4 s apart; each is at the stop line after 300 m, some 22 s.
+        # The last one of the street passes at 138 s.
         departs = [(4 * at, "w") for at in range(30)]
         self.told = self.imported(junction(), routes([*departs, (50, "s")]))
 
@@ -137,7 +145,8 @@ def lit():
         more += f'<edge id="{name}" from="{begin}" to="{end}">{lane(name, 0, 300.0)}</edge>'
     more += "".join(f'<junction id="{name}" type="dead_end" x="0" y="0"/>' for name in "EG")
     more += "".join(
-        f'<connection from="{edge}" to="f" fromLane="0" toLane="0" tl="L" linkIndex="{at}" state="o"/>' for at, edge in enumerate("eg")
+        f'<connection from="{edge}" to="f" fromLane="0" toLane="0" tl="L" linkIndex="{at}" state="o"/>'
+        for at, edge in enumerate("eg")
     )
     requests = '<request index="0" response="00"/><request index="1" response="00"/>'
     end, light = '<junction id="B" type="dead_end" x="0" y="0"/>', '<junction id="B" type="traffic_light" x="0" y="0">'
@@ -146,7 +155,10 @@ def lit():
 
 def ways(departs):
     """The demand of (second, edges), by second."""
-    vehicles = (f'<vehicle id="{edges[0]}.{at}" depart="{at}"><route edges="{edges}"/></vehicle>' for at, edges in sorted(departs))
+    vehicles = (
+        f'<vehicle id="{edges[0]}.{at}" depart="{at}"><route edges="{edges}"/></vehicle>'
+        for at, edges in sorted(departs)
+    )
     return f"<routes>{''.join(vehicles)}</routes>"
 
 
@@ -163,14 +175,19 @@ class Many(Rounds):
             return list(csv.DictReader(file))
 
     def study(self, *words, out="out", more=""):
-        text = f'run = "run.jsonl"\nmap = "map.json"\nuntil = 600\nseeds = "1-2"\n{more}\n[variant.given]\n[variant.calm]\ndawdle = 0\n'
+        text = (
+            f'run = "run.jsonl"\nmap = "map.json"\nuntil = 600\nseeds = "1-2"\n{more}\n[variant.given]\n'
+            '[variant.calm]\ndawdle = 0\n'
+        )
         path = self.write("study.toml", text)
         return self.tool("study", path, "--program", PROGRAM, "--out", self.folder / out, *words)
 
     def signals(self, *words, out="found", status=0):
         files = [self.folder / "run.jsonl", "--map", self.folder / "map.json", "--plans", self.folder / "net.net.xml"]
         words = ["--until", 600, "--budget", 30, "--check", "101-103", "--program", PROGRAM, *words]
-        return self.tool("signals", *files, "-o", self.folder / f"{out}.add.xml", "--out", self.folder / out, *words, status=status)
+        return self.tool(
+            "signals", *files, "-o", self.folder / f"{out}.add.xml", "--out", self.folder / out, *words, status=status
+        )
 
 
 class ManyRuns(Many):
@@ -199,17 +216,24 @@ class ManyRuns(Many):
     def test_rounds_of_a_study_that_are_none(self):
         for value in ("11", "-1", '"2"', "true"):
             with self.subTest(value), self.assertRaisesRegex(Fault, "rounds = .* is not 0 to 10"):
-                text = f'run = "run.jsonl"\nmap = "map.json"\nuntil = 600\nseeds = "1"\nrounds = {value}\n[variant.given]\n'
+                text = (
+                    f'run = "run.jsonl"\nmap = "map.json"\nuntil = 600\nseeds = "1"\nrounds = {value}\n'
+                    '[variant.given]\n'
+                )
                 read_study(self.write("study.toml", text), PROGRAM)
 
     def test_too_few_calls_are_told_before_any_run(self):
-        with mock.patch.object(giving, "most_calls", lambda _: 120), self.assertRaisesRegex(Fault, "calls.*: with --rounds 0 nobody gives way"):
+        refused = self.assertRaisesRegex(Fault, "calls.*: with --rounds 0 nobody gives way")
+        with mock.patch.object(giving, "most_calls", lambda _: 120), refused:
             text = 'run = "run.jsonl"\nmap = "map.json"\nuntil = 600\nseeds = "1"\n[variant.given]\n'
             read_study(self.write("study.toml", text), PROGRAM)
 
     def test_a_search_makes_gaps_for_what_it_finds(self):
         _, told = self.signals("--jobs", 1)
-        said = r"1 junctions without a light give way by \d+ signal lines under the given plan; for the plan found these are made anew"
+        said = (
+            r"1 junctions without a light give way by \d+ signal lines under the given plan; "
+            r"for the plan found these are made anew"
+        )
         self.assertRegex(told, said)
         self.signals("--jobs", 3, out="three")
         self.signals("--rounds", 0, out="nobody")
@@ -251,7 +275,9 @@ class InCluster(ClusterCase, Many):
         for name in ("runs.csv", "differences.csv"):
             self.assertEqual((self.folder / "one" / name).read_bytes(), (self.folder / "both" / name).read_bytes())
         for name in ("one-found/before-after.csv", "one-found.add.xml"):
-            self.assertEqual((self.folder / name).read_bytes(), (self.folder / name.replace("one", "both")).read_bytes())
+            self.assertEqual(
+                (self.folder / name).read_bytes(), (self.folder / name.replace("one", "both")).read_bytes()
+            )
 
 
 class Scripts(Rounds):
@@ -285,7 +311,9 @@ class Scripts(Rounds):
 
     def test_a_scenario_warns_where_calls_do_not_suffice(self):
         with mock.patch("streetsim.client.most_calls", lambda _: 260):
-            with self.assertWarnsRegex(UserWarning, r"nobody gives way without a light: the run needs some \d+ calls .* takes 260"):
+            with self.assertWarnsRegex(
+                UserWarning, r"nobody gives way without a light: the run needs some \d+ calls .* takes 260"
+            ):
                 sim = Scenario(*self.files)
             with sim:
                 sim.simulationStep(110)
@@ -294,7 +322,9 @@ class Scripts(Rounds):
     def started(self, *words):
         """When the minor vehicle arrives under a script, and what is told at the start."""
         with mock.patch.dict("os.environ", STREETSIM_PROGRAM=PROGRAM), redirect_stderr(StringIO()) as said:
-            traci.start(["sumo", "-n", str(self.folder / "net.net.xml"), "-r", str(self.folder / "demand.rou.xml"), *words])
+            traci.start(
+                ["sumo", "-n", str(self.folder / "net.net.xml"), "-r", str(self.folder / "demand.rou.xml"), *words]
+            )
         self.addCleanup(lambda: traci.isLoaded() and traci.close())
         for clock in range(1, 600):
             traci.simulationStep()
@@ -306,7 +336,10 @@ class Scripts(Rounds):
     def test_a_script_for_traci_gives_way_and_says_so(self):
         clock, told = self.started()
         self.assertEqual(clock, self.end)
-        self.assertRegex(told, "1 junctions without a light give way by \\d+ signal lines, in the gaps of the vehicles of the route files")
+        self.assertRegex(
+            told,
+            "1 junctions without a light give way by \\d+ signal lines, in the gaps of the vehicles of the route files",
+        )
         clock, told = self.started("--rounds", "0")
         self.assertLess(clock, 110)
         self.assertNotIn("give way by", told)
@@ -330,7 +363,9 @@ class Capacity(Rounds):
                 departs[int(clock), edge] = None
         self.imported(junction(500.0), routes(departs))
         self.run_it("--until", LAST, "--every", 0, "--rescue", 0)
-        rows = [row.split(",") for row in (self.folder / "out" / "trips.csv").read_text(encoding="utf-8").splitlines()[1:]]
+        rows = [
+            row.split(",") for row in (self.folder / "out" / "trips.csv").read_text(encoding="utf-8").splitlines()[1:]
+        ]
         arrived = [int(row[2]) for row in rows if row[0].startswith("s.") and row[2]]
         return sum(600 <= clock < LAST for clock in arrived) * 3600 / (LAST - 600)
 

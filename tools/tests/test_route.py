@@ -1,4 +1,5 @@
-"""streetsim-route: shortest ways and passing times by hand, an equilibrium that is known, bad input, interrupts, equal bytes."""
+"""streetsim-route: shortest ways and passing times by hand, an equilibrium that is known, bad input,
+interrupts, equal bytes."""
 import csv
 import gzip
 import json
@@ -32,7 +33,11 @@ from streetsim.sumo.network import Options
 from streetsim.sumo.report import Report
 
 # From a to d by b or by c; from b to c as well. Nobody may go from c to d's twin e.
-GRAPH = Graph("abcde", [("a", "b"), ("a", "c"), ("b", "d"), ("c", "d"), ("b", "e")], {name: (name, name + "'") for name in "abcde"})
+GRAPH = Graph(
+    "abcde",
+    [("a", "b"), ("a", "c"), ("b", "d"), ("c", "d"), ("b", "e")],
+    {name: (name, name + "'") for name in "abcde"},
+)
 
 
 def way(edge, following=None):
@@ -77,7 +82,9 @@ class Routing(unittest.TestCase):
     def test_straight_lines_between_slices(self):
         # Middles of slices at 50, 150, 250 and 350 s; five parts of 20 s, each with the value of its middle.
         table = Table(costs_with({0: [10, 20, 40, 40]}))
-        self.assertEqual([table.at(0, clock) for clock in (0, 55, 95, 150, 205, 399, 9999)], [10, 10, 14, 20, 32, 40, 40])
+        self.assertEqual(
+            [table.at(0, clock) for clock in (0, 55, 95, 150, 205, 399, 9999)], [10, 10, 14, 20, 32, 40, 40]
+        )
 
     def test_parts_hold_each_wish_once(self):
         wishes = [Wish(at, 0, at % 3, 0.0, ()) for at in range(10)]
@@ -95,8 +102,8 @@ class Seconds(unittest.TestCase):
         self.assertEqual(reds(0xFF, 8), [])
 
     def test_costs_of_what_was_observed(self):
-        # Of 5 vehicles on a-b three lost 20 s and two nothing: mean delay of the edge 60 / (5 + 1) = 10 s, of the movement
-        # (60 + 2 * 10) / (5 + 2). On a-c nobody was seen: (0 + 2 * 10) / (0 + 2).
+        # Of 5 vehicles on a-b three lost 20 s and two nothing: mean delay of the edge 60 / (5 + 1) = 10 s,
+        # of the movement (60 + 2 * 10) / (5 + 2). On a-c nobody was seen: (0 + 2 * 10) / (0 + 2).
         observed = nothing_observed(len(GRAPH.movements), 2)
         for seconds in (30, 30, 30, 10, 10):
             observed.add(way("a", "b"), 0, seconds)
@@ -122,8 +129,8 @@ class Seconds(unittest.TestCase):
 
 
 class Stepping(Search):
-    """A search of 100 trips whose iterations show given gaps, and trips that did not arrive. The best way of each trip is the number of
-    the iteration, or less 1 where that was taken back; its own is half as long again."""
+    """A search of 100 trips whose iterations show given gaps, and trips that did not arrive. The best way of each trip
+    is the number of the iteration, or less 1 where that was taken back; its own is half as long again."""
 
     def __init__(self, *seen):
         trips = [Trip(str(at), 0.0, 0, 3, "", (100,), 0.0) for at in range(100)]
@@ -145,15 +152,16 @@ class Stepping(Search):
         return [Found(at, (number,), 100.0, 150.0) for at in range(100)]
 
     def improved(self, iterations, gap=0.0):
-        """For each iteration how many change, and whether it was taken back; and how many trips have which way in the end."""
+        """For each iteration how many change, and whether it was taken back;
+        and how many trips have which way in the end."""
         self.improve(Asked(iterations, gap, 0.4, range(1, 2)))
         return [(one.changed, one.taken_back) for one in self.iterations], Counter(trip.path[0] for trip in self.trips)
 
 
 class Steps(unittest.TestCase):
     def test_a_step_that_is_taken_back(self):
-        """7 is more than 1.3 times 5, and 6 is not. Those who change are a tenth fewer each time, and half as many after a step that was
-        taken back, which begins at the ways of the least gap."""
+        """7 is more than 1.3 times 5, and 6 is not. Those who change are a tenth fewer each time,
+        and half as many after a step that was taken back, which begins at the ways of the least gap."""
         search = Stepping((10, 0), (5, 0), (7, 0), (6, 0), (4, 0))
         expected = [(40, False), (36, False), (16, True), (16, False), (0, False)], {3: 16, 0: 24, 100: 60}
         self.assertEqual(search.improved(4), expected)
@@ -188,11 +196,17 @@ class Doubts(unittest.TestCase):
         self.assertEqual(self.told(), [])
         self.assertEqual(self.told(arrived=997), ["3 of 1,000 trips have not arrived at 9,000 s (--until)"])
         self.assertEqual(self.told(rescues=10), [])
-        self.assertEqual(self.told(rescues=11), ["11 rescues of 1,000 trips, so the network locks in part, and the gap says little"])
-        self.assertEqual(self.told(waiting=51), ["51 of 1,000 vehicles waited to enter at some 600 s, and are in no queue or count"])
+        self.assertEqual(
+            self.told(rescues=11), ["11 rescues of 1,000 trips, so the network locks in part, and the gap says little"]
+        )
+        self.assertEqual(
+            self.told(waiting=51), ["51 of 1,000 vehicles waited to enter at some 600 s, and are in no queue or count"]
+        )
 
     def test_a_gap_that_does_not_fall(self):
-        search = SimpleNamespace(iterations=[SimpleNamespace(number=number) for number in range(11)], best=SimpleNamespace(number=6))
+        search = SimpleNamespace(
+            iterations=[SimpleNamespace(number=number) for number in range(11)], best=SimpleNamespace(number=6)
+        )
         self.assertFalse(is_still(search))
         search.best.number = 5
         self.assertTrue(is_still(search))
@@ -239,24 +253,39 @@ def lit(*phases):
 
 
 def joining(main, minor, end):
-    """A street w, e with so many vehicles an hour goes first at C, where o, s joins it; o also leads round C, by 22 s more. Gives
-    the network and its trips."""
-    ends = {"w": ("W", "C"), "e": ("C", "B"), "o": ("O", "D"), "s": ("D", "C"), "far": ("D", "F"), "on": ("F", "B"), "out": ("B", "E")}
+    """A street w, e with so many vehicles an hour goes first at C, where o, s joins it; o also leads round C,
+    by 22 s more. Gives the network and its trips."""
+    ends = {
+        "w": ("W", "C"), "e": ("C", "B"), "o": ("O", "D"), "s": ("D", "C"), "far": ("D", "F"), "on": ("F", "B"),
+        "out": ("B", "E"),
+    }
     metres = {"far": 450.0, "on": 450.0}
     ways = [("o", "s", ""), ("o", "far", ""), ("far", "on", ""), ("on", "out", ""), ("e", "out", "")]
     yields = [("w", "e", "0"), ("s", "e", "1")]
     inside = "".join(
-        f'<edge id=":C_{at}" function="internal"><lane id=":C_{at}_0" index="0" speed="9" length="9" shape="0,0 9,0"/></edge>' for at in "01"
+        f'<edge id=":C_{at}" function="internal"><lane id=":C_{at}_0" index="0" speed="9" length="9" '
+        'shape="0,0 9,0"/></edge>'
+        for at in "01"
     )
-    edges = "".join(f'<edge id="{name}" from="{begin}" to="{end}">{lane(name, 0, metres.get(name, 300.0))}</edge>' for name, (begin, end) in ends.items())
+    edges = "".join(
+        f'<edge id="{name}" from="{begin}" to="{end}">{lane(name, 0, metres.get(name, 300.0))}</edge>'
+        for name, (begin, end) in ends.items()
+    )
     junctions = "".join(f'<junction id="{name}" type="dead_end" x="0" y="0"/>' for name in "WBODFE")
-    junctions += '<junction id="C" type="priority" x="0" y="0"><request index="0" response="00"/><request index="1" response="01"/></junction>'
-    listed = "".join(f'<connection from="{one}" to="{other}" fromLane="0" toLane="0" state="M"/>' for one, other, _ in ways)
+    junctions += (
+        '<junction id="C" type="priority" x="0" y="0"><request index="0" response="00"/><request index="1" '
+        'response="01"/></junction>'
+    )
+    listed = "".join(
+        f'<connection from="{one}" to="{other}" fromLane="0" toLane="0" state="M"/>' for one, other, _ in ways
+    )
     listed += "".join(
-        f'<connection from="{one}" to="{other}" fromLane="0" toLane="0" via=":C_{at}_0" state="{"Mm"[int(at)]}"/>' for one, other, at in yields
+        f'<connection from="{one}" to="{other}" fromLane="0" toLane="0" via=":C_{at}_0" state="{"Mm"[int(at)]}"/>'
+        for one, other, at in yields
     )
     flows = "".join(
-        f'<flow id="{name}" begin="0" end="{end}" number="{count * end // 3600}" from="{name}" to="out"/>' for name, count in (("w", main), ("o", minor))
+        f'<flow id="{name}" begin="0" end="{end}" number="{count * end // 3600}" from="{name}" to="out"/>'
+        for name, count in (("w", main), ("o", minor))
     )
     return f'<net version="1.9">{inside}{edges}{junctions}{listed}</net>', f"<routes>{flows}</routes>"
 
@@ -265,16 +294,27 @@ def ring():
     """A ring of four short edges; at each corner one leads in, one out, and one goes to the third corner from it."""
     edges, ways = [], []
     for here, there, third in zip("ABCD", "BCDA", "DABC"):
-        edges += [(here + there, here, there, [lane(here + there, 0, 37.5)]), (f"in{here}", f"I{here}", here, [lane(f"in{here}", 0, 150.0)])]
-        edges += [(f"out{here}", here, f"O{here}", [lane(f"out{here}", 0, 150.0)]), (f"far{here}", here, third, [lane(f"far{here}", 0, 900.0)])]
-        ways += [(f"in{here}", 0, here + there, 0, ""), (f"in{here}", 0, f"far{here}", 0, ""), (f"far{here}", 0, f"out{third}", 0, "")]
+        edges += [
+            (here + there, here, there, [lane(here + there, 0, 37.5)]),
+            (f"in{here}", f"I{here}", here, [lane(f"in{here}", 0, 150.0)]),
+        ]
+        edges += [
+            (f"out{here}", here, f"O{here}", [lane(f"out{here}", 0, 150.0)]),
+            (f"far{here}", here, third, [lane(f"far{here}", 0, 900.0)]),
+        ]
+        ways += [
+            (f"in{here}", 0, here + there, 0, ""),
+            (f"in{here}", 0, f"far{here}", 0, ""),
+            (f"far{here}", 0, f"out{third}", 0, ""),
+        ]
         ways += [(third + here, 0, here + there, 0, ""), (third + here, 0, f"out{here}", 0, "")]
     return net(sorted(edges, key=lambda edge: edge[0][:2] != "in"), ways)
 
 
 def ring_trips(number, end):
     flows = (
-        f'<flow id="{here}" begin="0" end="{end}" number="{number}" from="in{here}" to="out{third}"/>' for here, third in zip("ABCD", "DABC")
+        f'<flow id="{here}" begin="0" end="{end}" number="{number}" from="in{here}" to="out{third}"/>'
+        for here, third in zip("ABCD", "DABC")
     )
     return f"<routes>{''.join(flows)}</routes>"
 
@@ -307,7 +347,8 @@ class Commands(Case):
     def files(self, out="out"):
         """All bytes that were written."""
         written = sorted(path for path in (self.folder / out).iterdir())
-        return [path.name for path in written], [path.read_bytes() for path in (self.folder / f"{out}.rou.xml", *written)]
+        found = self.folder / f"{out}.rou.xml"
+        return [path.name for path in written], [path.read_bytes() for path in (found, *written)]
 
     def check_refused(self, told, *words):
         _, said = self.route(*words, status=2)
@@ -318,27 +359,34 @@ class Commands(Case):
 
 class Equilibria(Commands):
     def test_two_ways(self):
-        """720 vehicles an hour on a short way whose green of 15 s lets 16.35 / 2.07 = 7.9 pass in 60 s, and less its hidden
-        begin: at most 474 an hour take it in equilibrium, and as many as it lets pass, since the other way is 46 s longer."""
+        """720 vehicles an hour on a short way whose green of 15 s lets 16.35 / 2.07 = 7.9 pass in 60 s, and less
+        its hidden begin: at most 474 an hour take it in equilibrium, and as many as it lets pass, since the
+        other way is 46 s longer."""
         self.given(lit((15, "G"), (45, "r")), flow(720, 3600))
         told, said = self.route("--gap", 0.08)
         short = sum("short" in edges for edges in self.routes().values())
         self.assertTrue(330 <= short <= 500, short)
         gaps = [float(row["relative_gap"]) for row in self.table("iterations.csv")]
         self.assertLess(min(gaps), 0.08)
-        self.assertRegex(told, r"mean trip [\d.]+ s, gap [\d.]+ % by 3 seeds that the search did not see; routes of iteration \d+\n")
+        self.assertRegex(
+            told, r"mean trip [\d.]+ s, gap [\d.]+ % by 3 seeds that the search did not see; routes of iteration \d+\n"
+        )
         self.assertRegex(said, r"0: mean trip [\d.]+ s, gap [\d.]+ %, \d+ of 720 change, 0 rescues\n")
         setting = json.loads((self.folder / "out/setting.json").read_text())
         self.assertEqual((setting["arrived"], setting["check"]), (720, "101-103"))
         means = [float(row["mean_trip_s"]) for row in self.table("check.csv")]
         self.assertAlmostEqual(setting["mean_trip_s"], sum(means) / 3, delta=0.01)
-        counted = sum(float(row["vehicles"]) for row in self.table("movements.csv") if (row["edge"], row["next_edge"]) == ("short", "out"))
+        counted = sum(
+            float(row["vehicles"])
+            for row in self.table("movements.csv")
+            if (row["edge"], row["next_edge"]) == ("short", "out")
+        )
         self.assertAlmostEqual(counted, short, delta=1)
         self.assertEqual(len(self.table("trips.csv")), 720)
 
     def test_a_start_that_locks(self):
-        """Who comes into the ring goes first, and all go round three quarters of it: it fills up and stands. Ways of 900 m lead
-        round it."""
+        """Who comes into the ring goes first, and all go round three quarters of it: it fills up and stands.
+        Ways of 900 m lead round it."""
         self.given(ring(), ring_trips(150, 720))
         self.route("--until", 2400, "--iterations", 7, "--gap", 0.05, status=1)
         rows, setting = self.table("iterations.csv"), json.loads((self.folder / "out/setting.json").read_text())
@@ -361,7 +409,10 @@ class Equilibria(Commands):
         self.given(two_ways(), '<routes><trip id="t" depart="5" from="in" to="out"/></routes>')
         self.route()
         self.assertEqual(self.routes(), {"t": ["in", "short", "out"]})
-        self.given(two_ways(), '<routes><trip id="t" depart="5" from="in" to="in"/><trip id="u" depart="5" from="out" to="out"/></routes>')
+        self.given(
+            two_ways(),
+            '<routes><trip id="t" depart="5" from="in" to="in"/><trip id="u" depart="5" from="out" to="out"/></routes>',
+        )
         self.route()
         self.assertEqual(self.routes(), {"t": ["in"], "u": ["out"]})
 
@@ -385,12 +436,16 @@ class Equilibria(Commands):
         types = '<vType id="truck" length="12"/>'
         self.given(lit((15, "G"), (45, "r")), flow(100, 600, 'type="truck"').replace("<routes>", f"<routes>{types}"))
         self.route("--iterations", 2, "--run", self.folder / "a.jsonl", "--map", self.folder / "a.json", "--gap", 1)
-        self.tool("import", self.net, "--routes", self.folder / "out.rou.xml", "-o", self.folder / "b.jsonl", "--map", self.folder / "b.json")
+        self.tool(
+            "import", self.net, "--routes", self.folder / "out.rou.xml", "-o", self.folder / "b.jsonl",
+            "--map", self.folder / "b.json",
+        )
         self.assertEqual((self.folder / "a.jsonl").read_bytes(), (self.folder / "b.jsonl").read_bytes())
 
 
 class GivingWay(Commands):
-    """720 vehicles an hour go first. Before each a gap of 7.2 - 2 * 0.72 = 5.8 s has to be free, and they come every 5 s."""
+    """720 vehicles an hour go first. Before each a gap of 7.2 - 2 * 0.72 = 5.8 s has to be free,
+    and they come every 5 s."""
 
     def short(self, *words, out="out"):
         self.route("--gap", 0.2, "--iterations", 6, *words, out=out)
@@ -409,7 +464,10 @@ class GivingWay(Commands):
         self.given(*joining(540, 360, 900))
         run, mapped = self.folder / "run.jsonl", self.folder / "map.json"
         self.route("--iterations", 2, "--gap", 1, "--until", 4000, "--run", run, "--map", mapped)
-        self.tool("run", run, "--map", mapped, "--seeds", "101-103", "--until", 4000, "--out", self.folder / "runs", "--program", PROGRAM)
+        self.tool(
+            "run", run, "--map", mapped, "--seeds", "101-103", "--until", 4000, "--out", self.folder / "runs",
+            "--program", PROGRAM,
+        )
         here = [(row["seed"], float(row["mean_trip_s"])) for row in self.table("check.csv")]
         there = [(row["seed"], round(float(row["mean_trip_s"]), 3)) for row in self.table("seeds.csv", "runs")]
         self.assertEqual(here, there)
@@ -421,13 +479,22 @@ class Imports(Case):
     def imported(self, trips, *more, network=None, status=0):
         """The edges of each vehicle by name, what is said, and the paths of run and map."""
         paths = self.folder / "run.jsonl", self.folder / "map.json"
-        words = [self.write("x.net.xml", network or lit((15, "G"), (45, "r"))), "--trips", self.write("x.trips.xml", trips), *more]
+        words = [
+            self.write("x.net.xml", network or lit((15, "G"), (45, "r"))),
+            "--trips",
+            self.write("x.trips.xml", trips),
+            *more,
+        ]
         _, said = self.tool("import", *words, "-o", paths[0], "--map", paths[1], status=status)
         if status == 2:
             return {}, said, paths
         mapping = read_map(paths[1])
         plans = [line.command["plan"] for line in read_run(paths[0]).enters]
-        return {name: [mapping.links[link].edge for link in plan] for name, plan in zip(mapping.cars, plans, strict=True)}, said, paths
+        return (
+            {name: [mapping.links[link].edge for link in plan] for name, plan in zip(mapping.cars, plans, strict=True)},
+            said,
+            paths,
+        )
 
     def test_few_take_the_short_way(self):
         """The mean wait at the light is 45 * 46 / 120 = 17 s, and the other way is 46 s longer."""
@@ -442,13 +509,18 @@ class Imports(Case):
         self.assertTrue(300 <= short <= 900, short)
 
     def test_routes_that_are_given_stay(self):
-        given = '<routes><route id="r" edges="in far long out"/><vehicle id="v" depart="3" route="r"/><trip id="t" depart="3" from="in" to="out"/></routes>'
+        given = (
+            '<routes><route id="r" edges="in far long out"/><vehicle id="v" depart="3" route="r"/><trip id="t" '
+            'depart="3" from="in" to="out"/></routes>'
+        )
         edges, _, paths = self.imported(given)
         self.assertEqual(edges, {"v": ["in", "far", "long", "out"], "t": ["in", "short", "out"]})
         self.assertEqual(read_map(paths[1]).kinds["route"], ["r", ""])
 
     def test_no_way(self):
-        trips = '<routes><trip id="t" depart="0" from="out" to="in"/><trip id="u" depart="0" from="in" to="out"/></routes>'
+        trips = (
+            '<routes><trip id="t" depart="0" from="out" to="in"/><trip id="u" depart="0" from="in" to="out"/></routes>'
+        )
         edges, said, _ = self.imported(trips, "--strict", status=1)
         self.assertEqual(list(edges), ["u"])
         self.assertIn("skipped: 1 vehicles: no way from where the trip begins to where it ends", said)
@@ -464,18 +536,26 @@ class Imports(Case):
     def test_a_bus_that_is_sent_while_sumo_runs(self):
         """The game of a bus on demand: its persons ride, and its only vehicle has stops and no way."""
         shipped = SCENARIOS.parents[3] / "game/DRT.sumocfg"
-        _, said = self.tool("import", "-c", shipped, "-o", self.folder / "run.jsonl", "--map", self.folder / "map.json", status=2)
+        _, said = self.tool(
+            "import", "-c", shipped, "-o", self.folder / "run.jsonl", "--map", self.folder / "map.json", status=2
+        )
         self.assertIn("DRT/drt.rou.xml: <trip 'DRT2'>: drives from stop to stop without from and to", said)
         self.assertFalse((self.folder / "run.jsonl").exists())
 
     @needs_simulator
     def test_road_works_import_the_trips_anew(self):
         ends = {"in": ("W", "A", 2), "b": ("A", "B", 1), "c": ("A", "C", 1)}
-        edges = [(name, begin, end, [lane(name, at, 300.0) for at in range(count)]) for name, (begin, end, count) in ends.items()]
+        edges = [
+            (name, begin, end, [lane(name, at, 300.0) for at in range(count)])
+            for name, (begin, end, count) in ends.items()
+        ]
         fork = net(edges, [("in", 0, "b", 0, ""), ("in", 1, "c", 0, "")])
         trips = '<routes><trip id="b" depart="0" from="in" to="b"/><trip id="c" depart="0" from="in" to="c"/></routes>'
         _, _, (run, mapped) = self.imported(trips, network=fork)
-        words = [run, "--map", mapped, "--until", 900, "--close", "in_0:100-200:0-900", "--out", self.folder / "out", "--program", PROGRAM]
+        words = [
+            run, "--map", mapped, "--until", 900, "--close", "in_0:100-200:0-900", "--out", self.folder / "out",
+            "--program", PROGRAM,
+        ]
         told, said = self.tool("run", *words)
         self.assertIn("joint for this run", said)
         self.assertIn("2 vehicles, 2 arrived", told)
@@ -483,7 +563,8 @@ class Imports(Case):
 
 @needs_simulator
 class Looking(Case):
-    """A tenth of the town's vehicles, by all lanes each minute where a run has calls for that, and else by those on their way."""
+    """A tenth of the town's vehicles, by all lanes each minute where a run has calls for that,
+    and else by those on their way."""
 
     def setUp(self):
         super().setUp()
@@ -492,17 +573,23 @@ class Looking(Case):
         rows = "".join(ElementTree.tostring(one, encoding="unicode") for one in vehicles)
         routes = self.write("x.rou.xml", f"<routes>{rows}</routes>")
         self.town = read_town(str(DATA / "town.net.xml.gz"), (), Options(), Report())
-        self.trips = read_trips([routes], self.town.net, self.town.graph, self.town.types, self.town.options, Report()).all
+        self.trips = read_trips(
+            [routes], self.town.net, self.town.graph, self.town.types, self.town.options, Report()
+        ).all
         self.loaded = self.town.loaded(self.trips)
 
     def seen(self, calls):
         ground = Ground(PROGRAM, None, self.town.graph, 300, 10_800)
         with unittest.mock.patch("streetsim.client.most_calls", return_value=calls):
-            return watched(ground, self.loaded.run, self.loaded.mapping, flat_costs(self.town.graph, self.loaded.free), 1, None)
+            return watched(
+                ground, self.loaded.run, self.loaded.mapping, flat_costs(self.town.graph, self.loaded.free), 1, None
+            )
 
     def test_by_lanes_and_by_vehicles(self):
         lanes, vehicles, seldom = map(self.seen, (1_000_000, 8_000, 2_500))
-        self.assertTrue(seldom.calls < vehicles.calls < 8_000 < lanes.calls, (seldom.calls, vehicles.calls, lanes.calls))
+        self.assertTrue(
+            seldom.calls < vehicles.calls < 8_000 < lanes.calls, (seldom.calls, vehicles.calls, lanes.calls)
+        )
         self.assertEqual(vehicles.observed, lanes.observed)
         self.assertEqual((vehicles.entries, vehicles.ends), (lanes.entries, lanes.ends))
         self.assertEqual((seldom.ends, seldom.mean), (lanes.ends, lanes.mean))
@@ -511,7 +598,9 @@ class Looking(Case):
         self.assertLess(abs(one / other - 1), 0.01)  # dealt otherwise to the movements of each trip
 
     def test_too_few_calls(self):
-        with self.assertRaisesRegex(Fault, "300 vehicles up to 10,800 s take more calls than the 1,000 of the program: take fewer trips, or an"):
+        with self.assertRaisesRegex(
+            Fault, "300 vehicles up to 10,800 s take more calls than the 1,000 of the program: take fewer trips, or an"
+        ):
             self.seen(1_000)
 
     def by_movement(self, values):
@@ -530,17 +619,26 @@ class BadInput(Commands):
             ('<trip id="t" depart="soon" from="in" to="out"/>', "depart='soon' cannot be read"),
             ('<trip id="t" type="" depart="0" from="in" to="out"/>', "<trip 't'>: type='' cannot be read"),
             ('<person id="p" depart="0"><personTrip from="in" to="out"/></person>', "persons are not routed here"),
-            ('<trip id="t" depart="0"><stop lane="in_0" duration="9"/></trip>', "<trip 't'>: drives from stop to stop without from and to"),
+            (
+                '<trip id="t" depart="0"><stop lane="in_0" duration="9"/></trip>',
+                "<trip 't'>: drives from stop to stop without from and to",
+            ),
             ('<trip id="t" depart="0" from="in" to="out"/>' * 2, "two vehicles are named 't'"),
             ("", "no trip that can drive"),
-            ('<trip id="t" depart="9e9" from="in" to="out"/>', "no trip that can drive; 1 left out: departs after 1,000,000,000 s"),
+            (
+                '<trip id="t" depart="9e9" from="in" to="out"/>',
+                "no trip that can drive; 1 left out: departs after 1,000,000,000 s",
+            ),
         ):
             with self.subTest(told):
                 self.given(two_ways(), f"<routes>{trips}</routes>")
                 self.check_refused(told)
 
     def test_routes_without_a_connection(self):
-        given = '<vehicle id="v" depart="0"><route edges="in long out"/></vehicle><trip id="t" depart="5" from="in" to="out"/>'
+        given = (
+            '<vehicle id="v" depart="0"><route edges="in long out"/></vehicle><trip id="t" depart="5" '
+            'from="in" to="out"/>'
+        )
         self.given(two_ways(), f"<routes>{given}</routes>")
         self.check_refused("trip 'v': the network has no connection from edge 'in' to edge 'long'")
         _, said = self.route("--ignore-route-errors")
@@ -575,7 +673,9 @@ class Ends(Commands):
         """A search that has ended an iteration. alone: in a process group of its own."""
         self.given(lit((15, "G"), (45, "r")), flow(720, 3600))
         words = [TOOLS / "streetsim-route", *self.words("--gap", 0, *more)]
-        search = subprocess.Popen(list(map(str, words)), stdout=subprocess.PIPE, stderr=subprocess.PIPE, text=True, start_new_session=alone)
+        search = subprocess.Popen(
+            list(map(str, words)), stdout=subprocess.PIPE, stderr=subprocess.PIPE, text=True, start_new_session=alone
+        )
         while not (line := search.stderr.readline()).startswith(until):
             self.assertNotEqual(line, "", f"ended before {until!r}")
         return search
@@ -620,7 +720,8 @@ class Ends(Commands):
         self.assertEqual([path for path in self.folder.iterdir() if path.name.startswith(("out", ".out"))], [])
 
     def test_a_signal_to_all_its_processes(self):
-        """As `timeout` and batch systems send it, here while the check runs wait for the one process: each is more than a pipe holds."""
+        """As `timeout` and batch systems send it, here while the check runs wait for the one process: each is
+        more than a pipe holds."""
         search = self.begun("--iterations", 0, "--check", "101-130", alone=True)
         time.sleep(0.5)
         os.killpg(search.pid, signal.SIGTERM)
@@ -651,7 +752,9 @@ class EqualBytes(Commands):
 
     def test_with_works(self):
         self.given(lit((15, "G"), (45, "r")), self.TRIPS)
-        self.check_equal("--iterations", 2, "--gap", 1, "--close", "short_0:100-200:200-600", "--knowing", 0.5, "--sign", "in")
+        self.check_equal(
+            "--iterations", 2, "--gap", 1, "--close", "short_0:100-200:200-600", "--knowing", 0.5, "--sign", "in"
+        )
         self.assertEqual(len(self.table("knowing.csv", "out1")), 2)
 
     def test_shares_side_by_side(self):
@@ -685,7 +788,9 @@ class OnACluster(ClusterCase, Commands):
             vehicles = list(ElementTree.parse(file).getroot().iter("vehicle"))[::5]
         ends = [(one.get("id"), one.get("depart"), one.find("route").get("edges").split()) for one in vehicles]
         ends = [one for one in ends if {one[2][0], one[2][-1]}.isdisjoint({"13", "-13"})]
-        rows = (f'<trip id="{name}" depart="{depart}" from="{edges[0]}" to="{edges[-1]}"/>' for name, depart, edges in ends)
+        rows = (
+            f'<trip id="{name}" depart="{depart}" from="{edges[0]}" to="{edges[-1]}"/>' for name, depart, edges in ends
+        )
         self.trips.write_text(f"<routes>{''.join(rows)}</routes>", encoding="utf-8")
 
 

@@ -61,7 +61,11 @@ class TurningOff(unittest.TestCase):
         self.assertEqual(self.turned(shut=(31, 1000), seconds=seconds), numbers("pqwz"))
 
     def test_no_way_round(self):
-        for names, told in (("pqrx", "'t' ends on edge 'x' while it is closed"), ("xz", "begins on edge 'x'"), ("rxz", "has no way round edge 'x'")):
+        for names, told in (
+            ("pqrx", "'t' ends on edge 'x' while it is closed"),
+            ("xz", "begins on edge 'x'"),
+            ("rxz", "has no way round edge 'x'"),
+        ):
             with self.assertRaisesRegex(Fault, told):
                 self.turned(names=names)
 
@@ -77,12 +81,18 @@ class TurningOff(unittest.TestCase):
 class WithinTheGap(unittest.TestCase):
     def told(self, before, there):
         """What is said of mean trips and gaps (in hundredths) without works and with them."""
-        made = (SimpleNamespace(means=lambda mean=mean: [mean - 1, mean + 1], judged=SimpleNamespace(gap=gap / 100)) for mean, gap in (there, before))
+        made = (
+            SimpleNamespace(means=lambda mean=mean: [mean - 1, mean + 1], judged=SimpleNamespace(gap=gap / 100))
+            for mean, gap in (there, before)
+        )
         return within_gap(*made)
 
     def test_works_that_add_less_than_what_all_could_gain(self):
         self.assertIsNone(self.told((300, 2), (306.5, 2)))
-        told = "what the works add ({}) is less than what all could gain by other ways {} them ({} s), and says little: find ways with a smaller --gap"
+        told = (
+            "what the works add ({}) is less than what all could gain by other ways {} them ({} s), "
+            "and says little: find ways with a smaller --gap"
+        )
         self.assertEqual(self.told((300, 2), (305, 1)), told.format("+5.0 s", "without", "6.0"))
         self.assertEqual(self.told((300, 2), (295, 1)), told.format("-5.0 s", "without", "6.0"))
         self.assertEqual(self.told((300, 1), (305, 2)), told.format("+5.0 s", "with", "6.1"))
@@ -96,7 +106,8 @@ class UnderWay(Case):
         ends = {"in": ("W", "A"), "short": ("A", "B"), "out": ("B", "E"), "one": ("A", "B"), "other": ("A", "B")}
         metres = {"one": 600.0, "other": 630.0}
         edges = [(name, *ends[name], [lane(name, 0, metres.get(name, 300.0))]) for name in ends]
-        ways = [("in", 0, name, 0, "") for name in ("short", "one", "other")] + [(name, 0, "out", 0, "") for name in ("short", "one", "other")]
+        between = ("short", "one", "other")
+        ways = [("in", 0, name, 0, "") for name in between] + [(name, 0, "out", 0, "") for name in between]
         routes = '<routes><vehicle id="v" depart="0"><route edges="in short out"/></vehicle></routes>'
         words = [self.write("x.net.xml", net(edges, ways)), "--routes", self.write("x.rou.xml", routes)]
         self.tool("import", *words, "-o", self.folder / "run.jsonl", "--map", self.folder / "map.json")
@@ -125,11 +136,14 @@ class UnderWay(Case):
         self.assertEqual(self.plans([Waiting("v", 0, self.links("in short out"))], ("short", "one", "other")), {})
 
     def test_where_another_way_begins(self):
-        """Three links of 40 cells and 2 cells a second: who is on cell 9 of the first is behind the second in 35 s at least."""
+        """Three links of 40 cells and 2 cells a second: who is on cell 9 of the first is behind the
+        second in 35 s at least."""
         links = [MapLink(str(at), (0,), at, at + 1, 40, 2, 300.0, ()) for at in range(3)]
         found = turning((0, 1, 2), (0, 1, 5, 6), 100)
         self.assertEqual(found, Turning((0, 1), (5, 6), 100))
-        self.assertEqual([found.soonest(links, *place) for place in ((0, 9), (0, None), (1, 39), (1, None))], [35, 20, 1, 1])
+        self.assertEqual(
+            [found.soonest(links, *place) for place in ((0, 9), (0, None), (1, 39), (1, None))], [35, 20, 1, 1]
+        )
         self.assertEqual(turning((0, 1), (7, 6), 0), Turning((0,), (6,), 0))  # on the link beside
 
     def test_an_edge_is_shut_where_all_its_lanes_are(self):
@@ -173,7 +187,10 @@ class WithWorks(Commands):
     def test_the_run_has_the_works(self):
         self.given(two_ways(), flow(20, 600))
         self.route(*self.WORKS, "--run", self.folder / "a.jsonl", "--map", self.folder / "a.json")
-        words = [self.folder / "a.jsonl", "--map", self.folder / "a.json", "--until", 1500, "--out", self.folder / "b", "--program", PROGRAM]
+        words = [
+            self.folder / "a.jsonl", "--map", self.folder / "a.json", "--until", 1500, "--out", self.folder / "b",
+            "--program", PROGRAM,
+        ]
         told, _ = self.tool("run", *words)
         self.assertIn("20 vehicles, 20 arrived", told)
         lines = [json.loads(line) for line in (self.folder / "a.jsonl").read_text().splitlines()]
@@ -181,8 +198,15 @@ class WithWorks(Commands):
 
     def test_ways_before_that_are_given(self):
         self.given(two_ways(), flow(10, 100))
-        before = self.write("before.rou.xml", "<routes>" + "".join(
-            f'<vehicle id="f.{at}" depart="{10 * at}"><route edges="in far long out"/></vehicle>' for at in range(10)) + "</routes>")
+        before = self.write(
+            "before.rou.xml",
+            "<routes>"
+            + "".join(
+                f'<vehicle id="f.{at}" depart="{10 * at}"><route edges="in far long out"/></vehicle>'
+                for at in range(10)
+            )
+            + "</routes>",
+        )
         self.route(*self.WORKS, "--knowing", 0, "--before", before)
         self.assertEqual({tuple(way) for way in self.routes().values()}, {("in", "far", "long", "out")})
 
@@ -203,34 +227,53 @@ knowing = 0.5
     def test_a_study_with_ways_round_works(self):
         """All who come meanwhile go round by 46 s, whether they know of the works or turn off before them."""
         self.given(two_ways(), flow(60, 1200))
-        self.tool("import", self.net, "--trips", self.trips, "-o", self.folder / "run.jsonl", "--map", self.folder / "map.json")
-        study = [self.write("study.toml", self.STUDY), "--out", self.folder / "study", "--program", PROGRAM, "--jobs", 2]
+        self.tool(
+            "import", self.net, "--trips", self.trips, "-o", self.folder / "run.jsonl",
+            "--map", self.folder / "map.json",
+        )
+        study = [
+            self.write("study.toml", self.STUDY), "--out", self.folder / "study", "--program", PROGRAM, "--jobs", 2,
+        ]
         said, _ = self.tool("study", *study)
-        self.assertIn("round: its ways were found by seed 1, which is one of the study's: give others", said.splitlines()[-1])
+        self.assertIn(
+            "round: its ways were found by seed 1, which is one of the study's: give others", said.splitlines()[-1]
+        )
         with open(self.folder / "study/differences.csv", encoding="utf-8") as file:
             means = {row["variant"]: float(row["mean_trip_s"]) for row in csv.DictReader(file)}
         self.assertTrue(means["base"] + 15 < means["round"] < means["base"] + 60, means)
         self.assertGreater(means["works"], means["round"] + 100)
         with open(self.folder / "study/runs.csv", encoding="utf-8") as file:
             self.assertEqual({row["arrived"] for row in csv.DictReader(file)}, {"60"})
-        for more, told in (("knowing = 2", "knowing = 2 is not 0 to 1"), ("route = 1", "route = 1 is neither true nor false"),
-                           ("knowing = 0.5", "close = [..] and route = true are needed too")):  # fmt: skip
+        for more, told in (
+            ("knowing = 2", "knowing = 2 is not 0 to 1"),
+            ("route = 1", "route = 1 is neither true nor false"),
+            ("knowing = 0.5", "close = [..] and route = true are needed too"),
+        ):
             study[0] = self.write("study.toml", f"{self.STUDY}[variant.bad]\n{more}\n")
             self.assertIn(told, self.tool("study", *study, status=2)[1])
 
     def test_refused_before_anything_runs(self):
         self.given(two_ways(), flow(10, 100))
         gap = '<vehicle id="f.0" depart="0"><route edges="in long out"/></vehicle>'
-        given = {name: self.write(f"{name}.rou.xml", f"<routes>{text}</routes>") for name, text in (("gap", gap), ("other", ONE))}
+        given = {
+            name: self.write(f"{name}.rou.xml", f"<routes>{text}</routes>")
+            for name, text in (("gap", gap), ("other", ONE))
+        }
         for words, told in (
             (("--knowing", 0.5), "--knowing is of road works: give --close too"),
             ((*self.WORKS, "--knowing", ","), "--knowing: ',' names no share"),
             (("--close", "none_0:1-2:3-4"), "the map has no lane 'none_0'"),
             (("--close", "short_0:100-400:3-4"), "the lane ends at 300 m"),
-            (("--close", "short_0:100-200:9-900", "--until", 800, "--sign", "none"), "--sign: the network has no edge 'none'"),
+            (
+                ("--close", "short_0:100-200:9-900", "--until", 800, "--sign", "none"),
+                "--sign: the network has no edge 'none'",
+            ),
             (("--close", "short_0:100-200:900-990", "--until", 800), "begins after the end of the runs, 800 s"),
             (("--close", "in_0:100-200:50-900"), "trip 'f.3' begins on edge 'in' while it is closed"),
-            ((*self.WORKS, "--before", given["gap"]), "the route of 'f.0' has two edges that follow each other and have no connection"),
+            (
+                (*self.WORKS, "--before", given["gap"]),
+                "the route of 'f.0' has two edges that follow each other and have no connection",
+            ),
             ((*self.WORKS, "--before", given["other"]), "no route of 'f.0'"),
         ):
             with self.subTest(told):
@@ -246,18 +289,27 @@ knowing = 0.5
         self.given(lit((15, "G"), (45, "r")), flow(300, 900))
         words = ("--close", "short_0:100-200:120-900", "--knowing", 0, "--gap", 0.001, "--iterations", 1)
         told, _ = self.route(*words, status=1)
-        self.assertRegex(told, r"gap 0.00 % by 3 seeds .*: the gap of 0.1 % is not reached without works \([\d.]+ %\); ")
+        self.assertRegex(
+            told, r"gap 0.00 % by 3 seeds .*: the gap of 0.1 % is not reached without works \([\d.]+ %\); "
+        )
         setting = json.loads((self.folder / "out/setting.json").read_text())
         self.assertGreater(setting["without_works"]["relative_gap"], 0.001)
 
     def test_more_come_than_the_open_lanes_pass(self):
         """Of three lanes two are one link; one of them is closed."""
         ends = {"in": ("W", "A", 3), "a": ("A", "B", 3), "out": ("B", "E", 3)}
-        edges = [(name, begin, end, [lane(name, at, 300.0) for at in range(count)]) for name, (begin, end, count) in ends.items()]
+        edges = [
+            (name, begin, end, [lane(name, at, 300.0) for at in range(count)])
+            for name, (begin, end, count) in ends.items()
+        ]
         ways = [(name, at, following, at, "") for name, following in (("in", "a"), ("a", "out")) for at in range(3)]
         self.given(net(edges, ways), flow(1000, 900))
         told, _ = self.route("--close", "a_0:100-200:0-900", "--iterations", 0, "--gap", 1)
-        self.assertRegex(told, r"\nnot to be trusted: .*knowing 1: edge a: some [\d,]+ vehicles an hour come to works that leave 1 of 2 lanes")
+        self.assertRegex(
+            told,
+            r"\nnot to be trusted: .*knowing 1: edge a: some [\d,]+ vehicles an hour come to works that "
+            r"leave 1 of 2 lanes",
+        )
         setting = json.loads((self.folder / "out/setting.json").read_text())
         self.assertRegex(setting["not_trusted"][-1], "^edge a: ")
 

@@ -46,7 +46,10 @@ class Samples(Case):
         with open(DATA / f"sumo-counts-{name}.csv", encoding="utf-8") as file:
             keys = [(quarter, row["edge"], row) for row in csv.DictReader(file) for quarter in QUARTERS[:4]]
         pairs = [
-            (fmean(counts.get((quarter - 900, quarter, edge), 0) for counts in runs), int(row[f"count_{quarter - 900}"]))
+            (
+                fmean(counts.get((quarter - 900, quarter, edge), 0) for counts in runs),
+                int(row[f"count_{quarter - 900}"]),
+            )
             for quarter, edge, row in keys
         ]
         good = sum(geh(4 * here, 4 * there) < 5 for here, there in pairs)
@@ -57,8 +60,8 @@ class Samples(Case):
         self.check_edges(folder)
 
     def check_edges(self, folder):
-        """SUMO's edgeData of the first hour: time on all edges within 10 %, entered within GEH 5 for 85 %, and edges that are
-        slow there are slow here."""
+        """SUMO's edgeData of the first hour: time on all edges within 10 %, entered within GEH 5 for 85 %,
+        and edges that are slow there are slow here."""
         here = {(row["edge"], row["begin"]): row for row in folder.edges()}
         with open(DATA / "sumo-edges-grid.csv", encoding="utf-8") as file:
             pairs = [(here[row["edge"], row["begin"]], row) for row in csv.DictReader(file)]
@@ -126,8 +129,8 @@ class Samples(Case):
 
     @needs_sumo_tools
     def test_turn_lanes_keep_their_capacity(self):
-        """Two junctions, each with an approach over its capacity. SUMO's mean trips (three seeds) are 215 and 463 s; with
-        the lane of the left turns open to the straight stream the second is 184 s here."""
+        """Two junctions, each with an approach over its capacity. SUMO's mean trips (three seeds) are 215 and 463 s;
+        with the lane of the left turns open to the straight stream the second is 184 s here."""
         for number, mean in ((2, 215), (3, 463)):
             folder, out = SCENARIOS / f"RiLSA_example{number}", self.folder / str(number)
             run, mapped = self.folder / "run.jsonl", self.folder / "map.json"
@@ -136,7 +139,9 @@ class Samples(Case):
             self.tool("import", *words, "-o", run, "--map", mapped, "--strict")
             self.tool("run", run, "--map", mapped, "--until", 9000, "--every", 600, "--out", out, "--program", PROGRAM)
             trips = trips_of(read_folder(out)).values()
-            self.assertAlmostEqual(sum(arrival - depart for depart, arrival in trips) / len(trips) / mean, 1, delta=0.15)
+            self.assertAlmostEqual(
+                sum(arrival - depart for depart, arrival in trips) / len(trips) / mean, 1, delta=0.15
+            )
 
 
 if __name__ == "__main__":

@@ -97,7 +97,12 @@ class Scenarios(Case):
         self.assertEqual((self.sim.lane_state("b_0").closed, self.sim.lane_state("c_0").closed), ((), ((2, 5),)))
         with self.assertRaisesRegex(ValueError, "the map has no lane 'z_0'"):
             self.sim.close("z_0")
-        for places, told in (((45, 15), "45 m to 15 m"), ((15, 15), "15 m to 15 m"), ((-9, 15), "-9 m to 15 m"), ((15, float("nan")), "15 m to nan m")):
+        for places, told in (
+            ((45, 15), "45 m to 15 m"),
+            ((15, 15), "15 m to 15 m"),
+            ((-9, 15), "-9 m to 15 m"),
+            ((15, float("nan")), "15 m to nan m"),
+        ):
             with self.assertRaisesRegex(ValueError, f"lane 'b_0': from {told} there are no works"):
                 self.sim.close("b_0", *places)
         self.assertEqual(self.sim.lane_state("b_0").closed, ())
@@ -152,9 +157,13 @@ class Lights(Case):
             self.assertEqual(sim.lane.getLastStepHaltingNumber("a_0"), 1)
             sim.simulationStep(22)
             self.assertEqual(sim.vehicle.getRoadID("v"), ":B")
-        # Lines of the file for the light, at 3 always red, at 30 green: they are sent, but not once the script has set it.
+        # Lines of the file for the light, at 3 always red, at 30 green: they are sent,
+        # but not once the script has set it.
         turns = [turn[:3] for turn in json.loads(mapped.read_text())["turns"]]
-        later = [{"cmd": "signal", "node": 1, "offset": 0, "phases": [[600, green]], "at": at} for at, green in ((3, []), (30, turns))]
+        later = [
+            {"cmd": "signal", "node": 1, "offset": 0, "phases": [[600, green]], "at": at}
+            for at, green in ((3, []), (30, turns))
+        ]
         with open(run, "a", encoding="utf-8") as file:
             file.writelines(json.dumps(line) + "\n" for line in later)
         for set_by_script, place in ((False, "a"), (True, ":B")):
@@ -168,8 +177,8 @@ class Lights(Case):
         self.check_long_programs(run, mapped)
 
     def check_long_programs(self, run, mapped):
-        """Phases above 600 s, in a cycle that fits in one plan and in one that does not: red until 700 s, and from 800 s or
-        9,800 s on for 700 s more. A second vehicle comes in the second red."""
+        """Phases above 600 s, in a cycle that fits in one plan and in one that does not: red until 700 s,
+        and from 800 s or 9,800 s on for 700 s more. A second vehicle comes in the second red."""
         for green in (100, 9100):
             with self.subTest(green), Scenario(run, mapped, PROGRAM) as sim:
                 warnings = sim.trafficlight.setProgramLogic("L", [(700, "r"), (green, "G")])
@@ -177,7 +186,12 @@ class Lights(Case):
                 self.assertEqual(warnings, told if green > 100 else [])
                 sim.route.add("way", ["a", "b"])
                 sim.vehicle.add("second", "way", depart=700 + green)
-                for clock, standing, roads in ((699, 1, ("a", "")), (702, 0, (":B", "")), (1399, 1, ("", "a")), (1402, 0, ("", ":B"))):
+                for clock, standing, roads in (
+                    (699, 1, ("a", "")),
+                    (702, 0, (":B", "")),
+                    (1399, 1, ("", "a")),
+                    (1402, 0, ("", ":B")),
+                ):
                     sim.simulationStep(clock + (green if clock > 1000 else 0))
                     self.assertEqual(sim.lane.getLastStepHaltingNumber("a_0"), standing, clock)
                     self.assertEqual(tuple(map(sim.vehicle.getRoadID, ("v", "second"))), roads, clock)
@@ -195,14 +209,22 @@ class Diverting(Case):
     SHORT, FAR = ("in", "short", "out"), ("in", "far", "long", "out")
 
     def begun(self, *departs, network=None, edges="in short out"):
-        vehicles = (f'<vehicle id="{at}" depart="{depart}"><route edges="{edges}"/></vehicle>' for at, depart in enumerate(departs))
+        vehicles = (
+            f'<vehicle id="{at}" depart="{depart}"><route edges="{edges}"/></vehicle>'
+            for at, depart in enumerate(departs)
+        )
         paths = self.folder / "run.jsonl", self.folder / "map.json"
-        words = [self.write("x.net.xml", network or two_ways()), "--routes", self.write("x.rou.xml", f"<routes>{''.join(vehicles)}</routes>")]
+        words = [
+            self.write("x.net.xml", network or two_ways()),
+            "--routes",
+            self.write("x.rou.xml", f"<routes>{''.join(vehicles)}</routes>"),
+        ]
         self.tool("import", *words, "-o", paths[0], "--map", paths[1])
         return self.enterContext(Scenario(*paths, PROGRAM))
 
     def test_who_has_not_passed_takes_another_way(self):
-        """At 130 s the vehicle of 100 s is on the short way, and that of 120 s has that ahead; it goes on to the crossing."""
+        """At 130 s the vehicle of 100 s is on the short way, and that of 120 s has that ahead;
+        it goes on to the crossing."""
         sim = self.begun(*range(0, 1200, 20))
         sim.simulationStep(130)
         other = sim.close("short_0", 100, 200, divert=True)
@@ -219,7 +241,10 @@ class Diverting(Case):
         times = [row["duration"] for row in rows[6:]]
         self.assertLess(abs(times[0] - sum(times) / len(times)), 10)
         census = sim.client.count()
-        self.assertEqual((census.admitted, census.taken, census.arrived), (60 + 54, 54, sum(row["state"] == "arrived" for row in rows)))
+        self.assertEqual(
+            (census.admitted, census.taken, census.arrived),
+            (60 + 54, 54, sum(row["state"] == "arrived" for row in rows)),
+        )
         self.assertEqual(sim.simulation.getMinExpectedNumber(), 60 - census.arrived)
         sim.reopen("short_0", 100, 200)
         sim.simulationStep(1600)

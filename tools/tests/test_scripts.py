@@ -17,7 +17,9 @@ SECONDS = 60
 class Scripts(Case):
     def test_the_call_that_finds_no_place_is_full(self):
         script = self.write("counts.jsonl", COUNT * 2)
-        done = subprocess.run([PROGRAM, "--calls", "3", script, script], capture_output=True, text=True, timeout=SECONDS, check=False)
+        done = subprocess.run(
+            [PROGRAM, "--calls", "3", script, script], capture_output=True, text=True, timeout=SECONDS, check=False
+        )
         self.assertEqual((done.returncode, done.stderr), (0, ""))
         self.assertIn(done.stdout, (NOT_LOADED * 3 + FULL, NOT_LOADED + FULL + NOT_LOADED * 2))
 
@@ -56,7 +58,8 @@ class Scripts(Case):
         watch = threading.Timer(SECONDS, stop)
         watch.start()
         self.addCleanup(watch.cancel)
-        # The program opens them in the order of the words, and each opening waits for the other side: the writers wait side by side.
+        # The program opens them in the order of the words, and each opening waits for the other side: the
+        # writers wait side by side.
         with ThreadPoolExecutor(len(pipes)) as pool:
             ends = list(pool.map(lambda pipe: open(pipe, "w"), pipes))
         for end in (ends[first], ends[1 - first]):

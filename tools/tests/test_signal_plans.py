@@ -34,7 +34,9 @@ STREET = ("W", "J1", "J2", "J3", "J4", "J5", "E")
 
 def has_matplotlib():
     """Whether Debian's Python, by which the tools go, has it."""
-    return not subprocess.run(["/usr/bin/python3", "-c", "import matplotlib"], capture_output=True, check=False).returncode
+    return not subprocess.run(
+        ["/usr/bin/python3", "-c", "import matplotlib"], capture_output=True, check=False
+    ).returncode
 
 
 def street(two_way=False, green=37):
@@ -49,7 +51,10 @@ def street(two_way=False, green=37):
             connections += [(edge, at, following, at, f'tl="{there}" linkIndex="{index}"') for at in (0, 1)]
     ways = 2 if two_way else 1
     for name in STREET[1:-1]:
-        edges += [(f"{name}in", f"{name}S", name, [lane(f"{name}in", 0)]), (f"{name}out", name, f"{name}N", [lane(f"{name}out", 0)])]
+        edges += [
+            (f"{name}in", f"{name}S", name, [lane(f"{name}in", 0)]),
+            (f"{name}out", name, f"{name}N", [lane(f"{name}out", 0)]),
+        ]
         connections.append((f"{name}in", 0, f"{name}out", 0, f'tl="{name}" linkIndex="{ways}"'))
         shown = ((green, "G" * ways + "r"), (3, "y" * ways + "r"), (green, "r" * ways + "G"), (3, "r" * ways + "y"))
         phases = "".join(f'<phase duration="{duration}" state="{state}"/>' for duration, state in shown)
@@ -99,7 +104,9 @@ class Formulas(unittest.TestCase):
 
     def test_student(self):
         # Tables of Student's t at 97.5 %.
-        for degrees, quantile in ((1, 12.706), (19, 2.093), (30, 2.042), (40, 2.021), (60, 2.000), (120, 1.980), (1000, 1.962)):
+        for degrees, quantile in (
+            (1, 12.706), (19, 2.093), (30, 2.042), (40, 2.021), (60, 2.000), (120, 1.980), (1000, 1.962),
+        ):
             self.assertAlmostEqual(student(degrees), quantile, delta=0.0006)
 
     def test_runs_that_a_precision_needs(self):
@@ -150,7 +157,9 @@ class Climbing(unittest.TestCase):
 
     def test_ends_with_its_budget(self):
         search, asked = self.search(7)
-        streets = type("Streets", (), {"order": ["L", "M"], "behind": {"L": ["L"], "M": ["M"]}, "hops": {}, "loads": {}})
+        streets = type(
+            "Streets", (), {"order": ["L", "M"], "behind": {"L": ["L"], "M": ["M"]}, "hops": {}, "loads": {}}
+        )
         search_plan(search, self.plan, {"L": self.light, "M": self.light}, streets, ["offsets"], [])
         self.assertEqual((len(asked), search.simulations), (7, 7))
         self.assertEqual(search.best[0], min(trial.value for trial in search.trials))
@@ -166,8 +175,10 @@ class Searching(Case):
         self.tool("import", self.net, "--routes", routes, "-o", self.run_file, "--map", self.map_file, *words)
 
     def words(self, *words, until=5400, out="out", plans=()):
-        return [self.run_file, "--map", self.map_file, "--plans", self.net, *plans, "--until", until, "--program", PROGRAM,
-                "--jobs", 1, "-o", self.folder / f"{out}.add.xml", "--out", self.folder / out, *words]  # fmt: skip
+        return [
+            self.run_file, "--map", self.map_file, "--plans", self.net, *plans, "--until", until,
+            "--program", PROGRAM, "--jobs", 1, "-o", self.folder / f"{out}.add.xml", "--out", self.folder / out, *words,
+        ]  # fmt: skip
 
     def search(self, *words, status=0, **more):
         return self.tool("signals", *self.words(*words, **more), status=status)
@@ -225,9 +236,14 @@ class Values(Corridor):
             programs = read_plans(paths, mapping)
             lights = {name: light_of(name, programs.programs[name]) for name, _ in mapping.signals}
             lines = LightLines(programs, run, mapping)
-            text = lines.of({name: timing for name, (_, timing) in lights.items()}, {name: light for name, (light, _) in lights.items()})
+            text = lines.of(
+                {name: timing for name, (_, timing) in lights.items()},
+                {name: light for name, (light, _) in lights.items()},
+            )
             out = self.folder / "other.jsonl"
-            self.tool("import", *paths, "--routes", CORRIDOR / "corridor.rou.xml", "-o", out, "--map", self.folder / "m.json")
+            self.tool(
+                "import", *paths, "--routes", CORRIDOR / "corridor.rou.xml", "-o", out, "--map", self.folder / "m.json"
+            )
             theirs = [json.loads(line) for line in out.read_text().splitlines() if '"signal"' in line[:20]]
             self.assertEqual([json.loads(line) for line in text.splitlines()], theirs)
 
@@ -282,7 +298,9 @@ class Tool(Searching):
     def test_tables(self):
         self.small()
         told, _ = self.search("--budget", 60, "--check", "101-103", "--keep", "J2 J3", "--cycle", "40-70", until=1500)
-        self.assertRegex(told, r"mean trip [\d.]+ s as given, [\d.]+ s as found: -[\d.]+ s ± [\d.]+ \(95 % interval, 3 seeds")
+        self.assertRegex(
+            told, r"mean trip [\d.]+ s as given, [\d.]+ s as found: -[\d.]+ s ± [\d.]+ \(95 % interval, 3 seeds"
+        )
         self.assertEqual([row["light"] for row in self.table("lights.csv")], ["J1", "J4", "J5"])
         trials = self.table("search.csv")
         self.assertEqual(trials[0]["step"], "given")
@@ -356,13 +374,17 @@ class Tool(Searching):
         self.given(street(True), flow("e", STREET, 8) + flow("w", STREET[::-1], 8), "--residence", 3)
         terminal, other_side = pty.openpty()
         words = [TOOLS / "streetsim-signals", *self.words("--budget", 100_000, "--check", "101-103", "--seeds", "1-5")]
-        with subprocess.Popen(list(map(str, words)), stdout=subprocess.PIPE, stderr=other_side, start_new_session=True, text=True) as tool:
+        with subprocess.Popen(
+            list(map(str, words)), stdout=subprocess.PIPE, stderr=other_side, start_new_session=True, text=True
+        ) as tool:
             os.close(other_side)
             shown = read_until(terminal, "best", 120)
             os.killpg(tool.pid, signal.SIGINT)
             told = tool.stdout.read()
         os.close(terminal)
-        self.assertRegex(shown, r"\[#* *\] [\d,]+ of 100,000 simulations, best [\d.]+ s \([-+][\d.]+ %\), [\d.]+ min left")
+        self.assertRegex(
+            shown, r"\[#* *\] [\d,]+ of 100,000 simulations, best [\d.]+ s \([-+][\d.]+ %\), [\d.]+ min left"
+        )
         self.assertTrue(told.startswith("stopped: the best plan found so far is written\nmean trip "), told)
         trials = self.table("search.csv")
         self.assertLess(len(trials), 2000)
@@ -401,7 +423,8 @@ class Verdicts(Searching):
             self.assertEqual(verdict(found, worse, Search(None, 1, 1)), told)
 
     def test_trips_in_sumo_are_over_the_vehicles_of_the_run(self):
-        """Trips of 100 and 50 s; one that has not arrived counts from 400 to 1,000; a vehicle that the run has not is left out."""
+        """Trips of 100 and 50 s; one that has not arrived counts from 400 to 1,000;
+        a vehicle that the run has not is left out."""
         trips = {"a": (0.0, 100.0), "b": (100.0, 150.0), "bicycle": (0.0, 900.0)}
         self.assertEqual(mean_trip(trips, {"a": 0, "b": 100, "c": 400}, 1000), 250)
 
@@ -409,7 +432,12 @@ class Verdicts(Searching):
         """Somebody turns left against others: the plan rests on a formula."""
         runs = [Outcome("", 1, 9, 1000, 0, 60)]
         run = Run("run", Line(1, "", {"dawdle": 0}), enters=[Line(2, "", {"plan": [0], "depart": 0})])
-        town = Mock(session=Mock(clocks=(0, 1000), departs=(0,)), run=run, mapping=map_from("map", MAP), lines=Mock(permissive={"L"}))
+        town = Mock(
+            session=Mock(clocks=(0, 1000), departs=(0,)),
+            run=run,
+            mapping=map_from("map", MAP),
+            lines=Mock(permissive={"L"}),
+        )
         told = "without --verify-sumo, as turns find their gaps in oncoming traffic by formula at L"
         self.assertEqual(list(doubts_of(town, runs, runs, None)), [told])
         self.assertEqual(list(doubts_of(town, runs, runs, object())), [])
@@ -417,8 +445,12 @@ class Verdicts(Searching):
     def test_queues_at_entries(self):
         """Two of 20 vehicles, a tenth, waited to enter under the plan given, and none under the plan found."""
         mapping = map_from("map", MAP)
-        run = Run("run", Line(1, "", {"dawdle": 0}), enters=[Line(at, "", {"plan": [0], "depart": 0}) for at in range(20)])
-        town = Mock(session=Mock(clocks=(0, 1000), departs=20 * (0,)), run=run, mapping=mapping, lines=Mock(permissive=set()))
+        run = Run(
+            "run", Line(1, "", {"dawdle": 0}), enters=[Line(at, "", {"plan": [0], "depart": 0}) for at in range(20)]
+        )
+        town = Mock(
+            session=Mock(clocks=(0, 1000), departs=20 * (0,)), run=run, mapping=mapping, lines=Mock(permissive=set())
+        )
         given, found = ([Outcome("", 20, 9, 1000, waiting, 120)] for waiting in (2, 0))
         told = "as given 2 of 20 vehicles waited to enter at some 120 s, and are in no queue or count"
         self.assertEqual(list(doubts_of(town, given, found, None)), [told])
@@ -426,7 +458,10 @@ class Verdicts(Searching):
     def test_who_has_not_arrived(self):
         """Ten had the time; more than a tenth of them have not."""
         self.assertEqual(of_missing({"as given": 9.0, "as found": 10.0}, 10), [])
-        self.assertEqual(of_missing({"as given": 8.0, "as found": 9.0}, 10), ["as given 2 of 10 vehicles that had the time to arrive have not"])
+        self.assertEqual(
+            of_missing({"as given": 8.0, "as found": 9.0}, 10),
+            ["as given 2 of 10 vehicles that had the time to arrive have not"],
+        )
 
 
 def read_until(terminal, word, seconds):
@@ -446,11 +481,19 @@ class InSumo(Corridor):
         self.corridor()
         words = "--change", "offsets", "--edges", "WJ1 J1J2 J2J3", "--check", "101-103", "--verify-sumo"
         said, _ = self.search(*words, until=7200)
-        self.assertRegex(said.splitlines()[-1], r"^shown to be better here and in SUMO: -[\d.]+ s ± [\d.]+ here, -[\d.]+ s ± [\d.]+ in SUMO")
+        self.assertRegex(
+            said.splitlines()[-1],
+            r"^shown to be better here and in SUMO: -[\d.]+ s ± [\d.]+ here, -[\d.]+ s ± [\d.]+ in SUMO",
+        )
         told = self.folder / "told.xml"
         words = ["-n", self.net, "-r", CORRIDOR / "corridor.rou.xml", "-a", self.folder / "out.add.xml", "--end", 7200]
         words += ["--statistic-output", told, "--duration-log.statistics", "--no-step-log", "--no-warnings"]
-        subprocess.run(["sumo", *map(str, words)], check=True, stdout=subprocess.DEVNULL, env={"SUMO_HOME": "/usr/share/sumo", **os.environ})
+        subprocess.run(
+            ["sumo", *map(str, words)],
+            check=True,
+            stdout=subprocess.DEVNULL,
+            env={"SUMO_HOME": "/usr/share/sumo", **os.environ},
+        )
         trips = ElementTree.parse(told).getroot().find("vehicleTripStatistics")
         self.assertEqual(trips.get("count"), "2400")
         self.assertLess(float(trips.get("duration")) + float(trips.get("departDelay")), 120.9)

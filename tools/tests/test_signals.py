@@ -39,9 +39,9 @@ class Signals(Case):
         return [second for second in range(seconds) if series.shows_green(command, second, [0], [1])]
 
     def test_offset_is_sumos(self):
-        # SUMO 1.15 shows red in 0 to 6, green in 7 to 16, yellow in 17 to 21, red in 22 to 36; yellow is red here, and two
-        # of the ten seconds: (10 - 0.8) / (1.42 + 7.5 / 13.9) = 4.7 vehicles leave a queue in SUMO, here 2.8 and 1.7 in 5
-        # and 3 s.
+        # SUMO 1.15 shows red in 0 to 6, green in 7 to 16, yellow in 17 to 21, red in 22 to 36; yellow is red here,
+        # and two of the ten seconds: (10 - 0.8) / (1.42 + 7.5 / 13.9) = 4.7 vehicles leave a queue in SUMO, here
+        # 2.8 and 1.7 in 5 and 3 s.
         [command], _ = self.made(street(phases((10, "G"), (5, "y"), (15, "r")), offset=7))
         self.assertEqual(self.greens(command, 37), [*range(7, 12), *range(14, 17)])
         self.assertEqual(command["offset"], 23)
@@ -80,7 +80,9 @@ class Signals(Case):
 
     def test_permissive_green_is_shown_at_the_end_of_its_run(self):
         turn = Turn(0, "L", 0, False, 13.9, 2)
-        self.assertEqual(shown_green("ggggggggggrrrrr", {0: (7, 1)}, turn, 1, True), [False] * 3 + [True] * 7 + [False] * 5)
+        self.assertEqual(
+            shown_green("ggggggggggrrrrr", {0: (7, 1)}, turn, 1, True), [False] * 3 + [True] * 7 + [False] * 5
+        )
         self.assertEqual(
             shown_green("gggggrrrrrggggg", {10: (7, 1)}, turn, 1, True), [True] * 5 + [False] * 8 + [True] * 2
         )  # the run goes round the cycle
@@ -113,7 +115,8 @@ class Signals(Case):
             self.assertEqual((usual.index(False), usual.count(False)), (long.index(False), long.count(False)))
 
     def test_a_short_green_is_rounded_to_the_nearest(self):
-        """Of 7 s 3.2 vehicles leave in SUMO, as (7 - 13.9 / 5.2 + 1.87) / (1.42 + 7.5 / 13.9); here 2.8 in 5 s, 3.4 in 6, 4.0 in 7."""
+        """Of 7 s 3.2 vehicles leave in SUMO, as (7 - 13.9 / 5.2 + 1.87) / (1.42 + 7.5 / 13.9);
+        here 2.8 in 5 s, 3.4 in 6, 4.0 in 7."""
         turn = Turn(0, "L", 0, False, 13.9, 2)
         for grain, shown in ((1, 6), (2, 5)):
             for middle in (True, False):
@@ -146,9 +149,14 @@ class Signals(Case):
     def test_a_cycle_that_fits_in_no_plan_is_lines(self):
         # Ten minutes of red of 10,000 s are left at the begin, as the offset is 600 s; then 5,000 s of green.
         commands, warnings = self.made(street(phases((5_000, "G"), (10_000, "r")), offset=600))
-        self.assertEqual([command.get("at", 0) for command in commands], [0, 600, 5600, 15600, 20600, 30600, 35600, 45600, 50600, 60600, 65600, 75600, 80600])
+        self.assertEqual(
+            [command.get("at", 0) for command in commands],
+            [0, 600, 5600, 15600, 20600, 30600, 35600, 45600, 50600, 60600, 65600, 75600, 80600],
+        )
         self.assertEqual([bool(command["phases"][0][1]) for command in commands[:4]], [False, True, False, True])
-        self.assertEqual(warnings, ["light 'L': a cycle of 15,000 s does not fit in one plan; its phases are lines, until 86,400 s"])
+        self.assertEqual(
+            warnings, ["light 'L': a cycle of 15,000 s does not fit in one plan; its phases are lines, until 86,400 s"]
+        )
         with self.assertRaisesRegex(Fault, "light 'L': a cycle of 10,000,005 s; at most 200,000 s are read"):
             self.made(street(phases((10_000_000, "G"), (5, "r"))))
 
@@ -160,7 +168,10 @@ class Signals(Case):
         )
 
     def test_a_light_that_the_network_does_not_have(self):
-        other = '<additional><tlLogic id="M" type="static" programID="1" offset="0"><phase duration="9" state="G"/></tlLogic></additional>'
+        other = (
+            '<additional><tlLogic id="M" type="static" programID="1" offset="0"><phase duration="9" '
+            'state="G"/></tlLogic></additional>'
+        )
         with self.assertRaisesRegex(Fault, "more0.add.xml: <tlLogic 'M'>: the network has no light of this name"):
             self.made(street(phases((10, "G"))), [other])
 

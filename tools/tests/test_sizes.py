@@ -46,7 +46,10 @@ class Import(Case):
 
     def test_former_names_of_classes(self):
         """SUMO 1.15 takes public_transport for bus, which is 12 m long, and rail_slow for rail."""
-        types = '<vType id="x" vClass="public_transport"/><vType id="y" vClass="rail_slow"/><vType id="z" vClass="ignoring"/>'
+        types = (
+            '<vType id="x" vClass="public_transport"/><vType id="y" vClass="rail_slow"/><vType id="z" '
+            'vClass="ignoring"/>'
+        )
         self.assertEqual(self.sizes(types + "".join(vehicles(1, kind, at) for at, kind in enumerate("xyz"))), [2, 4, 1])
 
     def test_the_rest_is_carried_on(self):

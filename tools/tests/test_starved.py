@@ -1,7 +1,9 @@
-"""The program itself while memory is refused: each of its requests alone, and all from one on, whatever it was asked to do.
+"""The program itself while memory is refused: each of its requests alone, and all from one on,
+whatever it was asked to do.
 
-It ends as it would with ample memory, or with status 1, `streetsim: out of memory` and whole replies; in either case all that it
-was given is freed. A starved command has changed nothing: the other replies are those to the other lines alone.
+It ends as it would with ample memory, or with status 1, `streetsim: out of memory` and whole replies; in
+either case all that it was given is freed. A starved command has changed nothing: the other replies are those
+to the other lines alone.
 """
 import functools
 import json
@@ -18,10 +20,14 @@ PLANNER = TOP / "examples/clients/planner.jsonl"
 COUNTER = TOP / "examples/clients/counter.jsonl"
 ENDED = b"streetsim: out of memory\n"
 STARVED = b'{"starved":true}\n'
-COUNTS = re.compile(rb'({"error":1,"name":"NotLoaded"}\n)*({"admitted":[01],"arrived":[01],"buffers":0,"cells":[01],"clock":[0-5],"taken":0,"waiting":[01]}\n)*')
+COUNTS = re.compile(
+    rb'({"error":1,"name":"NotLoaded"}\n)*({"admitted":[01],"arrived":[01],"buffers":0,"cells":[01],"clock":[0-5],'
+    rb'"taken":0,"waiting":[01]}\n)*'
+)
 # Six vehicles drive on to a street of another tile, where the last cell is closed, and queue up.
 QUEUE = (
-    b'{"cmd":"load","nodes":[[1,1,2],[2,1,2],[3,1,2]],"links":[[10,1,2,1,10,5],[20,2,3,1,10,5]],"turns":[[10,0,20,0]],"zone":0,"dawdle":0,"change":0,"seed":0}\n',
+    b'{"cmd":"load","nodes":[[1,1,2],[2,1,2],[3,1,2]],"links":[[10,1,2,1,10,5],[20,2,3,1,10,5]],"turns":[[10,0,20,0]],'
+    b'"zone":0,"dawdle":0,"change":0,"seed":0}\n',
     b'{"cmd":"close","link":20,"lane":0,"first":9,"last":9}\n',
     *[b'{"cmd":"enter","plan":[10,20],"lane":0,"depart":0}\n'] * 6,
     b'{"cmd":"advance","steps":20}\n',
@@ -41,7 +47,8 @@ def session_of_chapter(number):
     """The session that a chapter of LINES.md is: its lines, and its replies."""
     chapter = LINES[LINES.index(f"\n## {number}. ") : LINES.index(f"\n## {number + 1}. ")]
     shown = "".join(re.findall(r"```session\n(.*?)```", chapter, re.S)).encode().splitlines(keepends=True)
-    return [line[2:] for line in shown if line.startswith(b"> ")], [line for line in shown if not line.startswith(b"> ")]
+    lines = [line[2:] for line in shown if line.startswith(b"> ")]
+    return lines, [line for line in shown if not line.startswith(b"> ")]
 
 
 @functools.cache
@@ -69,7 +76,12 @@ def done_of(line, reply):
 def may_starve(line, reply):
     """Whether a command that would be answered so may be starved (section 9 of LINES.md)."""
     command = json.loads(line)
-    takes_none = reply.startswith(b'{"error":') or b'"step":' in reply or command["cmd"] in ("takeout", "count") or command.get("steps") == 0
+    takes_none = (
+        reply.startswith(b'{"error":')
+        or b'"step":' in reply
+        or command["cmd"] in ("takeout", "count")
+        or command.get("steps") == 0
+    )
     return command["cmd"] == "load" or not takes_none
 
 
@@ -84,7 +96,8 @@ def are_replies(lines, told):
 
 
 def are_counts(told):
-    """Whether these may be the counter's replies beside the planner: nothing is loaded at first, then there is a vehicle at most."""
+    """Whether these may be the counter's replies beside the planner: nothing is loaded at first,
+    then there is a vehicle at most."""
     return len(told) <= 4 and COUNTS.fullmatch(b"".join(told)) is not None
 
 
@@ -112,7 +125,9 @@ class StarvedProgram(RefusingCase):
         """Checks the runs to which each request is refused, alone and with all after it."""
         requests = self.ample(words, text).requests
         for last_of in (lambda number: number, lambda number: NEVER):
-            met = self.refuse_each(lambda n: self.run_refusing([PROGRAM, *words], n, last_of(n), text, self.folder), check)
+            met = self.refuse_each(
+                lambda n: self.run_refusing([PROGRAM, *words], n, last_of(n), text, self.folder), check
+            )
             # Threads may make a request more or less.
             self.assertGreater(met, requests // 2)
 
@@ -130,7 +145,12 @@ class StarvedProgram(RefusingCase):
 
     def test_standard_input(self):
         met = set()
-        for workers, (lines, replies) in ((1, session_of_chapter(2)), (1, session_of_chapter(5)), (1, session_of_chapter(6)), (3, (QUEUE, QUEUED))):
+        for workers, (lines, replies) in (
+            (1, session_of_chapter(2)),
+            (1, session_of_chapter(5)),
+            (1, session_of_chapter(6)),
+            (3, (QUEUE, QUEUED)),
+        ):
             with self.subTest(lines[0]):
                 words, text = ["--workers", str(workers)], b"".join(lines)
                 self.assertEqual(self.ample(words, text).output, b"".join(replies))
@@ -139,7 +159,8 @@ class StarvedProgram(RefusingCase):
         self.assertTrue(any(map(short_steps, met)))
 
     def check_session(self, lines, met, run):
-        """Its replies are those to the lines alone; all lines have one where it ends as it would. What was told is added to `met`."""
+        """Its replies are those to the lines alone; all lines have one where it ends as it would.
+        What was told is added to `met`."""
         told = run.output.splitlines(keepends=True)
         met.update(told)
         self.assertTrue(are_replies(lines, told), run)
@@ -151,7 +172,8 @@ class StarvedProgram(RefusingCase):
         self.refuse_scripts(lambda number: NEVER)
 
     def refuse_scripts(self, last_of):
-        """Checks the runs of both scripts, each in a folder of its own, to which the requests up to the last of each number are refused."""
+        """Checks the runs of both scripts, each in a folder of its own, to which the requests up to the last of
+        each number are refused."""
         words = [PROGRAM, "--tape", "run.tape", PLANNER, COUNTER]
 
         def folder_of(number):
@@ -161,7 +183,9 @@ class StarvedProgram(RefusingCase):
             folder_of(number).mkdir()
             return self.run_refusing(words, number, last_of(number), folder=folder_of(number))
 
-        self.assertGreater(self.refuse_each(run_of, lambda run: self.check_scripts(run, folder_of(run.number) / "run.tape")), 100)
+        self.assertGreater(
+            self.refuse_each(run_of, lambda run: self.check_scripts(run, folder_of(run.number) / "run.tape")), 100
+        )
 
     def check_scripts(self, run, tape):
         """Both scripts are answered in full where it ends as it would. A tape that is whole replays to the replies."""
@@ -176,13 +200,20 @@ class StarvedProgram(RefusingCase):
             self.check_tape(run, tape, parts)
 
     def check_tape(self, run, tape, parts):
-        """A replay gives each script its replies; one that found no memory for the reply to its last call is not told that."""
+        """A replay gives each script its replies; one that found no memory for the reply to its last
+        call is not told that."""
         done = subprocess.run([PROGRAM, "--replay", tape], capture_output=True, timeout=60, check=True)
         *replies, _count = done.stdout.splitlines(keepends=True)
         sessions = [json.loads(line)["session"] for line in tape.read_bytes().splitlines()[1:]]
         wanted = [[reply for reply, caller in zip(replies, sessions) if caller == session] for session in (0, 1)]
         spared = 0 if run.status == 0 else 1
-        self.assertTrue(any(all(len(told) + spared >= len(want) and told == want[: len(told)] for told, want in zip(part, wanted)) for part in parts), run)
+        self.assertTrue(
+            any(
+                all(len(told) + spared >= len(want) and told == want[: len(told)] for told, want in zip(part, wanted))
+                for part in parts
+            ),
+            run,
+        )
 
     def test_a_replay_and_an_upgrade(self):
         tape = (TOP / "docs/LINES.md").read_text()
@@ -191,8 +222,12 @@ class StarvedProgram(RefusingCase):
         count = b'{"admitted":1,"arrived":1,"buffers":0,"cells":0,"clock":5,"taken":0,"waiting":0}\n'
         self.write("run.tape", tape)
         self.write("old.tape", tape.replace(tape.splitlines()[0], '{"tape":1}'))
-        for words, wanted in ((["--replay", "run.tape"], replies + count), (["--workers", "2", "--replay", "old.tape"], replies + count),
-                              (["--upgrade", "run.tape"], tape.encode()), (["--upgrade", "old.tape"], tape.encode())):  # fmt: skip
+        for words, wanted in (
+            (["--replay", "run.tape"], replies + count),
+            (["--workers", "2", "--replay", "old.tape"], replies + count),
+            (["--upgrade", "run.tape"], tape.encode()),
+            (["--upgrade", "old.tape"], tape.encode()),
+        ):
             with self.subTest(words=words):
                 self.assertEqual(self.ample(words).output, wanted)
                 self.refuse(words, functools.partial(self.check_prefix, output=wanted))
@@ -202,7 +237,10 @@ class StarvedProgram(RefusingCase):
         for words, why in (
             (["--fast"], b"unexpected argument '--fast' found\n"),
             (["--workers", "65"], b"invalid value '65' for '--workers <N>': it is not a number from 1 to 64\n"),
-            (["--replay", "a", "b"], b"the argument '--replay <FILE>' cannot be used with scripts or with '--tape <FILE>'\n"),
+            (
+                ["--replay", "a", "b"],
+                b"the argument '--replay <FILE>' cannot be used with scripts or with '--tape <FILE>'\n",
+            ),
             ([b"a\xffz"], b"a word is not UTF-8\n"),
         ):
             with self.subTest(words=words):

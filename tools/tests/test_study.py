@@ -27,14 +27,19 @@ class Studies(Case):
     def setUp(self):
         super().setUp()
         network, routes = CORRIDOR / "corridor.net.xml.gz", CORRIDOR / "corridor.rou.xml"
-        self.tool("import", network, "--routes", routes, "-o", self.folder / "run.jsonl", "--map", self.folder / "map.json")
+        self.tool(
+            "import", network, "--routes", routes, "-o", self.folder / "run.jsonl", "--map", self.folder / "map.json"
+        )
 
     def study(self, *words, **more):
         return self.write("study.toml", self.text(*words, **more))
 
     def text(self, seeds="1-4", until=900, more="", variants=None):
         wave = [str(CORRIDOR / name) for name in ("corridor.net.xml.gz", "wave.add.xml")]
-        variants = variants or f'[variant.given]\n[variant.wave]\nplans = {wave}\n[variant.closed]\nclose = ["J1J2_0:100-200:60-600"]\n'
+        variants = (
+            variants
+            or f'[variant.given]\n[variant.wave]\nplans = {wave}\n[variant.closed]\nclose = ["J1J2_0:100-200:60-600"]\n'
+        )
         return f'run = "run.jsonl"\nmap = "map.json"\nuntil = {until}\nseeds = "{seeds}"\n{more}\n{variants}'
 
     def words(self, study, *words, out="out"):
@@ -51,7 +56,10 @@ class Tables(Studies):
         runs = self.table("runs.csv")
         pairs = [(name, str(seed)) for name in ("given", "wave", "closed") for seed in range(1, 5)]
         self.assertEqual([(row["variant"], row["seed"]) for row in runs], pairs)
-        means = {name: [float(row["mean_trip_s"]) for row in runs if row["variant"] == name] for name in ("given", "wave", "closed")}
+        means = {
+            name: [float(row["mean_trip_s"]) for row in runs if row["variant"] == name]
+            for name in ("given", "wave", "closed")
+        }
         rows = {row["variant"]: row for row in self.table("differences.csv")}
         self.assertEqual((rows["given"]["difference"], rows["given"]["runs"]), ("", "4"))
         for name in ("wave", "closed"):
@@ -63,34 +71,63 @@ class Tables(Studies):
             self.assertAlmostEqual(float(rows[name]["half_width_95_unpaired"]), 3.182 * loose / 2, delta=0.005)
             # n = (t s / e)^2: at least the normal quantile's, and a few more.
             needed, error = int(rows[name]["runs_needed_paired"]), 0.0001 * fmean(means["given"])
-            self.assertTrue(0.99 * (1.96 * stdev(apart) / error) ** 2 <= needed <= (2.1 * stdev(apart) / error) ** 2 + 10)
-        self.assertRegex(told, r"given: mean trip [\d.]+ s\nwave: mean trip [\d.]+ s, [-+][\d.]+ s ± [\d.]+ \(95 % interval, 4 paired runs\); the wanted")
+            self.assertTrue(
+                0.99 * (1.96 * stdev(apart) / error) ** 2 <= needed <= (2.1 * stdev(apart) / error) ** 2 + 10
+            )
+        self.assertRegex(
+            told,
+            r"given: mean trip [\d.]+ s\nwave: mean trip [\d.]+ s, [-+][\d.]+ s ± [\d.]+ \(95 % interval, "
+            r"4 paired runs\); the wanted",
+        )
         if find_spec("matplotlib"):
             self.assertTrue((self.folder / "out/differences.png").exists())
 
     def test_a_variant_is_as_streetsim_run_says(self):
         self.tool("study", *self.words(self.study("3", 900), "--jobs", 1))
-        self.tool("import", CORRIDOR / "corridor.net.xml.gz", CORRIDOR / "wave.add.xml", "--routes", CORRIDOR / "corridor.rou.xml",
-                  "-o", self.folder / "wave.jsonl", "--map", self.folder / "wave.json")  # fmt: skip
+        self.tool(
+            "import", CORRIDOR / "corridor.net.xml.gz", CORRIDOR / "wave.add.xml",
+            "--routes", CORRIDOR / "corridor.rou.xml",
+            "-o", self.folder / "wave.jsonl", "--map", self.folder / "wave.json",
+        )  # fmt: skip
         closed = "--close", "J1J2_0:100-200:60-600"
         arrived = {row["variant"]: row["arrived"] for row in self.table("runs.csv")}
-        for name, run, mapped, more in (("wave", "wave.jsonl", "wave.json", ()), ("closed", "run.jsonl", "map.json", closed)):
-            words = [self.folder / run, "--map", self.folder / mapped, "--until", 900, "--rescue", 0, "--seeds", 3, *more]
+        for name, run, mapped, more in (
+            ("wave", "wave.jsonl", "wave.json", ()),
+            ("closed", "run.jsonl", "map.json", closed),
+        ):
+            words = [
+                self.folder / run, "--map", self.folder / mapped, "--until", 900, "--rescue", 0, "--seeds", 3, *more,
+            ]
             self.tool("run", *words, "--out", self.folder / f"run-{name}", "--program", PROGRAM)
             self.assertEqual(self.table("seeds.csv", f"run-{name}")[0]["arrived"], arrived[name])
 
     def test_bad_input(self):
         one = "[variant.given]\n"
         for study, told in (
-            (self.text(more='color = "red"'), "unknown key 'color'; known are base, map, rounds, run, seeds, until, variant"),
-            (self.text(more='base = "old"'), "base = 'old': there is no variant of this name; there are given, wave, closed"),
+            (
+                self.text(more='color = "red"'),
+                "unknown key 'color'; known are base, map, rounds, run, seeds, until, variant",
+            ),
+            (
+                self.text(more='base = "old"'),
+                "base = 'old': there is no variant of this name; there are given, wave, closed",
+            ),
             (self.text(variants=one + 'speed = 3\n'), "variant 'given': unknown key 'speed'"),
             (self.text(variants=one + "dawdle = 1001\n"), "variant 'given': dawdle = 1001 is not 0 to 1,000"),
             (self.text(variants=one + "plans = []\n"), "plans = []: the network is the first of them"),
             (self.text(variants=one + 'plans = "x"\n'), "plans = 'x' is no list of texts"),
-            (self.text(variants=one + 'close = ["J1J2_7:1-2:3-4"]\n'), "one.toml: variant 'given': --close 'J1J2_7:1-2:3-4': the map has no lane"),
-            (self.text(variants=one + 'close = ["J1J2_0:1-2:9000-9001"]\n'), "variant 'given': --close 'J1J2_0:1-2:9000-9001': begins at the end"),
-            (self.text(variants=one + '[variant.b]\nrun = "none.jsonl"\n'), f"variant 'b': {self.folder}/none.jsonl: No such file or directory"),
+            (
+                self.text(variants=one + 'close = ["J1J2_7:1-2:3-4"]\n'),
+                "one.toml: variant 'given': --close 'J1J2_7:1-2:3-4': the map has no lane",
+            ),
+            (
+                self.text(variants=one + 'close = ["J1J2_0:1-2:9000-9001"]\n'),
+                "variant 'given': --close 'J1J2_0:1-2:9000-9001': begins at the end",
+            ),
+            (
+                self.text(variants=one + '[variant.b]\nrun = "none.jsonl"\n'),
+                f"variant 'b': {self.folder}/none.jsonl: No such file or directory",
+            ),
             (self.text(variants="variant = 3\n"), "variants are tables [variant.NAME]"),
             (self.text(seeds="4-1"), "expected FIRST-LAST"),
             (self.text(until=0), "until = 0 is not 1 to"),
@@ -111,9 +148,14 @@ class Ends(Studies):
     """Studies without a last second."""
 
     def test_each_run_goes_on_until_all_have_arrived_as_in_streetsim_run(self):
-        study = self.write("study.toml", self.text("1-2", variants="[variant.given]\n[variant.calm]\ndawdle = 0\n").replace("until = 900\n", ""))
+        study = self.write(
+            "study.toml",
+            self.text("1-2", variants="[variant.given]\n[variant.calm]\ndawdle = 0\n").replace("until = 900\n", ""),
+        )
         told, _ = self.tool("study", *self.words(study, "--jobs", 2))
-        words = [self.folder / "run.jsonl", "--map", self.folder / "map.json", "--rescue", 0, "--every", 0, "--seeds", "1-2"]
+        words = [
+            self.folder / "run.jsonl", "--map", self.folder / "map.json", "--rescue", 0, "--every", 0, "--seeds", "1-2",
+        ]
         said, _ = self.tool("run", *words, "--out", self.folder / "runs", "--program", PROGRAM)
         mine = [row for row in self.table("runs.csv") if row["variant"] == "given"]
         for one, other in zip(mine, self.table("seeds.csv", "runs"), strict=True):
@@ -129,7 +171,8 @@ class Ends(Studies):
         return json.loads((self.folder / "out/setting.json").read_text(encoding="utf-8"))["not_trusted"]
 
     def queued(self, more=""):
-        """What a study says of 20 vehicles before a light that is red for ever: ten fill their street, ten wait to enter."""
+        """What a study says of 20 vehicles before a light that is red for ever: ten fill their
+        street, ten wait to enter."""
         enters = [{"cmd": "enter", "plan": [0, 1], "lane": 0, "depart": 0} for _ in range(20)]
         lines = [{"cmd": "load", **NUMBERED}, RED, *enters]
         self.write("queue.jsonl", "".join(json.dumps(line) + "\n" for line in lines))
@@ -140,7 +183,11 @@ class Ends(Studies):
     def test_nobody_moves(self):
         """The census stays from 60 s on, and the cells, looked at after a cycle of 600 s, for 601 s and more."""
         told = self.queued()
-        self.assertEqual(told[1], "red: no vehicle has changed its cell for 660 s, longer than the longest cycle, 600 s: seed 1 at 1,380 s, seed 2 at 1,380 s")
+        self.assertEqual(
+            told[1],
+            "red: no vehicle has changed its cell for 660 s, longer than the longest cycle, 600 s: seed 1 at 1,380 s, "
+            "seed 2 at 1,380 s",
+        )
         self.assertIn("red: 2 of 2 runs ended before all had arrived, who count until then", told[-1])
 
     def test_queues_at_entries(self):
@@ -160,7 +207,11 @@ class Cluster(ClusterCase, Studies):
     def test_cluster_and_pool_give_the_same(self):
         port, workers = self.cluster()
         study = self.study("1-20")
-        for out, words in (("one", ["--jobs", 1]), ("three", ["--jobs", 3]), ("both", ["--cluster", f"127.0.0.1:{port}"])):
+        for out, words in (
+            ("one", ["--jobs", 1]),
+            ("three", ["--jobs", 3]),
+            ("both", ["--cluster", f"127.0.0.1:{port}"]),
+        ):
             self.tool("study", *self.words(study, *words, out=out))
         self.assertEqual(self.files("three"), self.files("one"))
         self.assertEqual(self.files("both"), self.files("one"))
@@ -173,7 +224,10 @@ class Cluster(ClusterCase, Studies):
         """What a short search writes."""
         words = ["--budget", 12, "--seeds", "1-2", "--check", "101-102", "--until", 600, "--program", PROGRAM, *words]
         files = [self.folder / name for name in ("run.jsonl", "map.json", "found.add.xml", "found")]
-        words = [files[0], "--map", files[1], "--plans", CORRIDOR / "corridor.net.xml.gz", *words, "-o", files[2], "--out", files[3]]
+        words = [
+            files[0], "--map", files[1], "--plans", CORRIDOR / "corridor.net.xml.gz", *words, "-o", files[2],
+            "--out", files[3],
+        ]
         told, _ = self.tool("signals", *words)
         return told, files[2].read_bytes(), *(path.read_bytes() for path in sorted(files[3].iterdir()))
 
@@ -186,12 +240,19 @@ class Cluster(ClusterCase, Studies):
             # The program changes after the tool has looked at it: what the workers have is then another one.
             words = ["import sys; sys.path.insert(0, sys.argv[1])", "from streetsim.study import machines, studying"]
             words += ["study = studying.read_study(sys.argv[2], sys.argv[3])"]
-            words += ["import os; os.unlink(sys.argv[3])" if change == "unlink" else "open(sys.argv[3], 'ab').write(b'x')"]
+            words += [
+                "import os; os.unlink(sys.argv[3])" if change == "unlink" else "open(sys.argv[3], 'ab').write(b'x')"
+            ]
             words += ["with machines.machines(1, sys.argv[4], [one.session for one in study.variants.values()]): pass"]
             done = subprocess.run(
-                [DEBIAN, "-c", "\n".join(words), TOOLS, study, program, f"127.0.0.1:{port}"], capture_output=True, text=True, check=False
+                [DEBIAN, "-c", "\n".join(words), TOOLS, study, program, f"127.0.0.1:{port}"],
+                capture_output=True,
+                text=True,
+                check=False,
             )
-            self.assertIn("has another program" if change == "write" else "has no program", done.stderr.splitlines()[-1])
+            self.assertIn(
+                "has another program" if change == "write" else "has no program", done.stderr.splitlines()[-1]
+            )
 
 
 class Given(unittest.TestCase):
@@ -221,9 +282,13 @@ with machines(1, None, [None]) as workers:
     def test_a_process_that_is_lost_while_a_task_is_written_for_it(self):
         """The second task is more than a pipe holds, and nobody reads it any more."""
         around = {**os.environ, "PYTHONPATH": str(TOOLS)}
-        done = subprocess.run([sys.executable, "-c", self.LOST], env=around, capture_output=True, text=True, check=False, timeout=120)
+        done = subprocess.run(
+            [sys.executable, "-c", self.LOST], env=around, capture_output=True, text=True, check=False, timeout=120
+        )
         self.assertEqual(done.returncode, 1)
-        self.assertIn("Fault: the run with seed 1: a worker ended before its work was done", done.stderr.splitlines()[-1])
+        self.assertIn(
+            "Fault: the run with seed 1: a worker ended before its work was done", done.stderr.splitlines()[-1]
+        )
 
 
 class NoCluster(Studies):

@@ -14,7 +14,10 @@ from contextlib import redirect_stderr
 from io import StringIO
 from pathlib import Path
 
-from support import DATA, FORK, PROGRAM, SCENARIOS, TOOLS, Case, lane, needs_package, needs_simulator, needs_sumo, needs_sumo_tools, net
+from support import (
+    DATA, FORK, PROGRAM, SCENARIOS, TOOLS, Case, lane, needs_package, needs_simulator, needs_sumo, needs_sumo_tools,
+    net,
+)
 import streetsim.traci as traci
 from streetsim.scenario import TrafficLight
 from streetsim.run.compare import geh
@@ -27,8 +30,13 @@ from streetsim.traci.session import Endless
 SCRIPTS, ACTUATED = TOOLS / "examples/traci", TOOLS / "examples/actuated"
 USERS = DATA / "traci"  # scripts of users, for SUMO's traci
 SUMO = Path("/usr/share/sumo")
-DOMAINS = ("simulation", "vehicle", "edge", "lane", "trafficlight", "inductionloop", "lanearea", "route", "multientryexit", "junction")
-DOMAINS += ("person", "vehicletype", "variablespeedsign", "meandata", "overheadwire", "rerouter", "routeprobe", "calibrator")
+DOMAINS = (
+    "simulation", "vehicle", "edge", "lane", "trafficlight", "inductionloop", "lanearea", "route", "multientryexit",
+    "junction",
+)
+DOMAINS += (
+    "person", "vehicletype", "variablespeedsign", "meandata", "overheadwire", "rerouter", "routeprobe", "calibrator",
+)
 DOMAINS += ("busstop", "chargingstation", "parkingarea")
 WAITING = ("Could not connect to TraCI server", "Retrying in")  # SUMO's traci, while sumo starts
 needs_traci = needs_package("sumo-tools", (SUMO / "tools/traci").exists())
@@ -37,7 +45,10 @@ LIGHT = """<tlLogic id="L" type="static" programID="day" offset="5">
 <phase duration="10" state="Gr"/><phase duration="5" state="yr"/><phase duration="15" state="rG"/></tlLogic>"""
 SIGNALLED = FORK.replace("<junction", LIGHT + "<junction", 1)
 for index, name in enumerate("bc"):
-    SIGNALLED = SIGNALLED.replace(f'to="{name}" fromLane="{index}" toLane="0" state="M"', f'to="{name}" fromLane="{index}" toLane="0" state="M" tl="L" linkIndex="{index}"')
+    SIGNALLED = SIGNALLED.replace(
+        f'to="{name}" fromLane="{index}" toLane="0" state="M"',
+        f'to="{name}" fromLane="{index}" toLane="0" state="M" tl="L" linkIndex="{index}"',
+    )
 ROUTES = """<routes><vehicle id="v" depart="0"><route edges="a b"/></vehicle>
 <vehicle id="later" depart="50"><route edges="a c"/></vehicle></routes>"""
 AREAS = """<additional><inductionLoop id="loop" lane="a_0" pos="29" freq="10" file="x"/>
@@ -67,10 +78,16 @@ class Vehicles(Started):
         self.assertEqual((traci.vehicle.getIDList(), traci.simulation.getMinExpectedNumber()), ((), 2))
         traci.simulationStep()
         self.assertEqual(
-            (traci.vehicle.getIDList(), traci.vehicle.getIDCount(), traci.simulation.getDepartedIDList()), (("v",), 1, ("v",))
+            (traci.vehicle.getIDList(), traci.vehicle.getIDCount(), traci.simulation.getDepartedIDList()),
+            (("v",), 1, ("v",)),
         )
         self.assertEqual(
-            (traci.vehicle.getRoadID("v"), traci.vehicle.getLaneID("v"), traci.vehicle.getLanePosition("v"), traci.vehicle.getSpeed("v")),
+            (
+                traci.vehicle.getRoadID("v"),
+                traci.vehicle.getLaneID("v"),
+                traci.vehicle.getLanePosition("v"),
+                traci.vehicle.getSpeed("v"),
+            ),
             ("a", "a_0", 7.5, 0.0),
         )
         self.assertEqual((traci.vehicle.getPosition("v"), traci.vehicle.getRoute("v")), ((7.5, 0.0), ("a", "b")))
@@ -100,10 +117,15 @@ class Vehicles(Started):
         self.steps(10)
         self.assertEqual(traci.vehicle.getWaitingTime("v") - before, 10)
         self.assertEqual(
-            (traci.vehicle.getLanePosition("v"), traci.vehicle.getSpeed("v"), traci.edge.getLastStepHaltingNumber("a")), (75.0, 0.0, 1)
+            (traci.vehicle.getLanePosition("v"), traci.vehicle.getSpeed("v"), traci.edge.getLastStepHaltingNumber("a")),
+            (75.0, 0.0, 1),
         )
-        self.assertEqual((traci.lane.getLastStepVehicleIDs("a_0"), traci.lane.getLastStepMeanSpeed("a_0")), (("v",), 0.0))
-        self.assertEqual((traci.lanearea.getJamLengthVehicle("area"), traci.lanearea.getLastStepVehicleIDs("area")), (1, ("v",)))
+        self.assertEqual(
+            (traci.lane.getLastStepVehicleIDs("a_0"), traci.lane.getLastStepMeanSpeed("a_0")), (("v",), 0.0)
+        )
+        self.assertEqual(
+            (traci.lanearea.getJamLengthVehicle("area"), traci.lanearea.getLastStepVehicleIDs("area")), (1, ("v",))
+        )
         self.assertEqual((traci.edge.getLastStepMeanSpeed("b"), traci.edge.getTraveltime("b")), (13.89, 75 / 13.89))
         self.assertEqual(traci.vehicle.getWaitingTime("v"), traci.edge.getWaitingTime("a"))
 
@@ -129,7 +151,11 @@ class Vehicles(Started):
         self.assertIn("mine", traci.vehicle.getIDList())
         traci.vehicle.remove("mine")
         self.assertNotIn("mine", traci.vehicle.getIDList())
-        for call in (lambda: traci.vehicle.add("mine", "way"), lambda: traci.vehicle.add("v", "way"), lambda: traci.vehicle.add("x", "none")):
+        for call in (
+            lambda: traci.vehicle.add("mine", "way"),
+            lambda: traci.vehicle.add("v", "way"),
+            lambda: traci.vehicle.add("x", "none"),
+        ):
             with self.assertRaises(traci.TraCIException):
                 call()
 
@@ -140,7 +166,9 @@ class Vehicles(Started):
         traci.simulationStep()
         self.assertEqual(traci.vehicle.getSubscriptionResults("v"), {tc.VAR_SPEED: 0.0, tc.VAR_ROAD_ID: "a"})
         self.assertEqual(traci.vehicle.getAllSubscriptionResults().keys(), {"v"})
-        self.assertEqual(traci.simulation.getSubscriptionResults(), {tc.VAR_DEPARTED_VEHICLES_IDS: ("v",), tc.VAR_TIME: 1.0})
+        self.assertEqual(
+            traci.simulation.getSubscriptionResults(), {tc.VAR_DEPARTED_VEHICLES_IDS: ("v",), tc.VAR_TIME: 1.0}
+        )
         with self.assertRaisesRegex(traci.TraCIException, "Vehicle 'z' is not known"):
             traci.vehicle.subscribe("z")
         with self.assertRaisesRegex(traci.NotHere, "variable 0x61 cannot be subscribed to"):
@@ -151,12 +179,20 @@ class Vehicles(Started):
         for call, told in (
             (lambda: traci.vehicle.setSpeed("v", 3), "vehicle.setSpeed is not here: speeds follow the rules alone"),
             (lambda: traci.gui.screenshot("View #0", "x.png"), "gui.screenshot is not here"),
-            (lambda: traci.vehicle.getCO2Emission("v"), "vehicle.getCO2Emission is not here: emissions are not reckoned"),
+            (
+                lambda: traci.vehicle.getCO2Emission("v"),
+                "vehicle.getCO2Emission is not here: emissions are not reckoned",
+            ),
             (lambda: traci.person.getIDList(), "traci.person is not here"),
         ):
             with self.assertRaisesRegex(traci.TraCIException, told):
                 call()
-        for domain, kind in ((traci.edge, "Edge"), (traci.lane, "Lane"), (traci.inductionloop, "Induction loop"), (traci.lanearea, "Lane area")):
+        for domain, kind in (
+            (traci.edge, "Edge"),
+            (traci.lane, "Lane"),
+            (traci.inductionloop, "Induction loop"),
+            (traci.lanearea, "Lane area"),
+        ):
             with self.assertRaisesRegex(traci.TraCIException, f"{kind}.* 'z' is not known"):
                 domain.getLastStepVehicleNumber("z")
         self.assertFalse(hasattr(traci.lane, "getCO2Emission"))
@@ -168,14 +204,21 @@ class Vehicles(Started):
         with self.assertRaisesRegex(traci.TraCIException, "one at a time"):
             traci.start(["sumo", "-n", "x"])
         traci.close()
-        for words, told in (([], "no network"), (["-n", "none.xml"], "No such file"), (["-n", "x", "--step-length", "0.5"], "steps are of one second")):
+        for words, told in (
+            ([], "no network"),
+            (["-n", "none.xml"], "No such file"),
+            (["-n", "x", "--step-length", "0.5"], "steps are of one second"),
+        ):
             with self.assertRaisesRegex(traci.FatalTraCIError, told):
                 traci.start(["sumo", *words])
 
     def test_configuration(self):
         self.write("x.net.xml", SIGNALLED)
         self.write("x.rou.xml", ROUTES)
-        text = '<configuration><input><net-file value="x.net.xml"/><route-files value="x.rou.xml"/></input></configuration>'
+        text = (
+            '<configuration><input><net-file value="x.net.xml"/><route-files '
+            'value="x.rou.xml"/></input></configuration>'
+        )
         traci.start(["sumo", "-c", self.write("x.sumocfg", text), "-W"])
         traci.simulationStep(60)
         self.assertEqual((traci.simulation.getTime(), traci.vehicle.getIDList()), (60.0, ("later",)))
@@ -188,7 +231,9 @@ class Vehicles(Started):
         inputs = '<net value="x.net.xml"/><route-files v="x.rou.xml"/><additional-files>x.add.xml</additional-files>'
         text = f'<c>{inputs}<vehroute-output value="old.xml"/><log value="log.txt"/></c>'
         words = ["sumo", "-c", self.write("x.sumo.cfg", text), "-W"]
-        with self.assertRaisesRegex(traci.FatalTraCIError, "--vehroute-output old.xml: not written here .* leave it out, or give"):
+        with self.assertRaisesRegex(
+            traci.FatalTraCIError, "--vehroute-output old.xml: not written here .* leave it out, or give"
+        ):
             traci.start(words)
         traci.start([*words, "--vehroute-output", "/dev/null"])
         self.assertEqual(traci.simulation.getOption("log"), str(self.folder / "log.txt"))
@@ -200,7 +245,12 @@ class Vehicles(Started):
         """Their additional files have the roots <add> and <routes>."""
         for name in ("acosta", "joined", "pasubio"):
             paths = [str(SCENARIOS / f"{name}/{name}_{part}.add.xml") for part in ("vtypes", "detectors", "tls")]
-            words = ["-n", str(SCENARIOS / f"{name}/{name}_buslanes.net.xml"), "-r", str(SCENARIOS / f"{name}/{name}.rou.xml")]
+            words = [
+                "-n",
+                str(SCENARIOS / f"{name}/{name}_buslanes.net.xml"),
+                "-r",
+                str(SCENARIOS / f"{name}/{name}.rou.xml"),
+            ]
             traci.start(["sumo", *words, "-a", ",".join(paths), "--rounds", "0", "-W"])
             traci.simulationStep(60)
             self.assertGreater(traci.vehicle.getIDCount(), 20)
@@ -225,7 +275,13 @@ class Vehicles(Started):
 
     def test_what_is_told_at_the_start(self):
         skipped = '<vehicle id="bus" depart="1"><route edges="a b c"/></vehicle></routes>'
-        words = ["sumo", "-n", self.write("x.net.xml", SIGNALLED), "-r", self.write("x.rou.xml", ROUTES.replace("</routes>", skipped))]
+        words = [
+            "sumo",
+            "-n",
+            self.write("x.net.xml", SIGNALLED),
+            "-r",
+            self.write("x.rou.xml", ROUTES.replace("</routes>", skipped)),
+        ]
         words += ["--time-to-teleport", "-1", "--lateral-resolution", "0.8", "--no-step-log", "true", "--end", "90"]
         words += ["--ignore-route-errors"]
         for more, told in (([], True), (["--no-warnings"], False)):
@@ -241,14 +297,18 @@ class Vehicles(Started):
     def test_files_that_are_not_written_are_told(self):
         more = '<edgeData id="e" file="edges.xml" period="30"/><edgeData id="f" file="more.xml"/></additional>'
         words = ["sumo", "-n", self.write("x.net.xml", SIGNALLED), "-r", self.write("x.rou.xml", ROUTES)]
-        additional = self.write("x.add.xml", AREAS.replace("</additional>", more.replace("edges.xml", str(self.folder / "edges.xml"))))
+        additional = self.write(
+            "x.add.xml", AREAS.replace("</additional>", more.replace("edges.xml", str(self.folder / "edges.xml")))
+        )
         with redirect_stderr(StringIO()) as said:
             traci.start([*words, "-a", additional])
         self.assertIn("warning: additional files ask for x, more.xml, not written here: ", said.getvalue())
         self.steps(60)
         traci.close()
         intervals = ElementTree.parse(self.folder / "edges.xml").getroot().findall("interval")
-        self.assertEqual([(one.get("begin"), one.get("end")) for one in intervals], [("0.00", "30.00"), ("30.00", "60.00")])
+        self.assertEqual(
+            [(one.get("begin"), one.get("end")) for one in intervals], [("0.00", "30.00"), ("30.00", "60.00")]
+        )
         self.assertEqual(intervals[0].find("edge[@id='a']").get("departed"), "1")
 
     def test_classes(self):
@@ -260,9 +320,11 @@ class Vehicles(Started):
             traci.close()
 
     def test_types_and_routes_of_the_files(self):
-        """What the files say of a vehicle, and what of it SUMO's words call; a vehicle is added on a route of the file."""
+        """What the files say of a vehicle, and what of it SUMO's words call;
+        a vehicle is added on a route of the file."""
         routes = '''<routes><vType id="lorry" vClass="truck" length="12" maxSpeed="20"/><route id="way" edges="a b"/>
-<vehicle id="l" type="lorry" depart="0" route="way"/><vehicle id="own" depart="3"><route edges="a c"/></vehicle></routes>'''
+<vehicle id="l" type="lorry" depart="0" route="way"/>\
+<vehicle id="own" depart="3"><route edges="a c"/></vehicle></routes>'''
         self.start(routes=routes)
         self.steps(3)
         self.assertEqual((traci.vehicle.getTypeID("l"), traci.vehicle.getVehicleClass("l")), ("lorry", "truck"))
@@ -279,16 +341,22 @@ class Vehicles(Started):
             traci.vehicle.add("x", "way", typeID="none")
 
     def test_ahead_and_behind(self):
-        """At red one stands behind the other: 5 m of a vehicle and no free cell between them; what lies ahead is told in metres."""
+        """At red one stands behind the other: 5 m of a vehicle and no free cell between them;
+        what lies ahead is told in metres."""
         self.start(routes=ROUTES.replace('depart="50"', 'depart="4"').replace("a c", "a b"))
         traci.trafficlight.setRedYellowGreenState("L", "rr")
         self.steps(40)
         self.assertEqual(traci.vehicle.getLeader("later"), ("v", 0.0))
         self.assertIsNone(traci.vehicle.getLeader("v"))
-        self.assertEqual((traci.vehicle.getFollower("v"), traci.vehicle.getFollower("later")), (("later", 0.0), ("", -1.0)))
+        self.assertEqual(
+            (traci.vehicle.getFollower("v"), traci.vehicle.getFollower("later")), (("later", 0.0), ("", -1.0))
+        )
         self.assertEqual(traci.vehicle.getNextTLS("v"), (("L", 0, 0.0, "r"),))
         self.assertEqual(traci.vehicle.getNextTLS("later"), (("L", 0, 7.5, "r"),))
-        self.assertEqual((traci.vehicle.getDrivingDistance("v", "b", 30), traci.vehicle.getDrivingDistance("v", "a", 10)), (30.0, tc.INVALID_DOUBLE_VALUE))
+        self.assertEqual(
+            (traci.vehicle.getDrivingDistance("v", "b", 30), traci.vehicle.getDrivingDistance("v", "a", 10)),
+            (30.0, tc.INVALID_DOUBLE_VALUE),
+        )
         self.assertEqual((traci.vehicle.getDistance("v"), traci.vehicle.getAngle("v")), (67.5, 90.0))
         self.assertFalse(traci.vehicle.isStopped("v"))
         lost = traci.vehicle.getTimeLoss("v")
@@ -315,7 +383,9 @@ class Vehicles(Started):
     def test_parameters(self):
         self.start()
         traci.vehicle.setParameter("v", "owner", "post")
-        self.assertEqual((traci.vehicle.getParameter("v", "owner"), traci.vehicle.getParameter("v", "none")), ("post", ""))
+        self.assertEqual(
+            (traci.vehicle.getParameter("v", "owner"), traci.vehicle.getParameter("v", "none")), ("post", "")
+        )
         self.assertEqual(traci.vehicle.getParameterWithKey("v", "owner"), ("owner", "post"))
         with self.assertRaisesRegex(traci.NotHere, "a model of SUMO's"):
             traci.vehicle.setParameter("v", "device.rerouting.period", "10")
@@ -359,8 +429,15 @@ class Vehicles(Started):
             seen = []
             for _ in range(60):
                 traci.simulationStep()
-                seen.append([(name, traci.vehicle.getPosition(name), traci.vehicle.getWaitingTime(name)) for name in traci.vehicle.getIDList()])
-                seen.append((traci.simulation.getTime(), traci.trafficlight.getPhase("L"), traci.simulation.getArrivedIDList()))
+                seen.append(
+                    [
+                        (name, traci.vehicle.getPosition(name), traci.vehicle.getWaitingTime(name))
+                        for name in traci.vehicle.getIDList()
+                    ]
+                )
+                seen.append(
+                    (traci.simulation.getTime(), traci.trafficlight.getPhase("L"), traci.simulation.getArrivedIDList())
+                )
             return seen
 
         self.start()
@@ -458,16 +535,25 @@ class Vehicles(Started):
 
 class Lights(Started):
     def test_states(self):
-        """Offset 5: the first phase runs from 5 to 14, the second from 15 to 19, the third from 20 to 34 and so from 0 to 4."""
+        """Offset 5: the first phase runs from 5 to 14, the second from 15 to 19,
+        the third from 20 to 34 and so from 0 to 4."""
         self.start()
         told = []
         for _ in range(35):
-            told.append((traci.trafficlight.getPhase("L"), traci.trafficlight.getRedYellowGreenState("L"), traci.trafficlight.getNextSwitch("L")))
+            told.append(
+                (
+                    traci.trafficlight.getPhase("L"),
+                    traci.trafficlight.getRedYellowGreenState("L"),
+                    traci.trafficlight.getNextSwitch("L"),
+                )
+            )
             traci.simulationStep()
         third, first, second = (2, "rG"), (0, "Gr"), (1, "yr")
         expected = [(*third, 5.0)] * 5 + [(*first, 15.0)] * 10 + [(*second, 20.0)] * 5 + [(*third, 35.0)] * 15
         self.assertEqual(told, expected)
-        self.assertEqual((traci.trafficlight.getControlledLanes("L"), traci.trafficlight.getProgram("L")), (("a_0", "a_1"), "day"))
+        self.assertEqual(
+            (traci.trafficlight.getControlledLanes("L"), traci.trafficlight.getProgram("L")), (("a_0", "a_1"), "day")
+        )
 
     def test_phase(self):
         self.start()
@@ -483,10 +569,16 @@ class Lights(Started):
 
     def test_program(self):
         self.start()
-        logic = traci.trafficlight.Logic("mine", 0, 1, [traci.trafficlight.Phase(20, "rr"), traci.trafficlight.Phase(8, "GG")])
+        logic = traci.trafficlight.Logic(
+            "mine", 0, 1, [traci.trafficlight.Phase(20, "rr"), traci.trafficlight.Phase(8, "GG")]
+        )
         traci.trafficlight.setProgramLogic("L", logic)
         self.assertEqual(
-            (traci.trafficlight.getProgram("L"), traci.trafficlight.getRedYellowGreenState("L"), traci.trafficlight.getNextSwitch("L")),
+            (
+                traci.trafficlight.getProgram("L"),
+                traci.trafficlight.getRedYellowGreenState("L"),
+                traci.trafficlight.getNextSwitch("L"),
+            ),
             ("mine", "GG", 8.0),
         )
         shown, *_ = traci.trafficlight.getAllProgramLogics("L")
@@ -547,9 +639,18 @@ class Lights(Started):
             (lambda: traci.trafficlight.setRedYellowGreenState("L", "G"), "has 2 signals, the state 'G' has 1"),
             (lambda: traci.trafficlight.setRedYellowGreenState("Z", "GG"), "Traffic light 'Z' is not known"),
             (lambda: traci.trafficlight.setPhase("L", 3), "has no phase 3"),
-            (lambda: traci.trafficlight.setProgramLogic("L", traci.trafficlight.Logic("x", 0, 0, [phase(5, "GGG")])), "has 2 signals"),
-            (lambda: traci.trafficlight.setProgramLogic("L", traci.trafficlight.Logic("x", 0, 0, [phase(0, "GG")])), "a phase of 0.0 s"),
-            (lambda: traci.trafficlight.setProgramLogic("L", traci.trafficlight.Logic("x", 0, 0, [])), "without phases"),
+            (
+                lambda: traci.trafficlight.setProgramLogic("L", traci.trafficlight.Logic("x", 0, 0, [phase(5, "GGG")])),
+                "has 2 signals",
+            ),
+            (
+                lambda: traci.trafficlight.setProgramLogic("L", traci.trafficlight.Logic("x", 0, 0, [phase(0, "GG")])),
+                "a phase of 0.0 s",
+            ),
+            (
+                lambda: traci.trafficlight.setProgramLogic("L", traci.trafficlight.Logic("x", 0, 0, [])),
+                "without phases",
+            ),
         ):
             with self.subTest(told), self.assertRaisesRegex(traci.TraCIException, told):
                 call()
@@ -557,7 +658,9 @@ class Lights(Started):
 
     def test_light(self):
         light = Light([(10, "G"), (20, "r")], 95, "0")
-        self.assertEqual([light.at(clock) for clock in (95, 104, 105, 124, 125)], [(0, 10), (0, 1), (1, 20), (1, 1), (0, 10)])
+        self.assertEqual(
+            [light.at(clock) for clock in (95, 104, 105, 124, 125)], [(0, 10), (0, 1), (1, 20), (1, 1), (0, 10)]
+        )
 
 
 class Constants(unittest.TestCase):
@@ -571,7 +674,11 @@ class Constants(unittest.TestCase):
                 value = "1" if name in ("step-length", "scale") else "/dev/null" if OUTPUT.fullmatch(name) else "false"
                 check_option(name, value)
             letters = re.findall(r"^  -(.), --([\w.:-]+)", told, re.MULTILINE)
-            self.assertEqual({f"-{letter}": name for letter, name in letters if name not in ("help", "version")}.items() - SHORT.items(), set())
+            self.assertEqual(
+                {f"-{letter}": name for letter, name in letters if name not in ("help", "version")}.items()
+                - SHORT.items(),
+                set(),
+            )
 
     @needs_sumo
     @needs_traci
@@ -603,20 +710,29 @@ class Constants(unittest.TestCase):
 
 @needs_simulator
 class Scripts(Case):
-    """The scripts of examples/traci, over streetsim and over SUMO's own traci: the line that imports is all that differs."""
+    """The scripts of examples/traci, over streetsim and over SUMO's own traci: the line that
+    imports is all that differs."""
 
     def run_script(self, name, *words, sumo=False):
         path = SCRIPTS / f"{name}.py" if (SCRIPTS / f"{name}.py").exists() else USERS / f"{name}.py"
         text = path.read_text()
         if sumo:
-            text = text.replace("import streetsim.traci as traci", "import traci").replace("from streetsim.traci import", "from traci import")
+            text = text.replace("import streetsim.traci as traci", "import traci")
+            text = text.replace("from streetsim.traci import", "from traci import")
         else:
-            text = re.sub("^import traci(.constants)?( as .*)?$", lambda line: f"import streetsim.traci{line[1] or ''}{line[2] or ' as traci'}", text, flags=re.MULTILINE)
+            text = re.sub(
+                "^import traci(.constants)?( as .*)?$",
+                lambda line: f"import streetsim.traci{line[1] or ''}{line[2] or ' as traci'}",
+                text,
+                flags=re.MULTILINE,
+            )
         run = f"exec(compile({text!r}, {str(path)!r}, 'exec'), {{'__name__': '__main__', '__file__': {str(path)!r}}})"
         paths = SUMO / "tools" if sumo else TOOLS
         variables = {**os.environ, "PYTHONPATH": str(paths), "SUMO_HOME": str(SUMO), "STREETSIM_PROGRAM": PROGRAM}
         begin = time.perf_counter()
-        done = subprocess.run([sys.executable, "-c", run, *map(str, words)], env=variables, capture_output=True, text=True, check=False)
+        done = subprocess.run(
+            [sys.executable, "-c", run, *map(str, words)], env=variables, capture_output=True, text=True, check=False
+        )
         self.assertEqual(done.returncode, 0, done.stderr)
         told = [line for line in done.stdout.splitlines() if not line.strip().startswith(WAITING)]
         return told, time.perf_counter() - begin
@@ -631,7 +747,9 @@ class Scripts(Case):
         """The words of a cross: its network, an hour's demand or a share of it, and loops."""
         text = (ACTUATED / "cross.rou.xml" if demand == "cross" else USERS / f"{demand}.rou.xml").read_text()
         text = re.sub('vehsPerHour="(.*?)"', lambda rate: f'vehsPerHour="{float(rate[1]) * share:g}"', text)
-        return ["-n", ACTUATED / "cross.net.xml.gz", "-r", self.write("x.rou.xml", text), "-a", SCRIPTS / "cross.add.xml"]
+        return [
+            "-n", ACTUATED / "cross.net.xml.gz", "-r", self.write("x.rou.xml", text), "-a", SCRIPTS / "cross.add.xml",
+        ]
 
     def compare(self, name, *words, within=0.15):
         """The means that a script of users' prints, here and in SUMO; gives what it says here."""
@@ -644,8 +762,8 @@ class Scripts(Case):
     @needs_sumo
     @needs_traci
     def test_tutorial_as_in_sumo(self):
-        """With 60 % of the demand: with all of it the script leaves the main street too little green, and SUMO's own mean trip
-        jumps by a quarter if the demand changes by a tenth."""
+        """With 60 % of the demand: with all of it the script leaves the main street too little green,
+        and SUMO's own mean trip jumps by a quarter if the demand changes by a tenth."""
         self.compare("tutorial", self.folder / "trips.xml", *self.cross(share=0.6))
 
     @needs_sumo
@@ -675,19 +793,23 @@ class Scripts(Case):
     @needs_sumo
     @needs_traci
     def test_progress_as_in_sumo(self):
-        """Metres and gaps, through a junction too. A queue begins a metre nearer to the stop line, in cells; and as vehicles brake and
-        start at once, those who stop lose some seconds less."""
+        """Metres and gaps, through a junction too. A queue begins a metre nearer to the stop line, in cells;
+        and as vehicles brake and start at once, those who stop lose some seconds less."""
         (here, _), (there, _) = (self.run_script("progress", *self.cross()[:4], sumo=sumo) for sumo in (False, True))
         (equal, queues, stood, whole), (wanted, *theirs) = (list(map(json.loads, told)) for told in (here, there))
         self.assertEqual(equal, wanted)
         for one, other in zip(queues, theirs[0], strict=True):
-            self.assertTrue(all(abs(metres - those) < 2 for metres, those in zip(one, other, strict=True)), (one, other))
+            self.assertTrue(
+                all(abs(metres - those) < 2 for metres, those in zip(one, other, strict=True)), (one, other)
+            )
         self.assertAlmostEqual(whole[0] / theirs[2][0], 1, delta=0.05)
         for less in ((sum(theirs[1]) - sum(stood)) / len(stood), theirs[2][1] - whole[1]):
             self.assertTrue(0 < less < 6, (stood, whole, theirs))
 
     def test_speed_advice_is_not_here(self):
-        with self.assertRaisesRegex(AssertionError, "NotHere: vehicle.setSpeed is not here: speeds follow the rules alone"):
+        with self.assertRaisesRegex(
+            AssertionError, "NotHere: vehicle.setSpeed is not here: speeds follow the rules alone"
+        ):
             self.run_script("speed_advice", *self.cross())
 
     @needs_sumo
@@ -695,7 +817,9 @@ class Scripts(Case):
     def test_max_pressure_as_in_sumo_and_as_fast(self):
         """The first 600 s of the grid; the time is that of the whole script, each of whose steps may set all lights."""
         words = ["600", "-n", *self.grid("-r")]
-        (here, seconds), (there, theirs) = (self.run_script("max_pressure", *words, sumo=sumo) for sumo in (False, True))
+        (here, seconds), (there, theirs) = (
+            self.run_script("max_pressure", *words, sumo=sumo) for sumo in (False, True)
+        )
         (count, mean), (counted, other) = (map(float, told[0].split()) for told in (here, there))
         self.assertAlmostEqual(count / counted, 1, delta=0.1)
         self.assertAlmostEqual(mean / other, 1, delta=0.15, msg=f"{here} {there}")
@@ -741,11 +865,17 @@ class Scripts(Case):
         with gzip.open(DATA / "grid.rou.xml.gz", "rt", encoding="utf-8") as file:
             text = file.read()
         vehicles = re.findall("<vehicle .*?</vehicle>", text, re.DOTALL)
-        vehicles = [copy for at, one in enumerate(vehicles) for copy in ([one, one.replace('id="', 'id="again', 1)] if at % 2 else [one])]
+        vehicles = [
+            copy
+            for at, one in enumerate(vehicles)
+            for copy in ([one, one.replace('id="', 'id="again', 1)] if at % 2 else [one])
+        ]
         self.assertEqual(len(vehicles), 5400)
         routes = self.write("more.rou.xml", f"<routes>{''.join(vehicles)}</routes>")
         network = self.write("grid.net.xml", gzip.open(DATA / "grid.net.xml.gz", "rt", encoding="utf-8").read())
-        (here, time_here), (there, time_there) = (self.run_script("speeds", network, routes, sumo=sumo) for sumo in (False, True))
+        (here, time_here), (there, time_there) = (
+            self.run_script("speeds", network, routes, sumo=sumo) for sumo in (False, True)
+        )
         speeds = [float(told[0].split()[2]) for told in (here, there)]
         self.assertAlmostEqual(speeds[0] / speeds[1], 1, delta=0.1, msg=f"{here} {there}")
         self.assertLess(time_here, 2 * time_there)

@@ -31,7 +31,12 @@ class Marks(unittest.TestCase):
 
     def test_rescues(self):
         """Above one in a hundred, and more than one."""
-        for vehicles, rescues, told in ((100, 1, []), (100, 2, ["2 rescues of 100 vehicles"]), (1, 1, []), (300, 3, [])):
+        for vehicles, rescues, told in (
+            (100, 1, []),
+            (100, 2, ["2 rescues of 100 vehicles"]),
+            (1, 1, []),
+            (300, 3, []),
+        ):
             self.assertEqual(list(trust.of_rescues(self.trips(*vehicles * [row(0, 20)]), rescues)), told)
 
     def test_who_had_the_time_to_arrive(self):
@@ -56,9 +61,13 @@ class Marks(unittest.TestCase):
         self.assertEqual(told, ["6 vehicles waited to enter at 120 s, and are in no queue or count"])
 
     def test_actuated_lights(self):
-        """More than a tenth of those who depart pass light L; who only comes to it, or departs after the end, does not."""
+        """More than a tenth of those who depart pass light L; who only comes to it,
+        or departs after the end, does not."""
         mapping = map_from("map", {**MAP, "actuated": ["L"]})
-        for past, before, told in ((1, 9, []), (2, 9, ["2 of 11 vehicles pass lights that are actuated in SUMO and show"])):
+        for past, before, told in (
+            (1, 9, []),
+            (2, 9, ["2 of 11 vehicles pass lights that are actuated in SUMO and show"]),
+        ):
             plans = [*past * [([0, 1], 0)], *before * [([0], 0)], ([0, 1], 1000)]
             enters = [Line(2, "", {"plan": plan, "depart": depart}) for plan, depart in plans]
             found = list(trust.of_actuated(1000, Run("run", Line(1, "", {}), enters=enters), mapping, mapping.actuated))
@@ -66,9 +75,13 @@ class Marks(unittest.TestCase):
             self.assertEqual([text.rpartition(": ")[2] for text in found], ["most of all L"] * len(told))
 
     def test_lengths(self):
-        """Street a has 75 m and 10 cells, b 10 cells for 50 m: over both 20 % more than in SUMO, over a alone as many."""
+        """Street a has 75 m and 10 cells, b 10 cells for 50 m: over both 20 % more than in
+        SUMO, over a alone as many."""
         mapping = map_from("map", {**MAP, "links": [MAP["links"][0], [*MAP["links"][1][:6], 50.0, MAP["links"][1][7]]]})
-        for plan, told in (([0], []), ([0, 1], ["routes are 20 % longer here than in SUMO, as edges are whole cells: most of all b"])):
+        for plan, told in (
+            ([0], []),
+            ([0, 1], ["routes are 20 % longer here than in SUMO, as edges are whole cells: most of all b"]),
+        ):
             run = Run("run", Line(1, "", {}), enters=[Line(2, "", {"plan": plan, "depart": 0})])
             self.assertEqual(list(trust.of_lengths(1000, run, mapping)), told)
 
@@ -76,7 +89,9 @@ class Marks(unittest.TestCase):
 @needs_simulator
 class Runs(Case):
     def run_tool(self, *lines, until=1200, more=()):
-        run = self.write("run.jsonl", "".join(json.dumps(line) + "\n" for line in ({"cmd": "load", **NUMBERED}, *lines)))
+        run = self.write(
+            "run.jsonl", "".join(json.dumps(line) + "\n" for line in ({"cmd": "load", **NUMBERED}, *lines))
+        )
         words = [run, "--map", self.write("map.json", json.dumps(MAP)), "--program", PROGRAM, "--until", until, *more]
         told, _ = self.tool("run", *words, "--out", self.folder / "out")
         return told.splitlines()
@@ -85,7 +100,10 @@ class Runs(Case):
         enter = {"cmd": "enter", "plan": [0, 1], "lane": 0, "depart": 0}
         told = self.run_tool(RED, enter, more=["--rescue", 0])
         why = "the network is locked: nobody has arrived for 1,200 s, and 1 should have"
-        self.assertEqual(told, ["1 vehicles, 0 arrived, no trip, 1200.0 s to date of 1 under way, 0 rescues", f"not to be trusted: {why}"])
+        self.assertEqual(
+            told,
+            ["1 vehicles, 0 arrived, no trip, 1200.0 s to date of 1 under way, 0 rescues", f"not to be trusted: {why}"],
+        )
         self.assertEqual(json.loads((self.folder / "out" / NAME).read_text())["not_trusted"], [why])
         told = self.run_tool(RED, enter, more=["--rescue", 0, "--seeds", "3-4"])
         self.assertEqual(told[1], f"seed 3: not to be trusted: {why}")

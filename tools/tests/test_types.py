@@ -42,7 +42,9 @@ class Types(Case):
     def test_what_lacks_hints_and_what_breaks_them_is_found(self):
         told = self.checked(self.write("wrong.py", WRONG), status=1)
         self.assertRegex(told, r"wrong.py:3: error: Function is missing a type annotation  \[no-untyped-def\]\n")
-        self.assertRegex(told, r'wrong.py:6: error: Argument 1 to "seconds" has incompatible type "float"; expected "str"')
+        self.assertRegex(
+            told, r'wrong.py:6: error: Argument 1 to "seconds" has incompatible type "float"; expected "str"'
+        )
         self.assertTrue(told.endswith("Found 2 errors in 1 file (checked 1 source file)\n"), told)
 
 

@@ -1,5 +1,6 @@
-"""Who waits on one lane: no order of entering and no place in the waiting list makes a command slow. The bounds are wide: they
-are ratios of processor seconds, several times what is measured, and a fifth of what a walk over the whole list takes."""
+"""Who waits on one lane: no order of entering and no place in the waiting list makes a command slow. The bounds
+are wide: they are ratios of processor seconds, several times what is measured, and a fifth of what a walk over
+the whole list takes."""
 import json
 import os
 import random
@@ -9,7 +10,10 @@ import tempfile
 from support import PROGRAM, Case, needs_simulator
 
 COUNT = 30_000
-LOAD = {"cmd": "load", "nodes": [[1, 1, 2], [2, 1, 2]], "links": [[10, 1, 2, 1, 10, 5]], "turns": [], "zone": 0, "dawdle": 0, "change": 0, "seed": 0}
+LOAD = {
+    "cmd": "load", "nodes": [[1, 1, 2], [2, 1, 2]], "links": [[10, 1, 2, 1, 10, 5]], "turns": [], "zone": 0,
+    "dawdle": 0, "change": 0, "seed": 0,
+}
 
 
 def enters(departs):
@@ -59,7 +63,8 @@ class Waiting(Case):
         self.assertLess(last, 3 * first)
 
     def test_the_order_is_that_of_departing(self):
-        """Some are taken out, some depart, and others come in their places: who waits stands by depart, then by number."""
+        """Some are taken out, some depart, and others come in their places: who waits stands by
+        depart, then by number."""
         dice, waits, commands, orders, number = random.Random(2), {}, [], [], 0
         show = {"cmd": "lane", "link": 10, "lane": 0}
         for _ in range(6):

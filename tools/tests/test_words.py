@@ -1,4 +1,5 @@
-"""The words of the commands: faults in one line, times and lists as SUMO reads them, and output that cannot be written."""
+"""The words of the commands: faults in one line, times and lists as SUMO reads them,
+and output that cannot be written."""
 import gzip
 import json
 import subprocess
@@ -80,8 +81,12 @@ class Runs(Case):
     def test_standard_output_that_is_full(self):
         for words in ([TOOLS / "streetsim-run", *self.words("--until", 60)], [TOOLS / "streetsim-run", "--help"]):
             with open("/dev/full", "w") as full:
-                done = subprocess.run(list(map(str, words)), stdout=full, stderr=subprocess.PIPE, text=True, check=False)
-            self.assertEqual((done.returncode, done.stderr), (2, "streetsim-run: standard output: No space left on device\n"))
+                done = subprocess.run(
+                    list(map(str, words)), stdout=full, stderr=subprocess.PIPE, text=True, check=False
+                )
+            self.assertEqual(
+                (done.returncode, done.stderr), (2, "streetsim-run: standard output: No space left on device\n")
+            )
 
 
 if __name__ == "__main__":

@@ -1,6 +1,6 @@
-"""Steps shared by threads: with more vehicles in cells than a step of one thread has, the replies have equal bytes for each number
-of workers, and threads beside the first are seen at work: those that stay where a session is served, and those that are started for
-each part of a step where its tape is replayed."""
+"""Steps shared by threads: with more vehicles in cells than a step of one thread has, the replies have equal bytes for
+each number of workers, and threads beside the first are seen at work: those that stay where a session is served, and
+those that are started for each part of a step where its tape is replayed."""
 import json
 import os
 import subprocess
@@ -11,7 +11,8 @@ from pathlib import Path
 
 from support import PROGRAM, Case, needs_simulator
 
-# Above this number of vehicles in cells a step is shared, where there are several processors, and above that a replay's (docs/LINES.md).
+# Above this number of vehicles in cells a step is shared, where there are several processors,
+# and above that a replay's (docs/LINES.md).
 SHARED_FROM, REPLAY_SHARED_FROM = 1_500, 30_000
 NODES = 512
 LANES = (0, 1)
@@ -21,7 +22,8 @@ SECONDS = 300
 
 
 def links_of_town():
-    """Two streets from each node, to the next node and to the seventh after it: [id, from, to, lanes, length, limit]."""
+    """Two streets from each node, to the next node and to the seventh after it: [id, from, to,
+    lanes, length, limit]."""
     ends = [(node, (node + ahead) % NODES) for node in range(NODES) for ahead in (1, 7)]
     return [[link, begin, end, 2, CELLS, 3 + link % 3] for link, (begin, end) in enumerate(ends)]
 
@@ -36,7 +38,10 @@ def load_of_town():
     # From each lane to the same lane of both streets that follow; so a vehicle may stay in its lane.
     turns = [[link[0], lane, after, lane] for link in links for after in next_links(link) for lane in LANES]
     nodes = [[node, 1 + node % 3, 1 + node % 5] for node in range(NODES)]
-    return {"cmd": "load", "nodes": nodes, "links": links, "turns": turns, "zone": 12, "dawdle": 150, "change": 400, "seed": 46}
+    return {
+        "cmd": "load", "nodes": nodes, "links": links, "turns": turns, "zone": 12, "dawdle": 150, "change": 400,
+        "seed": 46,
+    }
 
 
 def enter_of(links, car):
@@ -50,8 +55,15 @@ def enter_of(links, car):
 def settings_of(links):
     """Signals at every fourth node, closed cells and detectors."""
     for node in range(0, NODES, 4):
-        green = [[link[0], lane, after] for link in links if link[2] == node for after in next_links(link) for lane in LANES]
-        yield {"cmd": "signal", "node": node, "offset": node % 20, "phases": [[9, green[: len(green) // 2]], [11, green[len(green) // 2 :]]]}
+        green = [
+            [link[0], lane, after] for link in links if link[2] == node for after in next_links(link) for lane in LANES
+        ]
+        yield {
+            "cmd": "signal",
+            "node": node,
+            "offset": node % 20,
+            "phases": [[9, green[: len(green) // 2]], [11, green[len(green) // 2 :]]],
+        }
     for link in range(0, len(links), 40):
         yield {"cmd": "close", "link": link, "lane": link // 40 % 2, "first": 60, "last": 69}
     for link in range(0, len(links), 16):
@@ -75,13 +87,17 @@ def session_of_town():
     yield {"cmd": "advance", "steps": 180}
     yield from asked_of(links)
     yield from ({"cmd": "takeout", "car": car} for car in range(0, CARS, 31))
-    yield from ({"cmd": "reopen", "link": link, "lane": link // 40 % 2, "first": 60, "last": 69} for link in range(0, len(links), 80))
+    yield from (
+        {"cmd": "reopen", "link": link, "lane": link // 40 % 2, "first": 60, "last": 69}
+        for link in range(0, len(links), 80)
+    )
     yield {"cmd": "advance", "steps": 20}
     yield from asked_of(links)
 
 
 class Watch(threading.Thread):
-    """Looks again and again at the threads of a process; `seen` are those that had time on a processor, but for the first one."""
+    """Looks again and again at the threads of a process; `seen` are those that had time on a processor,
+    but for the first one."""
 
     def __init__(self, process):
         super().__init__()

@@ -20,7 +20,10 @@ from streetsim.sumo.network import parallel
 def fan(lanes):
     """A street z of some lanes into one a of as many, of which each lane leads to an edge of its own: to0, to1, .."""
     count = range(lanes)
-    edges = [(name, *ends, [lane(name, at, metres) for at in count]) for name, ends, metres in (("z", "YA", 150), ("a", "AB", 300))]
+    edges = [
+        (name, *ends, [lane(name, at, metres) for at in count])
+        for name, ends, metres in (("z", "YA", 150), ("a", "AB", 300))
+    ]
     edges += [(f"to{at}", "B", f"C{at}", [lane(f"to{at}", 0, 150)]) for at in count]
     turns = [("z", at, "a", at, "") for at in count] + [("a", at, f"to{at}", 0, "") for at in count]
     return net(edges, turns)
@@ -28,7 +31,10 @@ def fan(lanes):
 
 def flows(lanes, hourly):
     """600 s of vehicles to each end."""
-    each = "".join(f'<flow id="f{at}" begin="0" end="600" vehsPerHour="{hourly}"><route edges="z a to{at}"/></flow>' for at in range(lanes))
+    each = "".join(
+        f'<flow id="f{at}" begin="0" end="600" vehsPerHour="{hourly}"><route edges="z a to{at}"/></flow>'
+        for at in range(lanes)
+    )
     return f"<routes>{each}</routes>"
 
 
@@ -36,7 +42,10 @@ class Groups(unittest.TestCase):
     def groups(self, lanes, closing):
         edge = Edge("a", "A", "B", 1, [SumoLane(at, 13.9, 300.0, []) for at in range(lanes)])
         following = {("a", at): {f"to{at}"} for at in range(lanes)}
-        return [[one.index for one in group] for group in parallel(edge, following, {("a", at): set() for at in range(lanes)}, closing)]
+        return [
+            [one.index for one in group]
+            for group in parallel(edge, following, {("a", at): set() for at in range(lanes)}, closing)
+        ]
 
     def test_closed_beside_open(self):
         for lanes, closing, expected in (
@@ -71,7 +80,8 @@ class Works(Case):
         return told, sum(trips) / len(trips), len(trips)
 
     def test_parallel_links(self):
-        """One open lane of 1,600 an hour takes 600, so that works cost some seconds, and not the time until they end."""
+        """One open lane of 1,600 an hour takes 600, so that works cost some seconds,
+        and not the time until they end."""
         run, mapped = self.imported()
         _, mean, arrived = self.run_with(run, mapped)
         told, closed, still = self.run_with(run, mapped, "a_0:100-200:60-1200")
@@ -90,8 +100,12 @@ class Works(Case):
         self.assertLess(abs(closed - mean), 15)
 
     def test_more_come_than_pass(self):
-        """Two lanes of three are joint, of which one is closed: 2,000 vehicles an hour come to the other, and 600 do not fill it."""
-        told = "edge a: some 2,000 vehicles an hour come to works that leave 1 of 2 lanes, and a lane passes some 1,600; nobody changes"
+        """Two lanes of three are joint, of which one is closed: 2,000 vehicles an hour come to the other,
+        and 600 do not fill it."""
+        told = (
+            "edge a: some 2,000 vehicles an hour come to works that leave 1 of 2 lanes, and a lane passes some "
+            "1,600; nobody changes"
+        )
         for hourly, said in ((1000, [told]), (300, [])):
             run, mapped = self.imported(lanes=3, hourly=hourly)
             works = [works_of("a_0:100-200:60-420", read_map(mapped))]
@@ -112,7 +126,10 @@ class Works(Case):
     def test_all_lanes(self):
         run, mapped = self.imported()
         told = self.run_with(run, mapped, "a_0:100-200:60-300", "a_1:150-250:200-400")[0]
-        self.assertIn("edge a: all lanes are closed between 200 and 300 s; nobody takes another way, so who of the 100 vehicles", told)
+        self.assertIn(
+            "edge a: all lanes are closed between 200 and 300 s; nobody takes another way, so who of the 100 vehicles",
+            told,
+        )
         told = self.run_with(run, mapped, "to0_0:50-100:60-300")[0]
         self.assertIn("edge to0: its only lane is closed between 60 and 300 s", told)
 
@@ -120,14 +137,22 @@ class Works(Case):
         run, mapped = self.imported()
         for text in ("a_0:5000-6000:0-900", "a_0:200-310:0-900"):
             self.assertIn(f"--close '{text}': the lane ends at 300 m", self.run_with(run, mapped, text, status=2))
-        self.assertIn("--close 'a_0:0-9:1200-1300': begins at the end, 1200 s, or later", self.run_with(run, mapped, "a_0:0-9:1200-1300", status=2))
+        self.assertIn(
+            "--close 'a_0:0-9:1200-1300': begins at the end, 1200 s, or later",
+            self.run_with(run, mapped, "a_0:0-9:1200-1300", status=2),
+        )
 
     def test_joint_from_the_start(self):
         run, mapped = self.imported(more=("--joint", "a"))
         told, _, arrived = self.run_with(run, mapped, "a_0:100-200:60-1200")
         self.assertEqual((told, arrived), ("", 100))
-        for names, words in (("x", "the import has no edge or lane 'x'"), ("to0", "edge 'to0' has one lane, and none beside it")):
-            told = self.tool("import", self.folder / "x.net.xml", "--joint", names, "-o", run, "--map", mapped, status=2)[1]
+        for names, words in (
+            ("x", "the import has no edge or lane 'x'"),
+            ("to0", "edge 'to0' has one lane, and none beside it"),
+        ):
+            told = self.tool(
+                "import", self.folder / "x.net.xml", "--joint", names, "-o", run, "--map", mapped, status=2
+            )[1]
             self.assertIn(words, told)
 
     def test_what_cannot_be_imported_anew(self):
@@ -146,8 +171,13 @@ class Works(Case):
     def test_study(self):
         """The base is joint too, so that the difference is that of the works."""
         self.imported()
-        study = 'run = "run.jsonl"\nmap = "map.json"\nuntil = 1200\nseeds = "1-2"\n[variant.given]\n[variant.works]\nclose = ["a_0:100-200:60-1200"]\n'
-        _, told = self.tool("study", self.write("study.toml", study), "--out", self.folder / "out", "--program", PROGRAM)
+        study = (
+            'run = "run.jsonl"\nmap = "map.json"\nuntil = 1200\nseeds = "1-2"\n[variant.given]\n[variant.works]\n'
+            'close = ["a_0:100-200:60-1200"]\n'
+        )
+        _, told = self.tool(
+            "study", self.write("study.toml", study), "--out", self.folder / "out", "--program", PROGRAM
+        )
         self.assertEqual(told.count("joint for this run"), 2)
         with open(self.folder / "out/differences.csv", encoding="utf-8") as file:
             given, works = csv.DictReader(file)
@@ -176,11 +206,15 @@ class Works(Case):
     def traced(self, *more):
         os.environ["STREETSIM_PROGRAM"] = PROGRAM
         self.addCleanup(lambda: traci.isLoaded() and traci.close())
-        traci.start(["sumo", "-n", self.write("x.net.xml", fan(2)), "-r", self.write("x.rou.xml", flows(2, 300)), *more])
+        traci.start(
+            ["sumo", "-n", self.write("x.net.xml", fan(2)), "-r", self.write("x.rou.xml", flows(2, 300)), *more]
+        )
 
     def test_traci(self):
         self.traced()
-        with self.assertRaisesRegex(traci.TraCIException, r"cannot be closed.*traci\.start\(\[\.\., '--joint', 'a_0'\]\)"):
+        with self.assertRaisesRegex(
+            traci.TraCIException, r"cannot be closed.*traci\.start\(\[\.\., '--joint', 'a_0'\]\)"
+        ):
             traci.lane.setDisallowed("a_0", ["passenger"])
         traci.edge.setDisallowed("a", ["passenger"])
         traci.close()

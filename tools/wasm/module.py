@@ -1,7 +1,7 @@
 """The engine of a page as WebAssembly: the proved street_page, told for browsers by the kit's own clang and linker.
 
-The kit proves the program over libraries that are proved, and makes an LLVM module of it; a wrapper round its clang keeps that module.
-All of this leans on the kit's insides, so each step says what it did not find: KitChanged.
+The kit proves the program over libraries that are proved, and makes an LLVM module of it; a wrapper round its clang
+keeps that module. All of this leans on the kit's insides, so each step says what it did not find: KitChanged.
 """
 import os
 import shutil
@@ -36,7 +36,9 @@ def kit() -> Path:
 
 def run(words: list[object], folder: Path, what: str) -> None:
     """Runs a command of the kit's; where it fails the kit is not the one that is known."""
-    done = subprocess.run([str(word) for word in words], cwd=folder, capture_output=True, text=True, errors="replace", check=False)
+    done = subprocess.run(
+        [str(word) for word in words], cwd=folder, capture_output=True, text=True, errors="replace", check=False
+    )
     if done.returncode:
         said = (done.stderr.strip() or done.stdout.strip()).splitlines() or ["it said nothing"]
         raise KitChanged(f"{what}: {said[-1][:300]}")
@@ -65,13 +67,22 @@ def words_of(room: Path, toolchain: Path, output: Path) -> list[object]:
     lacking = [name for name, path in library.items() if not path.exists()]
     if lacking:
         raise KitChanged(f"the proved library of {lacking[0]} is not where it was")
-    words: list[object] = ["--crate-name", CRATE, "src/main.rt", "--extern", f"std={place}/rlibs/std.rlib", "-L", f"dependency={place}/rlibs"]
+    words: list[object] = [
+        "--crate-name", CRATE, "src/main.rt", "--extern", f"std={place}/rlibs/std.rlib", "-L",
+        f"dependency={place}/rlibs",
+    ]
     for name in uses[CRATE]:
         words += ["--extern", f"{name}={library.get(name, place / f'rlibs/{name}.rlib')}"]
     for path in library.values():
         words += ["-L", f"dependency={path.parent}"]
-    words += ["--antt-project", place / "rattle/logic/antt-project.json", "--logic-built", place / "logic_built", "--jobs", "1"]
-    return [place / "bin/rattle", "build", *words, "--links", f"{CRATE}=", "--toolchain", toolchain, "--backend", "llvm", "-o", output]
+    words += [
+        "--antt-project", place / "rattle/logic/antt-project.json", "--logic-built", place / "logic_built",
+        "--jobs", "1",
+    ]
+    return [
+        place / "bin/rattle", "build", *words, "--links", f"{CRATE}=", "--toolchain", toolchain, "--backend", "llvm",
+        "-o", output,
+    ]
 
 
 def wrapped(folder: Path, kept: Path) -> None:
@@ -105,11 +116,22 @@ def kept_module(room: Path, folder: Path) -> Path:
 def compiled(module: Path, folder: Path) -> Path:
     """The module for browsers of an LLVM module."""
     clang, text = kit() / "toolchain/bin/clang", folder / "program.ll"
-    run([clang, "--no-default-config", "-x", "ir", module, "-S", "-emit-llvm", "-Xclang", "-disable-llvm-passes", "-o", text], folder, "the module is not read")
+    run(
+        [
+            clang, "--no-default-config", "-x", "ir", module, "-S", "-emit-llvm", "-Xclang", "-disable-llvm-passes",
+            "-o", text,
+        ],
+        folder,
+        "the module is not read",
+    )
     text.write_text(retarget(text.read_text()))
     program = ["-mllvm", "-sink-common-insts=false", "-ffunction-sections", "-x", "ir", text, "-c", "-o", "program.o"]
     run([clang, *MACHINE, *program], folder, "the module is not compiled")
-    run([clang, *MACHINE, "-ffreestanding", "-fno-builtin", "-nostdlib", "-c", SHIM, "-o", "shim.o"], folder, "shim.c is not compiled")
+    run(
+        [clang, *MACHINE, "-ffreestanding", "-fno-builtin", "-nostdlib", "-c", SHIM, "-o", "shim.o"],
+        folder,
+        "shim.c is not compiled",
+    )
     # The kit's clang, linker and archiver are one file, which goes by its name.
     linker = folder / "wasm-ld"
     linker.symlink_to(clang)

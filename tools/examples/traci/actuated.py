@@ -1,4 +1,5 @@
-"""A script as TraCI users write them: a green goes on while vehicles come, and ends when others wait. Prints the mean trip."""
+"""A script as TraCI users write them: a green goes on while vehicles come, and ends when others wait.
+Prints the mean trip."""
 import sys
 from pathlib import Path
 

@@ -1,5 +1,5 @@
-"""A script as TraCI users write them: how many vehicles come out of a junction, by an induction loop behind it, each quarter of
-an hour, and how many stand before it."""
+"""A script as TraCI users write them: how many vehicles come out of a junction, by an induction loop behind it,
+each quarter of an hour, and how many stand before it."""
 from pathlib import Path
 
 import streetsim.traci as traci

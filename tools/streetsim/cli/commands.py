@@ -1,68 +1,68 @@
-"""The commands of an installation: the main function of each tool's module."""
-from ..files import run_tool
+"""The commands: each runs the main function of a tool's module. Those of an installation and those beside this package
+begin here."""
+import os
+import signal
+from importlib import import_module
+from typing import NoReturn
 
 
-def import_() -> None:
-    from ..sumo.importing import main
-
-    run_tool(main)
+def import_() -> NoReturn:
+    start("sumo.importing")
 
 
-def run() -> None:
-    from ..run.running import main
-
-    run_tool(main)
+def run() -> NoReturn:
+    start("run.running")
 
 
-def plot() -> None:
-    from ..pictures.plots import main
-
-    run_tool(main)
+def plot() -> NoReturn:
+    start("pictures.plots")
 
 
-def play() -> None:
-    from ..pictures.playing import main
-
-    run_tool(main)
+def play() -> NoReturn:
+    start("pictures.playing")
 
 
-def compare() -> None:
-    from ..run.compare import main
-
-    run_tool(main)
+def compare() -> NoReturn:
+    start("run.compare")
 
 
-def signals() -> None:
-    from ..signals.planning import main
-
-    run_tool(main)
+def signals() -> NoReturn:
+    start("signals.planning")
 
 
-def study() -> None:
-    from ..study.studying import main
-
-    run_tool(main)
+def study() -> NoReturn:
+    start("study.studying")
 
 
-def live() -> None:
-    from ..live.command import main
-
-    run_tool(main)
+def live() -> NoReturn:
+    start("live.command")
 
 
-def route() -> None:
-    from ..routes.routing import main
-
-    run_tool(main)
+def route() -> NoReturn:
+    start("routes.routing")
 
 
-def report() -> None:
-    from ..reports.reporting import main
-
-    run_tool(main)
+def report() -> NoReturn:
+    start("reports.reporting")
 
 
-def export() -> None:
-    from ..gis.exporting import main
+def export() -> NoReturn:
+    start("gis.exporting")
 
-    run_tool(main)
+
+def start(module: str) -> NoReturn:
+    """Imports a tool's module and runs it. An interrupt before that ends the command in silence: nothing is begun."""
+    # A command that a script has put into the background does not hear interrupts.
+    hears = signal.getsignal(signal.SIGINT) is signal.default_int_handler
+    if hears:
+        signal.signal(signal.SIGINT, lambda *_: os._exit(130))
+    from ..files import run_tool
+
+    main = import_module(f"..{module}", __package__).main
+
+    def begun(words: list[str]) -> int:
+        if hears:
+            signal.signal(signal.SIGINT, signal.default_int_handler)
+        return main(words)
+
+    run_tool(begun)

@@ -61,12 +61,17 @@ class Meanwhile(TerminalLine):
 
     def line(self, done: int, more: str, seconds: float) -> str:
         left = seconds * (self.total - done) / max(1, done) / 60
-        parts = [f"[{bar(done, self.total)}] {done:,} of {self.total:,} {self.what}", *([more] if more else []), f"{left:.1f} min left"]
+        parts = [
+            f"[{bar(done, self.total)}] {done:,} of {self.total:,} {self.what}",
+            *([more] if more else []),
+            f"{left:.1f} min left",
+        ]
         return ", ".join(parts)
 
 
 class UnderWay(TerminalLine):
-    """The clock of a run, or how many of several are done; vehicles on their way, arrived, steps a second. It stays there."""
+    """The clock of a run, or how many of several are done; vehicles on their way, arrived,
+    steps a second. It stays there."""
 
     def __init__(self, until: int, runs: int = 1, stream: IO[str] | None = None) -> None:
         super().__init__(stream)
@@ -87,8 +92,8 @@ class UnderWay(TerminalLine):
         over = sum(clock >= self.until for clock in self.clocks)
         place = f"{self.clocks[0]:,} s" if runs == 1 else f"{over} of {runs} runs done"
         return (
-            f"[{bar(done, self.until * runs)}] {place}, {sum(self.ways):,} on their way, {sum(self.arrived):,} arrived, "
-            f"{done / max(0.001, seconds):,.0f} steps/s"
+            f"[{bar(done, self.until * runs)}] {place}, {sum(self.ways):,} on their way, "
+            f"{sum(self.arrived):,} arrived, {done / max(0.001, seconds):,.0f} steps/s"
         )
 
 

@@ -6,17 +6,15 @@ from collections.abc import Callable, Iterable
 from typing import Any, NoReturn
 
 from ..files import Fault, seconds
-
+from ..study.jobs import CORES
 
 ROUNDS, MOST_ROUNDS = 2, 10  # before a run that counts
-
-
 FALSE = ("false", "0", "no", "off", "f")  # as SUMO reads a word that is on or off
 
 
 class Parser(argparse.ArgumentParser):
-    """A parser for which wrong words are a Fault, one line without the usage. A word that begins with - and is no option
-    is a value, as many of SUMO's edges begin so."""
+    """A parser for which wrong words are a Fault, one line without the usage.
+    A word that begins with - and is no option is a value, as many of SUMO's edges begin so."""
 
     def __init__(self, *args: Any, **more: Any) -> None:
         super().__init__(*args, **more)
@@ -63,6 +61,22 @@ def listed(text: str) -> list[str]:
     return [name for name in re.split(r"[\s,]+", text) if name]
 
 
+def add_run(made: argparse.ArgumentParser) -> None:
+    """The words that name what streetsim-import made."""
+    made.add_argument("run", help="the run (.jsonl)")
+    made.add_argument("--map", required=True, help="its map of names (.json)")
+
+
+def add_jobs(made: argparse.ArgumentParser) -> None:
+    """The word that says how many runs go side by side."""
+    made.add_argument(
+        "--jobs",
+        type=within(1, 1024),
+        default=CORES,
+        help="runs side by side (default: one for each core, %(default)s)",
+    )
+
+
 def add_rounds(made: argparse.ArgumentParser, default: int | None = ROUNDS, usual: str = "default %(default)s") -> None:
     """The word that says by how many rounds vehicles give way without a light."""
     made.add_argument(
@@ -76,5 +90,6 @@ def add_rounds(made: argparse.ArgumentParser, default: int | None = ROUNDS, usua
 
 
 def files_of(words: Iterable[str]) -> list[str]:
-    """Files, of which one word may name several with commas between, as in SUMO; a file whose name has a comma is one."""
+    """Files, of which one word may name several with commas between, as in SUMO;
+    a file whose name has a comma is one."""
     return [path for word in words for path in ([word] if os.path.exists(word) else filter(None, word.split(",")))]

@@ -23,8 +23,9 @@ FIXED = {"OGR_CURRENT_DATE": "2000-01-01T00:00:00.000Z"}  # so that equal runs g
 def parser() -> Parser:
     made = Parser(
         prog="streetsim-export",
-        description="Writes the edges and junctions of a run with flow, speed, control delay, level of service, v/c and queues "
-        "by interval, in WGS84: GeoJSON, or a GeoPackage by GDAL's ogr2ogr. With --seeds means over the seeds.",
+        description="Writes the edges and junctions of a run with flow, speed, control delay, level of service, "
+        "v/c and queues by interval, in WGS84: GeoJSON, or a GeoPackage by GDAL's ogr2ogr. "
+        "With --seeds means over the seeds.",
     )
     made.add_argument("run", metavar="RUN", help="a folder that streetsim-run wrote, or one with seeds")
     made.add_argument("-o", "--output", required=True, help="the file (.geojson, .gpkg)")
@@ -76,7 +77,11 @@ def features(runs: Runs, places: Places) -> Iterator[dict]:
 
 
 def feature(kind: str, shape: str, coordinates: list, content: dict) -> dict:
-    return {"type": "Feature", "geometry": {"type": shape, "coordinates": coordinates}, "properties": {"kind": kind, **content}}
+    return {
+        "type": "Feature",
+        "geometry": {"type": shape, "coordinates": coordinates},
+        "properties": {"kind": kind, **content},
+    }
 
 
 def of_edge(mapping: Map, edge: str) -> dict:

@@ -16,8 +16,14 @@ def places_of(location: dict, projection: str | None, path: str) -> Places:
         raise Fault("an export needs pyproj (Debian: apt install python3-pyproj)") from None
     told: str = projection if projection else location.get("projection", NONE)
     if told == NONE:
-        what = "the network has no projection" if location else "the map was made by another streetsim-import: import again, or"
-        raise Fault(f"{path}: {what}: say where it lies by --projection, for example EPSG:25832 or '+proj=utm +zone=32'")
+        what = (
+            "the network has no projection"
+            if location
+            else "the map was made by another streetsim-import: import again, or"
+        )
+        raise Fault(
+            f"{path}: {what}: say where it lies by --projection, for example EPSG:25832 or '+proj=utm +zone=32'"
+        )
     try:
         system = CRS.from_user_input(told)
     except CRSError:

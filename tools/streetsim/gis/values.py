@@ -43,7 +43,9 @@ def traffic(parts: Sequence[tuple[dict, float, float]]) -> Traffic:
     """Of (row, seconds, share of its period)."""
     left = sum(int(row["left"]) * share for row, _, share in parts)
     seconds = sum(those for _, those, _ in parts)
-    seen = [(float(row["density_per_km"]), row["mean_speed_kmh"], those) for row, those, _ in parts if row["density_per_km"]]
+    seen = [
+        (float(row["density_per_km"]), row["mean_speed_kmh"], those) for row, those, _ in parts if row["density_per_km"]
+    ]
     density = sum(value * those for value, _, those in seen) / sum(those for *_, those in seen) if seen else None
     moved = [(value * those, float(speed)) for value, speed, those in seen if speed]
     weight = sum(those for those, _ in moved)
@@ -71,5 +73,6 @@ def values_of(runs: Runs, begin: int, end: int) -> dict[str, Values]:
             seen[edge].append(one)
     rows = {key[1]: row for key, row in runs.rows.get(("approaches", begin, end), {}).items()}
     return {
-        edge: Values(mean_of(seen[edge]) if edge in seen else None, rows.get(edge)) for edge in runs.first.mapping.links_of
+        edge: Values(mean_of(seen[edge]) if edge in seen else None, rows.get(edge))
+        for edge in runs.first.mapping.links_of
     }

@@ -14,8 +14,8 @@ if TYPE_CHECKING:
     from .layout import Greens
 
 QUEUES = 5  # of a lane, from which on its own saturation flow is taken
-# Vehicles an hour that leave a queue of a lane at 50 km/h, by the chance of slowing down (of 1,000), and seconds of green
-# lost at its begin: measured in 40 greens each on a lone cross whose western arm is always full.
+# Vehicles an hour that leave a queue of a lane at 50 km/h, by the chance of slowing down (of 1,000),
+# and seconds of green lost at its begin: measured in 40 greens each on a lone cross whose western arm is always full.
 BY_DAWDLE = ((0, 2400), (100, 1935), (170, 1760), (300, 1490))
 USUAL_LOST = -1.5
 
@@ -50,8 +50,8 @@ class Saturation:
 
 
 class SaturationFlows:
-    """How lanes pass queues: measured on the lane where there were queues enough, else over all lanes of the run, else as
-    usual."""
+    """How lanes pass queues: measured on the lane where there were queues enough,
+    else over all lanes of the run, else as usual."""
 
     def __init__(
         self,
@@ -78,8 +78,8 @@ def saturation(those: Sequence[Discharge]) -> Saturation:
 
 
 def is_alike(shown: Iterable[frozenset[int] | None], taken: set[int]) -> bool:
-    """Whether all vehicles of a lane have the same green: no second shows it to some of the links taken alone. shown: for
-    each second the links that have green, none for all."""
+    """Whether all vehicles of a lane have the same green: no second shows it to some of the links taken alone.
+    shown: for each second the links that have green, none for all."""
     return all(green is not None and (not green & taken or green >= taken) for green in shown)
 
 
@@ -119,7 +119,8 @@ class Capacity:
         return min(1.0, (waiting + alone * 3600 / flow) / sum(open_))
 
     def growth(self, place: Place, begin: int, open_: Sequence[bool]) -> int:
-        """How many more want to pass than do: the queue that the last green leaves, less that which the first one left."""
+        """How many more want to pass than do: the queue that the last green leaves,
+        less that which the first one left."""
         stood, offset = self.logs[place].stood, begin - self.start
         ends = [second for second in range(len(open_) - 1) if open_[second] and not open_[second + 1]]
         first, last = (ends[0], ends[-1]) if ends else (0, len(open_) - 1)

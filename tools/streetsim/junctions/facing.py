@@ -14,8 +14,9 @@ LEAST = 30  # vehicles an hour that wait, and that are waited for, from which on
 
 
 def facing(mapping: Map, plans: Iterable[Sequence[int]], hours: float) -> list[str]:
-    """The junctions where vehicles of a minor street, left turns mostly, wait for those of another one that they cross. When these
-    pass is taken from the run before, in which they passed in other gaps, so delays of both are too small."""
+    """The junctions where vehicles of a minor street, left turns mostly, wait for those of another one that
+    they cross. When these pass is taken from the run before, in which they passed in other gaps, so delays
+    of both are too small."""
     flows = Counter(pair for plan in plans for pair in pairwise(plan))
     edges = [link.edge for link in mapping.links]
     waits = {(link, following) for one in mapping.yields for link, _, following in one.turns}
@@ -27,7 +28,9 @@ def facing(mapping: Map, plans: Iterable[Sequence[int]], hours: float) -> list[s
     def hourly(one: Waiting) -> float:
         own = {(link, following) for link, _, following in one.turns if edges[link] in minor}
         targets = {edges[following] for _, following in own}
-        others = {(foe.link, foe.next) for foe in one.foes if edges[foe.link] in minor and edges[foe.next] not in targets}
+        others = {
+            (foe.link, foe.next) for foe in one.foes if edges[foe.link] in minor and edges[foe.next] not in targets
+        }
         return min(sum(flows[way] for way in ways) for ways in (own, others)) / hours
 
     return sorted({mapping.nodes[one.node][0] for one in mapping.yields if hourly(one) >= LEAST})

@@ -68,7 +68,8 @@ class Greens:
 
     def __init__(self, mapping: Map, signals: Iterable[Sequence[Any]]) -> None:
         self.mapping = mapping
-        self.plans: defaultdict[int, list[tuple[int, dict[str, Any]]]] = defaultdict(list)  # (clock from which it holds, command)
+        # For each node: (clock from which it holds, command).
+        self.plans: defaultdict[int, list[tuple[int, dict[str, Any]]]] = defaultdict(list)
         lit = {node for _, node in mapping.signals}
         for clock, command in sorted(signals, key=lambda pair: pair[0]):
             if command["node"] in lit:
@@ -92,7 +93,8 @@ class Greens:
         return seconds[second], (place, cycle)
 
     def begin_of(self, link: int, lane: int, step: int) -> int | None:
-        """The step in which the green of a lane began that it has in a step; none where it has none, or all the time."""
+        """The step in which the green of a lane began that it has in a step;
+        none where it has none, or all the time."""
         for back in range(step, step - CYCLE_MOST, -1):
             shown = self.at(link, lane, back)[0] if back >= 0 else frozenset()
             if shown is None:

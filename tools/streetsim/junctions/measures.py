@@ -18,9 +18,9 @@ if TYPE_CHECKING:
 
 Way = tuple[str, str]  # an edge and the next one
 
-# Seconds that a vehicle which stops loses beyond what is seen here, where vehicles brake and start at once: on an approach
-# of one lane, where in SUMO one who drives slowly holds up those behind, and of more. Measured on lone crosses at four
-# flows against SUMO's e3 (bench/delays --calibrate).
+# Seconds that a vehicle which stops loses beyond what is seen here, where vehicles brake and start at once: on an
+# approach of one lane, where in SUMO one who drives slowly holds up those behind, and of more. Measured on lone crosses
+# at four flows against SUMO's e3 (bench/delays --calibrate).
 STOP_LOSS = 2.5, 1.5
 
 

@@ -143,8 +143,8 @@ def by_place(passages: Iterable[Passage]) -> dict[Place, list[Passage]]:
 
 @dataclass(slots=True)
 class Discharge:
-    """A queue that left at green, as the Highway Capacity Manual has it: seconds between its vehicles from the fourth to the
-    last, and what the first four took longer than that (less than 0 where they took less)."""
+    """A queue that left at green, as the Highway Capacity Manual has it: seconds between its vehicles from the fourth
+    to the last, and what the first four took longer than that (less than 0 where they took less)."""
 
     headway: float
     lost: float
@@ -153,8 +153,8 @@ class Discharge:
 def discharges(
     passages: Iterable[Passage], log: LaneLog, start: int, green_begin: Callable[[int], int | None]
 ) -> list[Discharge]:
-    """Those of a lane's queues of eight vehicles and more; passages: of the lane. green_begin gives the step in which the
-    green of a step began, or none."""
+    """Those of a lane's queues of eight vehicles and more; passages: of the lane.
+    green_begin gives the step in which the green of a step began, or none."""
     found: list[Discharge] = []
     group: list[Passage] = []
     for passage in [*passages, None]:

@@ -20,7 +20,8 @@ if TYPE_CHECKING:
     from ..run.record import Records, Settings
     from ..run.runs import Run
 
-EXACT_RUNS = 8  # at most so many further runs look at every second; where these are too few, looks are at random moments
+# At most so many further runs look at every second; where these are too few, looks are at random moments.
+EXACT_RUNS = 8
 
 
 def write_junctions(
@@ -33,8 +34,8 @@ def write_junctions(
     jobs: int,
     interval: int,
 ) -> list:
-    """Writes movements.csv, approaches.csv and junctions.csv into a folder; serving() gives a program. Gives what is to be
-    told of how they were made, if anything."""
+    """Writes movements.csv, approaches.csv and junctions.csv into a folder; serving() gives a program.
+    Gives what is to be told of how they were made, if anything."""
     approaches, start = approaches_of(mapping), run.start()
     lanes = [place for approach in approaches.values() for place in approach.lanes]
     clocks: Sequence[int] = range(start + 1, settings.until + 1)
@@ -55,12 +56,18 @@ def write_junctions(
     for frame in watch(serving, run, mapping, settings, records.rescued, clocks, lanes, folder, jobs):
         seen.see(frame)
     measures: Measures | Sampled
-    measures = Measures(mapping, approaches, signals, dawdle, plans, seen) if isinstance(seen, Passages) else seen.finish()
+    measures = (
+        Measures(mapping, approaches, signals, dawdle, plans, seen) if isinstance(seen, Passages) else seen.finish()
+    )
     made = Tables(approaches)
     for begin in range(start, settings.until, interval):
         made.add(measures.interval(begin, min(begin + interval, settings.until)))
     made.write(folder)
-    told = [] if exact else ["junctions: lanes are looked at at random moments, as the program takes no more calls (error_s)"]
+    told = (
+        []
+        if exact
+        else ["junctions: lanes are looked at at random moments, as the program takes no more calls (error_s)"]
+    )
     if found := facing(mapping, plans, (settings.until - start) / 3600):
         told.append(f"junctions: delays are too small where minor streets wait for each other: {some(found)}")
     return told

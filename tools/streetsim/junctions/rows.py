@@ -42,7 +42,8 @@ class Tables:
                 self.junctions.append((interval.begin, interval.end, junction, control, *told(lost, interval), *last))
 
     def add_approach(self, interval: Interval, approach: Approach) -> tuple[Totals, float, float] | None:
-        """Gives what its vehicles lost, its longest queue and the greatest v/c of its movements; none where nobody is."""
+        """Gives what its vehicles lost, its longest queue and the greatest v/c of its movements;
+        none where nobody is."""
         parts, ratios = [], []
         for target, name in sorted(approach.movements.items()):
             if (approach.edge, target) in interval.lost:
@@ -62,7 +63,9 @@ class Tables:
         count = max(1, sum(lanes.values()))
         hours = (interval.end - interval.begin) / 3600
         # A lane passes as many of the movement as it does, over how far it is used.
-        capacity = sum(those / hours / interval.uses[place].ratio for place, those in lanes.items() if interval.uses[place].ratio)
+        capacity = sum(
+            those / hours / interval.uses[place].ratio for place, those in lanes.items() if interval.uses[place].ratio
+        )
         ratio = lost.vehicles / hours / capacity if capacity else 0.0
         flow = sum(those * interval.flows[place] for place, those in lanes.items()) / count
         used = [interval.queues[place] for place, those in lanes.items() if those >= MOVEMENT_SHARE * count]

@@ -1,7 +1,8 @@
 """A bridge between a page and the simulator: http on 127.0.0.1, for one page at a time.
 
-The page's address holds a token that only who started the bridge knows, so that no other user and no other site can reach the
-simulator: the token, the host and the origin of each request are checked, and what a request may send is bounded.
+The page's address holds a token that only who started the bridge knows, so that no other user and no other
+site can reach the simulator: the token, the host and the origin of each request are checked, and what a
+request may send is bounded.
 """
 from __future__ import annotations
 
@@ -20,7 +21,9 @@ from .engine import Engine
 HOST = "127.0.0.1"
 MOST_LINE = 1 << 20  # bytes: streetsim answers a longer line by a fault
 MOST_BODY = 8 << 20  # bytes of one request
-POLICY = "default-src 'none'; script-src 'unsafe-inline'; style-src 'unsafe-inline'; img-src data: blob:; connect-src 'self'"
+POLICY = (
+    "default-src 'none'; script-src 'unsafe-inline'; style-src 'unsafe-inline'; img-src data: blob:; connect-src 'self'"
+)
 
 
 class Refusal(Exception):
@@ -64,7 +67,8 @@ class Bridge(ThreadingHTTPServer):
 
 
 class Handler(BaseHTTPRequestHandler):
-    """A request: GET /TOKEN/ is the page; POST /TOKEN/PAGE/begin, lines and leave are what the page of that name sends."""
+    """A request: GET /TOKEN/ is the page; POST /TOKEN/PAGE/begin, lines and leave are what the
+    page of that name sends."""
 
     protocol_version = "HTTP/1.1"
     # An answer goes out at once and in one piece: the system else holds the second piece back for 40 ms.
@@ -95,7 +99,10 @@ class Handler(BaseHTTPRequestHandler):
             raise Refusal(HTTPStatus.FORBIDDEN, "the bridge serves its own page alone")
         token, *words = self.path.removeprefix("/").split("/")
         if not hmac.compare_digest(token.encode(), self.server.token.encode()):
-            raise Refusal(HTTPStatus.FORBIDDEN, "the address lacks the bridge's token: take the address that streetsim-live printed")
+            raise Refusal(
+                HTTPStatus.FORBIDDEN,
+                "the address lacks the bridge's token: take the address that streetsim-live printed",
+            )
         return words
 
     def get(self, words: list[str]) -> tuple[bytes, str]:
@@ -132,8 +139,9 @@ class Handler(BaseHTTPRequestHandler):
     def send(self, status: HTTPStatus, body: bytes, kind: str) -> None:
         self.send_response(status)
         headers = {
-            "Content-Type": kind, "Content-Length": str(len(body)), "Content-Security-Policy": POLICY, "Cache-Control": "no-store",
-            "Referrer-Policy": "no-referrer", "X-Content-Type-Options": "nosniff", "X-Frame-Options": "DENY",
+            "Content-Type": kind, "Content-Length": str(len(body)), "Content-Security-Policy": POLICY,
+            "Cache-Control": "no-store", "Referrer-Policy": "no-referrer", "X-Content-Type-Options": "nosniff",
+            "X-Frame-Options": "DENY",
         }
         for name, value in headers.items():
             self.send_header(name, value)

@@ -23,12 +23,15 @@ CLAIM = (
 def parser() -> Parser:
     made = Parser(
         prog="streetsim-live",
-        description="A page that runs a simulation: watch it, change signal plans, close lanes, take vehicles out, read detectors; what was "
-        "done is saved as lines. It is served on this machine alone until Ctrl-C, or written as one file that needs nothing else.",
+        description="A page that runs a simulation: watch it, change signal plans, close lanes, take vehicles out, "
+        "read detectors; what was done is saved as lines. It is served on this machine alone until Ctrl-C, "
+        "or written as one file that needs nothing else.",
     )
     made.add_argument("run", help="the run file that streetsim-import wrote")
     made.add_argument("--map", required=True, help="the map file that it wrote")
-    made.add_argument("--program", help=f"the page's program, {NATIVE} (default: ${VARIABLE}, else the one that ./build --page made)")
+    made.add_argument(
+        "--program", help=f"the page's program, {NATIVE} (default: ${VARIABLE}, else the one that ./build --page made)"
+    )
     made.add_argument("--port", type=within(0, 65_535), default=0, help="of the address (default: one that is free)")
     made.add_argument("--no-open", action="store_true", help="print the address and open no browser")
     made.add_argument("-o", "--output", help="write one file (.html) with the engine inside, for Chromium and its kin")
@@ -44,7 +47,10 @@ def program_of(given: str | None) -> str:
     """The page's program. It counts no calls, as streetsim itself does."""
     named = given or os.environ.get(VARIABLE) or str(beside(NATIVE))
     if not os.access(named, os.X_OK):
-        raise Fault(f"{named}: no program that can be run: give --program, set {VARIABLE}, or run ./build --page in streetsim's repository")
+        raise Fault(
+            f"{named}: no program that can be run: give --program, set {VARIABLE}, or run ./build "
+            "--page in streetsim's repository"
+        )
     return str(Path(named).resolve())
 
 

@@ -19,14 +19,18 @@ def own_lines(run: Run) -> list[bytes]:
 
 
 def data_of(run: Run, mapping: Map) -> dict:
-    """What the page knows of a run beside the replies: names, shapes, turns, signal plans and the lines that are sent later."""
+    """What the page knows of a run beside the replies: names, shapes, turns,
+    signal plans and the lines that are sent later."""
     load = run.load.command
     if len(load["links"]) != len(mapping.links):
-        raise Fault(f"{run.path}: the map is of another run: it has {len(mapping.links):,} links, the run {len(load['links']):,}")
+        raise Fault(
+            f"{run.path}: the map is of another run: it has {len(mapping.links):,} links, "
+            f"the run {len(load['links']):,}"
+        )
     links = [
         {
-            "number": number, "name": link.edge, "lanes": lanes, "names": list(link.lanes), "cells": cells, "begin": begin, "end": end,
-            "points": link.shape,
+            "number": number, "name": link.edge, "lanes": lanes, "names": list(link.lanes), "cells": cells,
+            "begin": begin, "end": end, "points": link.shape,
         }
         for link, (number, begin, end, lanes, cells, _limit) in zip(mapping.links, load["links"], strict=True)
     ]

@@ -23,7 +23,8 @@ class XmlFile:
     def __init__(self, file: TextFile, places: Places) -> None:
         self.file, self.places = file, places
         self.file.write(
-            f'<?xml version="1.0" encoding="UTF-8"?>\n\n<{self.root} xmlns:xsi="http://www.w3.org/2001/XMLSchema-instance" '
+            '<?xml version="1.0" encoding="UTF-8"?>\n\n'
+            f'<{self.root} xmlns:xsi="http://www.w3.org/2001/XMLSchema-instance" '
             f'xsi:noNamespaceSchemaLocation="{SCHEMAS}{self.schema}.xsd">\n'
         )
 
@@ -41,8 +42,8 @@ def attributes(**values: object) -> str:
 
 
 class Tripinfo(XmlFile):
-    """A row for each vehicle that arrived. It departs in the second in which it is first seen; `departDelay` is since the
-    wished departure, so that both together are the duration of trips.csv."""
+    """A row for each vehicle that arrived. It departs in the second in which it is first seen;
+    `departDelay` is since the wished departure, so that both together are the duration of trips.csv."""
 
     root, schema = "tripinfos", "tripinfo_file"
 
@@ -151,8 +152,8 @@ class Fcd(XmlFile):
 
 
 class Queue(XmlFile):
-    """For each second and lane on which vehicles stand: the longest time of standing, and metres from the stop line to the
-    rear of the last of them."""
+    """For each second and lane on which vehicles stand: the longest time of standing, and metres from the stop line to
+    the rear of the last of them."""
 
     root, schema = "queue-export", "queue_file"
 
@@ -180,7 +181,9 @@ class Queue(XmlFile):
             for place, length in sorted(lengths.items())
         ]
         lanes = "".join(f"            <lane {row}/>\n" for row in rows)
-        self.file.write(f'    <data timestep="{second.time:.2f}">\n        <lanes>\n{lanes}        </lanes>\n    </data>\n')
+        self.file.write(
+            f'    <data timestep="{second.time:.2f}">\n        <lanes>\n{lanes}        </lanes>\n    </data>\n'
+        )
 
 
 def vehicle_metres(at: At) -> float:

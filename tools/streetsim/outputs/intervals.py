@@ -161,8 +161,8 @@ class LoopSums:
 
 
 class Loops(Detectors):
-    """Induction loops (e1): who drove over a cell in a second, as detectors.csv counts them. Who leaves the edge in that
-    second has the speed of the second before."""
+    """Induction loops (e1): who drove over a cell in a second, as detectors.csv counts them.
+    Who leaves the edge in that second has the speed of the second before."""
 
     schema, kind = "det_e1_file", E1
 

@@ -83,8 +83,8 @@ def watch(
     folder: str,
     jobs: int,
 ) -> Iterator[dict[str, Any]]:
-    """Yields the frames of the clocks, in order; serving() gives a program. Runs go side by side, and each writes what it
-    sees to a file of a folder, which is removed when it is read."""
+    """Yields the frames of the clocks, in order; serving() gives a program. Runs go side by side,
+    and each writes what it sees to a file of a folder, which is removed when it is read."""
     with serving() as sim:
         parts = windows(run, clocks, lanes, len(rescued), settings.calls or sim.calls)
 

@@ -33,8 +33,8 @@ def kinds_of(text: str) -> tuple[str, ...]:
 class Outputs(contextlib.ExitStack):
     """Open output files, {kind: path}, which take their names when the block ends without a fault.
 
-    Tell vehicles by `expect`, then each second of the run by `step`. Edges are summed over `period` seconds, detectors over
-    their own; `dawdle` is the run's chance of slowing down (0 to 1), by which the free driving time is reckoned.
+    Tell vehicles by `expect`, then each second of the run by `step`. Edges are summed over `period` seconds, detectors
+    over their own; `dawdle` is the run's chance of slowing down (0 to 1), by which the free driving time is reckoned.
     """
 
     def __init__(self, paths: dict, mapping: Map, dawdle: float, period: int = 900, start: int = 0) -> None:
@@ -69,8 +69,8 @@ class Outputs(contextlib.ExitStack):
         insort(self.wished, wished)
 
     def step(self, clock: int, lanes: Iterable[Sequence[Any]], arrived: Iterable[int]) -> None:
-        """The second that ends at a clock: [link, lane, cells, cars in the buffer, ..] of each lane where anything is, and
-        the cars that arrived in it."""
+        """The second that ends at a clock: [link, lane, cells, cars in the buffer, ..] of each lane where anything is,
+        and the cars that arrived in it."""
         second = self.follower.see(clock, lanes, arrived)
         for writer in self.writers:
             writer.step(second)
@@ -109,4 +109,6 @@ def write_from_folder(folder: Folder, kinds: Iterable[str], out: str) -> None:
     if first is None or folder.every != 1:
         raise Fault(f"{folder.path}: SUMO's outputs need a run with --every 1, or streetsim-run --sumo-output")
     frames = itertools.chain([first], polls)
-    write_outputs(paths, folder.mapping, folder.trips(), frames, folder.dawdle / 1000, folder.period, first["clock"] - 1)
+    write_outputs(
+        paths, folder.mapping, folder.trips(), frames, folder.dawdle / 1000, folder.period, first["clock"] - 1
+    )

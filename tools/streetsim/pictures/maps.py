@@ -42,7 +42,10 @@ def draw(pyplot: Any, source: Any, words: argparse.Namespace) -> Any:
     runs = read_any(source)
     begin, end = interval_of(runs, words)
     values = values_of(runs, begin, end)
-    shapes = [(edge, runs.first.mapping.links[links[len(links) // 2]].shape) for edge, links in runs.first.mapping.links_of.items()]
+    shapes = [
+        (edge, runs.first.mapping.links[links[len(links) // 2]].shape)
+        for edge, links in runs.first.mapping.links_of.items()
+    ]
     shown = [Shown(shape, value_of(values[edge], words.what)) for edge, shape in shapes]
     if all(one.value is None for one in shown):
         raise Fault(f"{source}: nothing is known of {words.what} from {begin} to {end} s")
@@ -66,7 +69,9 @@ def interval_of(runs: Runs, words: argparse.Namespace) -> tuple[int, int]:
         return runs.busiest() if runs.rows else found[0]
     those = [one for one in found if one[0] == words.begin]
     if not those:
-        raise Fault(f"--begin {words.begin}: no interval begins there, of {', '.join(str(begin) for begin, _ in found)}")
+        raise Fault(
+            f"--begin {words.begin}: no interval begins there, of {', '.join(str(begin) for begin, _ in found)}"
+        )
     return those[0]
 
 
@@ -127,7 +132,9 @@ def draw_letters(axes: Any, shown: Sequence[Shown], runs: Runs, interval: tuple[
     for (name,), row in runs.rows["junctions", *interval].items():
         letter = row.letter()
         axes.plot(*places[name], "o", color=COLOURS[letter], markeredgecolor="black", markersize=12)
-        axes.annotate(letter, places[name], ha="center", va="center", fontsize=8, color="white" if letter in LIGHT else "black")
+        axes.annotate(
+            letter, places[name], ha="center", va="center", fontsize=8, color="white" if letter in LIGHT else "black"
+        )
     marks = [Line2D([], [], color=COLOURS[letter], linewidth=6, label=letter) for letter in LETTERS]
     axes.set_xlabel("")  # the legend stands there
     axes.legend(handles=marks, loc="upper center", bbox_to_anchor=(0.5, -0.1), ncol=6, frameon=False)

@@ -21,10 +21,13 @@ second = time_within(0, limits.CLOCK)
 def parser() -> Parser:
     made = Parser(
         prog="streetsim-play",
-        description="Makes one HTML file, without anything from outside, that plays the vehicles of a run, or of two side by side. "
-        "Open it at a step with page.html#300, and at a place (metres) with page.html#300,75,0.",
+        description="Makes one HTML file, without anything from outside, that plays the vehicles of a run, "
+        "or of two side by side. Open it at a step with page.html#300, and at a place (metres) with "
+        "page.html#300,75,0.",
     )
-    made.add_argument("folders", nargs="+", metavar="RUN", help="what streetsim-run wrote; with --every 1 vehicles move smoothly")
+    made.add_argument(
+        "folders", nargs="+", metavar="RUN", help="what streetsim-run wrote; with --every 1 vehicles move smoothly"
+    )
     made.add_argument("-o", "--output", required=True, help="the page (.html)")
     made.add_argument("--first", type=second, default=0, metavar="S", help="the first second")
     made.add_argument("--last", type=second, default=limits.CLOCK, metavar="S", help="the last second")
@@ -70,7 +73,9 @@ def main(arguments: list[str]) -> int:
     packed = base64.b64encode(gzip.compress(json.dumps(data, separators=(",", ":")).encode(), mtime=0)).decode()
     if len(packed) > MOST_BYTES:
         raise Fault(f"{words.folders[0]}: {len(packed):,} bytes are too much for a page: choose --first and --last")
-    page, drawing, player = ((PLACE / name).read_text(encoding="utf-8") for name in ("player.html", "drawing.js", "player.js"))
+    page, drawing, player = (
+        (PLACE / name).read_text(encoding="utf-8") for name in ("player.html", "drawing.js", "player.js")
+    )
     page = page.replace("/*DRAWING*/", drawing).replace("/*PLAYER*/", player).replace("@DATA@", packed)
     with whole_file(words.output) as file:
         file.write(page)

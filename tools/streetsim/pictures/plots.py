@@ -4,6 +4,7 @@ from __future__ import annotations
 import argparse
 import io
 import os
+import sys
 from collections.abc import Sequence
 from math import inf
 from typing import Any
@@ -41,10 +42,13 @@ def parser() -> Parser:
     ):
         one = kinds.add_parser(kind, help=words, description=words)
         often = "?" if kind == "fundamental" else None
-        one.add_argument("folder", nargs=often, help="what streetsim-run wrote")  # type: ignore[arg-type]  # none is usual
+        # None is usual.
+        one.add_argument("folder", nargs=often, help="what streetsim-run wrote")  # type: ignore[arg-type]
         one.add_argument("-o", "--output", required=True, help="the picture (.png, .svg, .pdf)")
         if kind in ("corridor", "fundamental"):
-            one.add_argument("--edges", required=kind == "corridor", default="", help="edges, with spaces or commas between")
+            one.add_argument(
+                "--edges", required=kind == "corridor", default="", help="edges, with spaces or commas between"
+            )
         if kind == "corridor":
             one.add_argument("--both", action="store_true", help="the other direction too, below")
             one.add_argument("--first", type=second, default=0, metavar="S", help="the first second shown")
@@ -66,7 +70,9 @@ def parser() -> Parser:
             one.add_argument("--program", help=f"for the ring: {program.HELP}")
         if kind == "map":
             one.add_argument("--what", choices=maps.WHAT, default="density", help="(default: %(default)s)")
-            one.add_argument("--begin", type=second, metavar="S", help="the interval shown (default: the busiest; of density all)")
+            one.add_argument(
+                "--begin", type=second, metavar="S", help="the interval shown (default: the busiest; of density all)"
+            )
         if kind == "arrivals":
             one.add_argument("--sumo", metavar="TRIPINFO", help="SUMO's trips of the same demand, drawn beside")
     return made
@@ -105,6 +111,15 @@ def main(arguments: list[str]) -> int:
     return 0
 
 
+def drawing_if_there() -> Any:
+    """matplotlib's pyplot; none where it is not installed, which is said."""
+    try:
+        return drawing()
+    except Fault as fault:
+        print(f"no picture: {fault}", file=sys.stderr)
+        return None
+
+
 def drawing() -> Any:
     """matplotlib's pyplot, without a display."""
     try:
@@ -114,7 +129,12 @@ def drawing() -> Any:
     matplotlib.use("Agg")
     from matplotlib import pyplot
 
-    pyplot.rcParams.update({"font.size": 9, "svg.hashsalt": "streetsim", "axes.grid": True, "grid.color": "#dddddd", "axes.axisbelow": True})
+    pyplot.rcParams.update(
+        {
+            "font.size": 9, "svg.hashsalt": "streetsim", "axes.grid": True, "grid.color": "#dddddd",
+            "axes.axisbelow": True,
+        }
+    )
     return pyplot
 
 
@@ -221,7 +241,9 @@ def draw_fundamental(pyplot: Any, folder: Folder, words: argparse.Namespace) -> 
         axes.set(
             xlabel="density (vehicles/km and lane)",
             ylabel="flow (vehicles/h and lane)",
-            title=f"Counts of {folder.period} s at the stop lines" if words.counts else f"Middle third of lanes, means of {folder.period} s",
+            title=f"Counts of {folder.period} s at the stop lines"
+            if words.counts
+            else f"Middle third of lanes, means of {folder.period} s",
         )
         axes.scatter(
             *(zip(*counts, strict=True) if counts else ((), ())), s=10, color="#225588", alpha=0.6, linewidths=0
@@ -245,11 +267,15 @@ def draw_queues(pyplot: Any, folder: Folder, _words: argparse.Namespace) -> Any:
         interpolation="nearest",
         extent=(times[0] / 60, (times[-1] + folder.every) / 60, len(lanes) - 0.5, -0.5),
     )
-    room = {folder.mapping.lane_name(link, lane): folder.mapping.links[link].metres for link, lane in folder.mapping.lanes()}
+    room = {
+        folder.mapping.lane_name(link, lane): folder.mapping.links[link].metres for link, lane in folder.mapping.lanes()
+    }
     axes.set_yticks(range(len(lanes)), [f"{name}, {room[name]:.0f} m" for name, _ in lanes])
     axes.grid(False)
     axes.set(
-        xlabel="time (min)", ylabel="lane and its length", title=f"Queues at the stop lines: the {len(lanes)} longest of {count} lanes"
+        xlabel="time (min)",
+        ylabel="lane and its length",
+        title=f"Queues at the stop lines: the {len(lanes)} longest of {count} lanes",
     )
     figure.colorbar(image, ax=axes, label="queue (m)")
     return figure
@@ -272,7 +298,9 @@ def draw_arrivals(pyplot: Any, folder: Folder, words: argparse.Namespace) -> Any
         below.set(ylabel="on their way or\nwaiting to depart")
     for moments, label, colour, style in curves:
         minutes = [moment / 60 for moment in moments]
-        axes.step(minutes, range(1, len(minutes) + 1), where="post", label=label, color=colour, linestyle=style, linewidth=1.8)
+        axes.step(
+            minutes, range(1, len(minutes) + 1), where="post", label=label, color=colour, linestyle=style, linewidth=1.8
+        )
     below.step([time / 60 for time in times], values, where="post", color="#225588", linewidth=1.4)
     below.axhline(0, color="black", linewidth=0.8)
     title = f"{len(arrivals):,} of {len(folder.trips()):,} vehicles arrived"

@@ -115,8 +115,8 @@ def junctions_along(folder: Folder, edges: Sequence[str]) -> list[tuple[float, s
 
 
 def green_band(folder: Folder, edges: Sequence[str], first: int) -> tuple[int, int] | None:
-    """How many seconds of a cycle one after the other let a vehicle that starts at the first signal pass all others too at
-    its free speed, and the cycle; none where there is no signal or no common cycle."""
+    """How many seconds of a cycle one after the other let a vehicle that starts at the first signal pass all others too
+    at its free speed, and the cycle; none where there is no signal or no common cycle."""
     lines = stop_lines(folder, edges)
     plans = {node: command for clock, command in folder.signals if clock <= first for node in [command["node"]]}
     stops = [(after, plans[node], here, following) for after, node, here, following in lines if node in plans]
@@ -125,7 +125,10 @@ def green_band(folder: Folder, edges: Sequence[str], first: int) -> tuple[int, i
         return None
     cycle, start = cycles.pop(), stops[0][0]
     is_free = [
-        all(shows_green(command, second + round(after - start), here, following) for after, command, here, following in stops)
+        all(
+            shows_green(command, second + round(after - start), here, following)
+            for after, command, here, following in stops
+        )
         for second in range(cycle)
     ]
     longest = run = 0
@@ -184,12 +187,14 @@ def flows(folder: Folder, edges: Sequence[str]) -> list[tuple[float, float]]:
 
 
 def middle_flows(folder: Folder, edges: Sequence[str]) -> list[tuple[float, float]]:
-    """(vehicles a kilometre, vehicles an hour) of the middle third of each lane with traffic there, of each whole period:
-    means over its polls of the vehicles there and of their speeds, added up, over its length (Edie's definitions)."""
+    """(vehicles a kilometre, vehicles an hour) of the middle third of each lane with traffic there, of each
+    whole period: means over its polls of the vehicles there and of their speeds, added up, over its length
+    (Edie's definitions)."""
     links = folder.mapping.links
     polls: Counter[int] = Counter()
     seen: defaultdict[tuple[int, int, int], list[int]] = defaultdict(lambda: [0, 0])
-    wanted, start = {place for place, link in enumerate(links) if not edges or link.edge in edges}, folder.made.get("start", 0)
+    wanted = {place for place, link in enumerate(links) if not edges or link.edge in edges}
+    start = folder.made.get("start", 0)
     for poll in folder.polls():
         period = (poll["clock"] - 1 - start) // folder.period
         polls[period] += 1

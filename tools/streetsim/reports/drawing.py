@@ -21,8 +21,8 @@ def letter_mark(letter: str) -> str:
 def map_picture(
     mapping: Map, approaches: Mapping[str, tuple[str, str]], junctions: Mapping[str, tuple[str, str]]
 ) -> str:
-    """The streets; approaches by the colour of their letter, junctions as marks with theirs. approaches: {edge: (letter,
-    text)}, junctions: {name: (letter, text)}."""
+    """The streets; approaches by the colour of their letter, junctions as marks with theirs.
+    approaches: {edge: (letter, text)}, junctions: {name: (letter, text)}."""
     points = [point for link in mapping.links for point in link.shape]
     (left, right), (low, high) = ((min(values), max(values)) for values in zip(*points, strict=True))
     scale = min((WIDE - 60) / max(1.0, right - left), (MOST_HIGH - 60) / max(1.0, high - low))
@@ -69,8 +69,8 @@ def anchor(name: str) -> str:
 
 
 def queue_picture(rows: Sequence[tuple[str, float, float, float, float]]) -> str:
-    """A bar for each approach: the room of the edge, the 95 % queue in it, its 50 %, and a line at the greatest. rows: (name,
-    50 %, 95 %, greatest, room), metres."""
+    """A bar for each approach: the room of the edge, the 95 % queue in it, its 50 %, and a line at the greatest.
+    rows: (name, 50 %, 95 %, greatest, room), metres."""
     most = max(max(greatest, room) for _, _, _, greatest, room in rows) or 1.0
     scale, parts = 480 / most, []
     for place, (name, half, usual, greatest, room) in enumerate(rows):
@@ -83,8 +83,9 @@ def queue_picture(rows: Sequence[tuple[str, float, float, float, float]]) -> str
             f'<rect x="156" y="{y}" width="{room * scale:.1f}" height="18" fill="#fff" stroke="#666"/>'
             f'<rect x="156" y="{y + 3}" width="{usual * scale:.1f}" height="12" fill="#9ecae1"/>'
             f'<rect x="156" y="{y + 3}" width="{half * scale:.1f}" height="12" fill="#3182bd"/>'
-            f'<line x1="{156 + greatest * scale:.1f}" x2="{156 + greatest * scale:.1f}" y1="{y}" y2="{y + 18}" class="greatest"/>'
-            f'<text x="646" y="{y + 13}">{half:.0f}, {usual:.0f}, {greatest:.0f} of {room:.0f} m{over}</text></g>'
+            f'<line x1="{156 + greatest * scale:.1f}" x2="{156 + greatest * scale:.1f}" y1="{y}" y2="{y + 18}" '
+            f'class="greatest"/><text x="646" y="{y + 13}">{half:.0f}, {usual:.0f}, {greatest:.0f} of {room:.0f} '
+            f'm{over}</text></g>'
         )
     tall = 12 + 26 * len(rows)
     return f'<svg class="queues" viewBox="0 0 {WIDE} {tall}" role="img" aria-label="Queues">{"".join(parts)}</svg>'

@@ -112,7 +112,8 @@ def is_seed(path: str, name: str) -> bool:
 
 def read_rows(runs: Runs, table: str) -> None:
     """Adds the rows of a table of all seeds."""
-    found: defaultdict[tuple[int, int], dict[Any, Any]] = defaultdict(dict)  # (begin, end): {(key, control, movement): {seed: measures}}
+    # By (begin, end): {(key, control, movement): {seed: measures}}.
+    found: defaultdict[tuple[int, int], dict[Any, Any]] = defaultdict(dict)
     for seed, folder in runs.folders.items():
         place = f"{folder.path}/{table}.csv"
         if not os.path.exists(place):
@@ -122,7 +123,9 @@ def read_rows(runs: Runs, table: str) -> None:
             numbers = {name: float(row[name]) for name in MEASURES if row.get(name)}
             found[int(row["begin"]), int(row["end"])].setdefault(key, {})[seed] = numbers
     for (begin, end), rows in found.items():
-        made = {key: Row(key, control, movement, means(seeds), seeds) for (key, control, movement), seeds in rows.items()}
+        made = {
+            key: Row(key, control, movement, means(seeds), seeds) for (key, control, movement), seeds in rows.items()
+        }
         runs.rows[table, begin, end] = made
 
 

@@ -18,16 +18,25 @@ from .reading import Runs, read_runs
 def parser() -> Parser:
     made = Parser(
         prog="streetsim-report",
-        description="Makes one HTML page, without anything from outside, of folders that streetsim-run wrote with --junctions: "
-        "what was run, junctions by level of service, queues, before and after, whether it is to be trusted.",
+        description="Makes one HTML page, without anything from outside, of folders that streetsim-run wrote with "
+        "--junctions: what was run, junctions by level of service, queues, before and after, "
+        "whether it is to be trusted.",
     )
-    made.add_argument("runs", nargs="+", metavar="RUN", help="a folder, or one with seeds; a second one is the plan after it")
+    made.add_argument(
+        "runs", nargs="+", metavar="RUN", help="a folder, or one with seeds; a second one is the plan after it"
+    )
     made.add_argument("-o", "--output", required=True, help="the page (.html)")
     made.add_argument("--title", default="Junction report", help="(default: %(default)s)")
-    made.add_argument("--begin", type=time_within(0, limits.CLOCK), metavar="S", help="the interval shown (default: the busiest)")
+    made.add_argument(
+        "--begin", type=time_within(0, limits.CLOCK), metavar="S", help="the interval shown (default: the busiest)"
+    )
     made.add_argument("--corridor", default="", metavar="EDGES", help="a path to draw, of a run with --every 1 (to 5)")
-    made.add_argument("--first", type=time_within(0, limits.CLOCK), default=0, metavar="S", help="of the corridor's picture")
-    made.add_argument("--last", type=time_within(0, limits.CLOCK), default=600, metavar="S", help="of the corridor's picture")
+    made.add_argument(
+        "--first", type=time_within(0, limits.CLOCK), default=0, metavar="S", help="of the corridor's picture"
+    )
+    made.add_argument(
+        "--last", type=time_within(0, limits.CLOCK), default=600, metavar="S", help="of the corridor's picture"
+    )
     return made
 
 
@@ -43,7 +52,10 @@ def main(arguments: list[str]) -> int:
     text = writing.page(words.title, lead(all_runs), sections(all_runs, interval_of(all_runs, words), words))
     with whole_file(words.output) as file:
         file.write(text)
-    print(f"{words.output}: {len(all_runs[0].rows['junctions', *interval_of(all_runs, words)])} junctions, {len(text.encode()):,} bytes")
+    print(
+        f"{words.output}: {len(all_runs[0].rows['junctions', *interval_of(all_runs, words)])} junctions, "
+        f"{len(text.encode()):,} bytes"
+    )
     return 0
 
 
@@ -57,7 +69,10 @@ def interval_of(all_runs: Sequence[Runs], words: argparse.Namespace) -> tuple[in
         return busiest if busiest in common else min(common)
     found = [one for one in sorted(common) if one[0] == words.begin]
     if not found:
-        raise Fault(f"--begin {words.begin}: no interval begins there, of {', '.join(str(begin) for begin, _ in sorted(common))}")
+        raise Fault(
+            f"--begin {words.begin}: no interval begins there, "
+            f"of {', '.join(str(begin) for begin, _ in sorted(common))}"
+        )
     return found[0]
 
 
@@ -103,7 +118,9 @@ def corridor(runs: Runs, words: argparse.Namespace) -> str:
     back = leads_back(folder, words.corridor)
     with tempfile.TemporaryDirectory() as made:
         place = f"{made}/corridor.png"
-        path = ["corridor", folder.path, "--edges", words.corridor, "--first", str(words.first), "--last", str(words.last)]
+        path = [
+            "corridor", folder.path, "--edges", words.corridor, "--first", str(words.first), "--last", str(words.last),
+        ]
         plot([*path, *(["--both"] if back else []), "-o", place])
         with open(place, "rb") as file:
             content = file.read()

@@ -38,7 +38,9 @@ def table(head: Sequence[str], rows: Iterable[Sequence[str]], names: int = 1) ->
 
     def line(tag: str, cells: Sequence[str]) -> str:
         kinds = ['class="name"' if place < names else "" for place in range(len(cells))]
-        return "<tr>" + "".join(f"<{tag} {kind}>{cell}</{tag}>" for kind, cell in zip(kinds, cells, strict=True)) + "</tr>"
+        return (
+            "<tr>" + "".join(f"<{tag} {kind}>{cell}</{tag}>" for kind, cell in zip(kinds, cells, strict=True)) + "</tr>"
+        )
 
     body = "".join(line("td", row) for row in rows)
     return f"<table><thead>{line('th', head)}</thead><tbody>{body}</tbody></table>"
@@ -55,17 +57,34 @@ def what_was_run(all_runs: Sequence[Runs]) -> str:
         folder, made = runs.first, runs.first.made
         mapping = folder.mapping
         sources = mapping.sources or {}
-        files = ", ".join(escape(path) for path in (sources.get("net"), *sources.get("routes", ()), *sources.get("additional", ())) if path)
+        files = ", ".join(
+            escape(path)
+            for path in (sources.get("net"), *sources.get("routes", ()), *sources.get("additional", ()))
+            if path
+        )
         seeds = ", ".join(map(str, runs.folders))
         rows += [
-            [f"<b>{escape(runs.name)}</b>", escape(made.get("run", "")), ],
+            [
+                f"<b>{escape(runs.name)}</b>",
+                escape(made.get("run", "")),
+            ],
             ["files of the import", files or "not told by the map"],
-            ["network", f"{len(mapping.links_of):,} edges, {len(mapping.nodes):,} junctions, {len(mapping.signals):,} with signals"],
+            [
+                "network",
+                f"{len(mapping.links_of):,} edges, {len(mapping.nodes):,} junctions, "
+                f"{len(mapping.signals):,} with signals",
+            ],
             ["demand", f"{made.get('vehicles', len(mapping.cars)):,} vehicles"],
-            ["time", f"{clock(made.get('start', 0))} to {clock(made.get('until', 0))}, seeds {seeds}, dawdle {folder.dawdle}"],
+            [
+                "time",
+                f"{clock(made.get('start', 0))} to {clock(made.get('until', 0))}, seeds {seeds}, "
+                f"dawdle {folder.dawdle}",
+            ],
             ["program", f"SHA-256 {escape(str(made.get('program')))}"],
         ]
-    lines = "".join(f'<tr><th class="name" scope="row">{name}</th><td class="name">{text}</td></tr>' for name, text in rows)
+    lines = "".join(
+        f'<tr><th class="name" scope="row">{name}</th><td class="name">{text}</td></tr>' for name, text in rows
+    )
     return f"<table>{lines}</table>"
 
 
@@ -144,17 +163,24 @@ def junction_section(runs: Runs, name: str, interval_of: tuple[int, int]) -> str
     junction = runs.rows["junctions", *interval_of][name,]
     movements = [row for row in runs.rows["movements", *interval_of].values() if row.key[0] == name]
     approaches = [row for row in runs.rows["approaches", *interval_of].values() if row.key[0] == name]
-    head = ["approach", "to", "", "veh/h", "delay, s", "LOS", "v/c", "stopped, s", "stops", "queue 50 %, m", "95 %", "greatest"]
+    head = [
+        "approach", "to", "", "veh/h", "delay, s", "LOS", "v/c", "stopped, s", "stops", "queue 50 %, m", "95 %",
+        "greatest",
+    ]
     head[-1] += " of room"
     rows = [movement_row(row) for row in sorted(movements, key=lambda row: row.key)]
     values = junction.values
     queues = [
-        (row.key[1], row.values["queue_50_m"], row.values["queue_95_m"], row.values["queue_max_m"], row.values["storage_m"])
+        (
+            row.key[1], row.values["queue_50_m"], row.values["queue_95_m"], row.values["queue_max_m"],
+            row.values["storage_m"],
+        )
         for row in sorted(approaches, key=lambda row: row.key)
     ]
     return (
-        f'<section><h3 id="{anchor(name)}">Junction {escape(name)}: {junction.delay:.1f} s {letter_mark(junction.letter())}, '
-        f'{values["vehicles_per_hour"]:.0f} vehicles an hour, {escape(junction.control)}</h3>'
+        f'<section><h3 id="{anchor(name)}">Junction {escape(name)}: {junction.delay:.1f} s '
+        f'{letter_mark(junction.letter())}, {values["vehicles_per_hour"]:.0f} vehicles an hour, '
+        f'{escape(junction.control)}</h3>'
         f"{table(head, rows, names=3)}{queue_picture(queues)}</section>"
     )
 
@@ -162,7 +188,11 @@ def junction_section(runs: Runs, name: str, interval_of: tuple[int, int]) -> str
 def movement_row(row: Row) -> list[str]:
     values = row.values
     stops = f"{values['stops_per_vehicle']:.2f}" if "stops_per_vehicle" in values else ""
-    queues = [f"{values['queue_50_m']:.0f}", f"{values['queue_95_m']:.0f}", f"{values['queue_max_m']:.0f} of {values['storage_m']:.0f}"]
+    queues = [
+        f"{values['queue_50_m']:.0f}",
+        f"{values['queue_95_m']:.0f}",
+        f"{values['queue_max_m']:.0f} of {values['storage_m']:.0f}",
+    ]
     return [
         *(escape(part) for part in (row.key[1], row.key[2], row.movement)),
         *(f"{values['vehicles_per_hour']:.0f}", f"{row.delay:.1f}", letter_mark(row.letter()), f"{values['v_c']:.2f}"),
@@ -180,7 +210,9 @@ def before_and_after(before: Runs, after: Runs, interval_of: tuple[int, int]) ->
         rows = [side.rows.get((name, *interval_of), {}) for side in (before, after)]
         parts.append(f"<h3>{title}: control delay, s</h3>" + difference_rows(*rows))
     count = len(before.folders.keys() & after.folders.keys())
-    said = "Differences are of the same seeds" if count > 1 else "One seed alone tells nothing of chance: use --seeds 1-5"
+    said = (
+        "Differences are of the same seeds" if count > 1 else "One seed alone tells nothing of chance: use --seeds 1-5"
+    )
     return f'<p class="small">{said}; those whose sign is sure at 95 % are bold.</p>' + "".join(parts)
 
 
@@ -212,7 +244,8 @@ def image(content: bytes, text: str) -> str:
 
 def letter_styles() -> str:
     return "\n".join(
-        f".los-{letter} {{ background: {colour}; color: {'#fff' if letter in LIGHT else '#000'} }}" for letter, colour in COLOURS.items()
+        f".los-{letter} {{ background: {colour}; color: {'#fff' if letter in LIGHT else '#000'} }}"
+        for letter, colour in COLOURS.items()
     )
 
 
@@ -220,7 +253,10 @@ def page(title: str, lead: str, sections: Sequence[tuple[str, str, str]]) -> str
     """The whole page; sections: (name, title, HTML)."""
     text = (Path(__file__).parent / "page.html").read_text(encoding="utf-8")
     links = "".join(f'<a href="#{name}">{escape(head)}</a>' for name, head, _ in sections)
-    body = "\n".join(f'<section aria-labelledby="{name}"><h2 id="{name}">{escape(head)}</h2>{part}</section>' for name, head, part in sections)
+    body = "\n".join(
+        f'<section aria-labelledby="{name}"><h2 id="{name}">{escape(head)}</h2>{part}</section>'
+        for name, head, part in sections
+    )
     filled = {"@TITLE@": escape(title), "@LEAD@": lead, "@LINKS@": links, "@LETTERS@": letter_styles(), "@BODY@": body}
     for mark, content in filled.items():
         text = text.replace(mark, content)

@@ -20,16 +20,19 @@ Times = tuple[float, float]  # first and last second
 
 @dataclass(frozen=True, slots=True)
 class Closing:
-    """signs: edges on which those who do not know of the works are told of them; free: seconds of movements without traffic."""
+    """signs: edges on which those who do not know of the works are told of them;
+    free: seconds of movements without traffic."""
 
     shut: Shut
     signs: frozenset[int]
     free: Sequence[float]
 
 
-def shut_edges(works: Iterable[Works], graph: Graph, mapping: Map, dawdle: float) -> dict[int, list[tuple[float, float]]]:
-    """The times in which an edge is not to be entered: while all its lanes are closed, and so shortly before that one would not come
-    past the works."""
+def shut_edges(
+    works: Iterable[Works], graph: Graph, mapping: Map, dawdle: float
+) -> dict[int, list[tuple[float, float]]]:
+    """The times in which an edge is not to be entered: while all its lanes are closed, and so shortly before that one
+    would not come past the works."""
     driving, links = FreeFlow(mapping, dawdle).driving, shut_links(sites_of(works, mapping), mapping)
     found = {}
     for edge in dict.fromkeys(mapping.links[link].edge for link in links):
@@ -54,8 +57,8 @@ def knows(name: str, share: float, seed: int) -> bool:
 
 
 def turn_off(trips: Iterable[Trip], closing: Closing, graph: Graph, costs: Costs, strict: bool) -> int:
-    """Those who would come to a shut edge turn off before it, and go on by the way that is shortest without traffic; gives how many
-    have other ways than before. strict: where there is no way that is a Fault, and else they wait."""
+    """Those who would come to a shut edge turn off before it, and go on by the way that is shortest without traffic;
+    gives how many have other ways than before. strict: where there is no way that is a Fault, and else they wait."""
     router, without, turned = Router(graph, costs, closing.shut), flat_costs(graph, closing.free), 0
     free = {edge: Router(graph, without, {**closing.shut, edge: [(-FAR, FAR)]}) for edge in closing.shut}
     for trip in trips:
@@ -71,8 +74,9 @@ def turn_off(trips: Iterable[Trip], closing: Closing, graph: Graph, costs: Costs
 
 
 def way_round(trip: Trip, shut: int, signs: Collection[int], router: Router, free: Router) -> Path:
-    """The way of a trip that turns off on its first edge with a sign, or at the last crossing before the shut edge; none: empty. free:
-    without the shut edge at any time, as who comes later than without traffic would come to it again."""
+    """The way of a trip that turns off on its first edge with a sign, or at the last crossing before the
+    shut edge; none: empty. free: without the shut edge at any time, as who comes later than without traffic
+    would come to it again."""
     clocks = router.clocks(trip.path[:shut], trip.entry)
     signed = (at for at in range(shut) if trip.path[at] in signs)
     for at in (*signed, *reversed(range(shut))):
@@ -86,5 +90,8 @@ def why_not(path: Path, place: int, graph: Graph) -> str:
     """Why a trip can not drive whose path has a shut edge at a place."""
     edge = graph.edges[path[place]]
     if place == 0 or place == len(path) - 1:
-        return f"{'ends' if place else 'begins'} on edge {edge!r} while it is closed: take it out, or change the times of the works"
+        return (
+            f"{'ends' if place else 'begins'} on edge {edge!r} while it is closed: take it out, "
+            "or change the times of the works"
+        )
     return f"has no way round edge {edge!r} while it is closed"

@@ -17,7 +17,8 @@ SHARES = [(part + 0.5) / PARTS - 0.5 for part in range(PARTS)]  # of a slice, fr
 
 @dataclass(slots=True)
 class Observed:
-    """What one run showed: seconds and numbers of vehicles of each movement in each slice of time, one after another."""
+    """What one run showed: seconds and numbers of vehicles of each movement in each slice of
+    time, one after another."""
 
     slices: int
     seconds: array
@@ -98,8 +99,8 @@ class Table:
 
 
 def costs_of(graph: Graph, free: Sequence[float], observed: Observed, width: float) -> Costs:
-    """The costs by what was observed. A movement that n vehicles took in a slice has the mean of their delays and, as of some more
-    vehicles, of the edge's; what nobody took is free."""
+    """The costs by what was observed. A movement that n vehicles took in a slice has the mean of their delays and,
+    as of some more vehicles, of the edge's; what nobody took is free."""
     slices, counts = observed.slices, observed.counts
     delays = array("d", [
         seconds - counts[place] * free[place // slices] for place, seconds in enumerate(observed.seconds)
@@ -134,4 +135,8 @@ def edge_sums(graph: Graph, slices: int, values: array) -> array:
 
 def flat_costs(graph: Graph, seconds: Sequence[float]) -> Costs:
     """Costs that are the same at all times."""
-    return Costs(float("inf"), 1, [value + (TURN_BACK if back else 0.0) for value, back in zip(seconds, graph.turns_back, strict=True)])
+    return Costs(
+        float("inf"),
+        1,
+        [value + (TURN_BACK if back else 0.0) for value, back in zip(seconds, graph.turns_back, strict=True)],
+    )

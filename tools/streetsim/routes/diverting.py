@@ -22,7 +22,10 @@ from .search import Asked, Iteration, Judged, Search
 from .trips import Trip, Trips
 
 SHARES = (
-    *("knowing", "trips_that_know", "mean_trip_s", "difference_s", "half_width_95_s", "relative_gap", "arrived", "rescues"),
+    *(
+        "knowing", "trips_that_know", "mean_trip_s", "difference_s", "half_width_95_s", "relative_gap", "arrived",
+        "rescues",
+    ),
     "trips_that_change",
 )
 
@@ -81,12 +84,15 @@ def give_ways(trips: Sequence[Trip], before: Trips, graph: Graph, where: str) ->
         if (found.path[0], found.path[-1]) != (trip.origin, trip.target):
             raise Fault(f"{where}: the route of {trip.name!r} does not go from where it begins to where it ends")
         if not all(way in graph.movement_of for way in pairwise(found.path)):
-            raise Fault(f"{where}: the route of {trip.name!r} has two edges that follow each other and have no connection")
+            raise Fault(
+                f"{where}: the route of {trip.name!r} has two edges that follow each other and have no connection"
+            )
         trip.path = found.path
 
 
 def check_works(texts: Sequence[str], signs: Sequence[str], trips: Sequence[Trip], town: Town, until: int) -> None:
-    """Refuses works that can not be, before anything runs; who ends on a closed edge is known after the runs without works."""
+    """Refuses works that can not be, before anything runs; who ends on a closed edge is known after
+    the runs without works."""
     mapping = town.mapped()
     works = [works_of(text, mapping) for text in texts]
     if late := [one.text for one in works if one.first >= until]:
@@ -106,14 +112,23 @@ def closing_of(texts: Sequence[str], signs: Sequence[str], graph: Graph, before:
 
 
 def diverted(
-    before: Search, judged: Judged, closing: Closing, texts: Sequence[str], asked: Asked, check: range, shares: Sequence[float],
+    before: Search,
+    judged: Judged,
+    closing: Closing,
+    texts: Sequence[str],
+    asked: Asked,
+    check: range,
+    shares: Sequence[float],
     told: Callable[[str, Iteration], bool],
-) -> Iterator[Diverted]:  # fmt: skip
+) -> Iterator[Diverted]:
     """What each share of drivers who know of the works gives; all begin with the ways before."""
     town = copy.copy(before.town)
     town.works = tuple(texts)
     for share in shares:
-        trips = [dataclasses.replace(trip, changes=trip.changes and knows(trip.name, share, asked.seeds[0])) for trip in before.trips]
+        trips = [
+            dataclasses.replace(trip, changes=trip.changes and knows(trip.name, share, asked.seeds[0]))
+            for trip in before.trips
+        ]
         label = f"knowing {share:g}, "
         search = Search(town, before.ground, trips, before.team, partial(told, label), closing)
         search.turn_off(judged.observed, strict=True)
@@ -142,8 +157,15 @@ def share_rows(all_: Sequence[Diverted]) -> Iterator[tuple]:
         difference, half = (None, None) if one is before else interval(apart)
         changed = sum(own.path != other.path for own, other in zip(one.trips, before.trips, strict=True))
         yield (
-            *("" if one.share is None else f"{one.share:g}", sum(trip.changes for trip in one.trips) if one is not before else ""),
+            *(
+                "" if one.share is None else f"{one.share:g}",
+                sum(trip.changes for trip in one.trips) if one is not before else "",
+            ),
             *(f"{fmean(one.means()):.3f}", *("" if value is None else f"{value:.3f}" for value in (difference, half))),
-            *(f"{one.judged.gap:.5f}", min(run.arrived for run in one.judged.outcomes), sum(run.rescues for run in one.judged.outcomes)),
+            *(
+                f"{one.judged.gap:.5f}",
+                min(run.arrived for run in one.judged.outcomes),
+                sum(run.rescues for run in one.judged.outcomes),
+            ),
             changed,
         )

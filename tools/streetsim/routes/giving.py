@@ -22,7 +22,9 @@ def named(found: Mapping[tuple[int, int], Sequence[tuple[float, int]]], mapping:
 
 def waiting_lines(passed: Passed, mapping: Map, start: int) -> list[tuple[int, Line]]:
     """The signal lines by which vehicles wait for those who passed first, (clock, line)."""
-    places = {(mapping.links[link].edge, mapping.links[link].lanes[lane]): (link, lane) for link, lane in mapping.lanes()}
+    places = {
+        (mapping.links[link].edge, mapping.links[link].lanes[lane]): (link, lane) for link, lane in mapping.lanes()
+    }
     turns: defaultdict[tuple[str, str], list[tuple[int, int, int]]] = defaultdict(list)
     for turn in mapping.turns:
         turns[mapping.links[turn.link].edge, mapping.links[turn.next].edge].append((turn.link, turn.lane, turn.next))

@@ -10,7 +10,8 @@ END = -1  # stands for the next edge of a movement that ends a trip
 
 
 class Graph:
-    """Edges go by number. A movement is a way from an edge to a next one, or to the END of a trip on that edge; these stand last.
+    """Edges go by number. A movement is a way from an edge to a next one, or to the END of a trip on that edge;
+    these stand last.
 
     Turn restrictions hold, since there is a movement only where the network has a connection.
     """
@@ -28,7 +29,8 @@ class Graph:
             self.out[edge].append((following, at))
             self.into[following].append((edge, at))
         self.turns_back = [
-            following != END and ends[self.edges[edge]] == ends[self.edges[following]][::-1] for edge, following in self.movements
+            following != END and ends[self.edges[edge]] == ends[self.edges[following]][::-1]
+            for edge, following in self.movements
         ]
 
     def names(self, path: Iterable[int]) -> tuple[str, ...]:

@@ -18,9 +18,12 @@ from .trips import read_trips
 NO_WAY = "no way from where the trip begins to where it ends"
 
 
-def vehicles_with_ways(net: SumoNet, types: Types, paths: Iterable[str], options: Options, report: Report) -> list[Vehicle]:
-    """The vehicles of files of trips, flows and routes, by departure. Those without a route have the way that is shortest with free
-    speed, the waits at signals and the delays that the volumes so far would make; who has none is counted in the report.
+def vehicles_with_ways(
+    net: SumoNet, types: Types, paths: Iterable[str], options: Options, report: Report
+) -> list[Vehicle]:
+    """The vehicles of files of trips, flows and routes, by departure. Those without a route have the way that is
+    shortest with free speed, the waits at signals and the delays that the volumes so far would make; who has none
+    is counted in the report.
 
     Lanes that are joint for works change nothing of it, so that a run and one with works differ by the works alone.
     """
@@ -38,4 +41,8 @@ def vehicles_with_ways(net: SumoNet, types: Types, paths: Iterable[str], options
     if lost:
         report.skipped[NO_WAY] += len(lost)
     names = town.graph.names
-    return [Vehicle(trip.name, trip.depart, names(trip.path), trip.type, trip.route) for trip in trips if trip.name not in lost]
+    return [
+        Vehicle(trip.name, trip.depart, names(trip.path), trip.type, trip.route)
+        for trip in trips
+        if trip.name not in lost
+    ]

@@ -43,7 +43,8 @@ class Town:
         return self.options.dawdle / 1000
 
     def loaded(self, trips: Sequence[Trip]) -> Loaded:
-        """The run of trips that have ways. Permissive greens and the choice of lanes follow the routes, so it is imported anew."""
+        """The run of trips that have ways. Permissive greens and the choice of lanes follow the routes,
+        so it is imported anew."""
         run, mapping = self.imported(trips, ())
         if self.works:
             run, mapping = self.with_works(trips, run, mapping)
@@ -52,9 +53,13 @@ class Town:
     def imported(self, trips: Sequence[Trip], joint: Sequence[str]) -> tuple[Run, Map]:
         """The run and its map, with some further lanes joint."""
         report, options = Report(), replace(self.options, joint=(*self.options.joint, *joint))
-        network, lights, commands, names = converted(self.net, self.types, vehicles_of(trips, self.graph), options, report)
+        network, lights, commands, names = converted(
+            self.net, self.types, vehicles_of(trips, self.graph), options, report
+        )
         if report.skipped:
-            raise Fault(f"skipped: {', '.join(f'{count} vehicles: {why}' for why, count in sorted(report.skipped.items()))}")
+            raise Fault(
+                f"skipped: {', '.join(f'{count} vehicles: {why}' for why, count in sorted(report.skipped.items()))}"
+            )
         lines = lines_of(commands)
         refuse_over_limits(network, lines[0].text, names)
         return run_of("the routes", lines), map_of(network, lights, names, report)

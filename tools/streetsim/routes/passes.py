@@ -13,7 +13,8 @@ LEAST_DELAY = 0.1  # seconds that are expected of any movement, so that what is 
 
 
 class Sight(NamedTuple):
-    """Where a vehicle was seen: the clock, the link, the seconds of free driving from its begin, the speed in cells a step."""
+    """Where a vehicle was seen: the clock, the link, the seconds of free driving from its begin,
+    the speed in cells a step."""
 
     clock: int
     link: int
@@ -31,7 +32,8 @@ class Point(NamedTuple):
 
 
 class Passes:
-    """What was lost between two sights of a vehicle is dealt to the movements between them by the delays that are expected there."""
+    """What was lost between two sights of a vehicle is dealt to the movements between them by the delays
+    that are expected there."""
 
     def __init__(self, graph: Graph, mapping: Map, costs: Costs, dawdle: float, every: int) -> None:
         """costs: what is expected; every: seconds from one time at which vehicles are seen to the next."""
@@ -51,8 +53,8 @@ class Passes:
         return max(LEAST_DELAY, seconds - self.driving[link] - self.crossing[link])
 
     def clocks(self, plan: Sequence[int], depart: int, seen: Sequence[Sight], arrival: int | None) -> list[float]:
-        """When each link of a plan was reached, as far as that is known: the last one is the first that was not left. Empty where
-        the vehicle was never on the road."""
+        """When each link of a plan was reached, as far as that is known: the last one is the first that was not left.
+        Empty where the vehicle was never on the road."""
         if not seen and arrival is None:
             return []
         clocks = [self.entry(plan, depart, seen)]

@@ -1,12 +1,10 @@
 """Pictures of a search for routes: the gap over iterations, and flows before and with road works."""
 from __future__ import annotations
 
-import sys
 from collections import Counter
 from collections.abc import Sequence
 from typing import Any, NamedTuple
 
-from ..files import Fault
 from ..pictures import plots
 from ..run.mapping import MapLink
 from .diverting import Diverted
@@ -22,10 +20,8 @@ NEAR = 250.0  # metres around what differs, at least
 
 def draw(folder: str, before: Diverted, one: Diverted) -> None:
     """Draws a search into a folder; without matplotlib nothing, which is said."""
-    try:
-        pyplot = plots.drawing()
-    except Fault as fault:
-        print(f"no picture: {fault}", file=sys.stderr)
+    pyplot = plots.drawing_if_there()
+    if pyplot is None:
         return
     plots.save(gaps(pyplot, [before] if one is before else [before, one]), f"{folder}/gap.png")
     if one is not before:
@@ -36,10 +32,18 @@ def gaps(pyplot: Any, searches: Sequence[Diverted]) -> Any:
     figure, axes = pyplot.subplots(figsize=(6.5, 3.5))
     for style, one in zip(STYLES, searches):
         numbers = [iteration.number for iteration in one.search.iterations]
-        axes.plot(numbers, [100 * iteration.gap for iteration in one.search.iterations], style, color="#225588", label=one.label)
+        axes.plot(
+            numbers,
+            [100 * iteration.gap for iteration in one.search.iterations],
+            style,
+            color="#225588",
+            label=one.label,
+        )
         axes.plot([one.search.best.number], [100 * one.judged.gap], "o", color="black", markersize=5)
     axes.plot([], [], "o", color="black", label="the routes kept, by seeds that the search did not see")
-    axes.set(xlabel="iteration", ylabel="relative gap (%)", title="What all could gain by other ways, of their shortest ways")
+    axes.set(
+        xlabel="iteration", ylabel="relative gap (%)", title="What all could gain by other ways, of their shortest ways"
+    )
     axes.set_ylim(0, ROOM * axes.get_ylim()[1])
     axes.legend(frameon=False, fontsize=8, loc="upper right")
     return figure
@@ -60,7 +64,9 @@ def flows(pyplot: Any, before: Diverted, one: Diverted) -> Any:
     figure.colorbar(lines, ax=axes[:2], label="trips", location="bottom", shrink=0.6)
     apart = [after - first for first, after in zip(*values, strict=True)]
     lines = draw_flows(axes[2], links, apart, differences(max(1, *(abs(value) for value in apart))), "difference")
-    figure.colorbar(lines, ax=axes[2], label="trips fewer (broken lines) or more than before", location="bottom", shrink=0.9)
+    figure.colorbar(
+        lines, ax=axes[2], label="trips fewer (broken lines) or more than before", location="bottom", shrink=0.9
+    )
     zoom(axes[2], links, apart)
     if works:
         for place in axes[1:]:
@@ -85,7 +91,11 @@ def shades(most: int) -> Scale:
 
     steps = MaxNLocator(CLASSES, integer=True).tick_values(0, most)
     count = len(steps) - 1
-    return Scale(ListedColormap([colormaps["viridis_r"](0.15 + 0.85 * at / max(1, count - 1)) for at in range(count)]), BoundaryNorm(steps, count), most)
+    return Scale(
+        ListedColormap([colormaps["viridis_r"](0.15 + 0.85 * at / max(1, count - 1)) for at in range(count)]),
+        BoundaryNorm(steps, count),
+        most,
+    )
 
 
 def differences(most: int) -> Scale:

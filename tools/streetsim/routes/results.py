@@ -17,7 +17,10 @@ from .trips import Trip
 
 NAME = "setting.json"
 ITERATIONS = (
-    *("iteration", "mean_trip_s", "arrived", "rescues", "relative_gap", "mean_way_s", "may_change", "changed", "taken_back"),
+    *(
+        "iteration", "mean_trip_s", "arrived", "rescues", "relative_gap", "mean_way_s", "may_change", "changed",
+        "taken_back",
+    ),
     "calls",
 )
 CHECK = ("seed", "mean_trip_s", "arrived", "rescues")
@@ -26,7 +29,9 @@ FLOWS = ("edge", "case", "trips", "more_than_before")
 TRIPS = ("id", "depart", "edges", "may_change", "mean_trip_s", "way_s", "shortest_s")
 
 
-def write_results(folder: str, town: Town, trips: Sequence[Trip], iterations: Sequence[Iteration], judged: Judged, setting: dict) -> None:
+def write_results(
+    folder: str, town: Town, trips: Sequence[Trip], iterations: Sequence[Iteration], judged: Judged, setting: dict
+) -> None:
     write_table(f"{folder}/iterations.csv", ITERATIONS, iteration_rows(iterations))
     write_table(f"{folder}/check.csv", CHECK, check_rows(judged))
     write_table(f"{folder}/movements.csv", MOVEMENTS, movement_rows(town, judged, setting["slice"]))
@@ -39,7 +44,10 @@ def write_results(folder: str, town: Town, trips: Sequence[Trip], iterations: Se
 def iteration_rows(iterations: Sequence[Iteration]) -> Iterator[tuple]:
     for one in iterations:
         yield (
-            *(one.number, f"{one.mean:.2f}", one.arrived, one.rescues, f"{one.gap:.5f}", f"{one.cost:.2f}", one.may_change, one.changed),
+            *(
+                one.number, f"{one.mean:.2f}", one.arrived, one.rescues, f"{one.gap:.5f}", f"{one.cost:.2f}",
+                one.may_change, one.changed,
+            ),
             *(int(one.taken_back), one.calls),
         )
 
@@ -59,12 +67,16 @@ def movement_rows(town: Town, judged: Judged, width: int) -> Iterator[tuple]:
                 following_name = "" if following == END else graph.edges[following]
                 mean, free = observed.seconds[place] / count, judged.loaded.free[movement]
                 yield (
-                    *(slice_ * width, (slice_ + 1) * width, graph.edges[edge], following_name, f"{count:.2f}", f"{mean:.1f}", f"{free:.1f}"),
+                    *(
+                        slice_ * width, (slice_ + 1) * width, graph.edges[edge], following_name, f"{count:.2f}",
+                        f"{mean:.1f}", f"{free:.1f}",
+                    ),
                 )
 
 
 def trip_rows(trips: Sequence[Trip], judged: Judged) -> Iterator[tuple]:
-    """For each trip its mean seconds of the check runs where it arrived in all, and of its way and the shortest by their costs."""
+    """For each trip its mean seconds of the check runs where it arrived in all,
+    and of its way and the shortest by their costs."""
     searched = {one.trip: one for one in judged.found}
     for at, trip in enumerate(trips):
         ends = [end for one in judged.outcomes if (end := one.ends[at]) is not None]
@@ -75,7 +87,8 @@ def trip_rows(trips: Sequence[Trip], judged: Judged) -> Iterator[tuple]:
 
 
 def flow_rows(graph: Graph, all_: Sequence[Diverted]) -> Iterator[tuple]:
-    """For each edge how many trips have it on their ways, before and with each share of drivers who know of the works."""
+    """For each edge how many trips have it on their ways, before and with each share of drivers
+    who know of the works."""
     flows = [Counter(edge for trip in one.trips for edge in set(trip.path)) for one in all_]
     for edge, name in enumerate(graph.edges):
         for one, flow in zip(all_, flows, strict=True):

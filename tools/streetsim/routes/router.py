@@ -17,7 +17,8 @@ Shut = Mapping[int, Sequence[tuple[float, float]]]  # by edge: from when until w
 
 
 class Wish(NamedTuple):
-    """A trip as the router sees it: from when on it goes from an edge to another, and the path that it has (none: empty)."""
+    """A trip as the router sees it: from when on it goes from an edge to another,
+    and the path that it has (none: empty)."""
 
     trip: int
     origin: int
@@ -27,7 +28,8 @@ class Wish(NamedTuple):
 
 
 class Found(NamedTuple):
-    """What the router found for a trip: the best path, its seconds and those of the trip's own path. No path: no way."""
+    """What the router found for a trip: the best path, its seconds and those of the trip's own path.
+    No path: no way."""
 
     trip: int
     path: Path
@@ -48,7 +50,9 @@ class Router:
         """The next edges of an edge, each with the costs of going there."""
         made = self.arcs[edge]
         if made is None:
-            made = self.arcs[edge] = [(following, self.table.row(movement)) for following, movement in self.graph.out[edge]]
+            made = self.arcs[edge] = [
+                (following, self.table.row(movement)) for following, movement in self.graph.out[edge]
+            ]
         return made
 
     def bounds_to(self, target: int) -> list[float]:
@@ -71,15 +75,20 @@ class Router:
         return found
 
     def search(self, origin: int, target: int, clock: float) -> tuple[Path, float]:
-        """The path that is shortest from a clock on, and its seconds to the end of the target; no path where there is none."""
+        """The path that is shortest from a clock on, and its seconds to the end of the target;
+        no path where there is none."""
         bounds, inverse, last, shut = self.bounds_to(target), self.table.inverse, self.table.last, self.shut
         best, before = {origin: clock}, dict[int, int]()
-        heap = [(clock + bounds[origin], -clock, origin)] if bounds[origin] < FAR else []  # of equal ones the farthest first
+        # Of equal ones the farthest comes first.
+        heap = [(clock + bounds[origin], -clock, origin)] if bounds[origin] < FAR else []
         while heap:
             _, now, edge = heappop(heap)
             now = -now
             if edge == target:
-                return self.traced(before, origin, target), now + self.table.at(self.graph.movement_of[target, END], now) - clock
+                return (
+                    self.traced(before, origin, target),
+                    now + self.table.at(self.graph.movement_of[target, END], now) - clock,
+                )
             if now > best[edge]:
                 continue
             part = int(now * inverse)

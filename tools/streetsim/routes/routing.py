@@ -35,15 +35,19 @@ AFTER = 7200  # seconds that a run may last after the last departure
 def parser() -> argparse.ArgumentParser:
     made = Parser(
         prog="streetsim-route",
-        description="Finds routes for trips by feedback between a router and runs, until nobody gains much by another way, and tells by "
-        "seeds that the search did not see how much that is.",
+        description="Finds routes for trips by feedback between a router and runs, until nobody gains much by another "
+        "way, and tells by seeds that the search did not see how much that is.",
     )
     made.add_argument("net", help="the network (.net.xml, .net.xml.gz)")
     made.add_argument(
         "additional", nargs="*", default=[], help="additional files with signal programs and vehicle types"
     )
     made.add_argument(
-        "--trips", required=True, nargs="+", metavar="FILE", help="trips, flows with from and to, and vehicles, whose routes are first ways"
+        "--trips",
+        required=True,
+        nargs="+",
+        metavar="FILE",
+        help="trips, flows with from and to, and vehicles, whose routes are first ways",
     )
     made.add_argument("-o", "--output", required=True, help="the routes found (.rou.xml)")
     made.add_argument("--run", help="the run of these routes, as streetsim-import makes it (.jsonl); with --map")
@@ -60,22 +64,44 @@ def add_search(made: argparse.ArgumentParser) -> None:
     """The words that say how routes are searched and judged."""
     made.add_argument("--anew", action="store_true", help="forget the routes that vehicles have")
     made.add_argument(
-        "--until", type=time_within(1, limits.CLOCK), metavar="S", help=f"the clock at the end of a run (default: {AFTER:,} s after the last departure)"
+        "--until",
+        type=time_within(1, limits.CLOCK),
+        metavar="S",
+        help=f"the clock at the end of a run (default: {AFTER:,} s after the last departure)",
     )
-    made.add_argument("--slice", type=time_within(60, 86_400), default=300, metavar="S", help="seconds over which costs are means (default %(default)s)")
-    made.add_argument("--iterations", type=within(0, 1000), default=15, metavar="N", help="at most (default %(default)s)")
     made.add_argument(
-        "--gap", type=share_of, default=0.02, help="what all could gain by other ways, of the seconds of the shortest ways (default %(default)s)"
+        "--slice",
+        type=time_within(60, 86_400),
+        default=300,
+        metavar="S",
+        help="seconds over which costs are means (default %(default)s)",
     )
-    made.add_argument("--share", type=share_of, default=0.2, help="of the trips, that change their way at first (default %(default)s)")
     made.add_argument(
-        "--tried", type=within(1, 8), default=1, metavar="N", help="shares tried side by side in an iteration: the share, half of it, a quarter, .. "
-        "(default %(default)s)"
+        "--iterations", type=within(0, 1000), default=15, metavar="N", help="at most (default %(default)s)"
+    )
+    made.add_argument(
+        "--gap",
+        type=share_of,
+        default=0.02,
+        help="what all could gain by other ways, of the seconds of the shortest ways (default %(default)s)",
+    )
+    made.add_argument(
+        "--share", type=share_of, default=0.2, help="of the trips, that change their way at first (default %(default)s)"
+    )
+    made.add_argument(
+        "--tried",
+        type=within(1, 8),
+        default=1,
+        metavar="N",
+        help="shares tried side by side in an iteration: the share, half of it, a quarter, .. (default %(default)s)",
     )
     add_rounds(made)
     made.add_argument("--seeds", default="1", metavar="FIRST-LAST", help="of the search (default %(default)s)")
     made.add_argument(
-        "--check", default="101-103", metavar="FIRST-LAST", help="seeds by which the routes are judged, which the search does not see (default %(default)s)"
+        "--check",
+        default="101-103",
+        metavar="FIRST-LAST",
+        help="seeds by which the routes are judged, which the search does not see (default %(default)s)",
     )
 
 
@@ -87,14 +113,27 @@ def add_works(made: argparse.ArgumentParser) -> None:
         nargs="+",
         default=[],
         metavar="LANE:METRES-METRES:S-S",
-        help="road works, as of streetsim-run; where all lanes of an edge are closed, those who know of it take another way from their begin on, "
-        "and the others turn off before it",
+        help="road works, as of streetsim-run; where all lanes of an edge are closed, those who know of it take "
+        "another way from their begin on, and the others turn off before it",
     )
     made.add_argument(
-        "--knowing", type=shares_of, metavar="SHARES", help="of drivers who know of the works, with commas between: each is tried (default 1)"
+        "--knowing",
+        type=shares_of,
+        metavar="SHARES",
+        help="of drivers who know of the works, with commas between: each is tried (default 1)",
     )
-    made.add_argument("--sign", nargs="+", default=[], metavar="EDGE", help="edges on which the others are told (default: the last before the works)")
-    made.add_argument("--before", metavar="FILE", help="routes without the works (.rou.xml; default: those of --trips, or else they are searched first)")
+    made.add_argument(
+        "--sign",
+        nargs="+",
+        default=[],
+        metavar="EDGE",
+        help="edges on which the others are told (default: the last before the works)",
+    )
+    made.add_argument(
+        "--before",
+        metavar="FILE",
+        help="routes without the works (.rou.xml; default: those of --trips, or else they are searched first)",
+    )
 
 
 def shares_of(text: str) -> list[float]:
@@ -157,7 +196,10 @@ def check_words(words: argparse.Namespace) -> None:
             raise Fault(f"--{name} is of road works: give --close too")
     words.knowing = words.knowing or [1.0]
     if set(seeds_of(words.seeds, "--seeds")) & set(seeds_of(words.check, "--check")):
-        raise Fault(f"--seeds {words.seeds} and --check {words.check} overlap: routes must not be judged by what they were found by")
+        raise Fault(
+            f"--seeds {words.seeds} and --check {words.check} overlap: routes must not be judged by what "
+            "they were found by"
+        )
     words.program = program.find_program(words.program)
 
 
@@ -186,14 +228,17 @@ def job_of(words: argparse.Namespace) -> Job:
 
 
 def found_routes(job: Job, workers: Team, stopping: Stopping) -> list[Diverted]:
-    """What was found, judged by the check seeds: without works, and with them for each share of drivers who know of them."""
+    """What was found, judged by the check seeds: without works, and with them for each share of
+    drivers who know of them."""
     words, count = job.words, len(job.trips.all)
 
     def told(label: str, iteration: Iteration) -> bool:
         print(f"{label}{iteration.line(count)}", file=sys.stderr, flush=True)
         return stopping.asked
 
-    search = Search(job.town, job.ground, job.trips.all, workers, lambda one: told("before, " if words.close else "", one))
+    search = Search(
+        job.town, job.ground, job.trips.all, workers, lambda one: told("before, " if words.close else "", one)
+    )
     given = words.close and all(trip.path for trip in job.trips.all)
     if not given:
         search.start(job.asked.seeds[0])
@@ -234,13 +279,19 @@ def write_run_of(job: Job, one: Diverted, run_path: str, map_path: str) -> None:
     run, mapping = loaded.run, loaded.mapping
     timed = [json.dumps({"at": clock, **line.command}, separators=(",", ":")) for clock, line in run.timed]
     with whole_file(run_path) as file, whole_file(map_path) as mapped:
-        file.writelines(f"{text}\n" for text in (run.load.text, *(line.text for line in run.first), *timed, *(line.text for line in run.enters)))
+        file.writelines(
+            f"{text}\n"
+            for text in (run.load.text, *(line.text for line in run.first), *timed, *(line.text for line in run.enters))
+        )
         json.dump(mapping.written(), mapped, separators=(",", ":"))
 
 
 def setting_of(job: Job, one: Diverted, before: Diverted) -> dict:
     words = job.words
-    names = ("net", "additional", "trips", "anew", "slice", "iterations", "gap", "share", "tried", "rounds", "seeds", "check")
+    names = (
+        "net", "additional", "trips", "anew", "slice", "iterations", "gap", "share", "tried", "rounds", "seeds",
+        "check",
+    )
     setting = {name: getattr(words, name) for name in names} | {"import": asdict(job.town.options)}
     setting |= {"until": job.ground.until, "iteration": one.search.best.number, "not_trusted": list(one.doubts())}
     if words.close:
@@ -253,7 +304,10 @@ def tell(job: Job, one: Diverted, before: Diverted) -> int:
     """Says what was found and what speaks against it; gives the status."""
     label = f"{one.label}: " * (one.share is not None)
     if is_still(one.search) and one.judged.gap > job.words.gap:
-        print(f"warning: {label}the gap does not fall any more: the least was seen in iteration {one.search.best.number}", file=sys.stderr)
+        print(
+            f"warning: {label}the gap does not fall any more: the least was seen in iteration {one.search.best.number}",
+            file=sys.stderr,
+        )
     if one is not before and (why := within_gap(one, before)):
         print(f"warning: {label}{why}", file=sys.stderr)
     mean, runs, missed = fmean(one.means()), len(one.judged.outcomes), missing(job, one, before)
@@ -267,7 +321,8 @@ def tell(job: Job, one: Diverted, before: Diverted) -> int:
 
 
 def missing(job: Job, one: Diverted, before: Diverted) -> str | None:
-    """Where the gap that was asked for is not reached, if it is not. Ways without works that were given are not judged."""
+    """Where the gap that was asked for is not reached, if it is not.
+    Ways without works that were given are not judged."""
     without = before.judged.gap if before.search.iterations and one is not before else 0.0
     if max(one.judged.gap, without) <= job.words.gap:
         return None

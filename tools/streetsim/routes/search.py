@@ -26,7 +26,8 @@ STILL = 5  # iterations without a smaller gap, of which is warned
 
 @dataclass(frozen=True, slots=True)
 class Asked:
-    """What a search is to do. gap: a share of the seconds on shortest ways; share: of trips, that change at the start."""
+    """What a search is to do. gap: a share of the seconds on shortest ways; share: of trips,
+    that change at the start."""
 
     iterations: int
     gap: float
@@ -50,7 +51,8 @@ class Seen:
 
 @dataclass(frozen=True, slots=True)
 class Iteration:
-    """What was seen in an iteration. cost: mean seconds of the ways of those who may change, by the costs of that iteration."""
+    """What was seen in an iteration. cost: mean seconds of the ways of those who may change,
+    by the costs of that iteration."""
 
     number: int
     mean: float  # seconds of a trip
@@ -67,15 +69,15 @@ class Iteration:
     def line(self, trips: int) -> str:
         back = ", taken back" if self.taken_back else ""
         return (
-            f"{self.number}: mean trip {self.mean:.1f} s, gap {100 * self.gap:.2f} %{back}, {self.changed:,} of {trips:,} change, "
-            f"{self.rescues:,} rescues"
+            f"{self.number}: mean trip {self.mean:.1f} s, gap {100 * self.gap:.2f} %{back}, "
+            f"{self.changed:,} of {trips:,} change, {self.rescues:,} rescues"
         )
 
 
 @dataclass(slots=True)
 class Best:
-    """The best iteration so far: the ways and entries of its trips. An iteration is better where more trips arrive, and of those
-    where as many do, where the gap is less: a gap says nothing of trips that stand for ever."""
+    """The best iteration so far: the ways and entries of its trips. An iteration is better where more trips arrive,
+    and of those where as many do, where the gap is less: a gap says nothing of trips that stand for ever."""
 
     lacking: int = limits.VEHICLES  # trips that did not arrive
     gap: float = FAR
@@ -101,7 +103,8 @@ class Judged:
 
 
 class Search:
-    """A search for the ways of some trips in a town. told: hears of each iteration, and says whether the user asks for an end."""
+    """A search for the ways of some trips in a town. told: hears of each iteration,
+    and says whether the user asks for an end."""
 
     def __init__(
         self,
@@ -113,7 +116,8 @@ class Search:
         closing: Closing | None = None,
     ) -> None:
         """closing: the works of the town, if it has any."""
-        self.town, self.ground, self.trips, self.team, self.told, self.closing = town, ground, trips, team, told, closing
+        self.town, self.ground, self.trips = town, ground, trips
+        self.team, self.told, self.closing = team, told, closing
         self.iterations: list[Iteration] = []
         self.best = Best()
         self.expected: Costs | None = None
@@ -153,9 +157,9 @@ class Search:
         give(self.trips, self.best.ways)
 
     def best_of(self, seeds: Sequence[int], steps: Sequence[Sequence[Found]]) -> tuple[Seen, int]:
-        """Runs the present ways with each of some steps, side by side; gives what the best showed, and its place. The trips then have
-        its ways. Who gives way without a light waits for those who passed in the iteration before, and at first in a run in which
-        nobody waits."""
+        """Runs the present ways with each of some steps, side by side; gives what the best showed, and its place. The
+        trips then have its ways. Who gives way without a light waits for those who passed in the iteration before, and
+        at first in a run in which nobody waits."""
         ways = [paths_after(self.trips, step) for step in steps]
         loads = [self.loaded(paths) for paths in ways]
         expected = self.expected or flat_costs(self.town.graph, loads[0].free)
@@ -191,12 +195,15 @@ class Search:
     def searched(self, costs: Costs) -> list[Found]:
         """The best ways of the trips that may change."""
         wishes = [
-            Wish(at, trip.origin, trip.target, trip.entry, trip.path) for at, trip in enumerate(self.trips) if trip.changes
+            Wish(at, trip.origin, trip.target, trip.entry, trip.path)
+            for at, trip in enumerate(self.trips)
+            if trip.changes
         ]
         return self.team.search(wishes, costs, self.closing.shut if self.closing else None)
 
     def turn_off(self, costs: Costs, strict: bool = False) -> int:
-        """Those who would wait before works turn off before them; of those who may change a search finds better ways yet."""
+        """Those who would wait before works turn off before them;
+        of those who may change a search finds better ways yet."""
         if self.closing is None:
             return 0
         trips = self.trips if strict else [trip for trip in self.trips if not trip.changes]
@@ -241,8 +248,11 @@ def gap_of(found: Sequence[Found]) -> float:
 
 
 def changes(found: Sequence[Found], share: float) -> list[Found]:
-    """Those who change: of those who gain at all the ones with the greatest relative loss, a share of all at most, or one."""
-    worth = sorted((one for one in found if gain(one) > LEAST_GAIN), key=lambda one: (-gain(one) / max(1.0, one.least), one.trip))
+    """Those who change: of those who gain at all the ones with the greatest relative loss,
+    a share of all at most, or one."""
+    worth = sorted(
+        (one for one in found if gain(one) > LEAST_GAIN), key=lambda one: (-gain(one) / max(1.0, one.least), one.trip)
+    )
     return sorted(worth[: max(1, int(len(found) * share))], key=lambda one: one.trip)
 
 
@@ -252,7 +262,9 @@ def steps_of(found: Sequence[Found], share: float, tried: int) -> list[list[Foun
     return [step for at, step in enumerate(steps) if at == 0 or len(step) < len(steps[at - 1])]
 
 
-def iteration_of(number: int, outcomes: Sequence[Outcome], found: Sequence[Found], gap: float, changed: int, back: bool) -> Iteration:
+def iteration_of(
+    number: int, outcomes: Sequence[Outcome], found: Sequence[Found], gap: float, changed: int, back: bool
+) -> Iteration:
     return Iteration(
         number=number,
         mean=fmean(one.mean for one in outcomes),

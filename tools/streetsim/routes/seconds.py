@@ -15,8 +15,8 @@ LEAST_CAPACITY = 100.0  # vehicles an hour that any movement lets pass
 
 
 def free_seconds(graph: Graph, mapping: Map, signals: Iterable[dict], dawdle: float) -> array:
-    """For each movement the seconds of its edge, and of crossing with the mean wait at its signal. signals: commands; dawdle: a
-    chance from 0 to 1. Of parallel links the last counts."""
+    """For each movement the seconds of its edge, and of crossing with the mean wait at its signal. signals: commands;
+    dawdle: a chance from 0 to 1. Of parallel links the last counts."""
     driving, waits = FreeFlow(mapping, dawdle), mean_waits(graph, mapping, signals)
     edge_of = {graph.number[link.edge]: at for at, link in enumerate(mapping.links)}
     seconds = array("d")
@@ -28,8 +28,8 @@ def free_seconds(graph: Graph, mapping: Map, signals: Iterable[dict], dawdle: fl
 
 
 def mean_waits(graph: Graph, mapping: Map, signals: Iterable[dict]) -> dict[tuple[int, int], float]:
-    """The mean seconds that signals hold a vehicle which comes at any time: the least of the lanes of a movement; an hour where it
-    is never green."""
+    """The mean seconds that signals hold a vehicle which comes at any time: the least of the lanes of a movement;
+    an hour where it is never green."""
     signals = list(signals)
     lit = {command["node"] for command in signals}
     at_signals = (turn for turn in mapping.turns if mapping.links[turn.link].end in lit)
@@ -43,7 +43,8 @@ def mean_waits(graph: Graph, mapping: Map, signals: Iterable[dict]) -> dict[tupl
 
 
 def greens(graph: Graph, mapping: Map, command: dict) -> Iterator[tuple[tuple[int, int], int]]:
-    """For each link and next link that a signal ever lets go its movement's edges, and its green seconds as bits of a number."""
+    """For each link and next link that a signal ever lets go its movement's edges,
+    and its green seconds as bits of a number."""
     shown: dict[tuple[int, int], int] = defaultdict(int)
     clock = 0
     for duration, turns in command["phases"]:

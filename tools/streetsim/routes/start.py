@@ -13,7 +13,8 @@ from .router import Found, Wish
 from .trips import Trip
 
 PARTS = 5  # of the trips, each of which sees the delays that those before it make
-STEEPNESS, POWER = 0.5, 4  # delay: so much of the free seconds, times the load to that power (as of the Bureau of Public Roads)
+# The delay is so much of the free seconds, times the load to that power (as of the Bureau of Public Roads).
+STEEPNESS, POWER = 0.5, 4
 MOST_DELAY = 300.0  # seconds
 LEAST_HOURS = 0.25  # over which volumes are taken to be spread
 
@@ -23,15 +24,17 @@ Searching = Callable[[Sequence[Wish], Costs], Iterable[Found]]
 def first_ways(
     graph: Graph, trips: Sequence[Trip], free: Sequence[float], capacity: Sequence[float], seed: int, search: Searching
 ) -> list[Trip]:
-    """Gives each trip that has no way its first one; gives those for which there is none. capacity: vehicles an hour, of each
-    movement."""
+    """Gives each trip that has no way its first one; gives those for which there is none.
+    capacity: vehicles an hour, of each movement."""
     wanting = [at for at, trip in enumerate(trips) if not trip.path]
     random.Random(f"start {seed}").shuffle(wanting)
     hours = max(LEAST_HOURS, (trips[-1].depart - trips[0].depart) / 3600)
     given, volume, lost = volumes(graph, trips), [0] * len(graph.movements), []
     for part in range(PARTS):
         mine = wanting[part::PARTS]
-        hourly = [(count + (own * PARTS / part if part else 0.0)) / hours for count, own in zip(given, volume, strict=True)]
+        hourly = [
+            (count + (own * PARTS / part if part else 0.0)) / hours for count, own in zip(given, volume, strict=True)
+        ]
         seconds = delayed(graph, free, [flow / most for flow, most in zip(hourly, capacity, strict=True)])
         wishes = [Wish(at, trips[at].origin, trips[at].target, trips[at].depart, ()) for at in mine]
         for found in search(wishes, flat_costs(graph, seconds)):
@@ -45,8 +48,8 @@ def first_ways(
 
 
 def volumes(graph: Graph, trips: Iterable[Trip]) -> list[int]:
-    """How many trips have each movement on their ways. What is no movement of the graph (a change between lanes that an import adds)
-    is left out."""
+    """How many trips have each movement on their ways. What is no movement of the graph (a change between lanes that an
+    import adds) is left out."""
     found = [0] * len(graph.movements)
     for way in (way for trip in trips for way in pairwise(trip.path)):
         if way in graph.movement_of:
@@ -59,8 +62,8 @@ def no_way(graph: Graph, trip: Trip) -> Fault:
 
 
 def delayed(graph: Graph, free: Sequence[float], loads: Sequence[float]) -> list[float]:
-    """Seconds of movements under loads, volume over capacity: each has its own delay, or the mean of those of its edge that are
-    used where that is more."""
+    """Seconds of movements under loads, volume over capacity: each has its own delay, or the mean of those of its edge
+    that are used where that is more."""
     delays = [min(MOST_DELAY, STEEPNESS * seconds * load**POWER) for seconds, load in zip(free, loads, strict=True)]
     of_edge = defaultdict(list)
     for (edge, _), delay, load in zip(graph.movements, delays, loads, strict=True):

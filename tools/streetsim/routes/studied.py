@@ -26,14 +26,25 @@ SLICE = 300
 
 
 def routed(
-    run: Run, mapping: Map, map_path: str, works: Sequence[str], knowing: float, joint: Sequence[str], program: str, until: int, rounds: int,
-    where: str, seeds: Sequence[int],
-) -> tuple[Run, Map, list[str]]:  # fmt: skip
-    """The run and its map with ways by feedback for the vehicles of its import, and what speaks against them; with works, round these
-    for a share of drivers who know of them. joint: further lanes that are joint, as in the variants to compare with; rounds: by which
-    vehicles give way; seeds: of the study."""
+    run: Run,
+    mapping: Map,
+    map_path: str,
+    works: Sequence[str],
+    knowing: float,
+    joint: Sequence[str],
+    program: str,
+    until: int,
+    rounds: int,
+    where: str,
+    seeds: Sequence[int],
+) -> tuple[Run, Map, list[str]]:
+    """The run and its map with ways by feedback for the vehicles of its import, and what speaks against them; with
+    works, round these for a share of drivers who know of them. joint: further lanes that are joint, as in the variants
+    to compare with; rounds: by which vehicles give way; seeds: of the study."""
     sources = sources_of(mapping.sources, map_path, run.path)
-    known: dict[str, Any] = {name: tuple(value) if isinstance(value, list) else value for name, value in mapping.options.items()}
+    known: dict[str, Any] = {
+        name: tuple(value) if isinstance(value, list) else value for name, value in mapping.options.items()
+    }
     known["joint"] = (*known.get("joint", ()), *joint)
     options = Options(**known)
     town = read_town(sources.net, sources.additional, options, Report())
@@ -61,6 +72,9 @@ def routed(
 def doubts(search: Search, seeds: Sequence[int]) -> Iterator[str]:
     """What speaks against ways that were found for runs with some seeds."""
     if search.best.gap > ASKED.gap:
-        yield f"its ways have a gap of {100 * search.best.gap:.1f} % by the search's own seed, of {100 * ASKED.gap:g} % that are asked for"
+        yield (
+            f"its ways have a gap of {100 * search.best.gap:.1f} % by the search's own seed, of {100 * ASKED.gap:g} "
+            "% that are asked for"
+        )
     if own := sorted(set(seeds) & set(ASKED.seeds)):
         yield f"its ways were found by seed {own[0]}, which is one of the study's: give others"

@@ -29,7 +29,8 @@ class Team:
     def runs(
         self, cases: Sequence[Loaded], expected: Costs, seeds: Sequence[int], passed: Sequence[Passed | None]
     ) -> list[list[Outcome]]:
-        """What runs of some cases with some seeds show, in their order; passed: of each seed, when those passed who go first."""
+        """What runs of some cases with some seeds show, in their order; passed: of each seed,
+        when those passed who go first."""
         pairs = list(zip(seeds, passed, strict=True))
         tasks = [
             (f"the run with seed {seed}", watched, 0, loaded.run, loaded.mapping, expected, seed, before)
@@ -40,7 +41,9 @@ class Team:
 
     def checks(self, loaded: Loaded, expected: Costs, seeds: Sequence[int]) -> list[Outcome]:
         """The same of runs with rounds of their own."""
-        tasks = [(f"the run with seed {seed}", checked, 0, loaded.run, loaded.mapping, expected, seed) for seed in seeds]
+        tasks = [
+            (f"the run with seed {seed}", checked, 0, loaded.run, loaded.mapping, expected, seed) for seed in seeds
+        ]
         return list(self.workers.ordered(tasks))
 
 

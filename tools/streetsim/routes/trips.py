@@ -22,14 +22,15 @@ ENDS = {"from", "to", "fromTaz", "toTaz", "departLane", "departSpeed", "departPo
 PERSONS = ("person", "personFlow")
 DRIVEN = ("personTrip", "trip")  # of a person who may take a car; who rides does so in a vehicle that the files have
 BY_STOPS = (
-    "drives from stop to stop without from and to, as buses and taxis do that are sent on their way while SUMO runs; streetsim "
-    "has no stops: take it out, or give it from and to"
+    "drives from stop to stop without from and to, as buses and taxis do that are sent on their way while SUMO runs; "
+    "streetsim has no stops: take it out, or give it from and to"
 )
 
 
 @dataclass(slots=True)
 class Trip:
-    """A trip between two edges by number. path: empty where it has none yet; entry: when it came on the road in the last run."""
+    """A trip between two edges by number. path: empty where it has none yet;
+    entry: when it came on the road in the last run."""
 
     name: str
     depart: float  # seconds
@@ -43,7 +44,8 @@ class Trip:
 
 
 class TripDemand(Demand):
-    """The vehicles of files of trips, flows and routes. One without a route has the edges where it begins and ends alone."""
+    """The vehicles of files of trips, flows and routes. One without a route has the edges where it
+    begins and ends alone."""
 
     def __init__(self, net: SumoNet, types: Types, seed: int, report: Report) -> None:
         super().__init__(net, types, seed, report)
@@ -51,11 +53,19 @@ class TripDemand(Demand):
         self.told_types: list[str] = []  # vehicle types as they stand in the files
 
     def read(self, path: FilePath) -> None:
-        readers = {"route": self.read_route, "vehicle": self.read_vehicle, "flow": self.read_flow, "trip": self.read_vehicle}
+        readers = {
+            "route": self.read_route,
+            "vehicle": self.read_vehicle,
+            "flow": self.read_flow,
+            "trip": self.read_vehicle,
+        }
         readers["routeDistribution"] = self.read_mix
         for element in elements(path, ["routes", "trips", "additional", "add"]):
             if element.tag in PERSONS and any(element.find(name) is not None for name in DRIVEN):
-                raise Fault(f"{told(path, element)}: persons are not routed here; take them out, or compute their cars' trips with duarouter")
+                raise Fault(
+                    f"{told(path, element)}: persons are not routed here; take them out, or compute their cars' "
+                    "trips with duarouter"
+                )
             if element.tag in TAGS:
                 self.told_types.append(ElementTree.tostring(element, encoding="unicode").strip())
                 self.types.read(path, element)
@@ -71,7 +81,9 @@ class TripDemand(Demand):
         if 2 * count >= limits.CALLS:
             most = limits.CALLS // 2
             raise Fault(f"{path}: {count:,} trips, and a run has calls for fewer than {most:,}, as each takes two")
-        if element.get("route") is not None or any(element.find(name) is not None for name in ("route", "routeDistribution")):
+        if element.get("route") is not None or any(
+            element.find(name) is not None for name in ("route", "routeDistribution")
+        ):
             super().add(path, element, departures)
             return
         ends = self.ends(path, element)
@@ -90,7 +102,11 @@ class TripDemand(Demand):
         if element.get("from") is None or element.get("to") is None:
             if element.find("stop") is not None and not element.get("fromTaz"):
                 raise Fault(f"{told(path, element)}: {BY_STOPS}")
-            taz = " (fromTaz and toTaz name districts: let od2trips or duarouter choose edges)" if element.get("fromTaz") else ""
+            taz = (
+                " (fromTaz and toTaz name districts: let od2trips or duarouter choose edges)"
+                if element.get("fromTaz")
+                else ""
+            )
             raise Fault(f"{told(path, element)}: a trip needs from and to{taz}")
         ends = element.get("from", ""), element.get("to", "")
         if unknown := [name for name in ends if name not in self.net.edges and name not in self.net.dropped]:
@@ -129,8 +145,8 @@ def read_trips(
 
 
 def connected(trips: Sequence[Trip], net: SumoNet, graph: Graph, ignore: bool, report: Report) -> list[Trip]:
-    """The trips but for those whose routes have two edges without a connection, which are counted in the report. They are refused
-    where the network has none for any class, unless these are to be left out (ignore)."""
+    """The trips but for those whose routes have two edges without a connection, which are counted in the report.
+    They are refused where the network has none for any class, unless these are to be left out (ignore)."""
     found = []
     for trip in trips:
         ways = [way for way in pairwise(trip.path) if way not in graph.movement_of]
@@ -144,8 +160,9 @@ def connected(trips: Sequence[Trip], net: SumoNet, graph: Graph, ignore: bool, r
             report.skipped["two edges of the route have no connection"] += 1
         else:
             raise Fault(
-                f"trip {trip.name!r}: the network has no connection from edge {source!r} to edge {target!r}, which follow each other in its "
-                "route (--anew forgets routes, --ignore-route-errors leaves such trips out)"
+                f"trip {trip.name!r}: the network has no connection from edge {source!r} to edge {target!r}, "
+                "which follow each other in its route (--anew forgets routes, "
+                "--ignore-route-errors leaves such trips out)"
             )
     if not found:
         raise Fault(f"none of {len(trips):,} trips has a route whose edges are connected")

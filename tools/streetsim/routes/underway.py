@@ -25,8 +25,8 @@ class Waiting:
 
 @dataclass(slots=True)
 class Turning:
-    """Another way of a vehicle on the road. ahead: links up to the one behind which it begins; rest: the links from there on; due:
-    the clock before which nobody can be there."""
+    """Another way of a vehicle on the road. ahead: links up to the one behind which it begins;
+    rest: the links from there on; due: the clock before which nobody can be there."""
 
     ahead: Path
     rest: Path
@@ -47,8 +47,9 @@ def turning(plan: Path, way: Path, clock: int) -> Turning:
 
 
 class WaysRound:
-    """Shortest ways over the links of a run's map, by free speed, the waits at signals, and the delays that the volumes of all whose
-    plans are given would make. Links and not edges are searched, as turns between parallel links cannot be added under way."""
+    """Shortest ways over the links of a run's map, by free speed, the waits at signals, and the delays that the
+    volumes of all whose plans are given would make. Links and not edges are searched, as turns between parallel links
+    cannot be added under way."""
 
     def __init__(self, mapping: Map, dawdle: float) -> None:
         links = [replace(link, edge=str(at)) for at, link in enumerate(mapping.links)]
@@ -56,15 +57,22 @@ class WaysRound:
         self.graph = graph_of_map(self.by_link)
 
     def found(
-        self, vehicles: Iterable[Waiting], signals: Collection[dict], shut: Collection[str], times: tuple[float, float], seed: int
+        self,
+        vehicles: Iterable[Waiting],
+        signals: Collection[dict],
+        shut: Collection[str],
+        times: tuple[float, float],
+        seed: int,
     ) -> dict[str, Path]:
-        """The other plans of those who would come to shut edges from one second to another, by name; none for who begins or ends
-        there, or has no way round. signals: commands as they hold now."""
+        """The other plans of those who would come to shut edges from one second to another, by name;
+        none for who begins or ends there, or has no way round. signals: commands as they hold now."""
         free = free_seconds(self.graph, self.by_link, signals, self.dawdle)
         closed = self.shut(shut, times)
         trips = sorted((trip_of(one) for one in vehicles), key=lambda trip: trip.depart)
         router = Router(self.graph, flat_costs(self.graph, free), closed)
-        through = (trip for trip in trips if closed.keys().isdisjoint((trip.origin, trip.target)) and not self.is_round(trip))
+        through = (
+            trip for trip in trips if closed.keys().isdisjoint((trip.origin, trip.target)) and not self.is_round(trip)
+        )
         coming = [trip for trip in through if router.met(trip.path, trip.depart) is not None]
         if not coming:
             return {}
@@ -80,10 +88,13 @@ class WaysRound:
         return self.mapping.links[trip.origin].edge == self.mapping.links[trip.target].edge
 
     def shut(self, edges: Collection[str], times: tuple[float, float]) -> Shut:
-        """The times in which links are not to be entered: also so shortly before that one would not come past the works."""
+        """The times in which links are not to be entered: also so shortly before that one would
+        not come past the works."""
         begin, end = times
         driving = FreeFlow(self.mapping, self.dawdle).driving
-        return {link: [(begin - driving[link], min(end, FAR))] for edge in edges for link in self.mapping.links_of[edge]}
+        return {
+            link: [(begin - driving[link], min(end, FAR))] for edge in edges for link in self.mapping.links_of[edge]
+        }
 
     def search(self, wishes: Sequence[Wish], costs: Costs, shut: Mapping) -> list[Found]:
         """The best ways over the parallel links of the edges where trips begin and end."""
@@ -105,13 +116,21 @@ def trip_of(vehicle: Waiting) -> Trip:
     return Trip(vehicle.name, float(vehicle.depart), plan[0], plan[-1], "", plan, float(vehicle.depart))
 
 
-def shut_edges(mapping: Map, edges: Iterable[str], closed: Mapping[tuple[int, int], Sequence[tuple[int, int]]]) -> list[str]:
-    """Of some edges those that nobody can pass, as all lanes of each link are closed at one place. closed: of (link, lane), cells."""
-    return [edge for edge in edges if all(is_shut(link, len(mapping.links[link].lanes), closed) for link in mapping.links_of[edge])]
+def shut_edges(
+    mapping: Map, edges: Iterable[str], closed: Mapping[tuple[int, int], Sequence[tuple[int, int]]]
+) -> list[str]:
+    """Of some edges those that nobody can pass, as all lanes of each link are closed at one place.
+    closed: of (link, lane), cells."""
+    return [
+        edge
+        for edge in edges
+        if all(is_shut(link, len(mapping.links[link].lanes), closed) for link in mapping.links_of[edge])
+    ]
 
 
 def is_shut(link: int, lanes: int, closed: Mapping[tuple[int, int], Sequence[tuple[int, int]]]) -> bool:
-    """Whether all lanes of a link are closed side by side, or so that nobody changes from one to the other between the works."""
+    """Whether all lanes of a link are closed side by side, or so that nobody changes from one to the
+    other between the works."""
     places = [(0, 10**9)]
     for lane in range(lanes):
         places = [

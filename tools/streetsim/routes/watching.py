@@ -1,4 +1,5 @@
-"""A run that is watched: where its vehicles are seen now and then, what movements took by that, and who passed first."""
+"""A run that is watched: where its vehicles are seen now and then,
+what movements took by that, and who passed first."""
 from __future__ import annotations
 
 import resource
@@ -33,8 +34,8 @@ COARSEST = 120  # seconds from one look at those who go first to the next
 
 @dataclass(frozen=True, slots=True)
 class Ground:
-    """What all runs and searches of a network stand on. program: its path; digest: of its file; width: seconds of a slice; rounds:
-    by which vehicles give way without a light in a run that counts, 0 where nobody does."""
+    """What all runs and searches of a network stand on. program: its path; digest: of its file; width: seconds of a
+    slice; rounds: by which vehicles give way without a light in a run that counts, 0 where nobody does."""
 
     program: str
     digest: str | None
@@ -68,8 +69,8 @@ class Outcome:
 
 
 class Watcher(Recorder):
-    """Runs with rescues until all have arrived, and notes where each vehicle was seen, and when those passed who go first; makes no
-    tables."""
+    """Runs with rescues until all have arrived, and notes where each vehicle was seen, and when those passed who go
+    first; makes no tables."""
 
     def __init__(self, sim: Client, run: Run, mapping: Map, until: int, giving: bool) -> None:
         """giving: whether vehicles give way without a light."""
@@ -84,11 +85,13 @@ class Watcher(Recorder):
         self.most = sim.calls or limits.CALLS
         self.every, self.by_lane, self.watches = self.way_to_look()
         self.often = self.way_to_look_first() if self.first else 0
-        self.stood: dict[tuple[int, int], tuple[int, int]] = {}  # (vehicle, link) at whose end it stood at the last look: car, since
+        # By (vehicle, link) at whose end it stood at the last look: car, since when.
+        self.stood: dict[tuple[int, int], tuple[int, int]] = {}
 
     def way_to_look(self) -> tuple[int, bool, int]:
-        """The seconds from one look to the next; whether all lanes are asked for, which is done where the calls allow it each minute,
-        and not all vehicles on their way; and the lanes that may then be watched for rescues each minute."""
+        """The seconds from one look to the next; whether all lanes are asked for, which is done where the
+        calls allow it each minute, and not all vehicles on their way; and the lanes that may then be watched
+        for rescues each minute."""
         left, minutes = self.left(), self.budget.minutes
         if minutes * (len(self.places) + 1) <= left:
             return MINUTE, True, 0
@@ -109,12 +112,14 @@ class Watcher(Recorder):
             return COARSEST
         steps, lanes = self.budget.steps, len(self.first)
         spare = self.left() + steps // COARSEST * lanes - self.budget.minutes * (len(self.places) + 1)
-        return next((every for every in INTERVALS if 0 < every < COARSEST and steps // every * lanes <= spare), COARSEST)
+        return next(
+            (every for every in INTERVALS if 0 < every < COARSEST and steps // every * lanes <= spare), COARSEST
+        )
 
     def too_many(self, advice: str) -> Fault:
         return Fault(
-            f"{len(self.run.enters):,} vehicles up to {self.settings.until:,} s take more calls than the {self.most:,} of the program: "
-            f"take fewer trips, or {advice}"
+            f"{len(self.run.enters):,} vehicles up to {self.settings.until:,} s take more calls than the {self.most:,} "
+            f"of the program: take fewer trips, or {advice}"
         )
 
     def record(self) -> Records:
@@ -139,7 +144,8 @@ class Watcher(Recorder):
                 self.settings.until = clock
 
     def ask_all(self, clock: int) -> None:
-        """Asks all vehicles on their way where they are, and watches the lanes at whose ends some stand at two looks."""
+        """Asks all vehicles on their way where they are, and watches the lanes at whose ends
+        some stand at two looks."""
         under_way = [owner for owner in range(self.entered) if owner not in self.ended]
         stood, self.stood = self.stood, {}
         for owner, reply in zip(under_way, self.vehicles(under_way), strict=True):
@@ -147,7 +153,11 @@ class Watcher(Recorder):
                 self.ended[owner] = reply
             elif reply.state in ("cell", "buffer"):
                 self.note_vehicle(clock, owner, reply)
-                if reply.state == "buffer" or not reply.speed and reply.cell == self.mapping.links[reply.place[0]].cells - 1:
+                if (
+                    reply.state == "buffer"
+                    or not reply.speed
+                    and reply.cell == self.mapping.links[reply.place[0]].cells - 1
+                ):
                     self.note_standing(clock, owner, reply, stood)
 
     def note_vehicle(self, clock: int, owner: int, reply: Vehicle) -> None:
@@ -197,8 +207,8 @@ class Watcher(Recorder):
 
 
 def watched(ground: Ground, run: Run, mapping: Map, expected: Costs, seed: int, passed: Passed | None) -> Outcome:
-    """One run with a seed, and what it showed. expected: costs by which what was lost between two sights is dealt out; passed: when
-    those passed who go first, in the run before."""
+    """One run with a seed, and what it showed. expected: costs by which what was lost between two sights is dealt out;
+    passed: when those passed who go first, in the run before."""
     lines = waiting_lines(passed, mapping, run.start()) if passed else []
     return observed_run(ground, with_lines(seeded(run, seed), lines), mapping, expected, seed)
 
@@ -228,7 +238,13 @@ def observed_run(ground: Ground, run: Run, mapping: Map, expected: Costs, seed: 
 
 
 def outcome_of(
-    ground: Ground, run: Run, passes: Passes, seen: Sequence[Sequence[Sight]], records: Records, spent: float, passed: Passed
+    ground: Ground,
+    run: Run,
+    passes: Passes,
+    seen: Sequence[Sequence[Sight]],
+    records: Records,
+    spent: float,
+    passed: Passed,
 ) -> Outcome:
     observed = nothing_observed(len(ground.graph.movements), ground.slices)
     entries, ends, total = [], [], 0
@@ -239,11 +255,15 @@ def outcome_of(
         entries.append(clocks[0] if clocks else float(depart))
         ends.append(end)
         total += (ground.until if end is None else end) - depart
-        for place, (since, until) in enumerate(pairwise([*clocks, float(ground.until if end is None else end)] if clocks else [])):
+        for place, (since, until) in enumerate(
+            pairwise([*clocks, float(ground.until if end is None else end)] if clocks else [])
+        ):
             observed.add(passes.movement(plan, place), int(since // ground.width), until - since)
     worst = max(records.censuses, key=lambda census: census.waiting, default=None)
     waiting = (worst.waiting, worst.clock) if worst else (0, 0)
-    return Outcome(observed, entries, ends, total / len(run.enters), records.rescues.total(), records.calls, spent, passed, waiting)
+    return Outcome(
+        observed, entries, ends, total / len(run.enters), records.rescues.total(), records.calls, spent, passed, waiting
+    )
 
 
 def arrival_of(last: Vehicle | None) -> int | None:

@@ -32,7 +32,8 @@ class Asking:
     all_watched: bool  # all lanes each minute for rescues; else those where late vehicles stand
     measured: list[Place]  # (link, lane) with a detector, at which speeds and densities are sampled
     samples: int  # polls of those a period; 0: the polls of all lanes do
-    further: list[list[Place]] = field(default_factory=list)  # of such lists, each for a further run that repeats this one
+    # Lists of the other lanes, each for a further run that repeats this one.
+    further: list[list[Place]] = field(default_factory=list)
     needed: int = 0  # calls, without samples
 
 
@@ -89,7 +90,10 @@ class Budget:
         wished = self.settings.every
         intervals = INTERVALS if wished is None else (wished,)
         fitting = (
-            (every, watched) for every in intervals for watched in (True, False) if not most or self.needed(every, watched) <= most
+            (every, watched)
+            for every in intervals
+            for watched in (True, False)
+            if not most or self.needed(every, watched) <= most
         )
         found = next(fitting, None)
         if found is None:
@@ -101,7 +105,9 @@ class Budget:
 
     def advice(self, wished: int | None, most: int) -> str:
         """What helps a run that needs too many calls."""
-        fitting = next((every for every in (2, 5, *INTERVALS) if every > (wished or 0) and self.needed(every, False) <= most), 0)
+        fitting = next(
+            (every for every in (2, 5, *INTERVALS) if every > (wished or 0) and self.needed(every, False) <= most), 0
+        )
         told = f"the run needs {self.needed(wished or 0, False):,} calls and the program takes {most:,}: try "
         if wished and self.needed(fitting, False) <= most:
             return told + f"--every {fitting}"

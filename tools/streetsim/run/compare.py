@@ -44,8 +44,8 @@ def read_tripinfo(path: str) -> dict[str, Trip]:
 
 
 def read_edges(path: str) -> dict[EdgeKey, tuple[int, float]]:
-    """SUMO's edges, {(begin, end, edge): (vehicles, seconds)}: those that left the edge or arrived on it, and the seconds
-    that all vehicles were on it."""
+    """SUMO's edges, {(begin, end, edge): (vehicles, seconds)}: those that left the edge or arrived on it,
+    and the seconds that all vehicles were on it."""
     edges = {}
     for interval in elements(path, ["meandata"]):
         period = attribute(path, interval, "begin", seconds), attribute(path, interval, "end", seconds)
@@ -66,7 +66,8 @@ def trips_of(folder: Folder) -> dict[str, Trip]:
 
 
 def edges_of(folder: Folder) -> dict[EdgeKey, tuple[int, float | None]]:
-    """The run's edges, as SUMO's: those of which all lanes have counts, in whole periods; no seconds where there are none."""
+    """The run's edges, as SUMO's: those of which all lanes have counts, in whole periods;
+    no seconds where there are none."""
     edges = {}
     for row in folder.edges():
         if int(row["end"]) - int(row["begin"]) == folder.period:
@@ -134,8 +135,8 @@ def compare_edges(
     period: int,
     network: int,
 ) -> Iterator[str]:
-    """Lines on the edges and periods that both have; an edge that SUMO does not list in a period had nobody. network: how
-    many edges the run's network has."""
+    """Lines on the edges and periods that both have; an edge that SUMO does not list in a period had nobody.
+    network: how many edges the run's network has."""
     periods = {key[:2] for key in here} & {key[:2] for key in there}
     edges = {key[2] for key in there} & {key[2] for key in here}
     if not periods or not edges:

@@ -1,4 +1,5 @@
-"""Road works at which more come than pass, though the edge has further lanes: nobody changes to those of another link."""
+"""Road works at which more come than pass, though the edge has further lanes: nobody changes to
+those of another link."""
 from __future__ import annotations
 
 from collections.abc import Iterator, Sequence
@@ -22,8 +23,9 @@ def crowded(run: Run, mapping: Map, sites: Sequence) -> Iterator[str]:
         hourly = coming(run, mapping, link, first, last) * 3600 / (last - first)
         if hourly > PASSES * left:
             yield (
-                f"edge {edge}: some {hourly:,.0f} vehicles an hour come to works that leave {left} of {lanes} lanes, and a lane "
-                f"passes some {PASSES:,}; nobody changes to the edge's other lanes, so delays may be far too long (judge by SUMO)"
+                f"edge {edge}: some {hourly:,.0f} vehicles an hour come to works that leave {left} of {lanes} lanes, "
+                f"and a lane passes some {PASSES:,}; nobody changes to the edge's other lanes, "
+                "so delays may be far too long (judge by SUMO)"
             )
 
 

@@ -17,8 +17,8 @@ GOLDEN = 0.6180339887498949
 
 
 class Samples:
-    """When lanes are sampled: so many times in each period, spread evenly but not at equal steps, which a signal's cycle
-    could fall in with."""
+    """When lanes are sampled: so many times in each period, spread evenly but not at equal steps,
+    which a signal's cycle could fall in with."""
 
     def __init__(self, start: int, period: int, count: int) -> None:
         self.start, self.period, self.count = start, period, count
@@ -45,7 +45,8 @@ class Edgedata:
         self.samples: Counter[int] = Counter()  # by period
         self.vehicles: Counter[tuple[int, int]] = Counter()  # by (period, link)
         self.speeds: Counter[tuple[int, int]] = Counter()  # by (period, link)
-        self.standing: defaultdict[int, Counter[int]] = defaultdict(Counter)  # by clock of a period's end: vehicles by link
+        # By clock of a period's end: vehicles by link.
+        self.standing: defaultdict[int, Counter[int]] = defaultdict(Counter)
         self.taken: Counter[tuple[int, int]] = Counter()  # by (period, link): vehicles taken out
         self.known: dict[Place, frozenset[int]] = {}  # by (link, lane): the periods in which it was sampled
 
@@ -71,7 +72,8 @@ class Edgedata:
         """Makes means of sums; places: the (link, lane) that were sampled."""
         for sums in (self.vehicles, self.speeds):
             for period, link in sums:
-                sums[period, link] /= self.samples[period]  # type: ignore[assignment]  # the stubs have whole counts alone
+                # The stubs have whole counts alone.
+                sums[period, link] /= self.samples[period]  # type: ignore[assignment]
         self.known = dict.fromkeys(places, frozenset(self.samples))
         return self
 
@@ -85,8 +87,8 @@ class Edgedata:
 
 
 def edge_rows(counts: Mapping[Place, Mapping[int, Row]], data: Edgedata, mapping: Map) -> Iterator[tuple[Any, ...]]:
-    """(begin, end, edge, entered, left, vehicles a kilometre, km/h, travel time) of each period and edge of which all lanes
-    have counts; none for what is not known."""
+    """(begin, end, edge, entered, left, vehicles a kilometre, km/h, travel time) of each period and edge of which all
+    lanes have counts; none for what is not known."""
     periods = sorted({(row.start, row.steps) for rows in counts.values() for row in rows.values()})
     lanes = {
         edge: [(link, lane) for link in links for lane in range(len(mapping.links[link].lanes))]
@@ -104,7 +106,9 @@ def entered_on(data: Edgedata, links: Sequence[int], begin: int, end: int, left:
     """Those who left, who are there at the end and were not at the begin, and who were taken out."""
     if end not in data.standing or (begin != data.start and begin not in data.standing):
         return None
-    before, after = (sum(data.standing[clock][link] for link in links) if clock in data.standing else 0 for clock in (begin, end))
+    before, after = (
+        sum(data.standing[clock][link] for link in links) if clock in data.standing else 0 for clock in (begin, end)
+    )
     return left + after - before + sum(data.taken[(begin - data.start) // data.period, link] for link in links)
 
 

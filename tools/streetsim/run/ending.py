@@ -46,7 +46,11 @@ class Ending:
             self.end(record, clock, ALL)
         elif self.is_still(record, clock):
             still = clock - self.looked
-            self.end(record, clock, f"no vehicle has changed its cell for {still:,} s, longer than the longest cycle, {self.cycle:,} s")
+            self.end(
+                record,
+                clock,
+                f"no vehicle has changed its cell for {still:,} s, longer than the longest cycle, {self.cycle:,} s",
+            )
         elif clock == record.settings.until:
             self.put_off(record, clock)
 
@@ -62,7 +66,9 @@ class Ending:
             return False
         record.records.calls += 1
         found = record.lanes(record.places)
-        stand = {place: ([row[:2] for row in one.cells], [row[0] for row in one.buffer]) for place, one in found.items()}
+        stand = {
+            place: ([row[:2] for row in one.cells], [row[0] for row in one.buffer]) for place, one in found.items()
+        }
         if stand != self.lanes:
             self.lanes, self.looked = stand, clock
             return False

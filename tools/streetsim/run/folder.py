@@ -27,7 +27,8 @@ class Folder:
     dawdle: int
     every: int
     period: int
-    made: dict[str, Any] = field(default_factory=dict)  # of what the folder was made: run, seed, start, until, rescue, program
+    # Of what the folder was made: run, seed, start, until, rescue, program.
+    made: dict[str, Any] = field(default_factory=dict)
     doubts: list[str] = field(default_factory=list)  # why the run is not to be trusted
 
     def trips(self) -> list[dict[str, str]]:
@@ -67,8 +68,8 @@ def write_setting(
     doubts: Iterable[str] = (),
     program_sum: str | None = None,
 ) -> None:
-    """run: without the signals by which its vehicles give way; yielding: rounds.Yielding; doubts: why the run is not to be
-    trusted, empty where there is no reason; program_sum: the SHA-256 of the program."""
+    """run: without the signals by which its vehicles give way; yielding: rounds.Yielding; doubts: why the run is not to
+    be trusted, empty where there is no reason; program_sum: the SHA-256 of the program."""
     made = {"run": os.path.basename(run.path), "seed": run.load.command.get("seed", 0), "start": run.start()}
     made.update(until=settings.until, rescue=settings.rescue, vehicles=len(run.enters), program=program_sum)
     signals = [[run.start(), line.command] for line in run.first if line.command["cmd"] == "signal"]

@@ -21,15 +21,17 @@ Times = Mapping["TurnKey", Sequence[float]]  # when vehicles pass, by turn
 AFTER = 1  # seconds after one that goes first until the next may go
 AROUND = 300  # seconds before and after, in which those that go first are counted
 SHOWN, HIDDEN = 3, 2  # seconds in turn, where those that use a gap follow each other slowly
-CLOSE = 15  # seconds between two of them that may use one gap, and before and after them for what differs from run to run
+# Seconds between two of them that may use one gap, and before and after them for what differs from run to run.
+CLOSE = 15
 PATIENCE = 150  # seconds without a gap; then one goes
 TAIL = 30  # seconds after the last vehicle
-HELD_UP, FEWER = 0.2, 5  # share of those who wish to pass in AROUND seconds, and how many, from which on they are held up
+# Share of those who wish to pass in AROUND seconds, and how many, from which on they are held up.
+HELD_UP, FEWER = 0.2, 5
 
 
 def gap_lines(mapping: Map, passed: Passed, start: int, wished: Passed | None = None) -> list[tuple[int, Line]]:
-    """Signal lines for the nodes where vehicles give way, (clock, line), by when others pass, {(link, lane): [(second, next
-    link)]}. wished: the same of a run in which nobody gives way."""
+    """Signal lines for the nodes where vehicles give way, (clock, line), by when others pass, {(link, lane): [(second,
+    next link)]}. wished: the same of a run in which nobody gives way."""
     end = int(max((second for each in passed.values() for second, _ in each), default=start)) + TAIL
     times = by_turn(passed)
     coming = times if wished is None else coming_of(mapping, times, by_turn(wished))
@@ -55,10 +57,12 @@ def by_turn(passed: Passed) -> dict[TurnKey, list[float]]:
 
 
 def coming_of(mapping: Map, times: Times, wished: Times) -> Times:
-    """When those come who go first. Those who give way themselves and are held up count as they wish to pass: in which gaps
-    they do changes from round to round, and others would take these for free."""
+    """When those come who go first. Those who give way themselves and are held up count as they wish to pass: in which
+    gaps they do changes from round to round, and others would take these for free."""
     held = {turn for one in mapping.yields for turn in one.turns}
-    return {turn: with_wishes(seconds, wished.get(turn, ())) if turn in held else seconds for turn, seconds in times.items()}
+    return {
+        turn: with_wishes(seconds, wished.get(turn, ())) if turn in held else seconds for turn, seconds in times.items()
+    }
 
 
 def with_wishes(seconds: Sequence[float], wished: Sequence[float]) -> list[float]:
@@ -67,7 +71,11 @@ def with_wishes(seconds: Sequence[float], wished: Sequence[float]) -> list[float
     for at, each in enumerate((seconds, wished)):
         for second in each:
             found[second // AROUND][at].append(second)
-    return [second for passing, wishing in found.values() for second in (wishing if are_held_up(passing, wishing) else passing)]
+    return [
+        second
+        for passing, wishing in found.values()
+        for second in (wishing if are_held_up(passing, wishing) else passing)
+    ]
 
 
 def are_held_up(passing: Sequence[float], wishing: Sequence[float]) -> bool:
@@ -76,8 +84,8 @@ def are_held_up(passing: Sequence[float], wishing: Sequence[float]) -> bool:
 
 
 def node_lines(node: int, turns: Sequence[TurnKey], groups: Sequence[Group], start: int) -> Iterator[tuple[int, Line]]:
-    """The signal lines of a node, (clock, line); groups: of turns that give way, and for each second whether they are red.
-    Others are always green, and all are in the end."""
+    """The signal lines of a node, (clock, line); groups: of turns that give way, and for each second whether they are
+    red. Others are always green, and all are in the end."""
     waits = {turn for each, _ in groups for turn in each}
     always = [turn for turn in turns if turn not in waits]
 
@@ -111,8 +119,8 @@ def phases_of(reds: Sequence[Sequence[int]]) -> list[tuple[int, State]]:
 
 
 def red_seconds(waiting: Waiting, times: Times, start: int, end: int, coming: Times | None = None) -> bytearray | None:
-    """For each second from the start whether turns are red, as somebody comes who goes first; none where nobody does. times:
-    when vehicles pass, coming: when those come who go first, where that is another time, by turn."""
+    """For each second from the start whether turns are red, as somebody comes who goes first; none where nobody does.
+    times: when vehicles pass, coming: when those come who go first, where that is another time, by turn."""
     coming = times if coming is None else coming
     comes = [(second, foe) for foe in waiting.foes for second in coming.get((foe.link, foe.lane, foe.next), ())]
     comes.sort(key=lambda one: one[0])

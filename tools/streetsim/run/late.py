@@ -5,7 +5,8 @@ from heapq import heappop, heappush
 
 
 class Late:
-    """Vehicles by the clock at which they are asked: first when they have lost so many seconds, then at growing steps."""
+    """Vehicles by the clock at which they are asked: first when they have lost so many seconds,
+    then at growing steps."""
 
     def __init__(self, wait: int) -> None:
         self.wait = wait

@@ -38,8 +38,8 @@ class MapLink:
 
 
     def closed_between(self, begin: float, end: float) -> tuple[int, int]:
-        """The cells that works close from one place to another, in metres. Where there is a lane beside, the first cells
-        stay open as far as the works allow: turns lead to this lane, and who comes by one leaves it there."""
+        """The cells that works close from one place to another, in metres. Where there is a lane beside, the first
+        cells stay open as far as the works allow: turns lead to this lane, and who comes by one leaves it there."""
         first, last = self.cells_between(begin, end)
         return (max(first, min(limits.SIZE, last)), last) if len(self.lanes) > 1 else (first, last)
 

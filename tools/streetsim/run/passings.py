@@ -23,8 +23,8 @@ class Sight:
 
 
 class Passings:
-    """{(link, lane): [(second, next link)]}. Between two polls vehicles are taken to have come from where the second one sees
-    them at the speed of the free road."""
+    """{(link, lane): [(second, next link)]}. Between two polls vehicles are taken to have come from where the second
+    one sees them at the speed of the free road."""
 
     def __init__(self, mapping: Map, enters: Sequence[Line], dawdle: int) -> None:
         self.links = mapping.links
@@ -52,7 +52,8 @@ class Passings:
         self.note(car, clock, last, 0, self.links[last].cells)
 
     def between(self, plan: Sequence[int], before: Sight, now: Sight) -> None:
-        """Notes the stop lines between two sights: of the links from the first one on, and of the last if it is left."""
+        """Notes the stop lines between two sights: of the links from the first one on,
+        and of the last if it is left."""
         first = self.links[plan[before.place]]
         usual = before.clock + max(0, first.cells - before.cell) / self.speeds[plan[before.place]]
         second = now.clock - (0 if now.left else now.cell / self.speeds[plan[now.place]])

@@ -46,7 +46,8 @@ class Records:
     uncounted: int = 0  # lanes without a detector, as there are more than 1,024
     queues: list[tuple[int, int, int, int, int]] = field(default_factory=list)  # (clock, link, lane, vehicles, cells)
     censuses: list[Census] = field(default_factory=list)
-    ends: list[Vehicle | None] = field(default_factory=list)  # for each vehicle of the file its last reply, or none if it never entered
+    # For each vehicle of the file its last reply, or none if it never entered.
+    ends: list[Vehicle | None] = field(default_factory=list)
     unsent: int = 0  # timed lines whose clock did not come
     unpolled: int = 0  # polls that were left out, as the calls went to rescues
     rescues: Counter[int] = field(default_factory=Counter)  # by vehicle
@@ -68,7 +69,8 @@ class Desk:
         self.records = Records(clock=self.start, edgedata=Edgedata(self.start, settings.period))
         self.places = mapping.lanes()
         self.lines = {(link, lane): line_of({"cmd": "lane", "link": link, "lane": lane}) for link, lane in self.places}
-        self.meters: list[tuple[dict[Any, dict[int, Row]], Any, int]] = []  # (where its rows go, key there, period), by number
+        # By number: (where its rows go, key there, period).
+        self.meters: list[tuple[dict[Any, dict[int, Row]], Any, int]] = []
         self.entered = self.sent = 0  # of the run's enters, of its timed lines
 
     def begin(self, asking: Asking) -> None:
@@ -100,8 +102,8 @@ class Desk:
         self.send(due)
 
     def advance(self, clock: int, target: int) -> int:
-        """Goes on to a clock or the one before it at which a line is due or lanes are sampled; those who depart until then
-        enter before."""
+        """Goes on to a clock or the one before it at which a line is due or lanes are sampled;
+        those who depart until then enter before."""
         at = clock - self.start
         period = (at // self.settings.period + 1) * self.settings.period + self.start
         sample = self.samples.after(clock)
@@ -137,7 +139,11 @@ class Desk:
         """Whether lanes are sampled now, and whether a period ends, at whose end vehicles on lanes are counted."""
         asking, at = self.records.asking, clock - self.start
         rich = not asking.samples and bool(asking.every)
-        sampled = clock in self.samples.within((at - 1) // self.settings.period) if asking.samples else rich and clock % asking.every == 0
+        sampled = (
+            clock in self.samples.within((at - 1) // self.settings.period)
+            if asking.samples
+            else rich and clock % asking.every == 0
+        )
         ended = at % self.settings.period == 0 or clock == self.settings.until
         return sampled, ended and bool(asking.samples or rich)
 
@@ -153,7 +159,9 @@ class Desk:
     def place_meters(self) -> None:
         """A detector at the last cell of each measured lane, and the induction loops of the map."""
         period = self.settings.period
-        placed = [(link, lane, self.mapping.links[link].cells - 1, period) for link, lane in self.records.asking.measured]
+        placed = [
+            (link, lane, self.mapping.links[link].cells - 1, period) for link, lane in self.records.asking.measured
+        ]
         self.meters = [(self.records.counts, place, period) for place in self.records.asking.measured]
         loops = [one for one in self.detectors if one.kind == E1]
         placed += [(one.link, one.lane, one.first, one.period) for one in loops]
@@ -203,7 +211,8 @@ class Recorder(Desk):
         self.budget = Budget(run, settings, self.places, self.polled, detectors)
         self.owners: list[int] = []  # the vehicle of the file by car number
         self.cars: dict[int, int] = {}  # its last number
-        self.standing: dict[tuple[int, int], int] = {}  # (car, link): the clock since which it stands at that link's end
+        # By (car, link): the clock since which it stands at that link's end.
+        self.standing: dict[tuple[int, int], int] = {}
         self.watched: set[Place] = set()  # lanes that are polled each minute for rescues
         self.polled_at: dict[Place, int] = {}  # when they last were
         self.most = 0  # calls
@@ -327,7 +336,9 @@ class Recorder(Desk):
 
     def vehicles(self, owners: Iterable[int]) -> list[Vehicle]:
         """The replies on vehicles of the file, by the last number that each had."""
-        replies = list(map(read_reply, self.exchange(b'{"cmd":"vehicle","car":%d}\n' % self.cars[owner] for owner in owners)))
+        replies = list(
+            map(read_reply, self.exchange(b'{"cmd":"vehicle","car":%d}\n' % self.cars[owner] for owner in owners))
+        )
         refused = [reply for reply in replies if not isinstance(reply, Vehicle)]
         if refused:
             raise Fault(f"asking for a vehicle was refused: {refused[0]}")
@@ -353,7 +364,9 @@ class Recorder(Desk):
         self.standing = standing_now
         if not self.records.asking.all_watched:
             self.watched = still
-        for key in [key for key, since in standing_now.items() if clock - since >= self.settings.rescue and key[1] in seen]:
+        for key in [
+            key for key, since in standing_now.items() if clock - since >= self.settings.rescue and key[1] in seen
+        ]:
             self.standing.pop(key)
             self.take_and_enter(clock, key[0])
 
@@ -424,7 +437,8 @@ class Repeater(Desk):
 
 
 def standing(cells: Iterable[Sequence[int]], length: int) -> tuple[int, int]:
-    """How many vehicles stand without a gap from the stop line, and the cells that they cover; cells from the greatest."""
+    """How many vehicles stand without a gap from the stop line, and the cells that they cover;
+    cells from the greatest."""
     count = covered = 0
     for _, cell, speed, *size in cells:
         if speed or cell != length - 1 - covered:

@@ -1,5 +1,6 @@
-"""Giving way without a light, by rounds: a run is made, it is read from it when vehicles pass their stop lines, and the next run
-has signals that are green in the gaps between those who go first. As who waits changes who comes when, this is repeated."""
+"""Giving way without a light, by rounds: a run is made, it is read from it when vehicles pass their stop lines,
+and the next run has signals that are green in the gaps between those who go first. As who waits changes who comes
+when, this is repeated."""
 from __future__ import annotations
 
 from collections import Counter
@@ -106,8 +107,8 @@ def asking_of(budget: Budget, most: int) -> Asking:
 def giving_way(
     run: Run, mapping: Map, settings: Settings, rounds: int, start: Start, tell: Tell
 ) -> tuple[Run, Yielding]:
-    """The run with signals by which its vehicles give way without a light, and what they are. `start` starts the program,
-    `tell` gets the clock and the last census."""
+    """The run with signals by which its vehicles give way without a light, and what they are.
+    `start` starts the program, `tell` gets the clock and the last census."""
     try:
         lines, yielding = gaps_of(run, mapping, settings, rounds, start, tell)
     except Fault as fault:
@@ -118,8 +119,8 @@ def giving_way(
 def gaps_of(
     run: Run, mapping: Map, settings: Settings, rounds: int, start: Start, tell: Tell
 ) -> tuple[list[tuple[int, Line]], Yielding]:
-    """The signal lines by which the vehicles of a run give way without a light, (clock, line), and what they are; a Fault
-    where the calls do not suffice. `start` and `tell` are as those of giving_way."""
+    """The signal lines by which the vehicles of a run give way without a light, (clock, line), and what they are;
+    a Fault where the calls do not suffice. `start` and `tell` are as those of giving_way."""
     if not rounds or not mapping.yields:
         return [], Yielding()
     places = places_of(mapping)
@@ -149,15 +150,17 @@ def refuse_too_few_calls(run: Run, mapping: Map, settings: Settings, most: int) 
 def giving_way_to_scripts(
     run: Run, mapping: Map, rounds: int, program: str | None = None, workers: int = 1
 ) -> tuple[Run, Yielding]:
-    """The run of a script with signals by which the vehicles of its file give way without a light, and what they are. As its
-    end is not known, rounds end when all have arrived, or an hour after the last departure; nobody is rescued."""
+    """The run of a script with signals by which the vehicles of its file give way without a light, and what
+    they are. As its end is not known, rounds end when all have arrived, or an hour after the last
+    departure; nobody is rescued."""
     last = max((line.command["depart"] for line in run.enters), default=run.start())
     settings = Settings(min(limits.CLOCK, max(last, run.start()) + HOUR), rescue=0)
     return giving_way(run, mapping, settings, rounds, partial(serving, program, run.path, workers), lambda *_: None)
 
 
 def places_of(mapping: Map) -> list[Place]:
-    """The lanes on which those are seen who go first, and those who give way to them slowly, before and after the stop line."""
+    """The lanes on which those are seen who go first, and those who give way to them slowly,
+    before and after the stop line."""
     links = {link for one in mapping.yields for foe in one.foes for link in (foe.link, foe.next)}
     slow = (turn for one in mapping.yields for turn in one.turns if any(foe.slow for foe in one.foes))
     links.update(link for begin, _, end in slow for link in (begin, end))
@@ -173,8 +176,8 @@ def with_lines(run: Run, lines: Iterable[tuple[int, Line]]) -> Run:
 
 
 def expected_lines(run: Run, mapping: Map) -> int:
-    """About as many lines as there will be, of the plans alone: a phase begins and one ends for each vehicle that goes first,
-    of which half are seen together with another one."""
+    """About as many lines as there will be, of the plans alone: a phase begins and one ends for each vehicle that goes
+    first, of which half are seen together with another one."""
     passing = Counter(pair for line in run.enters for pair in pairwise(line.command["plan"]))
     phases: Counter[int] = Counter()
     for one in mapping.yields:

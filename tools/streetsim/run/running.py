@@ -13,14 +13,14 @@ from typing import Any
 
 from .. import limits, program
 from ..cli.progress import UnderWay
-from ..cli.words import Parser, add_rounds, listed, time_within, within
+from ..cli.words import Parser, add_jobs, add_rounds, add_run, listed, time_within, within
 from ..client import Client
 from ..files import Fault, whole_file, whole_folder
 from ..junctions.reporting import write_junctions
 from ..outputs.watching import watch
 from ..outputs.writing import KINDS, kinds_of, write_outputs
 from ..sumo.report import COLUMNS
-from ..study.jobs import CORES, side_by_side
+from ..study.jobs import side_by_side
 from ..study.seeds import seeds_of
 from ..study.sessions import digest_of
 from . import tables, trust
@@ -44,14 +44,24 @@ def parser() -> argparse.ArgumentParser:
         description="Runs a file that streetsim-import made, and writes counts, trips, queues, a summary "
         "and what stood on the lanes.",
     )
-    made.add_argument("run", help="the run (.jsonl)")
-    made.add_argument("--map", required=True, help="its map of names (.json)")
+    add_run(made)
+    add_looks(made)
+    add_seeds(made)
+    add_lanes(made)
+    add_outputs(made)
+    made.add_argument("--program", help=program.HELP)
+    made.add_argument("--workers", type=within(1, 64), default=1, help="of the simulator (default %(default)s)")
+    return made
+
+
+def add_looks(made: argparse.ArgumentParser) -> None:
+    """The words that say when a run ends, and what is looked at on the way."""
     made.add_argument(
         "--until",
         type=time_within(1, limits.CLOCK),
         metavar="S",
-        help="the clock at the end (default: when all have arrived, no vehicle has changed its cell for longer than the longest "
-        "cycle, or the calls are spent)",
+        help="the clock at the end (default: when all have arrived, no vehicle has changed its cell for longer than "
+        "the longest cycle, or the calls are spent)",
     )
     made.add_argument(
         "--every",
@@ -66,7 +76,9 @@ def parser() -> argparse.ArgumentParser:
         metavar="S",
         help="seconds of a count (default %(default)s)",
     )
-    made.add_argument("--edges", default="", help="edges whose lanes are polled, with spaces or commas between (default: all)")
+    made.add_argument(
+        "--edges", default="", help="edges whose lanes are polled, with spaces or commas between (default: all)"
+    )
     made.add_argument(
         "--rescue",
         type=time_within(0, limits.CLOCK),
@@ -78,25 +90,34 @@ def parser() -> argparse.ArgumentParser:
         "--counted",
         choices=["all", "busiest"],
         default="all",
-        help=f"all: where a run has more than {limits.METERS:,} lanes, further runs repeat it to count the others; busiest: "
-        "the lanes on most plans alone",
+        help=f"all: where a run has more than {limits.METERS:,} lanes, further runs repeat it to count the others; "
+        "busiest: the lanes on most plans alone",
     )
+
+
+def add_seeds(made: argparse.ArgumentParser) -> None:
+    """The words that say how much is run."""
     made.add_argument(
-        "--calls", type=within(1, limits.CALLS), metavar="N", help="take at most so many calls of the program (default: all)"
+        "--calls",
+        type=within(1, limits.CALLS),
+        metavar="N",
+        help="take at most so many calls of the program (default: all)",
     )
     made.add_argument(
         "--seeds", metavar="FIRST-LAST", help="run each of these seeds, side by side, into folders of their own"
     )
-    made.add_argument(
-        "--jobs", type=within(1, 1024), default=CORES, help="runs side by side (default: one for each core, %(default)s)"
-    )
+    add_jobs(made)
+
+
+def add_lanes(made: argparse.ArgumentParser) -> None:
+    """The words that close lanes, and that make them joint."""
     made.add_argument(
         "--close",
         action="append",
         default=[],
         metavar="LANE:METRES-METRES:S-S",
-        help="road works: close a lane (edge_index) between two places, from one second to another; several with commas between, or "
-        "by the word again",
+        help="road works: close a lane (edge_index) between two places, from one second to another; "
+        "several with commas between, or by the word again",
     )
     made.add_argument(
         "--joint",
@@ -104,6 +125,10 @@ def parser() -> argparse.ArgumentParser:
         metavar="NAMES",
         help="edges or lanes, with commas between, that are joint as if they had road works, for a run to compare with",
     )
+
+
+def add_outputs(made: argparse.ArgumentParser) -> None:
+    """The words that say what is written and where; and by which rounds it is made."""
     made.add_argument(
         "--sumo-output",
         type=kinds_of,
@@ -118,13 +143,10 @@ def parser() -> argparse.ArgumentParser:
         type=within(60, limits.CLOCK),
         const=0,
         metavar="S",
-        help="also write delay, level of service, queues and v/c of movements, approaches and junctions, by intervals of so "
-        "many seconds (default: --period)",
+        help="also write delay, level of service, queues and v/c of movements, approaches and junctions, "
+        "by intervals of so many seconds (default: --period)",
     )
     made.add_argument("--out", required=True, metavar="DIR", help="the folder to write to")
-    made.add_argument("--program", help=program.HELP)
-    made.add_argument("--workers", type=within(1, 64), default=1, help="of the simulator (default %(default)s)")
-    return made
 
 
 def main(arguments: list[str]) -> int:
@@ -247,7 +269,9 @@ def count_further(
     def repeat(lanes: Sequence[Place], _tell: Callable[[Any], object]) -> Records:
         with serving(words) as sim:
             repeater = Repeater(sim, run, mapping, settings)
-            asking = Budget(run, settings, lanes, (), ()).repeated(lanes, len(first.rescued), settings.calls or sim.calls)
+            asking = Budget(run, settings, lanes, (), ()).repeated(
+                lanes, len(first.rescued), settings.calls or sim.calls
+            )
             return repeater.record(first, asking, lambda clock: None)
 
     for records in side_by_side(repeat, first.asking.further, jobs):
@@ -288,7 +312,9 @@ def run_seeds(words: argparse.Namespace, run: Run, mapping: Map, settings: Setti
             os.mkdir(place)
             return one_run(words, seeded(run, seed), mapping, settings, place, lambda *values: tell(values), 1)
 
-        figures = side_by_side(run_seed, seeds, words.jobs, lambda place, values: shown.show(values[0], values[1], place))
+        figures = side_by_side(
+            run_seed, seeds, words.jobs, lambda place, values: shown.show(values[0], values[1], place)
+        )
         names = ("vehicles", "arrived", "mean_trip_s", "rescues")
         rows = [(seed, *(one[name] for name in names)) for seed, one in zip(seeds, figures, strict=True)]
         tables.write_table(f"{folder}/seeds.csv", ("seed", *names), rows)

@@ -83,8 +83,8 @@ def due_at(clock: int, run: Run, mapping: Map) -> int:
 
 
 def of_missing(arrived: Mapping[str, float], due: float) -> list[str]:
-    """What speaks against means of several runs, by how many arrived: {what was run: vehicles}. Who has not arrived counts
-    until the end in such means."""
+    """What speaks against means of several runs, by how many arrived: {what was run: vehicles}.
+    Who has not arrived counts until the end in such means."""
     late = {name: due - count for name, count in arrived.items() if due - count > MOST_LATE * due}
     told = "vehicles that had the time to arrive have not"
     return [f"{name} {missing:,.0f} of {due:,.0f} {told}".strip() for name, missing in late.items()]
@@ -103,7 +103,10 @@ def of_rescues(trips: Trips, rescues: int) -> Iterator[str]:
 
 def of_arrivals(trips: Trips) -> Iterator[str]:
     if trips.long_due and trips.clock - trips.last >= STILL:
-        yield f"the network is locked: nobody has arrived for {trips.clock - trips.last:,} s, and {trips.long_due:,} should have"
+        yield (
+            f"the network is locked: nobody has arrived for {trips.clock - trips.last:,} s, "
+            f"and {trips.long_due:,} should have"
+        )
     elif trips.late > MOST_LATE * trips.due:
         yield f"{trips.late:,} of {trips.due:,} vehicles that had the time to arrive have not"
 
@@ -115,8 +118,8 @@ def of_entries(trips: Trips, censuses: Sequence) -> Iterator[str]:
 
 
 def of_waiting(waiting: Mapping[str, Sequence[tuple[int, int]]], vehicles: int) -> Iterator[str]:
-    """What speaks against means of several runs, by how many waited to enter at the worst minute of each: {what was run:
-    (vehicles, clock) of each}."""
+    """What speaks against means of several runs, by how many waited to enter at the worst minute of each: {what was
+    run: (vehicles, clock) of each}."""
     for name, runs in waiting.items():
         count, clock = (fmean(column) for column in zip(*runs, strict=True))
         if count > MOST_WAITING * vehicles:
@@ -130,15 +133,16 @@ def plans_before(clock: int, run: Run) -> list[list[int]]:
 
 
 def of_actuated(clock: int, run: Run, mapping: Map, lights: Sequence[str]) -> Iterator[str]:
-    """Where many vehicles pass lights that SUMO times by detectors: here they show the seconds that their program lists."""
+    """Where many vehicles pass lights that SUMO times by detectors: here they show the seconds
+    that their program lists."""
     ways = {(turn.link, turn.next): turn.light for turn in mapping.turns if turn.light and turn.light in lights}
     plans = plans_before(clock, run) if ways else []
     passed = [{ways[pair] for pair in pairwise(plan) if pair in ways} for plan in plans]
     if (count := sum(map(bool, passed))) > MOST_ACTUATED * len(plans):
         most = [light for light, _ in Counter(light for met in passed for light in sorted(met)).most_common(NAMED)]
         yield (
-            f"{count:,} of {len(plans):,} vehicles pass lights that are actuated in SUMO and show their listed seconds here: "
-            f"most of all {', '.join(most)}"
+            f"{count:,} of {len(plans):,} vehicles pass lights that are actuated in SUMO and show their listed seconds "
+            f"here: most of all {', '.join(most)}"
         )
 
 

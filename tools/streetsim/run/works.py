@@ -68,7 +68,9 @@ def works_of(text: str, mapping: Map) -> Works:
         raise Fault(f"--close {text!r}: expected LANE:METRES-METRES:S-S, whole numbers that rise")
     place = mapping.place_of(found[1])
     if place is None:
-        lanes = [mapping.lane_name(link, lane) for link, lane in mapping.lanes() if mapping.links[link].edge == found[1]]
+        lanes = [
+            mapping.lane_name(link, lane) for link, lane in mapping.lanes() if mapping.links[link].edge == found[1]
+        ]
         raise Fault(f"--close {text!r}: the map has no lane {found[1]!r}{f', but {some(lanes)}' if lanes else ''}")
     metres = mapping.links[place[0]].metres
     if int(found[3]) > math.ceil(metres):
@@ -171,7 +173,9 @@ def why_parallel(mapping: Map, lane: str) -> str | None:
 
 def joint(run: Run, mapping: Map, map_path: FilePath, names: list[str]) -> tuple[Run, Map]:
     """The run and its map, imported anew with more lanes joint."""
-    known: dict[str, Any] = {name: tuple(value) if isinstance(value, list) else value for name, value in mapping.options.items()}
+    known: dict[str, Any] = {
+        name: tuple(value) if isinstance(value, list) else value for name, value in mapping.options.items()
+    }
     try:
         sources = sources_of(mapping.sources, map_path, run.path)
         known["joint"] = (*known.get("joint", ()), *names)

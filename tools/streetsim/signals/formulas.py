@@ -30,9 +30,11 @@ class Streets:
     """What formulas need to know of the vehicles of a run."""
 
     order: list[str]  # lights, the heaviest flow first
-    behind: dict[str, list[str]]  # for each light itself and those that hang behind it in the tree of the heaviest flows
+    # For each light itself and those that hang behind it in the tree of the heaviest flows.
+    behind: dict[str, list[str]]
     hops: dict[str, Hop]  # for each light that hangs behind another
-    loads: dict[str, list[float]]  # for each light and phase the heaviest flow that is green in it, vehicles an hour and lane
+    # For each light and phase the heaviest flow that is green in it, vehicles an hour and lane.
+    loads: dict[str, list[float]]
 
 
 def streets_of(run: Run, mapping: Map, lights: Mapping[str, Light]) -> Streets:
@@ -65,8 +67,8 @@ def ways_between(plans: Iterable[Sequence[int]], light_of: Sequence[str | None])
 
 
 def tree(order: Sequence[str], ways: Ways) -> tuple[dict[str, str], dict[str, list[str]]]:
-    """The tree of the heaviest flows between lights, rooted at the heaviest light of each part: the parent of each other
-    light, and for each light itself and all behind it, parents before children."""
+    """The tree of the heaviest flows between lights, rooted at the heaviest light of each part: the parent of each
+    other light, and for each light itself and all behind it, parents before children."""
     both: Counter[tuple[str, str]] = Counter()
     for (light, other), found in ways.items():
         both[min(light, other), max(light, other)] += found.total()
@@ -147,8 +149,8 @@ def loads_of(run: Run, mapping: Map, lights: Mapping[str, Light]) -> dict[str, l
 
 
 def webster_cycle(lost: float, flow_ratio: float) -> float | None:
-    """Webster's cycle of the least delay, for the lost seconds of a cycle and the sum over its phases of the flow by the
-    saturation flow; none at capacity."""
+    """Webster's cycle of the least delay, for the lost seconds of a cycle and the sum over its phases of the flow by
+    the saturation flow; none at capacity."""
     return (1.5 * lost + 5) / (1 - flow_ratio) if flow_ratio < 1 else None
 
 

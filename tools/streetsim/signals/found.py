@@ -121,7 +121,8 @@ def tell(
         print("stopped: the best plan found so far is written")
     print(
         f"mean trip {before:.1f} s as given, {after:.1f} s as found: {difference:+.1f} s ± {half:.1f} "
-        f"(95 % interval, {runs} seeds that the search did not see); {search.simulations:,} simulations{budget_ended(search)}"
+        f"(95 % interval, {runs} seeds that the search did not see); {search.simulations:,} "
+        f"simulations{budget_ended(search)}"
     )
     if sumo:
         print(sumo.told())
@@ -155,7 +156,9 @@ def doubts_of(town: Town, before: Sequence[Outcome], after: Sequence[Outcome], s
     waiting = {name: [(one.waiting, one.waiting_at) for one in runs] for name, runs in named.items()}
     yield from trust.of_waiting(waiting, len(town.session.departs))
     yield from trust.of_lengths(until, town.run, town.mapping)
-    yield from trust.of_actuated(until, town.run, town.mapping, [one for one in town.mapping.actuated if one not in town.lights])
+    yield from trust.of_actuated(
+        until, town.run, town.mapping, [one for one in town.mapping.actuated if one not in town.lights]
+    )
     if town.lines.permissive and not sumo:
         lights = some(sorted(town.lines.permissive))
         yield f"without --verify-sumo, as turns find their gaps in oncoming traffic by formula at {lights}"

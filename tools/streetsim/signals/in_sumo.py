@@ -42,8 +42,8 @@ class Verified:
         difference, half = self.difference()
         moved = f", {self.teleports[0]:,} and {self.teleports[1]:,} teleports" if any(self.teleports) else ""
         return (
-            f"in SUMO {fmean(self.before):.1f} s as given, {fmean(self.after):.1f} s as found: {difference:+.1f} s ± {half:.1f} "
-            f"(95 % interval, the same {len(self.before)} seeds{moved})"
+            f"in SUMO {fmean(self.before):.1f} s as given, {fmean(self.after):.1f} s as found: "
+            f"{difference:+.1f} s ± {half:.1f} (95 % interval, the same {len(self.before)} seeds{moved})"
         )
 
 
@@ -58,7 +58,10 @@ class InSumo:
 
     def words(self, plan: str, seed: int, trips: str, statistic: str) -> list[str]:
         words = [self.program, "-n", self.sources.net, "-a", ",".join([*self.sources.additional, plan])]
-        words += ["-r", ",".join(self.sources.routes), "--seed", str(seed), "--begin", str(self.start), "--end", str(self.until)]
+        words += [
+            "-r", ",".join(self.sources.routes), "--seed", str(seed), "--begin", str(self.start),
+            "--end", str(self.until),
+        ]
         return [*words, "--tripinfo-output", trips, "--statistic-output", statistic, "--no-step-log", "--no-warnings"]
 
     def trips(self, plan: str, seed: int) -> tuple[dict, int]:
@@ -73,13 +76,16 @@ class InSumo:
 
 
 def environment() -> dict[str, str]:
-    """SUMO's own place, where it is Debian's and nobody says otherwise: with it SUMO checks files without the network."""
+    """SUMO's own place, where it is Debian's and nobody says otherwise: with it SUMO checks
+    files without the network."""
     return {"SUMO_HOME": "/usr/share/sumo", **os.environ}
 
 
 def first_error(text: str) -> str:
     lines = [line for line in text.splitlines() if line.strip()]
-    return next((line for line in lines if line.startswith("Error")), lines[0] if lines else "nothing on standard error")
+    return next(
+        (line for line in lines if line.startswith("Error")), lines[0] if lines else "nothing on standard error"
+    )
 
 
 def teleports_of(path: str) -> int:
@@ -94,7 +100,9 @@ def sumo_for(words: argparse.Namespace, mapping: Map, run: Run) -> InSumo:
         raise Fault("--verify-sumo: SUMO is not installed here (Debian: apt install sumo)")
     sources = sources_of(mapping.sources, words.map, words.run)
     if os.path.realpath(sources.net) != os.path.realpath(words.plans[0]):
-        raise Fault(f"--verify-sumo: {words.run} was imported from {sources.net}, and --plans begins with {words.plans[0]}")
+        raise Fault(
+            f"--verify-sumo: {words.run} was imported from {sources.net}, and --plans begins with {words.plans[0]}"
+        )
     known = {os.path.realpath(path) for path in sources.additional}
     more = [path for path in words.plans[1:] if os.path.realpath(path) not in known]
     additional, routes = (list(map(os.path.abspath, paths)) for paths in (sources.additional + more, sources.routes))
@@ -118,7 +126,9 @@ def verified(in_sumo: InSumo, town: Town, plan: Plan, seeds: Sequence[int], jobs
         tasks = [(path, seed) for path in paths for seed in seeds]
         meanwhile = Meanwhile("runs of SUMO", len(tasks))
         done: set[int] = set()
-        means, teleports = zip(*side_by_side(run, tasks, jobs, lambda place, _: meanwhile.show(add(done, place))), strict=True)
+        means, teleports = zip(
+            *side_by_side(run, tasks, jobs, lambda place, _: meanwhile.show(add(done, place))), strict=True
+        )
         meanwhile.end()
     half = len(seeds)
     return Verified(list(means[:half]), list(means[half:]), (sum(teleports[:half]), sum(teleports[half:])))
@@ -132,4 +142,6 @@ def add(done: set, place: int) -> int:
 
 def mean_trip(trips: dict, departs: dict, until: int) -> float:
     """The mean over the vehicles that the run has too; one that has not arrived counts until the end, as here."""
-    return fmean(trips[name][1] - trips[name][0] if name in trips else until - depart for name, depart in departs.items())
+    return fmean(
+        trips[name][1] - trips[name][0] if name in trips else until - depart for name, depart in departs.items()
+    )

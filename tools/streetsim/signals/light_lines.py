@@ -48,7 +48,8 @@ class LightLines:
         self.turns: defaultdict[int, list[tuple[int, int, int, MapTurn]]] = defaultdict(list)
         for turn in mapping.turns:
             self.turns[mapping.links[turn.link].end].append((turn.link, turn.lane, turn.next, turn))
-        self.made: dict[tuple[str, tuple[int, ...]], list[bytes]] = {}  # (light, durations): for each node the phases as bytes
+        # By (light, durations): for each node the phases as bytes.
+        self.made: dict[tuple[str, tuple[int, ...]], list[bytes]] = {}
         self.permissive: set[str] = set()  # lights at which some who drive must find gaps in a green
         self.report = Report()  # of what was made, where a light needs more phases than there may be
 

@@ -9,11 +9,10 @@ from statistics import fmean, stdev
 
 from .. import limits, program
 from ..cli.progress import Meanwhile, Slow, Stopping
-from ..cli.words import Parser, add_rounds, files_of, listed, time_within, within
+from ..cli.words import Parser, add_jobs, add_rounds, add_run, files_of, listed, time_within, within
 from ..files import Fault, place_of, refuse_equal
 from ..pictures import plots
 from ..run.folder import Folder
-from ..study.jobs import CORES
 from ..study.machines import machines
 from ..study.seeds import seeds_for, seeds_of
 from .formulas import Streets, critical_cycle, streets_of
@@ -33,11 +32,10 @@ DRAWN = 500  # seconds of the pictures
 def parser() -> Parser:
     made = Parser(
         prog="streetsim-signals",
-        description="Finds signal plans by simulation: cycles, splits and offsets under which trips are shorter. The order "
-        "of phases, yellow and all-red stay. What is found is a proposal to be checked.",
+        description="Finds signal plans by simulation: cycles, splits and offsets under which trips are shorter. "
+        "The order of phases, yellow and all-red stay. What is found is a proposal to be checked.",
     )
-    made.add_argument("run", help="the run (.jsonl)")
-    made.add_argument("--map", required=True, help="its map of names (.json)")
+    add_run(made)
     made.add_argument(
         "--plans",
         required=True,
@@ -45,7 +43,9 @@ def parser() -> Parser:
         metavar="FILE",
         help="the network (.net.xml), and additional files with programs, of which the last of a light counts",
     )
-    made.add_argument("--until", required=True, type=time_within(1, limits.CLOCK), metavar="S", help="the clock at the end of a run")
+    made.add_argument(
+        "--until", required=True, type=time_within(1, limits.CLOCK), metavar="S", help="the clock at the end of a run"
+    )
     add_search(made)
     add_rounds(made)
     add_machines(made)
@@ -55,8 +55,18 @@ def parser() -> Parser:
         help="run SUMO too with the plan given and the plan found, with the seeds of --check; both must say better",
     )
     made.add_argument("--edges", default="", help="draw the ways of the vehicles along these edges, before and after")
-    made.add_argument("--first", type=time_within(0, limits.CLOCK), metavar="S", help="the first second drawn (default: a third of the run)")
-    made.add_argument("--last", type=time_within(0, limits.CLOCK), metavar="S", help=f"the last second drawn (default: {DRAWN} s later)")
+    made.add_argument(
+        "--first",
+        type=time_within(0, limits.CLOCK),
+        metavar="S",
+        help="the first second drawn (default: a third of the run)",
+    )
+    made.add_argument(
+        "--last",
+        type=time_within(0, limits.CLOCK),
+        metavar="S",
+        help=f"the last second drawn (default: {DRAWN} s later)",
+    )
     made.add_argument("-o", "--output", required=True, help="the plan found (.add.xml)")
     made.add_argument("--out", required=True, metavar="DIR", help="the folder for tables and pictures")
     return made
@@ -75,20 +85,28 @@ def add_search(made: argparse.ArgumentParser) -> None:
         metavar="S",
         help="the least green (default %(default)s); a phase's minDur and maxDur bound it too",
     )
-    made.add_argument("--keep", default="", metavar='"LIGHT .."', help="lights that stay as they are, with spaces or commas between")
     made.add_argument(
-        "--seeds", metavar="FIRST-LAST", help="of the search (default: one, or more where runs of the given plan differ much)"
+        "--keep", default="", metavar='"LIGHT .."', help="lights that stay as they are, with spaces or commas between"
     )
     made.add_argument(
-        "--check", default="101-110", metavar="FIRST-LAST", help="seeds of the report, which the search does not see (default %(default)s)"
+        "--seeds",
+        metavar="FIRST-LAST",
+        help="of the search (default: one, or more where runs of the given plan differ much)",
+    )
+    made.add_argument(
+        "--check",
+        default="101-110",
+        metavar="FIRST-LAST",
+        help="seeds of the report, which the search does not see (default %(default)s)",
     )
     made.add_argument(
         "--reserve",
         type=within(0, 1000),
         default=RESERVE,
         metavar="N",
-        help="of 1,000, by which vehicles slow down more often in the search than in the report, so that what it finds has room "
-        "(default %(default)s: a green lets some 10 %% fewer pass; 0: as many). Offsets alone are searched without",
+        help="of 1,000, by which vehicles slow down more often in the search than in the report, "
+        "so that what it finds has room (default %(default)s: a green lets some 10 %% fewer pass; 0: as many). "
+        "Offsets alone are searched without",
     )
     made.add_argument(
         "--budget",
@@ -101,9 +119,7 @@ def add_search(made: argparse.ArgumentParser) -> None:
 
 def add_machines(made: argparse.ArgumentParser) -> None:
     """The words that say where runs are done."""
-    made.add_argument(
-        "--jobs", type=within(1, 1024), default=CORES, help="runs side by side (default: one for each core, %(default)s)"
-    )
+    add_jobs(made)
     made.add_argument(
         "--cluster", metavar="HOST:PORT", help="do the runs on the workers of this scheduler of dask.distributed"
     )
@@ -160,7 +176,10 @@ def check_seeds(words: argparse.Namespace) -> range:
     if len(check) < 2:
         raise Fault(f"--check {words.check}: an interval needs two seeds at least")
     if words.seeds and set(seeds) & set(check):
-        raise Fault(f"--seeds {words.seeds} and --check {words.check} overlap: a plan must not be judged by what it was found by")
+        raise Fault(
+            f"--seeds {words.seeds} and --check {words.check} overlap: a plan must not be judged by "
+            "what it was found by"
+        )
     if words.budget < len(seeds):
         raise Fault(f"--budget {words.budget}: one plan takes {len(seeds)} simulations")
     return check
@@ -179,7 +198,10 @@ def check_cycles(words: argparse.Namespace, town: Town, cycles: range) -> None:
     """Refuses cycles of which no light can keep one."""
     able = (town.lights[name].scaled(timing, cycle) for name, timing in town.plan.items() for cycle in cycles)
     if cycles and not any(able):
-        raise Fault(f"--cycle {words.cycle}: no light can keep such a cycle (--least {words.least}, and the bounds of its phases)")
+        raise Fault(
+            f"--cycle {words.cycle}: no light can keep such a cycle (--least {words.least}, "
+            "and the bounds of its phases)"
+        )
 
 
 def check_pictures(words: argparse.Namespace, town: Town) -> None:

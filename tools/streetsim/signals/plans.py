@@ -1,6 +1,7 @@
 """Signal plans: taken from SUMO's programs, changed within their bounds, written as an additional file.
 
-A plan is a Timing for each light, {light: Timing}; order of phases, yellow and all-red are the light's and never change.
+A plan is a Timing for each light, {light: Timing}; order of phases, yellow and all-red are the
+light's and never change.
 """
 from __future__ import annotations
 
@@ -85,7 +86,8 @@ def whole(durations: Iterable[float]) -> tuple[int, ...]:
 
 
 def spread(shares: Sequence[float], total: int, bounds: Sequence[tuple[int, int]]) -> list[int] | None:
-    """Whole seconds in proportion to shares and within bounds whose sum is the total; none where there are none such."""
+    """Whole seconds in proportion to shares and within bounds whose sum is the total;
+    none where there are none such."""
     if not shares or not sum(least for least, _ in bounds) <= total <= sum(most for _, most in bounds):
         return None
     low, high = 0.0, 1000.0 * total / max(1, sum(shares))
@@ -96,7 +98,8 @@ def spread(shares: Sequence[float], total: int, bounds: Sequence[tuple[int, int]
         else:
             high = factor
     made = list(whole(bounded(share * high, bound) for share, bound in zip(shares, bounds, strict=True)))
-    for at in sorted(range(len(made)), key=lambda at: -made[at]):  # what rounding left goes to the longest that takes it
+    # What rounding left goes to the longest that takes it.
+    for at in sorted(range(len(made)), key=lambda at: -made[at]):
         made[at] = bounded(made[at] + total - sum(made), bounds[at])
     return made if sum(made) == total else None
 

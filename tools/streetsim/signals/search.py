@@ -38,7 +38,8 @@ class Search:
     value: Callable[[Sequence[Plan]], Generator[float, None, None]]  # of plans: gives their values in order
     budget: int  # simulations
     seeds: int  # simulations that one plan takes
-    told: Callable[[Search], bool] = lambda search: False  # hears of each trial; gives whether the user has asked for an end
+    # Hears of each trial; gives whether the user has asked for an end.
+    told: Callable[[Search], bool] = lambda search: False
     seen: dict[Key, float] = field(default_factory=dict)
     trials: list[Trial] = field(default_factory=list)
     best: tuple[float, Any] = (float("inf"), None)  # value and plan, none before the first trial

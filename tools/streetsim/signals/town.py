@@ -46,7 +46,8 @@ class Town:
     lines: LightLines
     session: Session
     careful: Session  # of the search, whose vehicles slow down more often, so that what is found has room
-    giving: dict[int, int] = field(default_factory=dict)  # seed: the place of a session with its gaps, where vehicles give way
+    # By seed: the place of a session with its gaps, where vehicles give way.
+    giving: dict[int, int] = field(default_factory=dict)
 
     def signals(self, plan: Plan) -> bytes:
         """The signal lines of a plan."""
@@ -132,7 +133,10 @@ def warn_of_others(reading: Reading, town: Town) -> None:
     given = [json.loads(text) for text in town.signals(town.plan).splitlines()]
     others = [command for command in given if command not in ours]
     if others:
-        words = f"{len(others)} of {len(given)} signals of {reading.run} are others than those of the plans given, which count"
+        words = (
+            f"{len(others)} of {len(given)} signals of {reading.run} are others than those of the plans "
+            "given, which count"
+        )
         print(f"warning: {words}", file=sys.stderr)
 
 
@@ -143,8 +147,8 @@ class Runner:
         self.workers, self.town, self.cars = workers, town, len(town.session.departs)
 
     def means(self, plans: Iterable[Plan], seeds: Sequence[int]) -> Iterator[float]:
-        """For each plan and seed, in order, the mean trip of the search; minor streets have the gaps that were found for the
-        given plan."""
+        """For each plan and seed, in order, the mean trip of the search;
+        minor streets have the gaps that were found for the given plan."""
         for seconds in self.ordered(vehicle_seconds, plans, seeds, self.town.giving, CAREFUL):
             yield seconds / self.cars
 
@@ -164,15 +168,18 @@ class Runner:
         places: Mapping[int, int] = MappingProxyType({}),
         place: int = EXACT,
     ) -> Iterator[Any]:
-        """What a function gives for each plan and seed; each seed's session stands at a place of its own, or at the usual one."""
+        """What a function gives for each plan and seed; each seed's session stands at a place of its
+        own, or at the usual one."""
         made = ((self.town.signals(plan), seed) for plan in plans for seed in seeds)
-        tasks = [(f"the run with seed {seed}", function, places.get(seed, place), signals, seed) for signals, seed in made]
+        tasks = [
+            (f"the run with seed {seed}", function, places.get(seed, place), signals, seed) for signals, seed in made
+        ]
         return self.workers.ordered(tasks)
 
 
 def sessions_of(town: Town, seeds: Sequence[int], runner: Runner) -> list[Session]:
-    """The sessions of a search: that of the report and that of the search, which make their own gaps; further ones of the search
-    have those of some seeds."""
+    """The sessions of a search: that of the report and that of the search, which make their own gaps;
+    further ones of the search have those of some seeds."""
     sessions = [town.session, town.careful]
     if town.session.giving is None:
         return sessions

@@ -1,4 +1,5 @@
-"""Giving way without a light in studies and searches: rounds are made where a run is done, with its signals and its seed."""
+"""Giving way without a light in studies and searches: rounds are made where a run is done,
+with its signals and its seed."""
 from __future__ import annotations
 
 import json
@@ -41,7 +42,8 @@ def giving_session(
     open_end: bool = False,
     **load: int,
 ) -> Session:
-    """The session of a run whose vehicles give way by so many rounds; a Fault where the calls do not suffice for these."""
+    """The session of a run whose vehicles give way by so many rounds;
+    a Fault where the calls do not suffice for these."""
     session = session_of(program, run, until, without, **load)
     gives_way = rounds and mapping.yields
     if not gives_way and not open_end:

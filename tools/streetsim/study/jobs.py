@@ -24,10 +24,11 @@ def side_by_side(
     told: Callable[[int, Any], object] = lambda place,
     value: None,
 ) -> list[Result]:
-    """What a function gives for each item, in the items' order. Each runs in a process of its own, at most so many at once.
+    """What a function gives for each item, in the items' order.
+    Each runs in a process of its own, at most so many at once.
 
-    The function gets an item and a function to tell how far it is; what it tells goes to `told(place, value)`. A Fault of
-    one ends all the others and is raised.
+    The function gets an item and a function to tell how far it is; what it tells goes to `told(place, value)`.
+    A Fault of one ends all the others and is raised.
     """
     waiting = list(enumerate(items))
     running: Running = {}

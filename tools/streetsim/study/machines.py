@@ -1,7 +1,7 @@
 """Where runs are done: in processes of this machine, or by a cluster of dask.distributed.
 
-concurrent.futures is all that is used of either. A process of the pool is given its sessions once, and what a run then needs is its
-signals and its seed; on a cluster each run has its session too.
+concurrent.futures is all that is used of either. A process of the pool is given its sessions once,
+and what a run then needs is its signals and its seed; on a cluster each run has its session too.
 """
 from __future__ import annotations
 
@@ -51,8 +51,8 @@ class Machines:
         return self.executor.submit(work, function, self.held[place], *arguments)
 
     def ordered(self, tasks: Iterable[Sequence[Any]]) -> Iterator[Any]:
-        """Gives what tasks, each (name, function, place, ..), give: in their order, whatever the order in which they end.
-        Who asks for no more ends the others."""
+        """Gives what tasks, each (name, function, place, ..), give: in their order, whatever the order in which they
+        end. Who asks for no more ends the others."""
         futures = [(name, self.submit(*task)) for name, *task in tasks]
         try:
             for name, future in futures:
@@ -76,7 +76,10 @@ def result_of(future: Any, name: str) -> Any:
     except Exception as fault:
         if type(fault).__name__ != "KilledWorker":
             raise
-        raise Fault(f"{name} was given up, as more of its workers died than the cluster allows (distributed.scheduler.allowed-failures)") from None
+        raise Fault(
+            f"{name} was given up, as more of its workers died than the cluster allows "
+            "(distributed.scheduler.allowed-failures)"
+        ) from None
 
 
 def told_of(fault: BaseException) -> str:
@@ -130,14 +133,17 @@ def cluster_of(address: str, sessions: Sequence[Held]) -> Iterator[Machines]:
     try:
         client = Client(address, timeout=PATIENCE, set_as_default=False)
     except (OSError, ValueError, TimeoutError) as fault:
-        raise Fault(f"--cluster {address}: no scheduler answered in {PATIENCE} s ({told_of(fault).splitlines()[0]})") from None
+        raise Fault(
+            f"--cluster {address}: no scheduler answered in {PATIENCE} s ({told_of(fault).splitlines()[0]})"
+        ) from None
     with contextlib.closing(client):
         try:
             client.wait_for_workers(1, timeout=PATIENCE)
         except Exception:
             raise Fault(f"--cluster {address}: the scheduler has no worker") from None
         prepare(client, address, sessions)
-        # Each task has its session by value, so that no worker needs what one that died had: a study once waited for ever then.
+        # Each task has its session by value, so that no worker needs what one that died had: a study
+        # once waited for ever then.
         yield Machines(client.get_executor(pure=False), sessions)
 
 
@@ -169,5 +175,7 @@ def check_programs(client: Any, sessions: Sequence[Held]) -> None:
     for program, digest in sorted({(session.program, session.digest) for session in sessions}):
         for worker, found in sorted(client.run(digest_of, program).items()):
             if found != digest:
-                what = f"has another program ({found[:12]}, here {(digest or 'none')[:12]})" if found else "has no program"
+                what = (
+                    f"has another program ({found[:12]}, here {(digest or 'none')[:12]})" if found else "has no program"
+                )
                 raise Fault(f"--cluster: worker {worker} {what} at {program}")

@@ -28,7 +28,8 @@ class Summed(Client):
 
 
 class Counted(Recorder):
-    """A run whose vehicles are counted each minute and asked for at its end; nothing else is asked, and nobody is rescued."""
+    """A run whose vehicles are counted each minute and asked for at its end; nothing else is asked,
+    and nobody is rescued."""
 
     def __init__(self, sim: Client, run: Run, mapping: Map, until: int) -> None:
         super().__init__(sim, run, mapping, Settings(until, every=0, rescue=0, open_end=True), None, lambda *_: None)
@@ -47,7 +48,8 @@ class Counted(Recorder):
 
 
 def outcome_of(program: str, run: Run, mapping: Map, until: int) -> Outcome:
-    """What a run gives; until: a first guess of its end. One that has not arrived counts until the end that the run had."""
+    """What a run gives; until: a first guess of its end.
+    One that has not arrived counts until the end that the run had."""
     with serving(program, run.path, client=Summed) as sim:
         assert isinstance(sim, Summed)
         records = Counted(sim, run, mapping, until).record()
@@ -56,6 +58,8 @@ def outcome_of(program: str, run: Run, mapping: Map, until: int) -> Outcome:
     for line, end in zip(run.enters, records.ends, strict=True):
         there = end is not None and end.state == "arrived"
         arrived += there
-        seconds += max(0, (end.step + 1 if end and there and end.step is not None else records.clock) - line.command["depart"])
+        seconds += max(
+            0, (end.step + 1 if end and there and end.step is not None else records.clock) - line.command["depart"]
+        )
     worst = max(records.censuses, key=lambda census: census.waiting)
     return Outcome(digest, arrived, seconds, records.clock, worst.waiting, worst.clock, records.ended)

@@ -47,8 +47,8 @@ def unpaired(before: Sequence[float], after: Sequence[float]) -> float:
 
 
 def runs_needed(deviation: float, error: float) -> int | None:
-    """The least number of runs whose interval reaches at most an error to each side: n = (t s / e)^2 with the t of n - 1;
-    none above a million."""
+    """The least number of runs whose interval reaches at most an error to each side: n = (t s / e)^2 with the t of n -
+    1; none above a million."""
     low, high = 2, 2
     while half_width(deviation, high) > error:
         if high >= MOST_RUNS:

@@ -1,7 +1,7 @@
 """Whole runs as prepared bytes: what the program is sent, and what is read from its replies.
 
-A session holds all of a run but its seed and its signals, so that runs of many plans cost little besides the program's own
-time. It carries no path but the program's: its functions run on any machine that has the program.
+A session holds all of a run but its seed and its signals, so that runs of many plans cost little besides the program's
+own time. It carries no path but the program's: its functions run on any machine that has the program.
 """
 from __future__ import annotations
 
@@ -106,13 +106,16 @@ def lines_of(lines: Iterable[Line]) -> bytes:
 
 
 def counted_clocks(run: Run, until: int, calls: int, least: int = 0) -> tuple[int, ...]:
-    """The clocks at which vehicles are counted, as often as so many calls allow, with at least so many seconds between."""
+    """The clocks at which vehicles are counted, as often as so many calls allow,
+    with at least so many seconds between."""
     start, timed = run.start(), {clock for clock, _ in run.timed if run.start() < clock < until}
     for every in (seconds for seconds in INTERVALS if seconds >= least):
         clocks = {*range(start, until, every), until}
         if 2 * len(clocks) + len(timed - clocks) <= calls:
             return tuple(sorted(clocks))
-    raise Fault(f"{run.path}: a run of {len(run.enters):,} vehicles up to {until:,} s takes more calls than the program allows")
+    raise Fault(
+        f"{run.path}: a run of {len(run.enters):,} vehicles up to {until:,} s takes more calls than the program allows"
+    )
 
 
 def steps(clocks: Sequence[int], timed: Sequence[tuple[int, Line]], counted: bytes) -> bytes:
@@ -175,7 +178,8 @@ def outcome(session: Session, signals: bytes, seed: int) -> Outcome:
 
 
 def most_waiting(session: Session, counts: Iterable[int]) -> tuple[int, int]:
-    """How many vehicles waited to enter at the worst look, and its clock; counts: of all who wait, also for their second."""
+    """How many vehicles waited to enter at the worst look, and its clock; counts: of all who wait,
+    also for their second."""
     departs, clocks = sorted(session.departs), session.minutes[1:]
     later = (len(departs) - bisect_left(departs, clock) for clock in clocks)
     waiting = [count - others for count, others in zip(counts, later, strict=True)]

@@ -71,8 +71,8 @@ class Study:
 def parser() -> Parser:
     made = Parser(
         prog="streetsim-study",
-        description="Runs each variant of a study with each seed, and writes the differences of their mean trips with 95 % "
-        "intervals, and how many runs a precision needs.",
+        description="Runs each variant of a study with each seed, and writes the differences of their mean trips with "
+        "95 % intervals, and how many runs a precision needs.",
     )
     made.add_argument("study", help="the study (.toml)")
     add_machines(made)
@@ -181,7 +181,8 @@ def refuse_unknown(where: str, table: Iterable[str], known: Iterable[str], what:
 
 
 def joint_lanes(path: str, study: dict[str, Any]) -> dict[tuple[str, str], dict[str, None]]:
-    """The lanes that works of a variant need to be joint, and so are in all variants of the same run: {(run, map): lanes}."""
+    """The lanes that works of a variant need to be joint, and so are in all variants of the same run: {(run, map):
+    lanes}."""
     found: dict[tuple[str, str], dict[str, None]] = {}
     for name, variant in study["variant"].items():
         with naming(where := f"{path}: variant {name!r}"):
@@ -255,7 +256,8 @@ def check_types(where: str, value: dict[str, Any]) -> None:
 
 
 def signals_of(asked: Reading, run: Run, mapping: Map) -> tuple[bytes, list[str]]:
-    """The signal lines of all lights of the map under the plans of a variant, and which of them SUMO times by detectors."""
+    """The signal lines of all lights of the map under the plans of a variant,
+    and which of them SUMO times by detectors."""
     net = read_plans(asked.plans, mapping)
     found = {name: light_of(name, net.programs[name]) for name in lights_of(asked, mapping, net)}
     plan = {name: timing for name, (_, timing) in found.items()}

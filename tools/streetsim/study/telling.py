@@ -1,13 +1,12 @@
-"""What streetsim-study says of its runs: differences, a picture of them, ends, and why a variant is not to be trusted."""
+"""What streetsim-study says of its runs: differences, a picture of them, ends,
+and why a variant is not to be trusted."""
 from __future__ import annotations
 
-import sys
 from bisect import bisect_right
 from collections.abc import Iterator, Mapping, Sequence
 from statistics import fmean
 from typing import TYPE_CHECKING
 
-from ..files import Fault
 from ..pictures import plots
 from ..run import trust
 from ..run.ending import ALL
@@ -20,19 +19,18 @@ if TYPE_CHECKING:
 def draw(study: Study, rows: Sequence[Difference], path: str) -> None:
     """The differences with their intervals; without matplotlib no picture, which is said."""
     shown = [row for row in rows if row[0] != study.base]
-    try:
-        pyplot = plots.drawing()
-    except Fault as fault:
-        print(f"no picture: {fault}", file=sys.stderr)
-        return
-    if not shown:
+    pyplot = plots.drawing_if_there()
+    if pyplot is None or not shown:
         return
     figure, axes = pyplot.subplots(figsize=(7, 1.2 + 0.4 * len(shown)))
     for place, (_, _, difference, half, other, *_) in enumerate(reversed(shown)):
         for width, size, label in ((other, 1.2, "unpaired"), (half, 4.0, "paired")):
             if width is not None and difference is not None:
                 named = f"95 % interval, {label}" if place == 0 else None
-                axes.plot((difference - width, difference + width), (place, place), color="#225588", linewidth=size, label=named)
+                axes.plot(
+                    (difference - width, difference + width), (place, place), color="#225588", linewidth=size,
+                    label=named,
+                )
         axes.plot([difference], [place], marker="o", color="black", markersize=5)
     axes.axvline(0, color="black", linewidth=0.8)
     axes.set_yticks(range(len(shown)), [row[0] for row in reversed(shown)])
@@ -78,7 +76,9 @@ def tell(rows: Sequence[Difference]) -> None:
     for name, mean, difference, half, _, runs, needed, _ in rows:
         line = f"{name}: mean trip {mean:.1f} s"
         if difference is not None:
-            line += f", {difference:+.2f} s" + (f" ± {half:.2f} (95 % interval, {runs} paired runs)" if half is not None else "")
+            line += f", {difference:+.2f} s" + (
+                f" ± {half:.2f} (95 % interval, {runs} paired runs)" if half is not None else ""
+            )
         if needed is not None and needed > runs:
             line += f"; the wanted precision needs {needed:,} runs"
         print(line)

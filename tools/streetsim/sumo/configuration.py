@@ -8,8 +8,9 @@ from ..cli.words import FALSE
 from ..files import Fault, elements
 from .report import Report
 
-FILES = ("net-file", "route-files", "additional-files")  # whose paths are beside the configuration
-WRITTEN = ("tripinfo-output", "summary-output", "fcd-output", "queue-output", "log", "message-log", "error-log")  # so are these
+# Files whose paths are beside the configuration: those that are read, and those that are written.
+FILES = ("net-file", "route-files", "additional-files")
+WRITTEN = ("tripinfo-output", "summary-output", "fcd-output", "queue-output", "log", "message-log", "error-log")
 SYNONYMS = {
     "net": "net-file",
     "routes": "route-files",
@@ -19,27 +20,33 @@ SYNONYMS = {
     "log-file": "log",
 }
 
-# What SUMO says and shows, its speed and its looks: of no effect on what is simulated; and `end`, as under SUMO's TraCI.
+# What SUMO says and shows, its speed and its looks: of no effect on what is simulated;
+# and `end`, as under SUMO's TraCI.
 SILENT = re.compile(
-    r"end|verbose|no-warnings|no-step-log|step-log\..*|duration-log\.disable|print-options|aggregate-warnings|language|threads"
-    r"|xml-validation.*|precision.*|human-readable-time|write-license|start|quit-on-end|game.*|demo|delay|breakpoints"
-    r"|disable-textures|registry-viewport|window-.*|tracker-interval|osg-view|gui-.*|edgedata-files|remote-port|num-clients"
-    r"|save-configuration\..*|save-commented|waiting-time-memory|device\.rerouting\.threads|thread-rngs|route-steps"
+    r"end|verbose|no-warnings|no-step-log|step-log\..*|duration-log\.disable|print-options|aggregate-warnings|language"
+    r"|threads|xml-validation.*|precision.*|human-readable-time|write-license|start|quit-on-end|game.*|demo|delay"
+    r"|breakpoints|disable-textures|registry-viewport|window-.*|tracker-interval|osg-view|gui-.*|edgedata-files"
+    r"|remote-port|num-clients|save-configuration\..*|save-commented|waiting-time-memory|device\.rerouting\.threads"
+    r"|thread-rngs|route-steps"
 )
-OUTPUT = re.compile(r"[\w-]+-output|netstate-dump|save-(configuration|template|schema|state\.\w+)|device\.[\w.-]+\.(file|output)")
+OUTPUT = re.compile(
+    r"[\w-]+-output|netstate-dump|save-(configuration|template|schema|state\.\w+)|device\.[\w.-]+\.(file|output)"
+)
 NOWHERE = ("NUL", "NULL", "nul", "/dev/null")  # for SUMO: do not write it
 DEFAULTS = ("begin", "end", "seed", "ignore-route-errors")  # that stand for the words of the import
 DONE = {"net-file", "route-files", "additional-files", *DEFAULTS}
 HERE = {  # what a configuration asks for otherwise than it is done here, and what to do
     "step-length": "steps are of one second",
-    "time-to-teleport": "streetsim-run --rescue says after how many seconds of standing a vehicle is taken out and entered anew",
+    "time-to-teleport": "streetsim-run --rescue says after how many seconds of standing a vehicle is taken out "
+    "and entered anew",
     "scale": "make the routes of the demand that is wanted",
     "tls.all-off": "its lights work; a network without them is made by netconvert",
 }
 
 
 def read_configuration(path: str) -> dict[str, str]:
-    """What a configuration (.sumocfg) sets, {option: value}. Its root and its sections may have any name, as in SUMO."""
+    """What a configuration (.sumocfg) sets, {option: value}.
+    Its root and its sections may have any name, as in SUMO."""
     found = {}
     for element in elements(path, None):
         for one in element.iter():

@@ -1,8 +1,9 @@
 """Who gives way to whom where there is no light, and for how long: for the map, by which runs find gaps.
 
-The seconds were measured in SUMO 1.15 at lone junctions, under a queue that does not end (bench/junctions): how many leave in
-each gap between two that they give way to, then chosen so that as many leave here against 200 to 1,000 vehicles an hour. They
-fall with the flow, as the traffic of SUMO, whose vehicles differ in speed, is more bunched and leaves more long gaps.
+The seconds were measured in SUMO 1.15 at lone junctions, under a queue that does not end (bench/junctions): how many
+leave in each gap between two that they give way to, then chosen so that as many leave here against 200 to 1,000
+vehicles an hour. They fall with the flow, as the traffic of SUMO, whose vehicles differ in speed, is more bunched
+and leaves more long gaps.
 """
 from __future__ import annotations
 
@@ -39,7 +40,8 @@ class Gap:
 
 
 CROSSING, ENTERING, JOINING = Gap(7.0, 3.6, 3.5), Gap(7.2, 2.0, 3.5), Gap(8.4, 3.0, 5.0)  # a stream; a slow, a fast one
-EQUAL = {CROSSING: Gap(7.8, 2.8, 3.5), ENTERING: Gap(8.0, 2.0, 3.5), JOINING: Gap(9.2, 3.0, 5.0)}  # nobody has a main street
+# The same where nobody has a main street.
+EQUAL = {CROSSING: Gap(7.8, 2.8, 3.5), ENTERING: Gap(8.0, 2.0, 3.5), JOINING: Gap(9.2, 3.0, 5.0)}
 
 
 @dataclass(slots=True, frozen=True)
@@ -117,14 +119,16 @@ def foes(one: Connection, other: Connection, network: Network) -> dict[TurnKey, 
     gap = JOINING if fast else ENTERING if joins else CROSSING
     if one.state == EQUALS:
         gap = EQUAL[gap]
-    return {(link, lane, following): Foe(link, lane, following, gap, fast) for following in network.links_of[other.target]}
+    return {
+        (link, lane, following): Foe(link, lane, following, gap, fast) for following in network.links_of[other.target]
+    }
 
 
 def lost(
     connections: Sequence[Connection], net: SumoNet, flows: Flows, longer: Mapping[str, float]
 ) -> tuple[float, float]:
-    """Vehicles an hour at a junction, and the seconds that these lose beside one that goes straight on and first. longer: the
-    seconds that a ring's edges take longer here than in SUMO, which are made up for at their ends."""
+    """Vehicles an hour at a junction, and the seconds that these lose beside one that goes straight on and first.
+    longer: the seconds that a ring's edges take longer here than in SUMO, which are made up for at their ends."""
     sharing = Counter((connection.source, connection.target) for connection in connections)
     total = seconds = 0.0
     for connection in connections:

@@ -96,8 +96,8 @@ class Demand:
         self.mixes[name] = self.mix(path, element, element, name)
 
     def mix(self, path: FilePath, owner: Element, element: Element, name: str) -> Mix:
-        """The names of the routes of a distribution and their weights; a route without a name is called by its place, as
-        SUMO does."""
+        """The names of the routes of a distribution and their weights;
+        a route without a name is called by its place, as SUMO does."""
         names, weights = (element.get("routes") or "").split(), []
         shares = attribute(path, element, "probabilities", weights_of) if element.get("probabilities") else []
         weights += [shares[place] if place < len(shares) else 1.0 for place in range(len(names))]
@@ -134,7 +134,9 @@ class Demand:
         if inner is None and mix is None and element.get("route") is None:
             raise Unrouted(f"{told(path, element)} {ROUTED_FIRST}")
         self.note_ignored(element)
-        route = element.get("route") or "" if inner is None else f"!{element.get('id')}" if element.tag == "flow" else ""
+        route = (
+            element.get("route") or "" if inner is None else f"!{element.get('id')}" if element.tag == "flow" else ""
+        )
         if mix is not None:
             route = f"!{element.get('id')}"
             self.mixes[route] = self.mix(path, element, mix, route)
@@ -218,7 +220,12 @@ def enters(
         lanes = network.serves(plan[0], plan[1]) if len(plan) > 1 else range(len(network.links[plan[0]].lanes))
         lane = lanes[used[plan[0]] % len(lanes)]
         used[plan[0]] += 1
-        command: dict[str, Any] = {"cmd": "enter", "plan": list(plan), "lane": lane, "depart": max(0, math.ceil(vehicle.depart))}
+        command: dict[str, Any] = {
+            "cmd": "enter",
+            "plan": list(plan),
+            "lane": lane,
+            "depart": max(0, math.ceil(vehicle.depart)),
+        }
         size = sizes.of(vehicle.type) if network.options.sizes else 1
         commands.append({**command, "size": size} if size > 1 else command)
         driven.append(vehicle)
@@ -253,12 +260,14 @@ def plan_of(vehicle: Vehicle, net: SumoNet, network: Network) -> tuple[tuple[int
 def why_no_way(vehicle: Vehicle, net: SumoNet, network: Network) -> str:
     """Why a route has no way, where the network has one that is not for the classes; else a Fault, as in SUMO."""
     pairs = pairwise(vehicle.edges)
-    source, target = next((pair for pair in pairs if pair not in network.movements and pair not in net.closed_ways), ("", ""))
+    source, target = next(
+        (pair for pair in pairs if pair not in network.movements and pair not in net.closed_ways), ("", "")
+    )
     if not source:
         return "two edges of the route have no connection for the classes"
     if network.options.ignore_route_errors:
         return "two edges of the route have no connection"
     raise Fault(
-        f"vehicle {vehicle.name!r}: the network has no connection from edge {source!r} to edge {target!r}, which follow each "
-        "other in its route (--ignore-route-errors leaves such vehicles out)"
+        f"vehicle {vehicle.name!r}: the network has no connection from edge {source!r} to edge {target!r}, "
+        "which follow each other in its route (--ignore-route-errors leaves such vehicles out)"
     )

@@ -45,7 +45,9 @@ def read_detector(path: FilePath, element: Element, report: Report) -> SumoDetec
     if period < 1:
         raise Fault(f"{told(path, element)}: {names[0]}={element.get(names[0])!r} is no period")
     name, lane = attribute(path, element, "id"), attribute(path, element, "lane")
-    return SumoDetector(told(path, element), name, kind, lane, begin, end, min(period, limits.PERIOD), friendly, goes_on)
+    return SumoDetector(
+        told(path, element), name, kind, lane, begin, end, min(period, limits.PERIOD), friendly, goes_on
+    )
 
 
 def stretch(path: FilePath, element: Element, report: Report) -> tuple[float, float | None]:
@@ -70,7 +72,8 @@ def tell_beyond(name: str | None, lane: str | None, report: Report) -> None:
 
 
 def placed(detectors: Iterable[SumoDetector], mapping: Map, dropped: Container[str], report: Report) -> list[Detector]:
-    """Detectors on the cells of a map. A lane that the network does not have is a Fault; one that was left out is not."""
+    """Detectors on the cells of a map. A lane that the network does not have is a Fault;
+    one that was left out is not."""
     places = {mapping.lane_name(*place): place for place in mapping.lanes()}
     found = {}
     for one in detectors:
@@ -78,7 +81,9 @@ def placed(detectors: Iterable[SumoDetector], mapping: Map, dropped: Container[s
             raise Fault(f"{one.where}: a second detector of this name")
         if one.lane in places:
             link, lane = places[one.lane]
-            found[one.name] = Detector(one.name, one.kind, link, lane, *cells(one, mapping.links[link], report), one.period)
+            found[one.name] = Detector(
+                one.name, one.kind, link, lane, *cells(one, mapping.links[link], report), one.period
+            )
         elif one.lane.rpartition("_")[0] in mapping.links_of or one.lane.rpartition("_")[0] in dropped:
             report.warn(f"detector {one.name} lies on {one.lane}, which is left out")
         else:

@@ -45,7 +45,8 @@ def parser() -> argparse.ArgumentParser:
     made.add_argument(
         "additional",
         nargs="*",
-        help="additional files with signal programs, of which the last of a light counts, vehicle types, detectors, and demand",
+        help="additional files with signal programs, of which the last of a light counts, vehicle types, "
+        "detectors, and demand",
     )
     made.add_argument("--routes", nargs="+", default=[], metavar="FILE", help="vehicles, flows and routes (.rou.xml)")
     made.add_argument(
@@ -53,8 +54,8 @@ def parser() -> argparse.ArgumentParser:
         nargs="+",
         default=[],
         metavar="FILE",
-        help="trips, and flows with from and to: each gets the way that is shortest with the waits at signals and the volumes so "
-        "far (better ways: streetsim-route)",
+        help="trips, and flows with from and to: each gets the way that is shortest with the waits at signals and the "
+        "volumes so far (better ways: streetsim-route)",
     )
     made.add_argument("-o", "--output", required=True, help="the run: lines of JSON (.jsonl, .jsonl.gz)")
     made.add_argument("--map", required=True, help="the map of names to write (.json)")
@@ -66,6 +67,19 @@ def parser() -> argparse.ArgumentParser:
 
 def add_options(made: argparse.ArgumentParser) -> None:
     """The words that say how a network and its vehicles become commands."""
+    add_lanes(made)
+    add_vehicles(made)
+    add_numbers(made)
+    made.add_argument(
+        "--permissive",
+        type=float,
+        metavar="SHARE",
+        help="the last share of each permissive green that is shown (default: by the flows that it gives way to)",
+    )
+
+
+def add_lanes(made: argparse.ArgumentParser) -> None:
+    """The words that say which lanes there are, and how vehicles go from one to the next."""
     made.add_argument(
         "--classes", default="passenger", help="keep lanes that allow one of these vehicle classes, with commas between"
     )
@@ -88,6 +102,10 @@ def add_options(made: argparse.ArgumentParser) -> None:
         help="edges, or lanes (edge_index), with commas between: links of two lanes also where lanes lead to different "
         "edges, so that vehicles change between them; for lanes that a program closes later",
     )
+
+
+def add_vehicles(made: argparse.ArgumentParser) -> None:
+    """The words that say which vehicles there are."""
     made.add_argument(
         "--begin",
         type=time_within(0, limits.CLOCK),
@@ -96,13 +114,20 @@ def add_options(made: argparse.ArgumentParser) -> None:
         help="the clock at the start; vehicles before it are skipped",
     )
     made.add_argument(
-        "--end", type=time_within(0, limits.CLOCK), metavar="S", help="leave out vehicles that depart at this time or later"
+        "--end",
+        type=time_within(0, limits.CLOCK),
+        metavar="S",
+        help="leave out vehicles that depart at this time or later",
     )
     made.add_argument(
         "--ignore-route-errors",
         action="store_true",
         help="leave out vehicles whose route has edges without a connection, and count them",
     )
+
+
+def add_numbers(made: argparse.ArgumentParser) -> None:
+    """The words that set numbers of the model."""
     for name, most, words in (
         ("dawdle", 1000, "chance of slowing down, of 1,000"),
         ("change", 1000, "chance of changing lane, of 1,000"),
@@ -117,12 +142,6 @@ def add_options(made: argparse.ArgumentParser) -> None:
             default=getattr(Options(), name),
             help=f"{words} (default %(default)s)",
         )
-    made.add_argument(
-        "--permissive",
-        type=float,
-        metavar="SHARE",
-        help="the last share of each permissive green that is shown (default: by the flows that it gives way to)",
-    )
 
 
 def options_of(words: argparse.Namespace) -> Options:
@@ -132,7 +151,9 @@ def options_of(words: argparse.Namespace) -> Options:
     unknown = [name for name in classes if name not in CLASSES]
     if unknown:
         raise Fault(f"--classes: SUMO has no vehicle class {unknown[0]!r}; it has {', '.join(CLASSES)}")
-    names = ("dawdle", "change", "zone", "seed", "residence", "buffer", "permissive", "begin", "end", "ignore_route_errors")
+    names = (
+        "dawdle", "change", "zone", "seed", "residence", "buffer", "permissive", "begin", "end", "ignore_route_errors",
+    )
     given = {name: getattr(words, name) for name in names}
     given.update(strict_turns=words.turns == "strict", sizes=words.sizes == "on")
     given["joint"] = tuple(listed(words.joint))
@@ -160,7 +181,8 @@ def words_of(arguments: list[str]) -> tuple[argparse.Namespace, dict[str, str]]:
 
 
 def read_and_converted(sources: Sources, options: Options, report: Report, told: dict[str, str]) -> Made:
-    """What `convert` makes of the sources; those of a configuration may have trips among their routes. `told`: its options."""
+    """What `convert` makes of the sources; those of a configuration may have trips among their routes.
+    `told`: its options."""
     tell_options(told, report)
     try:
         return convert(sources.net, sources.additional, sources.routes, options, report, sources.trips)
@@ -169,7 +191,10 @@ def read_and_converted(sources: Sources, options: Options, report: Report, told:
             raise
     report.clear()
     tell_options(told, report)
-    report.warn("trips have the ways that are shortest by free speed, signals and volumes, as by --trips (better ways: streetsim-route)")
+    report.warn(
+        "trips have the ways that are shortest by free speed, signals and volumes, as by --trips (better ways: "
+        "streetsim-route)"
+    )
     sources.routes, sources.trips = [], sources.routes
     return convert(sources.net, sources.additional, [], options, report, sources.trips)
 
@@ -263,7 +288,12 @@ def converted(net: SumoNet, types: Types, vehicles: Sequence[Vehicle], options: 
     lights = [[light, command["node"]] for light, command in made if "at" not in command]
     network.yields = conflicts_of(net, network, flows)
     network.actuated = actuated(net, (light for light, _ in made))
-    return network, lights, [network.load(), *(command for _, command in made), *entered], [vehicle.name for vehicle in driven]
+    return (
+        network,
+        lights,
+        [network.load(), *(command for _, command in made), *entered],
+        [vehicle.name for vehicle in driven],
+    )
 
 
 def refuse_over_limits(network: Network, load: str, names: Sequence[str]) -> None:

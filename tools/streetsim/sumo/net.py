@@ -62,7 +62,8 @@ class Program:
     offset: float
     phases: list[tuple[float, str]]  # seconds and state
     kind: str  # static, actuated, ..
-    bounds: list[tuple[float | None, float | None]] = field(default_factory=list)  # for each phase its minDur and maxDur, or none
+    # For each phase its minDur and maxDur, or none.
+    bounds: list[tuple[float | None, float | None]] = field(default_factory=list)
 
 
 @dataclass(slots=True)
@@ -76,7 +77,8 @@ class SumoNet:
     roundabouts: set[str] = field(default_factory=set)  # edges
     programs: dict[str, Program] = field(default_factory=dict)  # by light, the last loaded
     detectors: list[SumoDetector] = field(default_factory=list)  # of additional files
-    yields: dict[str, dict[int, set[int]]] = field(default_factory=dict)  # junction: for each request those that it gives way to
+    # By junction: for each request those that it gives way to.
+    yields: dict[str, dict[int, set[int]]] = field(default_factory=dict)
     inner_speeds: dict[str, float] = field(default_factory=dict)  # lane inside a junction: metres a second
     location: dict[str, Any] = field(default_factory=dict)  # where it lies on Earth, as read_location keeps it
 
@@ -132,8 +134,8 @@ def read_net(path: FilePath, classes: Sequence[str], report: Report) -> SumoNet:
 
 
 def read_additional(path: FilePath, net: SumoNet, types: Types, report: Report, demand: Demand | None = None) -> None:
-    """Signal programs, vehicle types and detectors of an additional file, and vehicles, flows and routes for a demand where
-    one is given; all else there is counted as ignored."""
+    """Signal programs, vehicle types and detectors of an additional file, and vehicles, flows and routes for a demand
+    where one is given; all else there is counted as ignored."""
     undone = defaultdict(list)
     for element in elements(path, ["additional", "add", "routes", "tlLogics"]):
         if element.tag == "tlLogic":

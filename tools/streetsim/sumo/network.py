@@ -39,7 +39,8 @@ class Options:
     sizes: bool = True  # of vehicles, by their types; else one cell each
     end: int | None = None  # vehicles that depart then or later are left out
     ignore_route_errors: bool = False  # leaves out vehicles whose route has edges without a connection
-    joint: tuple[str, ...] = ()  # edges, or lanes by SUMO's names, whose lanes are to be joint with the ones beside them
+    # Edges, or lanes by SUMO's names, whose lanes are to be joint with the ones beside them.
+    joint: tuple[str, ...] = ()
 
 
 @dataclass(slots=True)
@@ -91,9 +92,11 @@ class Network:
                 self.place_of.update({(edge.name, lane.index): (len(self.links), at) for at, lane in enumerate(lanes)})
                 self.links.append(link_of(edge, lanes, number, options))
         self.turns: dict[TurnKey, Turn] = {}
-        self.waiting: set[tuple[str, str]] = set()  # (edge, next edge) to which a signal lets go only when there is a gap
+        # Each (edge, next edge) to which a signal lets go only when there is a gap.
+        self.waiting: set[tuple[str, str]] = set()
         self.waiting.update((edge, target) for (edge, _), targets in waiting.items() for target in targets)
-        self.movements: defaultdict[tuple[str, str], list[Connection]] = defaultdict(list)  # (edge, next edge): connections
+        # By (edge, next edge).
+        self.movements: defaultdict[tuple[str, str], list[Connection]] = defaultdict(list)
         self.add_connections(net, report)
         if not options.strict_turns:
             self.open_both_lanes(report)
@@ -163,8 +166,8 @@ class Network:
         self.joined.add((link, following))
 
     def open_beside_works(self) -> None:
-        """Where a link has no lane but ones that are to be closed, and its edge has others, these get its turns: so that
-        plans can go round it."""
+        """Where a link has no lane but ones that are to be closed, and its edge has others,
+        these get its turns: so that plans can go round it."""
         for name, closing in self.closing.items():
             shut = [link for link in self.links_of[name] if closing.issuperset(self.links[link].lanes)]
             beside = [link for link in self.links_of[name] if link not in shut]
@@ -387,8 +390,8 @@ def residences(
     edges: Sequence[Edge], net: SumoNet, links: Sequence[Link], nodes: Sequence[str], options: Options, flows: Flows
 ) -> list[int]:
     """Steps in a buffer for each node: the given ones at signals and real junctions, 1 elsewhere. At real junctions
-    without a light, and where streets meet a roundabout, more, as many as its vehicles lose on average that turn or have to
-    look out."""
+    without a light, and where streets meet a roundabout, more, as many as its vehicles lose on average that
+    turn or have to look out."""
     into, out = Counter(edge.end for edge in edges), Counter(edge.begin for edge in edges)
     real = {name for name in nodes if into[name] >= 2 and out[name] >= 2 and into[name] + out[name] >= 5}
     ring = {name for edge in edges if edge.name in net.roundabouts for name in (edge.begin, edge.end)}

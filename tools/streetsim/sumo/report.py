@@ -12,7 +12,8 @@ HEAVY, LIGHT, NONE = "changes results", "told", "no effect"
 class Report:
     def __init__(self) -> None:
         self.warnings: list[str] = []
-        self.more: dict[str, tuple[str, tuple[str, ...], str]] = {}  # by warning: its weight, the names that it is of, what to do
+        # By warning: its weight, the names that it is of, what to do.
+        self.more: dict[str, tuple[str, tuple[str, ...], str]] = {}
         self.notes: list[str] = []  # what was counted
         self.ignored: Counter[str] = Counter()  # what is read and has no effect
         self.skipped: Counter[str] = Counter()  # vehicles that do not drive, by reason
@@ -22,7 +23,8 @@ class Report:
         self.__init__()  # type: ignore[misc]  # nobody derives a class from this one
 
     def warn(self, text: str, names: Iterable[str] = (), do: str = "", light: bool = False) -> None:
-        """Notes what is other than in SUMO: the names that it is of, what to do, and whether it changes results little."""
+        """Notes what is other than in SUMO: the names that it is of, what to do,
+        and whether it changes results little."""
         if text not in self.warnings:
             self.warnings.append(text)
             self.more[text] = (LIGHT if light else HEAVY, tuple(names), do)
@@ -41,7 +43,9 @@ class Report:
 
     def rows(self) -> list[list[str]]:
         """All that is said, as a table: weight, what, the names that it is of, what to do."""
-        found = [[HEAVY, f"{count} vehicles are left out: {why}", "", ""] for why, count in sorted(self.skipped.items())]
+        found = [
+            [HEAVY, f"{count} vehicles are left out: {why}", "", ""] for why, count in sorted(self.skipped.items())
+        ]
         for text in self.by_weight():
             weight, names, do = self.more[text]
             found.append([weight, text, " ".join(names), do])

@@ -33,11 +33,16 @@ def warn_of_classes(net: SumoNet, network: Network, report: Report) -> None:
 def warn_of_lengths(network: Network, report: Report) -> None:
     short = sorted({link.edge for link in network.links if link.metres < limits.CELL_METRES})
     if short:
-        report.warn(f"{len(short)} edges are shorter than a cell of {limits.CELL_METRES} m and get one: {some(short)}", short)
-    longer = [link for link in network.links if limits.CELL_METRES <= MUCH * link.metres < link.cells * limits.CELL_METRES]
+        report.warn(
+            f"{len(short)} edges are shorter than a cell of {limits.CELL_METRES} m and get one: {some(short)}", short
+        )
+    longer = [
+        link for link in network.links if limits.CELL_METRES <= MUCH * link.metres < link.cells * limits.CELL_METRES
+    ]
     if names := sorted({link.edge for link in longer if link.metres >= limits.CELL_METRES}):
         report.warn(
-            f"{len(names)} edges are longer here than in SUMO by more than a tenth, as lengths are whole cells: {some(names)}",
+            f"{len(names)} edges are longer here than in SUMO by more than a tenth, "
+            f"as lengths are whole cells: {some(names)}",
             names,
             "netconvert --geometry.remove --junctions.join makes fewer short edges",
         )
@@ -50,7 +55,10 @@ def warn_of_speeds(network: Network, report: Report) -> None:
     for (speed, limit), edges in sorted(edges_of.items()):
         free = (limit - network.options.dawdle / 1000) * limits.CELL_METRES
         if abs(free - speed) > 0.1 * speed:
-            told = f"{speed * 3.6:.0f} km/h becomes {limit} cells a step, {free * 3.6:.0f} km/h when free: {len(edges)} links"
+            told = (
+                f"{speed * 3.6:.0f} km/h becomes {limit} cells a step, {free * 3.6:.0f} km/h when free: "
+                f"{len(edges)} links"
+            )
             report.warn(told, dict.fromkeys(edges))
 
 
@@ -65,8 +73,8 @@ def warn_of_merges(net: SumoNet, report: Report) -> None:
     ]
     if merged:
         report.warn(
-            f"{len(merged)} fast roads begin where others merge, and nobody makes room here, so queues may be far too long: "
-            f"{some(sorted(merged))}",
+            f"{len(merged)} fast roads begin where others merge, and nobody makes room here, so queues may be far too "
+            f"long: {some(sorted(merged))}",
             sorted(merged),
             "judge motorways by SUMO",
         )
@@ -78,11 +86,14 @@ def warn_of_lanes(net: SumoNet, network: Network, report: Report) -> None:
         told = f"{minor} connections have to give way in SUMO; here those that routes use do, by rounds before each run"
         report.warn(told, light=True)
     if network.joined:
-        report.warn(f"{len(network.joined)} turns between parallel links added for routes that change between them", light=True)
+        report.warn(
+            f"{len(network.joined)} turns between parallel links added for routes that change between them", light=True
+        )
     split = sorted(edge for edge, links in network.links_of.items() if len(links) > 1)
     if split:
         report.warn(
-            f"{len(split)} edges became parallel links of one or two lanes, between which nobody changes lane: {some(split)}",
+            f"{len(split)} edges became parallel links of one or two lanes, between which nobody changes "
+            f"lane: {some(split)}",
             split,
             "--joint EDGES joins their lanes",
         )

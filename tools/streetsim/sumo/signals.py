@@ -30,7 +30,8 @@ LONGEST = 200_000  # seconds of a cycle that are read
 AFTER = 86_400  # seconds after the last departure for which a program is told that does not fit in one plan
 QUEUED = 90  # seconds of a green above 600 s in which a queue leaves
 GRAINS = (1, 2, 3, 5, 8, 12, 20)  # seconds to which greens are rounded: the first that gives few phases
-FINE = GRAINS[:2]  # of these, to which the seconds left out in the middle of greens are rounded, as they are two at least
+# Those to which the seconds left out in the middle of greens are rounded, as they are two at least.
+FINE = GRAINS[:2]
 
 
 def movements(net: SumoNet, network: Network, flows: Flows, report: Report) -> dict[str, dict[int, Movement]]:
@@ -111,8 +112,8 @@ class TooLong(Fault):
 
 
 def signal_lines(own: Own, begin: int, last: int) -> list[Command]:
-    """The signal command of a light, of the words of `signal`; of a program that does not fit in one plan a line for each
-    phase from a begin to a last second, as a plan of one phase stays until the next."""
+    """The signal command of a light, of the words of `signal`; of a program that does not fit in one plan a line for
+    each phase from a begin to a last second, as a plan of one phase stays until the next."""
     try:
         return [signal(*own)]
     except TooLong:
@@ -127,8 +128,8 @@ def cycle_told(own: Own) -> str:
 
 
 def phase_lines(own: Own, begin: int) -> Iterator[tuple[int, Command]]:
-    """The signal commands of a light's phases from a begin on, (clock, command), without end: a plan of one phase stays until
-    the next is sent. `own`: the words of `signal`."""
+    """The signal commands of a light's phases from a begin on, (clock, command), without end: a plan of one phase stays
+    until the next is sent. `own`: the words of `signal`."""
     node, turns, _, light, program, permissive, report, found = own
     states = each_second(light, program, report)
     told = by_gaps(found) if found else by_share(light, turns, states, permissive)
@@ -158,7 +159,10 @@ def signal(
     states = each_second(light, program, report)
     check_states(light, states, [turn for *_, turn in turns])
     if len(states) > limits.PHASES * limits.PHASE_STEPS:
-        raise TooLong(f"light {light!r}: a cycle of {len(states):,} s does not fit in {limits.PHASES} phases of {limits.PHASE_STEPS} s")
+        raise TooLong(
+            f"light {light!r}: a cycle of {len(states):,} s does not fit in {limits.PHASES} phases of "
+            f"{limits.PHASE_STEPS} s"
+        )
     told = by_gaps(found) if found else by_share(light, turns, states, permissive)
     for middle, grain in chain(product([True], FINE), product([False], GRAINS)):
         phases = run_lengths(green_seconds(light, turns, states, told, grain, middle))
@@ -194,11 +198,14 @@ def signal(
 
 
 def each_second(light: str, program: Program, report: Report) -> list[str]:
-    """The program's state in each second of its cycle; durations are rounded by running sum, so that the cycle stays."""
+    """The program's state in each second of its cycle; durations are rounded by running sum,
+    so that the cycle stays."""
     states: list[str] = []
     clock = 0.0
     if (cycle := sum(duration for duration, _ in program.phases)) > LONGEST:
-        raise Fault(f"light {light!r}: a cycle of {cycle:,.0f} s; at most {LONGEST:,} s are read: give it shorter phases")
+        raise Fault(
+            f"light {light!r}: a cycle of {cycle:,.0f} s; at most {LONGEST:,} s are read: give it shorter phases"
+        )
     for duration, state in program.phases:
         clock += duration
         states += [state] * (round(clock) - len(states))
@@ -251,7 +258,9 @@ def green_seconds(
     return [frozenset(green) for green in greens]
 
 
-def shown_green(states: str, told: Mapping[int, tuple[int, int]], turn: Turn | MapTurn, grain: int, middle: bool) -> list[bool]:
+def shown_green(
+    states: str, told: Mapping[int, tuple[int, int]], turn: Turn | MapTurn, grain: int, middle: bool
+) -> list[bool]:
     """For each second whether a turn shows green. Of each permissive green only so many seconds as are told, in so many
     parts. Of each other green that no permissive one goes before seconds are left out, as SUMO's queues start later and
     turn slower: in its middle, or else at its begin. All is rounded down to a grain of seconds."""
@@ -271,8 +280,8 @@ def shown_green(states: str, told: Mapping[int, tuple[int, int]], turn: Turn | M
 
 
 def hidden(length: int, turn: Turn | MapTurn, grain: int, middle: bool) -> range:
-    """The seconds of a green that are not shown, in its middle or at its begin. Of a short one they are rounded to the nearest: a
-    second of seven lets a quarter more pass, which a search for plans would find."""
+    """The seconds of a green that are not shown, in its middle or at its begin. Of a short one they are rounded to the
+    nearest: a second of seven lets a quarter more pass, which a search for plans would find."""
     own = length, turn.speed, turn.limit
     begin, end = hidden_middle(*own) if middle else (0, hidden_start(*own))
     nearest = grain // 2 if length < TWO_PARTS else 0
@@ -297,7 +306,10 @@ def joined(phases: Iterable[tuple[int, Green]]) -> list[tuple[int, Green]]:
     while len(made) > limits.PHASES:
         fitting = [at for at in range(1, len(made)) if made[at - 1][0] + made[at][0] <= limits.PHASE_STEPS]
         if not fitting:
-            raise TooLong(f"a cycle of {sum(seconds for seconds, _ in made):,} s does not fit in {limits.PHASES} phases of {limits.PHASE_STEPS} s")
+            raise TooLong(
+                f"a cycle of {sum(seconds for seconds, _ in made):,} s does not fit in {limits.PHASES} phases of "
+                f"{limits.PHASE_STEPS} s"
+            )
         at = min(fitting, key=lambda place: made[place][0])
         made[at - 1 : at + 1] = [(made[at - 1][0] + made[at][0], made[at - 1][1])]
     return made

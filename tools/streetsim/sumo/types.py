@@ -14,11 +14,19 @@ from .report import Report, some
 CLASSES = (
     *("private", "emergency", "authority", "army", "vip", "passenger", "hov", "taxi", "bus", "coach", "delivery"),
     *("truck", "trailer", "tram", "rail_urban", "rail", "rail_electric", "rail_fast", "motorcycle", "moped", "bicycle"),
-    *("pedestrian", "evehicle", "ship", "container", "cable_car", "subway", "aircraft", "wheelchair", "scooter", "drone"),
+    *(
+        "pedestrian", "evehicle", "ship", "container", "cable_car", "subway", "aircraft", "wheelchair", "scooter",
+        "drone",
+    ),
     *("custom1", "custom2"),
 )
 FORMER = {  # names that SUMO still takes for them
-    **{"public_emergency": "emergency", "public_authority": "authority", "public_army": "army", "public_transport": "bus"},
+    **{
+        "public_emergency": "emergency",
+        "public_authority": "authority",
+        "public_army": "army",
+        "public_transport": "bus",
+    },
     **{"transport": "truck", "lightrail": "tram", "cityrail": "rail_urban", "rail_slow": "rail"},
 }
 FREE = "ignoring"  # the class that may use every lane

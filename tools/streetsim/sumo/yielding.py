@@ -2,8 +2,9 @@
 many vehicles pass as in SUMO.
 
 Gaps are found as in the Highway Capacity Manual (2010, signalized intersections: permitted left turns), with its
-critical headway of 4.5 s and its follow-up headway of 2.5 s, which are cited from memory; the other values were measured in
-SUMO and here at a lone cross, under a queue that does not end. The seconds of a cycle are bits of a number, second 0 the lowest.
+critical headway of 4.5 s and its follow-up headway of 2.5 s, which are cited from memory; the other values were
+measured in SUMO and here at a lone cross, under a queue that does not end. The seconds of a cycle are bits of a
+number, second 0 the lowest.
 """
 from __future__ import annotations
 
@@ -65,7 +66,8 @@ class Movement:
     runs: dict[int, int]  # first second of a permissive green: its length
     foes: list[Movement] = field(default_factory=list)  # that it gives way to
     meets: dict[int, list[Meeting]] = field(default_factory=dict)  # by first second of a permissive green
-    shown: dict[int, int] = field(default_factory=dict)  # first second of a permissive green: how many seconds of it are shown
+    # By first second of a permissive green: how many seconds of it are shown.
+    shown: dict[int, int] = field(default_factory=dict)
     parts: int = 1  # in which they are shown
 
 
@@ -200,7 +202,8 @@ def seconds_shown(movement: Movement, start: int, length: int) -> int:
 
 def places(length: int, seconds: int, parts: int) -> list[tuple[int, int]]:
     """Where so many seconds of a permissive green are shown, as (begin, end): at its end, for those that are given way
-    to go first; or in parts with equal waits before them, so that a vehicle that waits holds its lane up for less long."""
+    to go first; or in parts with equal waits before them, so that a vehicle that waits holds its
+    lane up for less long."""
     parts = parts if 2 * parts <= seconds <= 0.9 * length else 1
     wait, shown = (length - seconds) / parts, seconds / parts
     return [(round((at + 1) * wait + at * shown), round((at + 1) * (wait + shown))) for at in range(parts)]
@@ -269,8 +272,9 @@ def hidden_start(length: int, speed: float, limit: int) -> int:
 
 @cache
 def hidden_middle(length: int, speed: float, limit: int) -> tuple[int, int]:
-    """The same from half of a green on, as (begin, end): who has waited alone for its begin goes at once, as in SUMO. As a
-    queue starts twice they are more seconds; one alone does not hold it up. A short green has them at its begin."""
+    """The same from half of a green on, as (begin, end): who has waited alone for its begin goes at once,
+    as in SUMO. As a queue starts twice they are more seconds; one alone does not hold it up. A short green
+    has them at its begin."""
     if length < TWO_PARTS:
         return 0, hidden_start(length, speed, limit)
     half, vehicles = length // 2, leaving(length, speed)

@@ -1,7 +1,8 @@
 """TraCI's calls over streetsim: `import streetsim.traci as traci` in place of `import traci`.
 
-`start` takes the words of SUMO's command line, imports the network and its routes as streetsim-import does, and runs them with
-the program that STREETSIM_PROGRAM names. Steps are of one second. What streetsim has nothing for says what to do instead.
+`start` takes the words of SUMO's command line, imports the network and its routes as streetsim-import does, and
+runs them with the program that STREETSIM_PROGRAM names. Steps are of one second. What streetsim has nothing for
+says what to do instead.
 """
 from __future__ import annotations
 
@@ -29,8 +30,14 @@ from .trafficlights import TrafficLight
 from .vehicles import Vehicle, VehicleType
 
 __all__ = [
-    *("FatalTraCIError", "NotHere", "StepListener", "TraCIException", "addStepListener", "close", "constants", "getConnection"),
-    *("getLabel", "getVersion", "hasGUI", "isLibsumo", "isLibtraci", "isLoaded", "load", "removeStepListener", "setOrder"),
+    *(
+        "FatalTraCIError", "NotHere", "StepListener", "TraCIException", "addStepListener", "close", "constants",
+        "getConnection",
+    ),
+    *(
+        "getLabel", "getVersion", "hasGUI", "isLibsumo", "isLibtraci", "isLoaded", "load", "removeStepListener",
+        "setOrder",
+    ),
     *("simulationStep", "start", "switch"),
 ]
 
@@ -48,9 +55,9 @@ def start(
     **__: Any,
 ) -> tuple[int, str]:
     """Starts a run, of the words of SUMO's command line: -c, or -n, -r and -a, --seed and --begin, the outputs
-    --tripinfo-output, --summary-output, --fcd-output and --queue-output, and the words of streetsim-import (--classes, --dawdle,
-    --joint, ..). What the import warns of is told on standard error, and what other options of SUMO's do not do here. Gives the
-    version, as SUMO does."""
+    --tripinfo-output, --summary-output, --fcd-output and --queue-output, and the words of streetsim-import (--classes,
+    --dawdle, --joint, ..). What the import warns of is told on standard error, and what other options of SUMO's do not
+    do here. Gives the version, as SUMO does."""
     if _running:
         raise TraCIException("a run is under way: close() it first; there is one at a time")
     options = options_of(list(cmd)[1:])
@@ -148,7 +155,10 @@ lane, edge, junction, trafficlight = Lane(_now), Edge(_now), Junction(_now), Tra
 inductionloop, lanearea = InductionLoop(_now), LaneArea(_now)
 gui, poi, polygon = Quiet("gui", GUI), Quiet("poi", SHAPES), Quiet("polygon", SHAPES)
 _domains: tuple[Domain | Quiet, ...]
-_domains = (simulation, vehicle, vehicletype, route, lane, edge, junction, trafficlight, inductionloop, lanearea, gui, poi, polygon)
+_domains = (
+    simulation, vehicle, vehicletype, route, lane, edge, junction, trafficlight, inductionloop, lanearea, gui, poi,
+    polygon,
+)
 for _domain in (vehicle, lane, edge, junction, inductionloop, lanearea):
     _domain.vehicles = vehicle
 

@@ -3,9 +3,14 @@ from __future__ import annotations
 
 import re
 
-ALONE = "speeds follow the rules alone; slow a road by its limit in the network, and hold vehicles by a signal or a closed lane"
+ALONE = (
+    "speeds follow the rules alone; slow a road by its limit in the network, and hold vehicles by a signal "
+    "or a closed lane"
+)
 BESIDE = "who drives beside is not told by one call; lane.getLastStepVehicleIDs and vehicle.getLanePosition tell it"
-CONTEXT = "it has no place around which vehicles are looked for; subscribe around a junction, an edge, a lane or a vehicle"
+CONTEXT = (
+    "it has no place around which vehicles are looked for; subscribe around a junction, an edge, a lane or a vehicle"
+)
 DRIVERS = "all vehicles drive by the same rules; --dawdle, --sizes and the limits of the network say how"
 EFFORT = "ways are by travel times alone; use edge.adaptTraveltime"
 EMISSIONS = "emissions are not reckoned; SUMO's emissionsDrivingCycle reads the file of --fcd-output"
@@ -26,7 +31,8 @@ SENTENCES = {
     r"Noise": "noise is not reckoned; models of noise take the flows and speeds of --fcd-output",
     r"Emission|FuelConsumption|Electricity|^overheadwire": EMISSIONS,
     r"^(busstop|parkingarea|chargingstation)\.|Stop(?!Speed)|\.resume|Parking": STOPS,
-    r"\.(setSpeed|slowDown|setSpeedMode|getSpeedMode|setPreviousSpeed|setAcceleration|openGap|deactivateGapControl|requestToC)$": ALONE,
+    r"\.(setSpeed|slowDown|setSpeedMode|getSpeedMode|setPreviousSpeed|setAcceleration|openGap|"
+    r"deactivateGapControl|requestToC)$": ALONE,
     r"Lateral|Lat$": "vehicles fill their lane and have no place across it; getLaneID tells the lane",
     r"Neighbors|(Left|Right)(Leaders|Followers)": BESIDE,
     r"changeLane|ChangeLane|LaneChange|Sublane|BestLanes": LANES,
@@ -36,7 +42,8 @@ SENTENCES = {
     r"ubscribeContext|ContextSubscription": CONTEXT,
     r"^variablespeedsign|^(edge|lane|vehicle|vehicletype)\.setMaxSpeed$": LIMITS,
     r"^vehicletype\.set|\.copy$|vehicle\.(setType|setVehicleClass|setLength)$": TYPES,
-    r"Accel|Decel|Tau$|Imperfection|SpeedFactor|SpeedDeviation|ActionStep|MinGap|SecureGap|FollowSpeed|StopSpeed|ActionTime": DRIVERS,
+    r"Accel|Decel|Tau$|Imperfection|SpeedFactor|SpeedDeviation|ActionStep|MinGap|SecureGap|FollowSpeed|"
+    r"StopSpeed|ActionTime": DRIVERS,
     r"\.moveTo": MOVED,
     r"Via$": "ways are whole; name their edges by setRoute",
     r"Effort": EFFORT,
@@ -48,8 +55,9 @@ SENTENCES = {
     r"Friction": "all roads are dry; --dawdle changes how vehicles drive",
     r"lane\.setLength": "lanes are the network's; change them there and start again",
     r"Geo$": "degrees are not here; streetsim-export writes them",
-    r"3D$|Height|Slope|vehicle\w*\.[gs]etWidth|ShapeClass|Signals|\.[gs]etLine$|vehicletype\.getColor": "vehicles are cells of a plane; "
-    "getPosition, getAngle and getLength tell what there is",
+    r"3D$|Height|Slope|vehicle\w*\.[gs]etWidth|ShapeClass|Signals|\.[gs]etLine$|vehicletype\.getColor": (
+        "vehicles are cells of a plane; getPosition, getAngle and getLength tell what there is"
+    ),
     r"\.add(Full|Legacy)$": "use vehicle.add",
     r"DrivingDistance2D": "use simulation.convertRoad and getDrivingDistance",
     r"clearPending": "who waits departs when there is room; do not add whom you do not want",

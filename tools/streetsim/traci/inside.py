@@ -27,7 +27,12 @@ class Inside:
         wanted = {f"{target.edge}_{index}" for index in target.lanes}
         lanes = [self.map.lane_name(link, each) for each in range(len(self.map.links[link].lanes))]
         names = lanes if lane is None else [lanes[lane], *lanes]
-        ways = [one for name in names for one in self.facts.lanes[name].links if one.target.rpartition("_")[0] == target.edge]
+        ways = [
+            one
+            for name in names
+            for one in self.facts.lanes[name].links
+            if one.target.rpartition("_")[0] == target.edge
+        ]
         found = next((one for one in ways if one.target in wanted), ways[0] if ways else None)
         return 0.0 if found is None else self.facts.metres_inside(found.via)
 

@@ -24,7 +24,8 @@ class Light:
     links: list[Link] = field(default_factory=list)  # of each connection, by index
     states: int = 0  # how many letters a state has
     names: list[str] = field(default_factory=list)  # of the phases
-    programs: dict[str, tuple[Phases, list[str]]] = field(default_factory=dict)  # that can be chosen: phases and their names
+    # Those that can be chosen: phases and their names.
+    programs: dict[str, tuple[Phases, list[str]]] = field(default_factory=dict)
 
     def at(self, clock: float) -> tuple[int, float]:
         """The index of the phase, and the seconds that are left of it."""

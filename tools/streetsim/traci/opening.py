@@ -54,14 +54,20 @@ def told_of(yielding: Yielding) -> str:
         return f"warning: {yielding.told()}\n"
     if not yielding.lines:
         return ""
-    return f"{yielding.told()}, in the gaps of the vehicles of the route files; those that the script adds are in no gaps\n"
+    return (
+        f"{yielding.told()}, in the gaps of the vehicles of the route files; those that the script adds "
+        "are in no gaps\n"
+    )
 
 
 def told_of_files(facts: Facts) -> str:
     if not facts.unwritten:
         return ""
     names = ", ".join(dict.fromkeys(facts.unwritten))
-    return f"warning: additional files ask for {names}, not written here: streetsim-run --sumo-output e1,e2,edgedata writes such files\n"
+    return (
+        f"warning: additional files ask for {names}, not written here: streetsim-run --sumo-output e1,e2,edgedata "
+        "writes such files\n"
+    )
 
 
 def output_paths(options: Options, facts: Facts) -> dict[str, str]:

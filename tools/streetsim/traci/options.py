@@ -11,12 +11,21 @@ from .writing import SERVED
 
 SHORT = {
     **{"-c": "configuration-file", "-n": "net-file", "-r": "route-files", "-a": "additional-files", "-b": "begin"},
-    **{"-e": "end", "-v": "verbose", "-W": "no-warnings", "-l": "log", "-t": "duration-log.statistics", "-w": "weight-files"},
-    **{"-x": "weight-attribute", "-H": "human-readable-time", "-s": "route-steps", "-X": "xml-validation", "-S": "start"},
+    **{
+        "-e": "end", "-v": "verbose", "-W": "no-warnings", "-l": "log", "-t": "duration-log.statistics",
+        "-w": "weight-files",
+    },
+    **{
+        "-x": "weight-attribute", "-H": "human-readable-time", "-s": "route-steps", "-X": "xml-validation",
+        "-S": "start",
+    },
     **{"-g": "gui-settings-file", "-Q": "quit-on-end", "-G": "game", "-d": "delay", "-B": "breakpoints", "-D": "demo"},
     **{"-T": "disable-textures", "-C": "save-configuration"},
 }
-INPUTS = {"configuration-file", "net-file", "route-files", "additional-files", "step-length", "time-to-teleport", "output-prefix"}
+INPUTS = {
+    "configuration-file", "net-file", "route-files", "additional-files", "step-length", "time-to-teleport",
+    "output-prefix",
+}
 INPUTS |= {"rounds", "ignore-route-errors"}
 LOGS = ("log", "message-log", "error-log")  # files that get what the import says
 IMPORTED = {"seed", "begin", "classes", "joint", "turns", "sizes", "dawdle", "change", "zone", "residence", "buffer"}
@@ -34,8 +43,8 @@ KNOWN = re.compile(
     r"|extrapolate-departpos|lateral-resolution|no-internal-links|ignore-.*|collision\..*|max-.*|scale-suffix"
     r"|time-to-(teleport\..*|impatience)|startup-wait-threshold|(sloppy|eager|emergency)-insert|random-depart-offset"
     r"|lanechange\..*|tls\..*|railsignal.*|default\..*|overhead-wire\..*|emergencydecel\..*|parking\..*|use-stop-ended"
-    r"|pedestrian\..*|ride\..*|persontrip\..*|routing-algorithm|astar\..*|railway\..*|replay-rerouting|(person-)?device\..*"
-    r"|emissions\..*|phemlight-.*|meso-.*|duration-log\.statistics"
+    r"|pedestrian\..*|ride\..*|persontrip\..*|routing-algorithm|astar\..*|railway\..*|replay-rerouting"
+    r"|(person-)?device\..*|emissions\..*|phemlight-.*|meso-.*|duration-log\.statistics"
 )
 
 
@@ -88,7 +97,9 @@ def check_option(name: str, value: str) -> None:
         raise FatalTraCIError(f"--{name} {value}: streetsim has nothing for it; {REFUSED[name]}")
     if OUTPUT.fullmatch(name) and name not in SERVED and value not in NOWHERE and on:
         told = ", ".join(f"--{served}" for served in SERVED)
-        raise FatalTraCIError(f"--{name} {value}: not written here ({told} are); leave it out, or give --{name} /dev/null")
+        raise FatalTraCIError(
+            f"--{name} {value}: not written here ({told} are); leave it out, or give --{name} /dev/null"
+        )
     known = name in INPUTS or name in IMPORTED or name in REFUSED or name in LOGS
     if not (known or OUTPUT.fullmatch(name) or SILENT.fullmatch(name) or KNOWN.fullmatch(name)):
         raise FatalTraCIError(f"No option with the name '{name}' exists.")
@@ -96,8 +107,12 @@ def check_option(name: str, value: str) -> None:
 
 def warnings_of(options: Mapping[str, str]) -> list[str]:
     """What is to be said of SUMO's options that are read and do nothing here."""
-    lacking = [name for name in options if KNOWN.fullmatch(name) and not SILENT.fullmatch(name) and not OUTPUT.fullmatch(name)]
+    lacking = [
+        name for name in options if KNOWN.fullmatch(name) and not SILENT.fullmatch(name) and not OUTPUT.fullmatch(name)
+    ]
     told = [f"--{name} {options[name]}".rstrip() + " has no effect here" for name in lacking if name not in IMPORTED]
     if not options.get("time-to-teleport", "-1").startswith("-") and options["time-to-teleport"] != "0":
-        told.append(f"--time-to-teleport {options['time-to-teleport']} has no effect here: nobody teleports under a script")
+        told.append(
+            f"--time-to-teleport {options['time-to-teleport']} has no effect here: nobody teleports under a script"
+        )
     return told

@@ -1,4 +1,5 @@
-"""Calls that only change what a window shows. There is no window: they do nothing, and the first of each domain says so."""
+"""Calls that only change what a window shows. There is no window: they do nothing,
+and the first of each domain says so."""
 from __future__ import annotations
 
 import sys
@@ -34,6 +35,11 @@ class Quiet:
         self.told = False
 
 
-GUI = ("setAngle", "setBoundary", "setOffset", "setSchema", "setZoom", "toggleSelection", "track", "trackVehicle", "addView", "removeView")
-SHAPES: tuple[str, ...] = ("add", "highlight", "remove", "setAngle", "setColor", "setFilled", "setHeight", "setImageFile", "setLineWidth")
+GUI = (
+    "setAngle", "setBoundary", "setOffset", "setSchema", "setZoom", "toggleSelection", "track", "trackVehicle",
+    "addView", "removeView",
+)
+SHAPES: tuple[str, ...] = (
+    "add", "highlight", "remove", "setAngle", "setColor", "setFilled", "setHeight", "setImageFile", "setLineWidth",
+)
 SHAPES += ("setPosition", "setShape", "setType", "setWidth")

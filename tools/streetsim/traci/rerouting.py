@@ -17,7 +17,8 @@ SLOWEST = 0.1  # metres a second that an edge counts with where all stand, as in
 
 
 class Ways:
-    """Shortest ways over the links of a run's map, as turns between them cannot be added, by seconds or by metres of each."""
+    """Shortest ways over the links of a run's map, as turns between them cannot be added,
+    by seconds or by metres of each."""
 
     def __init__(self, session: Session) -> None:
         links, turns = session.map.links, session.map.turns
@@ -40,7 +41,8 @@ class Ways:
         if self.now is None or self.now[0] != clock:
             costs = {edge: self.seconds(edge) for edge in self.session.map.links_of}
             of_link = [costs[link.edge] for link in self.session.map.links]
-            self.now = clock, Router(self.graph, flat_costs(self.graph, [of_link[link] for link, _ in self.graph.movements]))
+            taken = flat_costs(self.graph, [of_link[link] for link, _ in self.graph.movements])
+            self.now = clock, Router(self.graph, taken)
         return self.search(origin, target, self.now[1])
 
     def metres(self, origin: str, target: str) -> float:
@@ -93,8 +95,8 @@ def other_way(session: Session, name: str, place: Place | None, edges: Sequence[
 
 
 def links_along(session: Session, name: str, first: int | None, edges: Sequence[str]) -> tuple[int, ...]:
-    """Links along edges, from a link on where there is one. From that to the next one no turn needs to lead, as the vehicle
-    enters anew there; but the edges must have a connection."""
+    """Links along edges, from a link on where there is one. From that to the next one no turn needs to lead,
+    as the vehicle enters anew there; but the edges must have a connection."""
     try:
         whole = session.plan(list(edges))
         return whole if first is None else (first, *(session.plan(list(edges[1:])) if len(edges) > 1 else ()))

@@ -141,7 +141,8 @@ class Lane(Stretches):
         return self.now().facts.lanes[name].width
 
     def getAllowed(self, name: str) -> tuple[str, ...]:
-        """The vehicle classes of the network's file that may drive there; none named: all. Closing a lane changes nothing of it."""
+        """The vehicle classes of the network's file that may drive there; none named: all.
+        Closing a lane changes nothing of it."""
         self.check(name, self.now().lane_of)
         return self.now().facts.lanes[name].allowed
 
@@ -154,8 +155,8 @@ class Lane(Stretches):
         return len(self.now().facts.lanes[name].links)
 
     def getLinks(self, name: str, extended: bool = True) -> list[tuple[Any, ...]]:
-        """Of each connection of SUMO's: next lane, whether it has the right of way, whether it is green, False (whether somebody
-        is in the way is not known), the lane inside the junction, state, direction, metres inside."""
+        """Of each connection of SUMO's: next lane, whether it has the right of way, whether it is green, False (whether
+        somebody is in the way is not known), the lane inside the junction, state, direction, metres inside."""
         self.check(name, self.now().lane_of)
         session = self.now()
         found: list[tuple[Any, ...]] = []

@@ -1,4 +1,5 @@
-"""States of a run under a script: the lines that brought it there, as a run repeats exactly, and what is known of it."""
+"""States of a run under a script: the lines that brought it there, as a run repeats exactly,
+and what is known of it."""
 from __future__ import annotations
 
 import json

@@ -31,8 +31,8 @@ ASKING = (b'{"cmd":"lane"', b'{"cmd":"vehicle"', b'{"cmd":"count"', b'{"cmd":"re
 
 
 class Endless(Client):
-    """A client that goes on with a new run of the program when the calls of one are used up: it sends again all that changed
-    anything, and a run repeats exactly."""
+    """A client that goes on with a new run of the program when the calls of one are used up: it sends again all that
+    changed anything, and a run repeats exactly."""
 
     def __init__(self, program: str | None = None, workers: int = 1) -> None:
         super().__init__(program, workers)
@@ -104,17 +104,21 @@ class Session(Scenario):
         self.kind_of: dict[str, str] = {}  # by name, of those that a script adds
         self.route_of: dict[str, str] = {}  # the same
         self.starts: list[tuple[int, int]] = []  # by number: (link, lane) on which it departs
-        self.wishes: dict[str, tuple[int, ...]] = {}  # by name: the plan of one that has not departed and is to take another way
+        # By name: the plan of one that has not departed and is to take another way.
+        self.wishes: dict[str, tuple[int, ...]] = {}
         self.routes, self.detectors = {}, {one.name: one for one in self.map.detectors}
         self.lane_of = {self.map.lane_name(link, lane): (link, lane) for link, lane in self.map.lanes()}
-        self.polls = [(place, line_of({"cmd": "lane", "link": place[0], "lane": place[1]})) for place in self.map.lanes()]
+        self.polls = [
+            (place, line_of({"cmd": "lane", "link": place[0], "lane": place[1]})) for place in self.map.lanes()
+        ]
         self.entered = 0  # of the run's vehicles
         self.places: dict[int, Place] = {}  # by number, of those on their way at the clock
         self.asked = False  # whether the places are those of the clock
         self.on_lane: dict[tuple[int, int], list[int]] = {}  # by (link, lane): numbers, from the stop line
         # By (link, lane): numbers of those in the junction behind it, first who is to leave it first.
         self.in_buffer: dict[tuple[int, int], list[int]] = {}
-        self.frame: list[tuple[Any, ...]] = []  # (link, lane, cells, numbers in the buffer) of each lane where anybody is
+        # Of each lane where anybody is: (link, lane, cells, numbers in the buffer).
+        self.frame: list[tuple[Any, ...]] = []
         self.before: dict[int, Place] = {}  # the places a step earlier
         self.seen: set[int] = set()
         self.departed: list[int] = []  # in the last step
@@ -136,7 +140,8 @@ class Session(Scenario):
         self.parameters: dict[tuple[str, str, str], Any] = {}  # that scripts keep with objects
         self.listeners = Listeners()
         self.lights = self.lights_here()
-        self.turns_at: dict[str, list[tuple[int, list[tuple[int, int, int, int | None]]]]] = {}  # by light: what turns_of gives
+        # By light: what turns_of gives.
+        self.turns_at: dict[str, list[tuple[int, list[tuple[int, int, int, int | None]]]]] = {}
         self.loops = {name: Loop([], -1.0) for name, one in self.detectors.items() if one.kind == "e1"}
         self.send(line.text.encode() + b"\n" for line in [self.source.load, *self.source.first])
 
@@ -221,7 +226,8 @@ class Session(Scenario):
     def note_entered(self, name: str, command: Command) -> None:
         if name in self.cars:
             raise TraCIException(f"Vehicle '{name}' exists already.")
-        self.cars[name], self.plans[name], self.sizes[name] = len(self.names), tuple(command["plan"]), command.get("size", 1)
+        self.cars[name], self.plans[name] = len(self.names), tuple(command["plan"])
+        self.sizes[name] = command.get("size", 1)
         self.starts.append((command["plan"][0], command["lane"]))
         self.names.append(name)
         self.loaded.append(name)
@@ -252,7 +258,11 @@ class Session(Scenario):
     def cells_of(self, kind: str) -> int:
         """The cells that a vehicle of a type takes."""
         metres = self.kinds[kind].length + self.kinds[kind].gap
-        return max(1, min(limits.SIZE, int(metres / limits.CELL_METRES + 0.5))) if self.map.options.get("sizes", True) else 1
+        return (
+            max(1, min(limits.SIZE, int(metres / limits.CELL_METRES + 0.5)))
+            if self.map.options.get("sizes", True)
+            else 1
+        )
 
     def waiting_to_depart(self) -> list[int]:
         """Numbers of those that would have departed."""
@@ -262,7 +272,8 @@ class Session(Scenario):
         return self.places[car].speed * limits.CELL_METRES
 
     def turn(self, link: int, following: int, lane: int | None) -> MapTurn | None:
-        """A turn from a link to the next one that a light controls, from a lane where one is named; none where none does."""
+        """A turn from a link to the next one that a light controls, from a lane where one is named;
+        none where none does."""
         found = [turn for turn in self.turns_from(link) if turn.next == following and turn.light in self.lights]
         return next((turn for turn in found if turn.lane == lane), found[0] if found else None)
 
@@ -292,7 +303,8 @@ class Session(Scenario):
         return types[place[self.known[name]]][0] if self.known[name] < len(place) else DEFAULT
 
     def follow(self) -> Self:
-        """Looks at each step from now on, and at this one. Who departed before the first look is told by the place alone."""
+        """Looks at each step from now on, and at this one.
+        Who departed before the first look is told by the place alone."""
         if not self.asked:
             self.look()
             if not self.followed:
@@ -309,7 +321,8 @@ class Session(Scenario):
         self.places, self.asked, self.before, self.departed, self.arrived, self.loaded = {}, False, {}, [], [], []
         seen, waiting, waited, lost = set(self.seen), dict(self.waiting), dict(self.waited), dict(self.lost)
         self.look()
-        self.seen, self.waiting, self.waited, self.lost, self.departed = seen | set(self.places), waiting, waited, lost, []
+        self.seen, self.departed = seen | set(self.places), []
+        self.waiting, self.waited, self.lost = waiting, waited, lost
 
     def look(self) -> None:
         """What stands where at the clock, and what has changed since the last look."""
@@ -368,8 +381,8 @@ class Session(Scenario):
     # Other ways
 
     def replan(self, name: str, links: tuple[int, ...]) -> None:
-        """A vehicle goes on along other links, of which the first is the one where it is or departs; who is on a link takes
-        the other way at the node behind it."""
+        """A vehicle goes on along other links, of which the first is the one where it is or departs;
+        who is on a link takes the other way at the node behind it."""
         car = self.cars.get(name)
         if car is None:
             self.wishes[name] = links
@@ -473,7 +486,9 @@ class Session(Scenario):
     def resume_light(self, name: str, node: int) -> None:
         """Goes on with a program that is sent phase by phase, of which the present phase was sent."""
         phases, light = TrafficLight(self), self.light(name)
-        phases.go_on(phases.own(name, node, shown_phases(light), light.begin % light.starts(len(light.phases)), Report()))
+        phases.go_on(
+            phases.own(name, node, shown_phases(light), light.begin % light.starts(len(light.phases)), Report())
+        )
 
     def set_light(self, name: str, phases: Phases, begin: float) -> None:
         if len(phases) == 1 and phases[0][0] == CONSTANT and not set(phases[0][1]) & set(PERMISSIVE):
@@ -483,15 +498,20 @@ class Session(Scenario):
         TrafficLight(self).setProgramLogic(name, phases, begin % cycle)
 
     def show_constant(self, name: str, state: str, begin: float) -> None:
-        """Shows a state without permissive greens at each node of a light, in one phase: no second differs from another."""
+        """Shows a state without permissive greens at each node of a light,
+        in one phase: no second differs from another."""
         self.forget(frozenset(node for node, _ in self.turns_of(name)))
         for node, turns in self.turns_of(name):
-            green = sorted([link, lane, following] for link, lane, following, index in turns if index is None or state[index] in GREEN)
+            green = sorted(
+                [link, lane, following]
+                for link, lane, following, index in turns
+                if index is None or state[index] in GREEN
+            )
             self.client.signal(node, [(CONSTANT, green)], round(-(begin % CONSTANT)) % CONSTANT)
 
     def turns_of(self, name: str) -> list[tuple[int, list[tuple[int, int, int, int | None]]]]:
-        """The nodes of a light, each with its turns as (link, lane, next link, index in the light's state, or none where
-        the light does not control it)."""
+        """The nodes of a light, each with its turns as (link, lane, next link, index in the light's state,
+        or none where the light does not control it)."""
         if name not in self.turns_at:
             nodes = [node for light, node in self.map.signals if light == name]
             self.turns_at[name] = [(node, [*turns_to(node, name, self.map)]) for node in nodes]

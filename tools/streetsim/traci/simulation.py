@@ -110,7 +110,8 @@ class Simulation(Domain):
         return len(session.source.enters) - session.entered + census.admitted - census.arrived - census.taken
 
     def none(self) -> int:
-        """Under a script nobody teleports; nobody collides, brakes in an emergency, parks or stops, and there are no persons."""
+        """Under a script nobody teleports; nobody collides, brakes in an emergency, parks or stops,
+        and there are no persons."""
         return 0
 
     def nobody(self) -> tuple[str, ...]:

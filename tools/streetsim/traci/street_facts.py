@@ -1,5 +1,5 @@
-"""What a network and its additional and route files tell, and a run's map does not: widths and classes of lanes, names of
-streets, connections, junctions, the programs of lights, routes by name."""
+"""What a network and its additional and route files tell, and a run's map does not: widths and classes of lanes,
+names of streets, connections, junctions, the programs of lights, routes by name."""
 from __future__ import annotations
 
 from collections.abc import Sequence
@@ -13,7 +13,10 @@ from .lights import Light
 Point = tuple[float, float]
 WIDTH = 3.2  # metres of a lane, where a file has none
 INSIDE = "internal"  # the function of the edges in a junction
-WRITING = ("edgeData", "laneData", "inductionLoop", "e1Detector", "laneAreaDetector", "e2Detector", "e3Detector", "entryExitDetector")
+WRITING = (
+    "edgeData", "laneData", "inductionLoop", "e1Detector", "laneAreaDetector", "e2Detector", "e3Detector",
+    "entryExitDetector",
+)
 
 
 @dataclass(slots=True)
@@ -51,15 +54,18 @@ class Facts:
 
     lanes: dict[str, LaneFacts] = field(default_factory=dict)
     inside: dict[str, float] = field(default_factory=dict)  # metres of the lanes inside junctions
-    onward: dict[str, str] = field(default_factory=dict)  # by lane inside a junction the next one there, where turns wait between
+    # By lane inside a junction the next one there, where turns wait between.
+    onward: dict[str, str] = field(default_factory=dict)
     streets: dict[str, str] = field(default_factory=dict)  # by edge
     junctions: dict[str, Junction] = field(default_factory=dict)
     lights: dict[str, Light] = field(default_factory=dict)
-    offsets: dict[tuple[str, str], float] = field(default_factory=dict)  # by light and program: when its first phase begins
+    # By light and program: when its first phase begins.
+    offsets: dict[tuple[str, str], float] = field(default_factory=dict)
     boundary: tuple[Point, Point] = ((0.0, 0.0), (0.0, 0.0))
     routes: dict[str, tuple[str, ...]] = field(default_factory=dict)
     edgedata: list[tuple[str, float]] = field(default_factory=list)  # file and period, as additional files ask for them
-    unwritten: list[str] = field(default_factory=list)  # files of detectors and of further edgeData, which are not written
+    # Files of detectors and of further edgeData, which are not written.
+    unwritten: list[str] = field(default_factory=list)
 
     def read_edge(self, path: str, element: Element) -> None:
         edge = attribute(path, element, "id")
@@ -74,7 +80,9 @@ class Facts:
             self.streets[edge] = element.get("name") or ""
 
     def read_connection(self, element: Element) -> None:
-        source, target = (f"{element.get(edge)}_{element.get(lane)}" for edge, lane in (("from", "fromLane"), ("to", "toLane")))
+        source, target = (
+            f"{element.get(edge)}_{element.get(lane)}" for edge, lane in (("from", "fromLane"), ("to", "toLane"))
+        )
         via, direction, state, light = (element.get(name) or "" for name in ("via", "dir", "state", "tl"))
         if source in self.inside and via:
             self.onward[source] = via
@@ -89,7 +97,9 @@ class Facts:
 
     def read_light(self, path: str, element: Element) -> None:
         """The last program of a light is the one that runs; the others can be chosen."""
-        phases = [(attribute(path, one, "duration", seconds), attribute(path, one, "state")) for one in element.iter("phase")]
+        phases = [
+            (attribute(path, one, "duration", seconds), attribute(path, one, "state")) for one in element.iter("phase")
+        ]
         if not phases:
             return
         names = [one.get("name") or "" for one in element.iter("phase")]
@@ -125,7 +135,9 @@ def read_element(facts: Facts, path: str, element: Element) -> None:
     elif element.tag == "junction" and element.get("type") != INSIDE:
         place = attribute(path, element, "x", number), attribute(path, element, "y", number)
         shape = points(element.get("shape"))
-        facts.junctions[attribute(path, element, "id")] = Junction(place, shape if shape[:1] == shape[-1:] else (*shape, shape[0]))
+        facts.junctions[attribute(path, element, "id")] = Junction(
+            place, shape if shape[:1] == shape[-1:] else (*shape, shape[0])
+        )
     elif element.tag == "tlLogic":
         facts.read_light(path, element)
     elif element.tag == "location" and element.get("convBoundary"):
@@ -133,6 +145,8 @@ def read_element(facts: Facts, path: str, element: Element) -> None:
         facts.boundary = (left, low), (right, high)
     elif element.tag in WRITING and element.get("file", NOWHERE[0]) not in NOWHERE:
         if element.tag == "edgeData" and not facts.edgedata:
-            facts.edgedata.append((attribute(path, element, "file"), seconds(element.get("period") or element.get("freq") or "0")))
+            facts.edgedata.append(
+                (attribute(path, element, "file"), seconds(element.get("period") or element.get("freq") or "0"))
+            )
         else:
             facts.unwritten.append(attribute(path, element, "file"))

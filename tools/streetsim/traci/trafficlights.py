@@ -149,7 +149,11 @@ class TrafficLight(Domain):
 
 
 def logic(program: str, phases: Phases, names: Sequence[str], index: int) -> Logic:
-    """A program as scripts read it; phases last as long as they are told, so the least and the longest time are that."""
+    """A program as scripts read it; phases last as long as they are told,
+    so the least and the longest time are that."""
     named = [*names, *[""] * (len(phases) - len(names))]
-    told = (Phase(duration, state, duration, duration, (), name) for (duration, state), name in zip(phases, named, strict=True))
+    told = (
+        Phase(duration, state, duration, duration, (), name)
+        for (duration, state), name in zip(phases, named, strict=True)
+    )
     return Logic(program, 0, index, tuple(told))

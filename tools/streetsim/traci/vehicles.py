@@ -172,7 +172,8 @@ class Vehicle(Placed):
         return float(self.now().waited.get(car, 0))
 
     def getTimeLoss(self, name: str) -> float:
-        """Seconds lost against driving freely at the mean speed of a vehicle that nobody hinders; as long as it is looked at."""
+        """Seconds lost against driving freely at the mean speed of a vehicle that nobody hinders;
+        as long as it is looked at."""
         car = self.number(name)
         return max(0.0, self.now().lost.get(car, 0.0))
 
@@ -281,16 +282,23 @@ class Vehicle(Placed):
     # Who is before and behind it
 
     def getLeader(self, name: str, dist: float = 0.0) -> tuple[str, float] | None:
-        """(vehicle, metres between the two without the gap that standing vehicles keep) of the next one ahead on its way, as
-        far as it would need to brake or for so many metres; none where there is nobody. One in a junction is at its begin."""
+        """(vehicle, metres between the two without the gap that standing vehicles keep) of the next one ahead on
+        its way, as far as it would need to brake or for so many metres; none where there is nobody. One in a
+        junction is at its begin."""
         car, place = self.where(name)
         if place is None or place.cell is None:
             return None
         session = self.now()
-        ahead = [other for other in session.on_lane.get((place.link, place.lane), ()) if session.places[other].front > place.cell]
+        ahead = [
+            other
+            for other in session.on_lane.get((place.link, place.lane), ())
+            if session.places[other].front > place.cell
+        ]
         if ahead:
             return session.names[ahead[-1]], self.between(ahead[-1], 0.0, self.front(place))
-        return self.leader_behind(name, place, max(dist, (place.speed * METRES) ** 2 / (2 * BRAKING) + place.speed * METRES))
+        return self.leader_behind(
+            name, place, max(dist, (place.speed * METRES) ** 2 / (2 * BRAKING) + place.speed * METRES)
+        )
 
     def leader_behind(self, name: str, place: Place, reach: float) -> tuple[str, float] | None:
         """The same on the links behind its own."""
@@ -321,7 +329,11 @@ class Vehicle(Placed):
         session = self.now()
         if place is None or place.cell is None:
             return "", -1.0
-        behind = [other for other in session.on_lane.get((place.link, place.lane), ()) if session.places[other].front < place.cell]
+        behind = [
+            other
+            for other in session.on_lane.get((place.link, place.lane), ())
+            if session.places[other].front < place.cell
+        ]
         if not behind:
             return "", -1.0
         return session.names[behind[0]], self.between(session.cars[name], 0.0, self.front(session.places[behind[0]]))
@@ -346,8 +358,8 @@ class Vehicle(Placed):
     # In and out, and other ways
 
     def add(self, vehID: str, routeID: str, typeID: str = DEFAULT, depart: Any = None, *_: Any, **__: Any) -> None:
-        """A vehicle on a route of the files or of route.add; it departs now or at a time in seconds, and takes as many cells
-        as its type is long."""
+        """A vehicle on a route of the files or of route.add; it departs now or at a time in seconds,
+        and takes as many cells as its type is long."""
         session = self.now()
         if routeID not in session.routes and routeID not in session.facts.routes:
             raise TraCIException(f"Route '{routeID}' is not known.")
@@ -373,8 +385,8 @@ class Vehicle(Placed):
             there.pop(car, None)
 
     def setRoute(self, name: str, edgeList: Sequence[str]) -> None:
-        """Another way, which begins with the edge where the vehicle is or will depart. One that has departed takes it at the
-        next node: it is taken out there and enters anew behind it, with another number and other draws."""
+        """Another way, which begins with the edge where the vehicle is or will depart. One that has departed takes it
+        at the next node: it is taken out there and enters anew behind it, with another number and other draws."""
         other_way(self.now(), name, self.where(name)[1], list(edgeList))
 
     def setRouteID(self, name: str, routeID: str) -> None:
@@ -401,7 +413,12 @@ class Vehicle(Placed):
 
 class VehicleType(Domain):
     kind, name = "Vehicle type", "vehicletype"
-    variables = {tc.VAR_LENGTH: "getLength", tc.VAR_MAXSPEED: "getMaxSpeed", tc.VAR_VEHICLECLASS: "getVehicleClass", tc.VAR_MINGAP: "getMinGap"}
+    variables = {
+        tc.VAR_LENGTH: "getLength",
+        tc.VAR_MAXSPEED: "getMaxSpeed",
+        tc.VAR_VEHICLECLASS: "getVehicleClass",
+        tc.VAR_MINGAP: "getMinGap",
+    }
     first = (tc.VAR_MAXSPEED,)
 
     def getIDList(self) -> tuple[str, ...]:

@@ -24,7 +24,10 @@ for episode in range(2):
     while sumo.simulation.getTime() < 1800:
         room = {lane: sumo.lane.getLength(lane) / (GAP + sumo.lane.getLastStepLength(lane)) for lane in lanes}
         queues = {lane: min(1, sumo.lane.getLastStepHaltingNumber(lane) / room[lane]) for lane in lanes}
-        pressed = [sum(queues[lane] for lane in set(controlled[at] for at, one in enumerate(green.state) if one in "Gg")) for green in greens]
+        pressed = [
+            sum(queues[lane] for lane in set(controlled[at] for at, one in enumerate(green.state) if one in "Gg"))
+            for green in greens
+        ]
         best = max(range(2), key=pressed.__getitem__)
         changed = best != now and since >= YELLOW + LEAST
         if changed:
@@ -35,8 +38,12 @@ for episode in range(2):
             since += 1
             if changed and second + 1 == YELLOW:
                 sumo.trafficlight.setRedYellowGreenState(light, greens[now].state)
-            departed.update(((episode, name), sumo.simulation.getTime()) for name in sumo.simulation.getDepartedIDList())
-            trips += [sumo.simulation.getTime() - departed[episode, name] for name in sumo.simulation.getArrivedIDList()]
+            departed.update(
+                ((episode, name), sumo.simulation.getTime()) for name in sumo.simulation.getDepartedIDList()
+            )
+            trips += [
+                sumo.simulation.getTime() - departed[episode, name] for name in sumo.simulation.getArrivedIDList()
+            ]
         near += len(sumo.junction.getContextSubscriptionResults(light) or {})
         for lane in lanes:
             for name in sumo.lane.getLastStepVehicleIDs(lane):

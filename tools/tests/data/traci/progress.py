@@ -1,7 +1,7 @@
 """How far vehicles have come, who is before them, and what they have lost: a light holds two queues, and lets them go.
 
-Four lines of JSON: what is equal over any simulator; metres of the queues; seconds lost by those who stood in them; seconds lost
-in ten minutes of the light's own program.
+Four lines of JSON: what is equal over any simulator; metres of the queues; seconds lost by those who stood in them;
+seconds lost in ten minutes of the light's own program.
 """
 import json
 import sys
@@ -23,7 +23,8 @@ def passed(name):
 
 
 def look():
-    """At those of the queues that are on edges: what they have passed, and the gap to the leader beside the distances of both."""
+    """At those of the queues that are on edges: what they have passed, and the gap to the leader beside
+    the distances of both."""
     there = {name: vehicle.getRoadID(name) for name in first if name in vehicle.getIDList()}
     for name in [name for name, road in there.items() if not road.startswith(":")]:
         lost[name] = vehicle.getTimeLoss(name)
@@ -31,7 +32,12 @@ def look():
         before.setdefault(name, {})[there[name]] = round(passed(name) - begun[name], 1)
         leader = vehicle.getLeader(name, 100)
         if leader and not there.get(leader[0], ":").startswith(":"):
-            room = vehicle.getDistance(leader[0]) - vehicle.getDistance(name) - vehicle.getLength(name) - vehicle.getMinGap(name)
+            room = (
+                vehicle.getDistance(leader[0])
+                - vehicle.getDistance(name)
+                - vehicle.getLength(name)
+                - vehicle.getMinGap(name)
+            )
             between.add(round(leader[1] - room, 1))
             inside.add(there[name] == there[leader[0]])
 
@@ -42,8 +48,13 @@ while simulation.getTime() < 60:
     traci.simulationStep()
     if simulation.getTime() > 50:
         look()
-queues = [[vehicle.getNextTLS(name)[0][2], (vehicle.getLeader(name, 100) or ("", 0))[1], vehicle.getDistance(name)] for name in first]
-driving = [round(vehicle.getDrivingDistance(name, ahead[name[0]], 100) - vehicle.getNextTLS(name)[0][2], 1) for name in first]
+queues = [
+    [vehicle.getNextTLS(name)[0][2], (vehicle.getLeader(name, 100) or ("", 0))[1], vehicle.getDistance(name)]
+    for name in first
+]
+driving = [
+    round(vehicle.getDrivingDistance(name, ahead[name[0]], 100) - vehicle.getNextTLS(name)[0][2], 1) for name in first
+]
 leaders = [(vehicle.getLeader(name, 100) or ("",))[0] for name in first]
 traci.trafficlight.setRedYellowGreenState("J", FREE)
 while set(first) & set(vehicle.getIDList()):

@@ -18,6 +18,8 @@ while traci.simulation.getMinExpectedNumber() > 0:
         for light, _, metres, state in seen[tc.VAR_NEXT_TLS][:1]:
             wait = traci.trafficlight.getNextSwitch(light) - now
             if state in "rRyY" and metres < 300 and wait > 0:
-                traci.vehicle.setSpeed(vehicle, max(5.0, min(metres / (wait + 2), traci.vehicle.getAllowedSpeed(vehicle))))
+                traci.vehicle.setSpeed(
+                    vehicle, max(5.0, min(metres / (wait + 2), traci.vehicle.getAllowedSpeed(vehicle)))
+                )
 traci.close()
 print(len(trips), sum(trips) / len(trips))
