@@ -5,13 +5,13 @@ use Rattle.std.specs.Io.KnownBytes.{Consumes, IsAtEnd}
 use Rattle.std.specs.List.{AllWithin}
 use Rattle.street_base.specs.declared.command.Command.TheVariants.{Count}
 use Rattle.street_base.specs.declared.reply.Outcome.TheVariants.{Whole}
-use Rattle.street_base.specs.Outcomes.{reply_to}
+use Rattle.street_base.specs.Prelude.{reply_to}
 use Rattle.street_clients.specs.declared.tapes.Retold.{Retold}
 use Rattle.street_clients.specs.declared.tapes.Told.{Told}
 use Rattle.street_desk.specs.declared.journal.Entry.{Entry}
 use Rattle.street_desk.specs.History.{state_of}
 use Rattle.street_stream.specs.Lines.{cut}
-use Rattle.street_engine.specs.Refines.{EngineView}
+use Rattle.street_engine.specs.Prelude.{EngineView}
 use Rattle.street_text.specs.declared.fault.LineFault.{LineFault}
 use Rattle.street_tape.specs.declared.fault.TapeFault.{TapeFault}
 use Rattle.street_tape.specs.Faults.{TapeBreaks}

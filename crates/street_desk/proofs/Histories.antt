@@ -1,8 +1,7 @@
 -- Histories that grow at their end.
 use Rattle.std.proofs.Common.{◌≡◌, ◌≢◌, ℕ, ◌<◌, ◌≤◌, List, [], ◌∷◌, ◌++◌, length, Bool, true, false, refl, sym, ap, ap₂, ◌∙◌, arith, length-append, append_assoc, append-nil, ne_eqb, eq-eqb, ◌==◌}
 use Rattle.street_desk.specs.declared.journal.Entry.{Entry}
-use Rattle.street_base.specs.State.{State}
-use Rattle.street_base.specs.Outcomes.{Allows, state_after}
+use Rattle.street_base.specs.Prelude.{State, Allows, state_after}
 use Rattle.street_desk.specs.History.{state_from, IsLegalFrom, AllBelow, calls_of, BeginsWith}
 
 pub legal_snoc : (m : State) (es : List Entry) (e : Entry) → IsLegalFrom m es → Allows (state_from m es) e.command e.outcome → IsLegalFrom m (es ++ e ∷ [])

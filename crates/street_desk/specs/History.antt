@@ -4,8 +4,7 @@ use Rattle.std.specs.Prelude.{◌≡◌, ◌==◌, ◌<◌, ℕ, List, [], ◌�
 use Rattle.street_base.specs.declared.command.Command.{Command}
 use Rattle.street_base.specs.declared.reply.Outcome.{Outcome}
 use Rattle.street_base.specs.declared.reply.Reply.{Reply}
-use Rattle.street_base.specs.State.{State}
-use Rattle.street_base.specs.Outcomes.{Allows, state_after, reply_to}
+use Rattle.street_base.specs.Prelude.{State, Allows, state_after, reply_to}
 use Rattle.street_desk.specs.declared.journal.Entry.{Entry}
 
 -- a call of a session

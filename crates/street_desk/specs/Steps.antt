@@ -5,7 +5,7 @@ use Rattle.atomic_table.specs.Table.{Me, Step}
 use Rattle.street_base.specs.declared.command.Command.{Command}
 use Rattle.street_base.specs.declared.reply.Outcome.{Outcome}
 use Rattle.street_base.specs.declared.reply.Reply.{Reply}
-use Rattle.street_base.specs.Outcomes.{reply_to}
+use Rattle.street_base.specs.Prelude.{reply_to}
 use Rattle.street_desk.specs.declared.journal.Entry.{Entry}
 use Rattle.street_desk.specs.declared.view.SeatView.{SeatView}
 use Rattle.street_desk.specs.History.{entry, state_of, IsLegal, AllBelow, BeginsWith, calls_of}

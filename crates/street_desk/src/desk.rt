@@ -1,15 +1,13 @@
 //! The desk and its calls.
 //!
 //! Source: this profile.
-ghost use Rattle.std.specs.Prelude.{◌≡◌, ◌+◌, ◌*◌, ◌/◌, ◌%◌, ◌^◌, ◌<◌, ◌≤◌, [], ◌∷◌, length, true, false, Some, None};
-ghost use Rattle.std.specs.Prelude.{MatchBool, IfOk, IfErr, IsOk};
-ghost use Rattle.street_engine.specs.Refines.{StandsFor};
+ghost use Rattle.std.specs.Prelude.{◌≡◌, ◌+◌, ◌*◌, ◌/◌, ◌%◌, ◌^◌, ◌<◌, ◌≤◌, [], ◌∷◌, length, true, false, Some, None, MatchBool, IfOk, IfErr, IsOk};
+ghost use Rattle.street_engine.specs.Prelude.{StandsFor};
 ghost use Rattle.street_desk.specs.declared.faults.SplitFault.TheVariants.{Single};
 ghost use Rattle.street_desk.specs.History.{state_of};
 ghost use Rattle.street_desk.specs.Rule.{recorded};
 ghost use Rattle.street_desk.specs.Steps.{Looks, Grabs, Calls};
-ghost use Rattle.street_desk.specs.Passes.{desk_view, pass_view, Rests, first_pass, without_last, of_last};
-ghost use Rattle.street_desk.specs.Passes.{Answered, Filled, Told, ServedCount, OwnsUnused, Heard, Finished};
+ghost use Rattle.street_desk.specs.Passes.{desk_view, pass_view, Rests, first_pass, without_last, of_last, Answered, Filled, Told, ServedCount, OwnsUnused, Heard, Finished};
 
 use crate::faults::{Full, SplitFault, Torn};
 use crate::journal::{Journal, Recorder};
@@ -64,7 +62,7 @@ impl<G: Gate + Sync + Drop + Send> Desk<G> {
         self.table.shared.load::<Look>(seat, 0)
     }
 
-    /// Takes the turn where the word is as it was found. Answers whether it did.
+    /// Takes the turn where the turn word still is `at`, as it was found. Answers whether it did.
     fn grab(&self, seat: &mut DeskSeat<G>, at: u64) -> bool
         requires desk { seat.old.table_id ≡ self.now.table }
         requires rests { (seat.old.me.1 ≡ []) × (seat.old.me.0.live ≡ true) }
@@ -80,7 +78,8 @@ impl<G: Gate + Sync + Drop + Send> Desk<G> {
             == at
     }
 
-    /// Uses the turn of a seat that has it, and gives it back: the engine is taken out, called, and put back.
+    /// Uses the turn of a seat that has it, and gives it back: the engine is taken out, called, and put back. `at` is the turn word
+    /// before the turn was taken.
     fn turn<R: Threads + Wait + Sync>(
         &self,
         rt: &R,
@@ -131,7 +130,7 @@ impl<G: Gate + Sync + Drop + Send> Desk<G> {
         }
     }
 
-    /// A call by a seat.
+    /// Makes the call of the pass that has this seat, as this session: waits for the turn, uses it, and wakes one that waits.
     fn call_from<R: Threads + Wait + Sync>(
         &self,
         rt: &R,

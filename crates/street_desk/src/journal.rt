@@ -2,8 +2,8 @@
 //!
 //! Source: this profile.
 ghost use Rattle.std.specs.Prelude.{◌≡◌, ◌<◌, [], ◌∷◌, ◌++◌, length, IfOk, None, slice_get, option_copied};
-ghost use Rattle.street_base.specs.Outcomes.{Allows, reply_to};
-ghost use Rattle.street_engine.specs.Refines.{StandsFor};
+ghost use Rattle.street_base.specs.Prelude.{Allows, reply_to};
+ghost use Rattle.street_engine.specs.Prelude.{StandsFor};
 ghost use Rattle.street_desk.specs.History.{entry, state_of, IsLegal};
 
 use std::alloc::{AllocError, Global};
@@ -81,7 +81,7 @@ pub(crate) struct Recorder<G: Gate + Sync + Drop> {
 
 impl<G: Gate + Sync + Drop> Model for Recorder<G> {
     ghost use Rattle.std.specs.Prelude.{◌≤◌, vec_capacity};
-    ghost use Rattle.street_engine.specs.Refines.{StandsFor};
+    ghost use Rattle.street_engine.specs.Prelude.{StandsFor};
     ghost use Rattle.street_desk.specs.History.{state_of, IsLegal};
     ghost use Rattle.street_desk.specs.Rule.{Recorded};
 

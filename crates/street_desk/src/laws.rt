@@ -2,7 +2,7 @@
 //!
 //! Source: this profile.
 ghost use Rattle.std.specs.Prelude.{List, None, map};
-ghost use Rattle.street_base.specs.Run.{Runs};
+ghost use Rattle.street_base.specs.Prelude.{Runs};
 ghost use Rattle.street_desk.specs.declared.journal.Entry.{Entry};
 ghost use Rattle.street_desk.specs.History.{answers_of, state_of, IsLegal};
 

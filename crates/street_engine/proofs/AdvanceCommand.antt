@@ -1,19 +1,13 @@
 -- Steps.
-use Rattle.std.proofs.Common.{◌≡◌, ℕ, ◌+◌, ◌<◌, ◌≤◌, refl, sym, ◌∙◌, ap, subst, arith}
-use Rattle.std.specs.Prelude.{Option, Some, None}
+use Rattle.std.proofs.Common.{◌≡◌, ℕ, ◌+◌, ◌<◌, ◌≤◌, refl, sym, ◌∙◌, ap, subst, arith, Option, Some, None}
 use Rattle.std.proofs.lemmas.Bool.{lt-ltb, le-ltb}
 use Rattle.street_base.specs.declared.command.Command.TheVariants.{Advance}
 use Rattle.street_base.specs.declared.refusal.Refusal.{Refusal}
 use Rattle.street_base.specs.declared.refusal.Refusal.TheVariants.{BadCount, ClockEnd}
 use Rattle.street_base.specs.declared.reply.Reply.TheVariants.{Clock, Refused, Starved as StarvedReply, Short as ShortReply}
 use Rattle.street_base.specs.declared.reply.Outcome.TheVariants.{Whole, Starved, Short}
-use Rattle.street_base.specs.Limits.{most_steps, last_clock}
-use Rattle.street_base.specs.State.{Traffic, State}
-use Rattle.street_base.specs.Step.{steps}
-use Rattle.street_base.specs.Machine.{advance_refusal}
-use Rattle.street_base.specs.Outcomes.{Answers}
-use Rattle.street_engine.specs.Streets.{StreetsView, StreetsStandFor, StreetsGo}
-use Rattle.street_engine.specs.Refines.{StandsFor, Serves}
+use Rattle.street_base.specs.Prelude.{most_steps, last_clock, Traffic, State, steps, advance_refusal, Answers}
+use Rattle.street_engine.specs.Prelude.{StreetsView, StreetsStandFor, StreetsGo, StandsFor, Serves}
 use Rattle.street_engine.proofs.Serves.{at-some, some-stands, same-clock, streets-refused, streets-starved, streets-done}
 
 -- ---- what is refused

@@ -1,14 +1,12 @@
 -- Who is about to arrive was given a number, and has not ended.
-use Rattle.std.proofs.Common.{◌≡◌, ℕ, suc, ◌+◌, ◌<◌, ◌≤◌, List, [], ◌∷◌, ◌++◌, length, set, get_or, refl, sym, ◌∙◌, ap, arith, inl, inr}
-use Rattle.std.specs.Prelude.{Option, Some, None, nat_lt, slice_get, ◌==◌, if◌then◌else◌}
-use Rattle.std.specs.List.{count_by}
+use Rattle.std.proofs.Common.{◌≡◌, ℕ, suc, ◌+◌, ◌<◌, ◌≤◌, List, [], ◌∷◌, ◌++◌, length, set, get_or, refl, sym, ◌∙◌, ap, arith, inl, inr, Option, Some, None, nat_lt, slice_get, ◌==◌, if◌then◌else◌, count_by}
 use Rattle.std.proofs.lemmas.Bool.{cases_eq, cases_lt, eq-eqb, cond-true, lt-leb}
 use Rattle.std.proofs.lemmas.List.{length-set}
-use Rattle.std.proofs.lemmas.List.Sums.{sum_by_push, sum_by-append}
+use Rattle.std.proofs.lemmas.List.Sums.{sum_by_push}
 use Rattle.std.proofs.lemmas.Option.{slice_get-get_or}
 use Rattle.street_base.specs.declared.reply.End.{End}
-use Rattle.street_base.specs.Census.{has_ended, one_if}
-use Rattle.street_engine.specs.Ends.{AreComing}
+use Rattle.street_base.specs.Prelude.{has_ended, one_if}
+use Rattle.street_engine.specs.Prelude.{AreComing}
 use Rattle.street_base.proofs.CommandLemmas.{ended-same, ended-other}
 use Rattle.street_base.proofs.PlaceOnceLemmas.{one_if-le}
 
@@ -64,10 +62,3 @@ module _ (number : ℕ) (rest : List ℕ) (ends : List (Option End)) (coming : A
             let stays = ended-other (Some end) ends n number other in
             omega (arith, long, push, h, stays))
       ]
-
--- those of the second of two lists
-pub later-coming : (xs ys : List ℕ) (ends : List (Option End)) → AreComing (xs ++ ys) ends → AreComing ys ends
-later-coming xs ys ends coming n =
-    let both : often n (xs ++ ys) ≡ often n xs + often n ys = sum_by-append (λ (k : ℕ). if k == n then 1 else 0) xs ys in
-    let h = coming n in
-    omega (arith, both, h)

@@ -1,23 +1,18 @@
 -- What sites and the detectors of a tile stand for, by the detectors of the machine.
-use Rattle.std.proofs.Common.{◌≡◌, ℕ, ◌<◌, true, List, [], ◌∷◌, ◌++◌, length, map, get_or, refl, sym, ◌∙◌, ap, subst, arith, inl, inr}
-use Rattle.std.specs.Prelude.{Some, None, slice_get, option_map}
+use Rattle.std.proofs.Common.{◌≡◌, ℕ, ◌<◌, true, List, [], ◌∷◌, ◌++◌, length, map, get_or, refl, sym, ◌∙◌, ap, subst, arith, inl, inr, Some, None, slice_get, option_map}
 use Rattle.std.proofs.Math.ListN.{length-map}
 use Rattle.std.proofs.lemmas.Bool.{cases_eq, cases_lt, cases_Bool}
 use Rattle.std.proofs.lemmas.List.{get_or_append_left, get_or_push, length-append}
 use Rattle.std.proofs.lemmas.List.Elements.{filter-append}
 use Rattle.std.proofs.lemmas.Option.{slice_get-map, slice_get-get_or, slice_get_within, slice_get_past, get_or_from_slice_get}
 use Rattle.street_base.specs.declared.net.NetSpec.{NetSpec}
-use Rattle.street_base.specs.Limits.{most_detectors}
+use Rattle.street_base.specs.Prelude.{most_detectors, is_place, Traffic, Detector}
 use Rattle.street_base.specs.declared.names.Place.{Place}
-use Rattle.street_base.specs.Network.{is_place}
-use Rattle.street_base.specs.State.{Traffic, Detector}
 use Rattle.street_base.proofs.ReleaseLemmas.{is_place-refl}
-use Rattle.street_lanes.specs.Lanes.{IsLane}
-use Rattle.street_lanes.specs.Detectors.{MetersStandFor}
-use Rattle.street_tile.specs.Tiles.{Part}
-use Rattle.street_tile.specs.TileDetectors.{MetersStand, detectors_at, detectors_on}
+use Rattle.street_lanes.specs.Prelude.{IsLane, MetersStandFor}
+use Rattle.street_tile.specs.Prelude.{Part, MetersStand, detectors_at, detectors_on}
 use Rattle.street_engine.specs.declared.sites.DetectorSite.{DetectorSite}
-use Rattle.street_engine.specs.Sites.{IsDetectorSite, AreDetectorSites}
+use Rattle.street_engine.specs.Prelude.{IsDetectorSite, AreDetectorSites}
 
 -- ---- each detector is another, where it was
 

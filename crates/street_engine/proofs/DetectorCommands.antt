@@ -1,6 +1,5 @@
 -- Detectors placed and read.
-use Rattle.std.proofs.Common.{◌≡◌, ℕ, ◌<◌, ◌≤◌, Bool, true, false, List, [], ◌∷◌, ◌++◌, length, refl, sym, ◌∙◌, ap, subst, arith, inl, inr}
-use Rattle.std.specs.Prelude.{Option, Some, None, not, nat_lt, nat_le, slice_get, option_map}
+use Rattle.std.proofs.Common.{◌≡◌, ℕ, ◌<◌, ◌≤◌, Bool, true, false, List, [], ◌∷◌, ◌++◌, length, refl, sym, ◌∙◌, ap, subst, arith, inl, inr, Option, Some, None, not, nat_lt, nat_le, slice_get, option_map}
 use Rattle.std.proofs.lemmas.Bool.{cases_Bool, le-leb, lt-leb, le-ltb}
 use Rattle.street_base.specs.declared.net.NetSpec.{NetSpec}
 use Rattle.street_base.specs.declared.command.Command.TheVariants.{PlaceMeter, ReadMeter}
@@ -10,15 +9,8 @@ use Rattle.street_base.specs.declared.reply.Reply.{Reply}
 use Rattle.street_base.specs.declared.reply.Reply.TheVariants.{Placed, Refused, Starved as StarvedReply}
 use Rattle.street_base.specs.declared.reply.Outcome.TheVariants.{Whole, Starved}
 use Rattle.street_base.specs.declared.names.Place.{Place}
-use Rattle.street_base.specs.State.{Traffic, Detector}
-use Rattle.street_base.specs.Limits.{most_period, most_detectors}
-use Rattle.street_base.specs.Faults.{is_within}
-use Rattle.street_base.specs.Effects.{named_lane, metered}
-use Rattle.street_base.specs.Shown.{shown_rows}
-use Rattle.street_base.specs.Machine.{first_of, lane_tests, is_past, closure_refusal, place_refusal, read_refusal, told_rows}
-use Rattle.street_base.specs.Outcomes.{MayStarveUnder}
-use Rattle.street_engine.specs.Streets.{StreetsView, StreetsStandFor, StreetsGo}
-use Rattle.street_engine.specs.Refines.{Serves}
+use Rattle.street_base.specs.Prelude.{Traffic, Detector, most_period, most_detectors, is_within, named_lane, metered, shown_rows, first_of, lane_tests, is_past, closure_refusal, place_refusal, read_refusal, told_rows, MayStarveUnder}
+use Rattle.street_engine.specs.Prelude.{StreetsView, StreetsStandFor, StreetsGo, Serves}
 use Rattle.street_engine.proofs.Serves.{same-network, same-count, streets-refused, streets-starved, streets-starving, streets-done, streets-told}
 
 -- ---- refusals in their order

@@ -1,30 +1,20 @@
 -- Vehicles that enter.
-use Rattle.std.proofs.Common.{◌≡◌, ℕ, ◌<◌, ◌≤◌, List, length, refl, sym, ◌∙◌, ap, subst, arith}
-use Rattle.std.specs.Prelude.{Option, Some, None}
-use Rattle.std.proofs.lemmas.Bool.{le-leb}
+use Rattle.std.proofs.Common.{◌≡◌, ℕ, List, length, refl, sym, ◌∙◌, ap, subst, Option, Some, None}
 use Rattle.street_base.specs.declared.command.Command.TheVariants.{Enter}
 use Rattle.street_base.specs.declared.refusal.Refusal.{Refusal}
-use Rattle.street_base.specs.declared.refusal.Refusal.TheVariants.{TooMany}
 use Rattle.street_base.specs.declared.reply.Reply.TheVariants.{Entered, Refused, Starved as StarvedReply}
 use Rattle.street_base.specs.declared.reply.Outcome.TheVariants.{Whole, Starved}
-use Rattle.street_base.specs.Limits.{most_vehicles}
-use Rattle.street_base.specs.State.{Traffic}
-use Rattle.street_base.specs.Machine.{enter_refusal, entered}
-use Rattle.street_base.specs.Outcomes.{MayStarveUnder}
-use Rattle.street_engine.specs.Streets.{StreetsView, StreetsStandFor, StreetsGo}
-use Rattle.street_engine.specs.Refines.{Serves}
-use Rattle.street_engine.proofs.Serves.{same-network, same-ends, streets-refused, streets-starved, streets-starving, streets-done}
+use Rattle.street_base.specs.Prelude.{Traffic, enter_refusal, entered, MayStarveUnder}
+use Rattle.street_engine.specs.Prelude.{StreetsView, StreetsStandFor, StreetsGo, Serves, TellsEntry}
+use Rattle.street_engine.proofs.Serves.{same-network, same-ends, streets-refused, streets-starved, streets-done}
 
 module _ (s : StreetsView) (plan : List ℕ) (lane depart size : ℕ) where
   many : (m : Traffic) → StreetsStandFor s m → length m.ends ≡ length s.ends
   many m stands = ap length (same-ends s m stands)
 
-  pub too-many : most_vehicles ≤ length s.ends → Serves (Some s) (Enter plan lane depart size) (Refused TooMany) Whole (Some s)
-  too-many full = streets-refused s (Enter plan lane depart size) TooMany (λ m stands. let e = le-leb most_vehicles (length m.ends) (omega (arith, full, many m stands)) in rw e refl)
-
-  module _ (few : length s.ends < most_vehicles) (refusal : Option Refusal) (told_is : (m : Traffic) → m.network ≡ s.tiles.network → length m.ends < most_vehicles → refusal ≡ enter_refusal plan lane depart size m) where
+  module _ (refusal : Option Refusal) (told_is : TellsEntry s plan lane depart size refusal) where
     told-of : (m : Traffic) → StreetsStandFor s m → refusal ≡ enter_refusal plan lane depart size m
-    told-of m stands = told_is m (same-network s m stands) (omega (arith, few, many m stands))
+    told-of m stands = told_is m (same-network s m stands) (many m stands)
 
     pub enter-refused : (q : Refusal) → refusal ≡ Some q → Serves (Some s) (Enter plan lane depart size) (Refused q) Whole (Some s)
     enter-refused q e = streets-refused s (Enter plan lane depart size) q (λ m stands. sym (told-of m stands) ∙ e)
@@ -32,9 +22,6 @@ module _ (s : StreetsView) (plan : List ℕ) (lane depart size : ℕ) where
     module _ (none : refusal ≡ None) where
       accepted : (m : Traffic) → StreetsStandFor s m → enter_refusal plan lane depart size m ≡ None
       accepted m stands = sym (told-of m stands) ∙ none
-
-      pub enter-starving : Serves (Some s) (Enter plan lane depart size) StarvedReply Starved (Some s)
-      enter-starving = streets-starving s (Enter plan lane depart size) (λ m stands. subst MayStarveUnder (sym (accepted m stands)) tt)
 
       pub enter-starved : (t : StreetsView) → StreetsGo (λ m. m) s t → Serves (Some s) (Enter plan lane depart size) StarvedReply Starved (Some t)
       enter-starved t keeps = streets-starved s (Enter plan lane depart size) t (λ m stands. subst MayStarveUnder (sym (accepted m stands)) tt) keeps

@@ -1,6 +1,5 @@
 -- Cells of a lane closed and opened again, and a lane shown.
-use Rattle.std.proofs.Common.{◌≡◌, ℕ, Bool, true, false, List, [], ◌++◌, refl, sym, ◌∙◌, ap, subst}
-use Rattle.std.specs.Prelude.{Some, None}
+use Rattle.std.proofs.Common.{◌≡◌, ℕ, Bool, true, false, List, [], ◌++◌, refl, sym, ◌∙◌, ap, subst, Some, None}
 use Rattle.street_base.specs.declared.net.NetSpec.{NetSpec}
 use Rattle.street_base.specs.declared.command.Command.TheVariants.{CloseLane, ReopenLane, Lane as AskLane}
 use Rattle.street_base.specs.declared.refusal.Refusal.{Refusal}
@@ -8,14 +7,8 @@ use Rattle.street_base.specs.declared.reply.Reply.{Reply}
 use Rattle.street_base.specs.declared.reply.Reply.TheVariants.{Closed, Refused, Starved as StarvedReply}
 use Rattle.street_base.specs.declared.reply.Outcome.TheVariants.{Whole, Starved}
 use Rattle.street_base.specs.declared.names.Place.{Place}
-use Rattle.street_base.specs.State.{Traffic, lane_at}
-use Rattle.street_base.specs.Closing.{with_closure}
-use Rattle.street_base.specs.Effects.{named_lane}
-use Rattle.street_base.specs.Shown.{shown_lane}
-use Rattle.street_base.specs.Machine.{refusal, first_of, lane_tests, lane_refusal, closure_refusal, closed_after}
-use Rattle.street_base.specs.Outcomes.{MayStarveUnder}
-use Rattle.street_engine.specs.Streets.{StreetsView, StreetsStandFor, StreetsGo}
-use Rattle.street_engine.specs.Refines.{closing, Serves}
+use Rattle.street_base.specs.Prelude.{Traffic, lane_at, with_closure, named_lane, shown_lane, refusal, first_of, lane_tests, lane_refusal, closure_refusal, closed_after, MayStarveUnder}
+use Rattle.street_engine.specs.Prelude.{StreetsView, StreetsStandFor, StreetsGo, closing, Serves}
 use Rattle.street_engine.proofs.Serves.{same-network, streets-refused, streets-starved, streets-starving, streets-done, streets-told}
 
 module _ (s : StreetsView) (link lane : ℕ) where

@@ -1,5 +1,4 @@
 pub mod Serves
-pub mod ServesAll
 pub mod LoadCommand
 pub mod AdvanceCommand
 pub mod VehicleCommands

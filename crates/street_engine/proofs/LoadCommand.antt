@@ -1,6 +1,5 @@
 -- Loads, and what is refused before the first.
-use Rattle.std.proofs.Common.{◌≡◌, ℕ, length, refl, ap}
-use Rattle.std.specs.Prelude.{Option, Some, None}
+use Rattle.std.proofs.Common.{◌≡◌, ℕ, length, refl, ap, Option, Some, None}
 use Rattle.street_base.specs.declared.net.NetSpec.{NetSpec}
 use Rattle.street_base.specs.declared.command.Command.{Command}
 use Rattle.street_base.specs.declared.command.Command.TheVariants.{Load, Signal, Enter, Advance, CloseLane, ReopenLane, TakeOut, PlaceMeter, ReadMeter, Vehicle as AskVehicle, Lane as AskLane, Count}
@@ -8,11 +7,8 @@ use Rattle.street_base.specs.declared.refusal.Part.{Part}
 use Rattle.street_base.specs.declared.refusal.Refusal.TheVariants.{NotLoaded, BadNetwork}
 use Rattle.street_base.specs.declared.reply.Reply.TheVariants.{Loaded, Refused, Starved as StarvedReply}
 use Rattle.street_base.specs.declared.reply.Outcome.TheVariants.{Whole, Starved}
-use Rattle.street_base.specs.Faults.{Fault, network_fault}
-use Rattle.street_base.specs.Machine.{bad_network, loaded, refusal, done, answered}
-use Rattle.street_base.specs.Outcomes.{MayStarve, MayStarveUnder}
-use Rattle.street_engine.specs.Streets.{StreetsView, StreetsStandFor}
-use Rattle.street_engine.specs.Refines.{StandsFor, Serves}
+use Rattle.street_base.specs.Prelude.{Fault, network_fault, bad_network, loaded, refusal, done, answered, MayStarve, MayStarveUnder}
+use Rattle.street_engine.specs.Prelude.{StreetsView, StreetsStandFor, StandsFor, Serves}
 use Rattle.street_engine.proofs.Serves.{serves-refused, serves-starved, serves-done, at-none, some-stands}
 
 -- a load takes memory while it checks

@@ -1,16 +1,11 @@
 -- Links, lanes and cells by the numbers that a command names them by.
-use Rattle.std.proofs.Common.{◌≡◌, ℕ, zero, suc, ◌<◌, ◌≤◌, Bool, List, [], ◌∷◌, ◌++◌, length, get_or, refl, sym, ◌∙◌, ap, arith}
-use Rattle.std.specs.Prelude.{Some, None, nat_lt, ◌||◌}
+use Rattle.std.proofs.Common.{◌≡◌, ℕ, zero, suc, ◌<◌, ◌≤◌, Bool, List, [], ◌∷◌, ◌++◌, length, get_or, refl, sym, ◌∙◌, ap, arith, Some, None, nat_lt, ◌||◌}
 use Rattle.std.proofs.lemmas.Bool.{or_left, or_right, or_from, lt-ltb, le-ltb, le-leb, lt-leb}
 use Rattle.street_base.specs.declared.net.NetSpec.{NetSpec}
 use Rattle.street_base.specs.declared.net.LinkSpec.{LinkSpec}
 use Rattle.street_base.specs.declared.refusal.Refusal.{Refusal}
 use Rattle.street_base.specs.declared.refusal.Refusal.TheVariants.{BadRange}
-use Rattle.street_base.specs.Network.{no_link, link_at}
-use Rattle.street_base.specs.Faults.{network_fault}
-use Rattle.street_base.specs.State.{Traffic}
-use Rattle.street_base.specs.Effects.{position_of}
-use Rattle.street_base.specs.Machine.{first_of, lane_tests, is_past, closure_refusal}
+use Rattle.street_base.specs.Prelude.{no_link, link_at, network_fault, Traffic, position_of, first_of, lane_tests, is_past, closure_refusal}
 use Rattle.street_base.proofs.FaultLemmas.{link_keeps_limits}
 
 -- a lane below the lanes of a link: the link is there

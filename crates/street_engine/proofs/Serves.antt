@@ -1,16 +1,12 @@
 -- What it takes to serve a command: what is shown of all traffic that the streets stand for.
-use Rattle.std.proofs.Common.{◌≡◌, length, refl, sym, ◌∙◌, ap, subst}
-use Rattle.std.specs.Prelude.{Some, None}
+use Rattle.std.proofs.Common.{◌≡◌, length, refl, sym, ◌∙◌, ap, subst, Some, None}
 use Rattle.street_base.specs.declared.command.Command.{Command}
 use Rattle.street_base.specs.declared.refusal.Refusal.{Refusal}
 use Rattle.street_base.specs.declared.reply.Reply.{Reply}
 use Rattle.street_base.specs.declared.reply.Reply.TheVariants.{Refused, Starved as StarvedReply}
 use Rattle.street_base.specs.declared.reply.Outcome.TheVariants.{Whole, Starved}
-use Rattle.street_base.specs.State.{Traffic, State}
-use Rattle.street_base.specs.Machine.{refusal, done, answered}
-use Rattle.street_base.specs.Outcomes.{MayStarve, state_of_whole, reply_of_whole}
-use Rattle.street_engine.specs.Streets.{StreetsView, StreetsStandFor, StreetsGo}
-use Rattle.street_engine.specs.Refines.{EngineView, StandsFor, Serves}
+use Rattle.street_base.specs.Prelude.{Traffic, State, refusal, done, answered, MayStarve, state_of_whole, reply_of_whole}
+use Rattle.street_engine.specs.Prelude.{StreetsView, StreetsStandFor, StreetsGo, EngineView, StandsFor, Serves}
 
 -- ---- any state
 

@@ -1,6 +1,5 @@
 -- Signal plans set.
-use Rattle.std.proofs.Common.{◌≡◌, ℕ, List, [], ◌∷◌, refl, sym, ◌∙◌, ap, subst}
-use Rattle.std.specs.Prelude.{Option, Some, None, is_some, unwrap_or, not, ◌==◌}
+use Rattle.std.proofs.Common.{◌≡◌, ℕ, List, [], ◌∷◌, refl, sym, ◌∙◌, ap, subst, Option, Some, None, is_some, unwrap_or, not, ◌==◌}
 use Rattle.std.proofs.lemmas.Bool.{eqb-true}
 use Rattle.std.proofs.lemmas.List.Quantifiers.{position-Some}
 use Rattle.street_base.specs.declared.net.NetSpec.{NetSpec}
@@ -11,16 +10,9 @@ use Rattle.street_base.specs.declared.refusal.Refusal.{Refusal}
 use Rattle.street_base.specs.declared.refusal.Refusal.TheVariants.{NoNode, BadSignal}
 use Rattle.street_base.specs.declared.reply.Reply.TheVariants.{Signalled, Refused, Starved as StarvedReply}
 use Rattle.street_base.specs.declared.reply.Outcome.TheVariants.{Whole, Starved}
-use Rattle.street_base.specs.Network.{node_of}
-use Rattle.street_base.specs.Faults.{signal_fault}
-use Rattle.street_base.specs.Signal.{SignalPlan, cycle}
-use Rattle.street_base.specs.State.{Traffic}
-use Rattle.street_base.specs.Effects.{plan_of, signalled}
-use Rattle.street_base.specs.Machine.{first_of, signal_refusal}
-use Rattle.street_base.specs.Outcomes.{MayStarveUnder}
-use Rattle.street_node.specs.Greens.{ShowsAs, node_id}
-use Rattle.street_engine.specs.Streets.{StreetsView, StreetsStandFor, StreetsGo}
-use Rattle.street_engine.specs.Refines.{Serves}
+use Rattle.street_base.specs.Prelude.{node_of, signal_fault, SignalPlan, cycle, Traffic, plan_of, signalled, first_of, signal_refusal, MayStarveUnder}
+use Rattle.street_node.specs.Prelude.{ShowsAs, node_id}
+use Rattle.street_engine.specs.Prelude.{StreetsView, StreetsStandFor, StreetsGo, Serves}
 use Rattle.street_engine.proofs.Serves.{same-network, streets-refused, streets-starving, streets-done}
 
 -- the node at the position of an identifier has it

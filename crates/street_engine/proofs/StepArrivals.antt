@@ -1,27 +1,18 @@
 -- Those who arrived in a step of all tiles are the machine's.
-use Rattle.std.proofs.Common.{◌≡◌, ℕ, suc, ◌+◌, ◌<◌, List, [], ◌∷◌, ◌++◌, length, get_or, refl, sym, ◌∙◌, ap, arith, inl, inr}
-use Rattle.std.specs.Prelude.{Option, Some, None, filter_map, nat_lt, ◌==◌}
-use Rattle.std.specs.List.{sum_by, list_any, cons_option}
+use Rattle.std.proofs.Common.{◌≡◌, ℕ, suc, ◌+◌, ◌<◌, List, [], ◌∷◌, ◌++◌, length, get_or, refl, sym, ◌∙◌, ap, arith, inl, inr, Option, Some, None, filter_map, nat_lt, ◌==◌, sum_by}
+use Rattle.std.specs.List.{list_any, cons_option}
 use Rattle.std.proofs.lemmas.Bool.{cases_Bool, cond-true, cond-false, lt-ltb}
 use Rattle.std.proofs.lemmas.List.Sums.{sum_by-cons}
 use Rattle.std.proofs.lemmas.List.Elements.{filter_map-append}
 use Rattle.street_base.specs.declared.net.NetSpec.{NetSpec}
 use Rattle.street_base.specs.declared.reply.End.{End}
 use Rattle.street_base.specs.declared.names.Place.{Place}
-use Rattle.street_base.specs.Network.{places}
-use Rattle.street_base.specs.Vehicle.{Vehicle, is_on_last}
-use Rattle.street_base.specs.State.{Traffic}
-use Rattle.street_base.specs.Census.{in_lanes, has_ended, one_if, IsSound}
-use Rattle.street_base.specs.Step.{changed, driven, arrival, arrivals, leaver_of, with_arrivals, step}
-use Rattle.street_base.specs.Release.{released}
-use Rattle.street_base.specs.Departure.{departed}
+use Rattle.street_base.specs.Prelude.{places, Vehicle, is_on_last, Traffic, in_lanes, has_ended, one_if, IsSound, changed, driven, arrival, arrivals, leaver_of, with_arrivals, step, released, departed}
 use Rattle.street_base.proofs.FormLemmas.{shape-of, changed-formed}
 use Rattle.street_base.proofs.ArrivalLemmas.{arrived, driven-lanes}
-use Rattle.street_tile.specs.Tiles.{Part, AreTiles, Each}
-use Rattle.street_tile.specs.HandOvers.{all_places}
+use Rattle.street_tile.specs.Prelude.{Part, AreTiles, Each, all_places, all_arrived}
 use Rattle.street_tile.proofs.Rows.{in-row, roads-of}
-use Rattle.street_tile.specs.Together.{all_arrived}
-use Rattle.street_engine.specs.Ends.{AreComing}
+use Rattle.street_engine.specs.Prelude.{AreComing}
 use Rattle.street_tile.proofs.Sums.{tiles-sums}
 use Rattle.street_engine.proofs.AreComing.{often}
 use Rattle.street_engine.proofs.Arrivals.{with_arrivals-same}

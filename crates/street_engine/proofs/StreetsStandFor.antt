@@ -1,63 +1,26 @@
 -- What streets stand for after each command.
-use Rattle.std.proofs.Common.{◌≡◌, ℕ, zero, suc, ◌+◌, ◌<◌, ◌≤◌, Bool, List, [], ◌∷◌, ◌++◌, length, set, get_or, refl, sym, ◌∙◌, ap, subst, arith}
-use Rattle.std.specs.Prelude.{Option, Some, None, Result, Ok, Err, OnOk, OnErr, nat_lt, if◌then◌else◌}
+use Rattle.std.proofs.Common.{◌≡◌, ℕ, suc, ◌+◌, ◌<◌, Bool, false, List, [], ◌∷◌, ◌++◌, length, set, get_or, refl, sym, ◌∙◌, ap, subst, true≢false, arith, Option, Some, None, Result, Ok, Err, OnOk, OnErr, is_err, nat_lt, if◌then◌else◌}
 use Rattle.std.specs.Option.{option_map_or}
-use Rattle.std.proofs.Math.ListN.{length-map}
 use Rattle.std.proofs.lemmas.Bool.{lt-leb}
 use Rattle.std.proofs.lemmas.List.{length-set}
 use Rattle.street_base.specs.declared.net.NetSpec.{NetSpec}
 use Rattle.street_base.specs.declared.reply.End.{End}
 use Rattle.street_base.specs.declared.reply.End.TheVariants.{Taken}
 use Rattle.street_base.specs.declared.names.Place.{Place}
-use Rattle.street_base.specs.Network.{is_place, link_at, node_of, places}
-use Rattle.street_base.specs.Faults.{network_fault}
-use Rattle.street_base.specs.Signal.{SignalPlan}
-use Rattle.street_base.specs.State.{Traffic, Detector, lane_at, each_lane}
-use Rattle.street_base.specs.Census.{in_lane, one_if, IsWhole, IsSound}
-use Rattle.street_base.specs.Closing.{with_marks, with_closure}
-use Rattle.street_base.specs.Effects.{signalled, taken_out, metered}
-use Rattle.street_base.specs.Limits.{most_detectors, last_clock}
-use Rattle.street_base.specs.declared.reply.Reply.TheVariants.{Census}
-use Rattle.street_base.specs.Shown.{census, have_arrived, were_taken, in_cells, in_buffers, in_wait}
-use Rattle.street_base.specs.Release.{released}
-use Rattle.street_base.specs.Departure.{departed}
-use Rattle.street_base.specs.Step.{changed, driven, step, steps, with_arrivals, noted}
-use Rattle.street_base.specs.Machine.{loaded, entered, entry_of, plan_links, with_waiting}
-use Rattle.street_base.proofs.FaultLemmas.{good_start}
-use Rattle.street_base.proofs.LoadLemmas.{loaded-sound}
+use Rattle.street_base.specs.Prelude.{is_place, link_at, node_of, places, SignalPlan, Traffic, Detector, lane_at, each_lane, in_lane, one_if, IsWhole, IsSound, with_marks, with_closure, signalled, taken_out, metered, most_detectors, last_clock, released, departed, changed, driven, step, with_arrivals, noted, entered, entry_of, plan_links, with_waiting}
 use Rattle.street_base.proofs.EnterLemmas.{entered-sound}
 use Rattle.street_base.proofs.CommandLemmas.{closure-sound, taken_out-sound}
 use Rattle.street_base.proofs.StepLemmas.{step-sound}
 use Rattle.street_base.proofs.PlaceLemmas.{places-listed}
 use Rattle.street_base.proofs.ReleaseCountLemmas.{in_lanes-places}
 use Rattle.street_base.proofs.FormLemmas.{shape-of}
-use Rattle.street_lanes.specs.Lanes.{IsLane}
-use Rattle.street_tile.specs.Tiles.{Part, AreTiles, AllStand, StandsFor as TileStands, Each}
-use Rattle.street_tile.specs.Commands.{at_place, without, planned}
-use Rattle.street_tile.specs.TileDetectors.{MetersStand, AllMetersStand, detectors_on}
-use Rattle.street_tile.specs.Steps.{Steps}
-use Rattle.street_tile.specs.Together.{TilesView, TilesStandFor, TilesGo, TilesKeep, NobodyArrived}
+use Rattle.street_lanes.specs.Prelude.{IsLane}
+use Rattle.street_tile.specs.Prelude.{Part, AreTiles, AllStand, StandsFor as TileStands, Each, at_place, without, planned, MetersStand, AllMetersStand, detectors_on, Steps, TilesView, TilesStandFor, TilesGo, TilesKeep, NobodyArrived, all_arrived}
 use Rattle.street_tile.proofs.Ones.{sum-one}
 use Rattle.street_engine.specs.declared.sites.DetectorSite.{DetectorSite}
-use Rattle.street_engine.specs.Sites.{AreDetectorSites}
-use Rattle.street_engine.specs.Streets.{StreetsView, IsTrafficOf, IsKept, StreetsStandFor, StreetsGo, streets_of}
-use Rattle.street_tile.specs.Together.{all_arrived}
-use Rattle.street_engine.specs.Ends.{AreComing}
+use Rattle.street_engine.specs.Prelude.{AreDetectorSites, StreetsView, IsTrafficOf, IsKept, StreetsStandFor, StreetsGo, streets_of, AreComing}
 use Rattle.street_engine.proofs.AreSites.{sites-map, sites-more}
 use Rattle.street_engine.proofs.StepArrivals.{arrivals-coming, arrivals-end}
-
--- ---- a network that is loaded
-
-pub loaded-stands : (net : NetSpec) (x : TilesView) → network_fault net ≡ None → x.network ≡ net → TilesStandFor x (loaded net) → IsTrafficOf (streets_of x [] net.start []) (loaded net)
-unfolding loaded
-loaded-stands net x faultless same stands = record {
-  clock = refl;
-  ends = refl;
-  tiles = stands;
-  sound = loaded-sound net faultless;
-  signals = length-map net.nodes (λ node. None) ∙ ap (λ (n : NetSpec). length n.nodes) (sym same);
-  sites = record { even = refl; few = omega arith; each = λ i d l. absurd (omega arith) };
-}
 
 -- ---- ends alone
 
@@ -70,77 +33,107 @@ ends-stand x m es s = record {
   meters = s.meters;
 }
 
-module _ (sites : List DetectorSite) (clock : ℕ) (x y : TilesView) (ends : List (Option End)) where
-  -- the network stays, and with it where detectors are
-  same-sites : y.network ≡ x.network → (ds : List Detector) → AreDetectorSites x.network sites ds → AreDetectorSites y.network sites ds
-  same-sites same ds are = subst (λ (n : NetSpec). AreDetectorSites n sites ds) (sym same) are
+-- ---- what a call does
 
-  same-signals : y.network ≡ x.network → (k : ℕ) → k ≡ length x.network.nodes → k ≡ length y.network.nodes
-  same-signals same k is = is ∙ ap (λ (n : NetSpec). length n.nodes) (sym same)
+-- to what it is seen as
+pub goes-with : {x y v : StreetsView} (f : Traffic → Traffic) → x ≡ v → ((m : Traffic) → IsTrafficOf x m → IsTrafficOf y (f m)) → StreetsGo f v y
+unfolding StreetsStandFor
+goes-with {x} {y} {v} f is each = λ m stands. each m (subst (λ (u : StreetsView). StreetsStandFor u m) (sym is) stands)
+
+-- what it stands for, as it is seen
+pub traffic-of : {x v : StreetsView} {m : Traffic} → x ≡ v → StreetsStandFor v m → IsTrafficOf x m
+unfolding StreetsStandFor
+traffic-of {x} {v} {m} is stands = subst (λ (u : StreetsView). IsTrafficOf u m) (sym is) stands
+
+-- the network stays, and with it where detectors are
+same-sites : {net after : NetSpec} {sites later : List DetectorSite} → after ≡ net → later ≡ sites → (ds : List Detector) → AreDetectorSites net sites ds → AreDetectorSites after later ds
+same-sites {net} {after} {sites} {later} same is ds are = subst (λ (n : NetSpec). AreDetectorSites n later ds) (sym same) (subst (λ (ss : List DetectorSite). AreDetectorSites net ss ds) (sym is) are)
+
+same-signals : {net after : NetSpec} → after ≡ net → (k : ℕ) → k ≡ length net.nodes → k ≡ length after.nodes
+same-signals same k is = is ∙ ap (λ (n : NetSpec). length n.nodes) (sym same)
+
+-- the number that is given next is on no lane
+nowhere-next : (m : Traffic) → IsSound m → (p : Place) → p.lane < (link_at m.network p.link).lanes → in_lane (length m.ends) (lane_at m p) ≡ 0
+nowhere-next m sound p within =
+    let number = length m.ends in
+    let whole = sound.whole number in
+    let not_given : one_if (nat_lt number (length m.ends)) ≡ 0 = ap one_if (lt-leb (suc number) (length m.ends) (omega arith)) in
+    let all = in_lanes-places m (shape-of m sound.formed) number in
+    let one = sum-one (λ q. in_lane number (lane_at m q)) (places m.network) p (places-listed m.network p within) in
+    omega arith
+
+-- with the next vehicle as it may be written
+abbrev waits_at : Traffic → ℕ → ℕ → ℕ → List ℕ → Place → Traffic
+waits_at m depart size number plan p = record m {
+  lanes = each_lane (λ q lane. if is_place q p then with_waiting (record { vehicle = record { number = number; size = size; speed = 0; plan = plan; position = 0 }; depart = depart }) lane else lane) m.lanes;
+  ends = m.ends ++ None ∷ [];
+}
+
+module _ {sites : List DetectorSite} {clock : ℕ} {x y : TilesView} {ends : List (Option End)} where
+  -- the tiles were changed: there is still traffic for which all stands
+  pub kept-goes : {P : Traffic → Type 0} {f : Traffic → Traffic} {later : List DetectorSite} {after : List (Option End)} (g : Traffic → Traffic) → IsKept (streets_of x sites clock ends) → TilesGo P f x y
+      → ((m : Traffic) → IsTrafficOf (streets_of x sites clock ends) m → IsTrafficOf (streets_of y later clock after) (g m)) → IsKept (streets_of y later clock after)
+  kept-goes g kept does stands = record { nobody = does.nobody kept.nobody; in_time = kept.in_time; some = (g kept.some.0, stands kept.some.0 kept.some.1) }
 
   -- ---- nothing is done
 
-  pub keeps-stands : TilesKeep x y → (m : Traffic) → IsTrafficOf (streets_of x sites clock ends) m → IsTrafficOf (streets_of y sites clock ends) m
-  keeps-stands kept m t = record {
+  pub keeps-stands : {later : List DetectorSite} {after : List (Option End)} → later ≡ sites → after ≡ ends → TilesKeep x y
+      → (m : Traffic) → IsTrafficOf (streets_of x sites clock ends) m → IsTrafficOf (streets_of y later clock after) m
+  keeps-stands sites_are ends_are keeps m t = record {
     clock = t.clock;
-    ends = t.ends;
-    tiles = kept.goes m tt t.tiles;
+    ends = ends_are ∙ t.ends;
+    tiles = keeps.goes m tt t.tiles;
     sound = t.sound;
-    signals = same-signals kept.network (length m.signals) t.signals;
-    sites = same-sites kept.network m.detectors t.sites;
+    signals = same-signals keeps.network (length m.signals) t.signals;
+    sites = same-sites keeps.network sites_are m.detectors t.sites;
   }
+
+  pub kept-still : {later : List DetectorSite} {after : List (Option End)} → later ≡ sites → after ≡ ends → IsKept (streets_of x sites clock ends) → TilesKeep x y → IsKept (streets_of y later clock after)
+  kept-still sites_are ends_are kept keeps = kept-goes (λ m. m) kept keeps (keeps-stands sites_are ends_are keeps)
+
+  pub goes-still : {later : List DetectorSite} {after : List (Option End)} {v : StreetsView} → later ≡ sites → after ≡ ends → streets_of x sites clock ends ≡ v → TilesKeep x y → StreetsGo (λ m. m) v (streets_of y later clock after)
+  goes-still sites_are ends_are is keeps = goes-with (λ m. m) is (keeps-stands sites_are ends_are keeps)
 
   -- ---- a vehicle is admitted
 
-  -- the number that is given next is on no lane
-  nowhere-next : (m : Traffic) → IsSound m → (p : Place) → p.lane < (link_at m.network p.link).lanes → in_lane (length m.ends) (lane_at m p) ≡ 0
-  nowhere-next m sound p within =
-      let number = length m.ends in
-      let whole = sound.whole number in
-      let not_given : one_if (nat_lt number (length m.ends)) ≡ 0 = ap one_if (lt-leb (suc number) (length m.ends) (omega arith)) in
-      let all = in_lanes-places m (shape-of m sound.formed) number in
-      let one = sum-one (λ q. in_lane number (lane_at m q)) (places m.network) p (places-listed m.network p within) in
-      omega arith
-
-  -- with the next vehicle as it may be written
-  abbrev waits_at : Traffic → ℕ → ℕ → ℕ → List ℕ → Place → Traffic
-  waits_at m depart size number plan p = record m {
-    lanes = each_lane (λ q lane. if is_place q p then with_waiting (record { vehicle = record { number = number; size = size; speed = 0; plan = plan; position = 0 }; depart = depart }) lane else lane) m.lanes;
-    ends = m.ends ++ None ∷ [];
-  }
-
-  pub entered-stands : (number lane depart size : ℕ) (plan ids : List ℕ) (p : Place) → TilesGo (λ m. in_lane number (lane_at m p) ≡ 0) (at_place p (with_waiting (record { vehicle = record { number = number; size = size; speed = 0; plan = plan; position = 0 }; depart = depart }))) x y
-      → (m : Traffic) → IsTrafficOf (streets_of x sites clock ends) m → number ≡ length ends → plan ≡ plan_links m.network ids → p ≡ entry_of m.network ids lane → p.lane < (link_at m.network p.link).lanes
-      → IsTrafficOf (streets_of y sites clock (ends ++ None ∷ [])) (entered m ids lane depart size)
+  -- with what the code has in hand
+  pub admitted-stands : {v : StreetsView} {after : List (Option End)} → streets_of x sites clock ends ≡ v → after ≡ ends ++ None ∷ [] → (number first lane depart size : ℕ) (plan kept ids : List ℕ)
+      → TilesGo (λ m. in_lane number (lane_at m (record { link = first; lane = lane })) ≡ 0) (at_place (record { link = first; lane = lane }) (with_waiting (record { vehicle = record { number = number; size = size; speed = 0; plan = kept; position = 0 }; depart = depart }))) x y
+      → number ≡ length ends → kept ≡ plan → plan ≡ plan_links v.tiles.network ids → first ≡ get_or plan 0 0 → lane < (link_at v.tiles.network (get_or plan 0 0)).lanes
+      → (m : Traffic) → IsTrafficOf (streets_of x sites clock ends) m → IsTrafficOf (streets_of y sites clock after) (entered m ids lane depart size)
   unfolding entered at_place
-  entered-stands number lane depart size plan ids p does m t is_number is_plan is_entry within =
+  admitted-stands {v} seen pushed number first lane depart size plan kept ids does is_number is_plan is_links is_first within m t =
+      let p : Place = record { link = first; lane = lane } in
+      let network : v.tiles.network ≡ m.network = ap (λ (u : StreetsView). u.tiles.network) (sym seen) ∙ sym t.tiles.lanes.on.network in
+      let links : plan ≡ plan_links m.network ids = is_links ∙ ap (λ (n : NetSpec). plan_links n ids) network in
+      let entry : p ≡ entry_of m.network ids lane = ap (λ (l : ℕ). record { link = l; lane = lane }) (is_first ∙ ap (λ (l : List ℕ). get_or l 0 0) links) in
+      let inside : lane < (link_at m.network first).lanes = subst (λ (n : NetSpec). lane < (link_at n first).lanes) network (subst (λ (l : ℕ). lane < (link_at v.tiles.network l).lanes) (sym is_first) within) in
       let next : number ≡ length m.ends = is_number ∙ ap length t.ends in
-      let none : in_lane number (lane_at m p) ≡ 0 = subst (λ (n : ℕ). in_lane n (lane_at m p) ≡ 0) (sym next) (nowhere-next m t.sound p within) in
-      let stood : TilesStandFor y (waits_at m depart size number plan p) = ends-stand y (at_place p (with_waiting (record { vehicle = record { number = number; size = size; speed = 0; plan = plan; position = 0 }; depart = depart })) m) (m.ends ++ None ∷ []) (does.goes m none t.tiles) in
-      let named : TilesStandFor y (waits_at m depart size (length m.ends) plan p) = subst (λ (n : ℕ). TilesStandFor y (waits_at m depart size n plan p)) next stood in
-      let planned : TilesStandFor y (waits_at m depart size (length m.ends) (plan_links m.network ids) p) = subst (λ (l : List ℕ). TilesStandFor y (waits_at m depart size (length m.ends) l p)) is_plan named in
-      let placed : TilesStandFor y (waits_at m depart size (length m.ends) (plan_links m.network ids) (entry_of m.network ids lane)) = subst (λ (q : Place). TilesStandFor y (waits_at m depart size (length m.ends) (plan_links m.network ids) q)) is_entry planned in
+      let none : in_lane number (lane_at m p) ≡ 0 = subst (λ (n : ℕ). in_lane n (lane_at m p) ≡ 0) (sym next) (nowhere-next m t.sound p inside) in
+      let stood : TilesStandFor y (waits_at m depart size number kept p) = ends-stand y (at_place p (with_waiting (record { vehicle = record { number = number; size = size; speed = 0; plan = kept; position = 0 }; depart = depart })) m) (m.ends ++ None ∷ []) (does.goes m none t.tiles) in
+      let named : TilesStandFor y (waits_at m depart size (length m.ends) kept p) = subst (λ (n : ℕ). TilesStandFor y (waits_at m depart size n kept p)) next stood in
+      let planned : TilesStandFor y (waits_at m depart size (length m.ends) (plan_links m.network ids) p) = subst (λ (l : List ℕ). TilesStandFor y (waits_at m depart size (length m.ends) l p)) (is_plan ∙ links) named in
       record {
         clock = t.clock;
-        ends = ap (λ (es : List (Option End)). es ++ None ∷ []) t.ends;
-        tiles = placed;
-        sound = entered-sound m ids lane depart size (subst (λ (q : Place). q.lane < (link_at m.network q.link).lanes) is_entry within) t.sound;
+        ends = pushed ∙ ap (λ (es : List (Option End)). es ++ None ∷ []) t.ends;
+        tiles = subst (λ (q : Place). TilesStandFor y (waits_at m depart size (length m.ends) (plan_links m.network ids) q)) entry planned;
+        sound = entered-sound m ids lane depart size (subst (λ (q : Place). q.lane < (link_at m.network q.link).lanes) entry inside) t.sound;
         signals = same-signals does.network (length m.signals) t.signals;
-        sites = same-sites does.network m.detectors t.sites;
+        sites = same-sites does.network refl m.detectors t.sites;
       }
 
   -- ---- a signal plan is set
 
-  pub planned-stands : (node : ℕ) (plan : SignalPlan) → TilesGo (λ m. node < length m.signals) (planned node plan) x y
-      → (m : Traffic) → IsTrafficOf (streets_of x sites clock ends) m → node < length x.network.nodes → IsTrafficOf (streets_of y sites clock ends) (planned node plan m)
+  pub planned-stands : (node : ℕ) (plan : SignalPlan) → TilesGo (λ m. node < length m.signals) (planned node plan) x y → node < length x.network.nodes
+      → (m : Traffic) → IsTrafficOf (streets_of x sites clock ends) m → IsTrafficOf (streets_of y sites clock ends) (planned node plan m)
   unfolding planned
-  planned-stands node plan does m t within = record {
+  planned-stands node plan does within m t = record {
     clock = t.clock;
     ends = t.ends;
     tiles = does.goes m (let e = t.signals in omega arith) t.tiles;
     sound = record { formed = record { lanes = t.sound.formed.lanes; cells = t.sound.formed.cells; turns = t.sound.formed.turns }; whole = t.sound.whole; disjoint = t.sound.disjoint };
     signals = length-set m.signals node (Some plan) ∙ same-signals does.network (length m.signals) t.signals;
-    sites = same-sites does.network m.detectors t.sites;
+    sites = same-sites does.network refl m.detectors t.sites;
   }
 
   -- ---- cells are closed or opened
@@ -154,40 +147,43 @@ module _ (sites : List DetectorSite) (clock : ℕ) (x y : TilesView) (ends : Lis
     tiles = does.goes m tt t.tiles;
     sound = closure-sound closed p first last m t.sound;
     signals = same-signals does.network (length m.signals) t.signals;
-    sites = same-sites does.network m.detectors t.sites;
+    sites = same-sites does.network refl m.detectors t.sites;
   }
 
   -- ---- a vehicle is taken out
 
-  pub taken-stands : (number : ℕ) → TilesGo IsWhole (without number) x y → number < length ends
-      → (m : Traffic) → IsTrafficOf (streets_of x sites clock ends) m → IsTrafficOf (streets_of y sites clock (set ends number (Some (Taken clock)))) (taken_out m number)
+  pub taken-stands : {v : StreetsView} {after : List (Option End)} → streets_of x sites clock ends ≡ v → (number : ℕ) → after ≡ set ends number (Some (Taken clock)) → TilesGo IsWhole (without number) x y → number < length v.ends
+      → (m : Traffic) → IsTrafficOf (streets_of x sites clock ends) m → IsTrafficOf (streets_of y sites clock after) (taken_out m number)
   unfolding taken_out without
-  taken-stands number does given m t =
-      let same : set ends number (Some (Taken clock)) ≡ set m.ends number (Some (Taken m.clock)) = ap (λ (es : List (Option End)). set es number (Some (Taken clock))) t.ends ∙ ap (λ (at : ℕ). set m.ends number (Some (Taken at))) t.clock in
+  taken-stands {v} seen number noted does given m t =
+      let inside : number < length ends = subst (λ (u : StreetsView). number < length u.ends) (sym seen) given in
       record {
         clock = t.clock;
-        ends = same;
+        ends = noted ∙ ap (λ (es : List (Option End)). set es number (Some (Taken clock))) t.ends ∙ ap (λ (at : ℕ). set m.ends number (Some (Taken at))) t.clock;
         tiles = ends-stand y (without number m) (set m.ends number (Some (Taken m.clock))) (does.goes m t.sound.whole t.tiles);
         sound = taken_out-sound m number (let e = ap length t.ends in omega arith) t.sound;
         signals = same-signals does.network (length m.signals) t.signals;
-        sites = same-sites does.network m.detectors t.sites;
+        sites = same-sites does.network refl m.detectors t.sites;
       }
 
   -- ---- a detector is placed
 
-  pub metered-stands : (s : DetectorSite) (cell period : ℕ) → TilesGo (λ m. Unit {0}) (λ m. metered m s.at cell period) x y → IsLane x.network s.at → length sites < most_detectors
-      → ((m : Traffic) → TilesStandFor x m → s.number ≡ length (detectors_on s.at m.detectors))
-      → (m : Traffic) → IsTrafficOf (streets_of x sites clock ends) m → IsTrafficOf (streets_of y (sites ++ s ∷ []) clock ends) (metered m s.at cell period)
+  pub metered-stands : {v : StreetsView} {later : List DetectorSite} → streets_of x sites clock ends ≡ v → (s : DetectorSite) (cell period : ℕ) → later ≡ sites ++ s ∷ [] → TilesGo (λ m. Unit {0}) (λ m. metered m s.at cell period) x y
+      → IsLane v.tiles.network s.at → length v.sites < most_detectors → ((m : Traffic) → TilesStandFor x m → s.number ≡ length (detectors_on s.at m.detectors))
+      → (m : Traffic) → IsTrafficOf (streets_of x sites clock ends) m → IsTrafficOf (streets_of y later clock ends) (metered m s.at cell period)
   unfolding metered
-  metered-stands s cell period does lane room number m t =
+  metered-stands {v} {later} seen s cell period pushed does lane room number m t =
       let even = t.sites.even in
+      let here : IsLane x.network s.at = subst (λ (u : StreetsView). IsLane u.tiles.network s.at) (sym seen) lane in
+      let few : length sites < most_detectors = subst (λ (u : StreetsView). length u.sites < most_detectors) (sym seen) room in
+      let more = sites-more x.network sites m.detectors s _ t.sites (omega arith) here refl (number m t.tiles) in
       record {
         clock = t.clock;
         ends = t.ends;
         tiles = does.goes m tt t.tiles;
         sound = record { formed = record { lanes = t.sound.formed.lanes; cells = t.sound.formed.cells; turns = t.sound.formed.turns }; whole = t.sound.whole; disjoint = t.sound.disjoint };
         signals = same-signals does.network (length m.signals) t.signals;
-        sites = subst (λ (n : NetSpec). AreDetectorSites n (sites ++ s ∷ []) (metered m s.at cell period).detectors) (sym does.network) (sites-more x.network sites m.detectors s _ t.sites (omega arith) lane refl (number m t.tiles));
+        sites = subst (λ (n : NetSpec). AreDetectorSites n later (metered m s.at cell period).detectors) (sym does.network) (subst (λ (ss : List DetectorSite). AreDetectorSites x.network ss (metered m s.at cell period).detectors) (sym pushed) more);
       }
 
 -- the plan of the node with an identifier
@@ -228,82 +224,58 @@ noted-meters xs ys m long each kept k d l =
 pub noted-nobody : (y z : TilesView) → length z.tiles ≡ length y.tiles → Each (λ x y. y ≡ record x { arrived = [] }) y.tiles z.tiles → NobodyArrived z
 noted-nobody y z long each k d l = ap (λ (t : Part). t.arrived) (each k d (omega arith))
 
--- the tiles of one network make a step, and then those who arrived are taken note of
-module _ (sites : List DetectorSite) (clock : ℕ) (x y z : TilesView) (ends after : List (Option End)) (tiles : AreTiles x.network x.tiles)
-    (same : y.network ≡ x.network) (long : length y.tiles ≡ length x.tiles) (went : Steps x.network x.tiles y.tiles) where
-  -- each of those who arrived was on the way
-  pub step-coming : (m : Traffic) → IsTrafficOf (streets_of x sites clock ends) m → AreComing (all_arrived y.tiles) ends
-  step-coming m t = subst (AreComing (all_arrived y.tiles)) (sym t.ends) (arrivals-coming x.network x.tiles y.tiles tiles long m t.tiles.lanes.on.network t.sound (went.arrived m t.tiles.lanes))
+-- memory for a step was taken, and the tiles stand for what they stood for
+module _ {sites : List DetectorSite} {clock : ℕ} {s x : TilesView} {ends : List (Option End)} (kept : IsKept (streets_of s sites clock ends)) (taken : TilesKeep s x) where
+  pub prepared : IsKept (streets_of x sites clock ends)
+  prepared = kept-still refl refl kept taken
 
-  pub step-stands : z.network ≡ y.network → length z.tiles ≡ length y.tiles → Each (λ x y. y ≡ record x { arrived = [] }) y.tiles z.tiles → after ≡ with_arrivals clock (all_arrived y.tiles) ends
-      → (m : Traffic) → IsTrafficOf (streets_of x sites clock ends) m → IsTrafficOf (streets_of z sites (clock + 1) after) (step m)
-  step-stands still longer noted is m t =
-      let network : z.network ≡ x.network = still ∙ same in
-      record {
-        clock = ap (λ (n : ℕ). n + 1) t.clock ∙ sym (step-clock m);
-        ends = is ∙ ap (λ (n : ℕ). with_arrivals n (all_arrived y.tiles) ends) t.clock ∙ ap (with_arrivals m.clock (all_arrived y.tiles)) t.ends ∙ arrivals-end x.network x.tiles y.tiles tiles long m t.tiles.lanes.on.network t.sound (went.arrived m t.tiles.lanes);
-        tiles = record {
-          lanes = subst (λ (n : NetSpec). AllStand n z.tiles (step m)) (sym network) (noted-stand x.network y.tiles z.tiles (step m) longer noted (went.machine m t.tiles.lanes));
-          meters = noted-meters y.tiles z.tiles (step m) longer noted (went.meters m t.tiles.lanes t.tiles.meters);
-        };
-        sound = step-sound m t.sound;
-        signals = ap length (step-signals m) ∙ t.signals ∙ ap (λ (n : NetSpec). length n.nodes) (sym network);
-        sites = subst (λ (n : NetSpec). AreDetectorSites n sites (step m).detectors) (sym network) (step-sites x.network sites m t.sites);
-      }
+  pub may-step : {v : StreetsView} → streets_of s sites clock ends ≡ v → v.clock < last_clock → (m : Traffic) × TilesStandFor x m × (m.clock < last_clock)
+  may-step seen early =
+      let before : clock < last_clock = subst (λ (v : StreetsView). v.clock < last_clock) (sym seen) early in
+      let same = prepared.some.1.clock in
+      (prepared.some.0, prepared.some.1.tiles, omega arith)
 
-  pub step-kept : z.network ≡ y.network → length z.tiles ≡ length y.tiles → Each (λ x y. y ≡ record x { arrived = [] }) y.tiles z.tiles → after ≡ with_arrivals clock (all_arrived y.tiles) ends
-      → clock < last_clock → (m : Traffic) → IsTrafficOf (streets_of x sites clock ends) m → IsKept (streets_of z sites (clock + 1) after)
-  step-kept still longer noted is early m t = record { nobody = noted-nobody y z longer noted; in_time = omega (arith, early); some = (step m, step-stands still longer noted is m t) }
+  -- the tiles of one network make a step
+  module _ {y : TilesView} (tiles : AreTiles x.network x.tiles) (same : y.network ≡ x.network) (long : length y.tiles ≡ length x.tiles) (went : Steps x.network x.tiles y.tiles) where
+    -- each of those who arrived was on the way
+    pub step-coming : AreComing (all_arrived y.tiles) ends
+    step-coming =
+        let m = prepared.some.0 in
+        let t = prepared.some.1 in
+        subst (AreComing (all_arrived y.tiles)) (sym t.ends) (arrivals-coming x.network x.tiles y.tiles tiles long m t.tiles.lanes.on.network t.sound (went.arrived m t.tiles.lanes))
 
--- one step more
-pub steps-last : (n : ℕ) (m : Traffic) → steps (n + 1) m ≡ step (steps n m)
-steps-last zero m = refl
-steps-last (suc n) m = let e : suc n + 1 ≡ suc (n + 1) = omega arith in ap (λ (k : ℕ). steps k m) e ∙ steps-last n (step m)
+    -- those who arrived are taken note of
+    module _ {z : TilesView} {after : List (Option End)} (still : z.network ≡ y.network) (longer : length z.tiles ≡ length y.tiles) (noted : Each (λ x y. y ≡ record x { arrived = [] }) y.tiles z.tiles) (is : after ≡ with_arrivals clock (all_arrived y.tiles) ends) where
+      pub step-stands : (m : Traffic) → IsTrafficOf (streets_of s sites clock ends) m → IsTrafficOf (streets_of z sites (clock + 1) after) (step m)
+      step-stands m before =
+          let t : IsTrafficOf (streets_of x sites clock ends) m = keeps-stands refl refl taken m before in
+          let network : z.network ≡ x.network = still ∙ same in
+          record {
+            clock = ap (λ (n : ℕ). n + 1) t.clock ∙ sym (step-clock m);
+            ends = is ∙ ap (λ (n : ℕ). with_arrivals n (all_arrived y.tiles) ends) t.clock ∙ ap (with_arrivals m.clock (all_arrived y.tiles)) t.ends ∙ arrivals-end x.network x.tiles y.tiles tiles long m t.tiles.lanes.on.network t.sound (went.arrived m t.tiles.lanes);
+            tiles = record {
+              lanes = subst (λ (n : NetSpec). AllStand n z.tiles (step m)) (sym network) (noted-stand x.network y.tiles z.tiles (step m) longer noted (went.machine m t.tiles.lanes));
+              meters = noted-meters y.tiles z.tiles (step m) longer noted (went.meters m t.tiles.lanes t.tiles.meters);
+            };
+            sound = step-sound m t.sound;
+            signals = ap length (step-signals m) ∙ t.signals ∙ ap (λ (n : NetSpec). length n.nodes) (sym network);
+            sites = subst (λ (n : NetSpec). AreDetectorSites n sites (step m).detectors) (sym network) (step-sites x.network sites m t.sites);
+          }
 
--- ---- what is kept between commands
+      pub step-kept : {v : StreetsView} → streets_of s sites clock ends ≡ v → v.clock < last_clock → IsKept (streets_of z sites (clock + 1) after)
+      step-kept seen early =
+          let before : clock < last_clock = subst (λ (v : StreetsView). v.clock < last_clock) (sym seen) early in
+          record { nobody = noted-nobody y z longer noted; in_time = omega (arith, before); some = (step kept.some.0, step-stands kept.some.0 kept.some.1) }
 
--- the tiles were changed by a call: there is still traffic for which all stands
-pub kept-goes : (P : Traffic → Type 0) (f g : Traffic → Traffic) (sites later : List DetectorSite) (clock : ℕ) (x y : TilesView) (ends after : List (Option End)) → IsKept (streets_of x sites clock ends) → TilesGo P f x y
-    → ((m : Traffic) → IsTrafficOf (streets_of x sites clock ends) m → IsTrafficOf (streets_of y later clock after) (g m)) → IsKept (streets_of y later clock after)
-kept-goes P f g sites later clock x y ends after kept does stands = record { nobody = does.nobody kept.nobody; in_time = kept.in_time; some = (g kept.some.0, stands kept.some.0 kept.some.1) }
+-- ---- what is said of a call that may answer an error
 
 pub kept-either : {T E : Type 0} (r : Result T E) (x : StreetsView) → OnOk r (IsKept x) → OnErr r (IsKept x) → IsKept x
 kept-either (Ok t) x ok err = ok
 kept-either (Err e) x ok err = err
 
--- what a call does to what it is seen as
-pub goes-with : (f : Traffic → Traffic) (x y v : StreetsView) → x ≡ v → ((m : Traffic) → IsTrafficOf x m → IsTrafficOf y (f m)) → StreetsGo f v y
-unfolding StreetsStandFor
-goes-with f x y v is each = λ m stands. each m (subst (λ (u : StreetsView). StreetsStandFor u m) (sym is) stands)
-
--- what it stands for, as it is seen
-pub traffic-of : (x v : StreetsView) (m : Traffic) → x ≡ v → StreetsStandFor v m → IsTrafficOf x m
-unfolding StreetsStandFor
-traffic-of x v m is stands = subst (λ (u : StreetsView). IsTrafficOf u m) (sym is) stands
-
-pub stands-as : (x : StreetsView) (m : Traffic) → IsTrafficOf x m → StreetsStandFor x m
-unfolding StreetsStandFor
-stands-as x m t = t
-
--- ---- what is counted
-
-pub census-is : (m : Traffic) (admitted arrived buffers cells clock taken waiting : ℕ) → admitted ≡ length m.ends → arrived ≡ have_arrived m → buffers ≡ in_buffers m → cells ≡ in_cells m → clock ≡ m.clock → taken ≡ were_taken m → waiting ≡ in_wait m → Census admitted arrived buffers cells clock taken waiting ≡ census m
-unfolding census
-census-is m admitted arrived buffers cells clock taken waiting a b c d e f g = rw (a, b, c, d, e, f, g) refl
-
--- ---- a vehicle is admitted, with what the code has in hand
-
-pub admitted-stands : (sites : List DetectorSite) (clock : ℕ) (x y : TilesView) (ends : List (Option End)) (v : StreetsView) → streets_of x sites clock ends ≡ v → (number first lane depart size : ℕ) (plan kept ids : List ℕ)
-    → TilesGo (λ m. in_lane number (lane_at m (record { link = first; lane = lane })) ≡ 0) (at_place (record { link = first; lane = lane }) (with_waiting (record { vehicle = record { number = number; size = size; speed = 0; plan = kept; position = 0 }; depart = depart }))) x y
-    → number ≡ length ends → kept ≡ plan → plan ≡ plan_links v.tiles.network ids → first ≡ get_or plan 0 0 → lane < (link_at v.tiles.network (get_or plan 0 0)).lanes
-    → (m : Traffic) → IsTrafficOf (streets_of x sites clock ends) m → IsTrafficOf (streets_of y sites clock (ends ++ None ∷ [])) (entered m ids lane depart size)
-admitted-stands sites clock x y ends v is number first lane depart size plan kept ids does is_number is_plan is_links is_first within m t =
-    let network : v.tiles.network ≡ m.network = ap (λ (u : StreetsView). u.tiles.network) (sym is) ∙ sym t.tiles.lanes.on.network in
-    let links : plan ≡ plan_links m.network ids = is_links ∙ ap (λ (n : NetSpec). plan_links n ids) network in
-    let begins : first ≡ get_or (plan_links m.network ids) 0 0 = is_first ∙ ap (λ (l : List ℕ). get_or l 0 0) links in
-    let entry : ◌≡◌ {A = Place} (record { link = first; lane = lane }) (entry_of m.network ids lane) = ap (λ (l : ℕ). record { link = l; lane = lane }) begins in
-    let inside : lane < (link_at m.network first).lanes = subst (λ (n : NetSpec). lane < (link_at n first).lanes) network (subst (λ (l : ℕ). lane < (link_at v.tiles.network l).lanes) (sym is_first) within) in
-    entered-stands sites clock x y ends number lane depart size kept ids (record { link = first; lane = lane }) does m t is_number (is_plan ∙ links) entry inside
+pub unless-err : {T E : Type 0} (P : Type 0) (r : Result T E) → is_err r ≡ false → OnOk r P → P
+unless-err P (Ok t) none p = p
+unless-err P (Err e) none p = absurd (true≢false none)
 
 pub always-err : {T E : Type 0} (P : Type 0) (r : Result T E) → P → OnErr r P
 always-err P (Ok t) p = tt

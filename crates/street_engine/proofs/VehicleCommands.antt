@@ -1,6 +1,5 @@
 -- Vehicles by their numbers.
-use Rattle.std.proofs.Common.{◌≡◌, ℕ, ◌<◌, ◌≤◌, true, false, List, length, refl, sym, ◌∙◌, ap, subst, arith}
-use Rattle.std.specs.Prelude.{Option, Some, None, is_some, slice_index_or, option_map}
+use Rattle.std.proofs.Common.{◌≡◌, ℕ, ◌<◌, ◌≤◌, true, false, List, length, refl, sym, ◌∙◌, ap, subst, arith, Option, Some, None, is_some, slice_index_or, option_map}
 use Rattle.std.specs.Option.{option_map_or, option_or}
 use Rattle.std.proofs.lemmas.Bool.{le-leb, lt-leb}
 use Rattle.street_base.specs.declared.command.Command.TheVariants.{TakeOut, Vehicle as AskVehicle}
@@ -10,12 +9,8 @@ use Rattle.street_base.specs.declared.reply.Whereabouts.{Whereabouts}
 use Rattle.street_base.specs.declared.reply.Whereabouts.TheVariants.{Ended}
 use Rattle.street_base.specs.declared.reply.Reply.TheVariants.{Taken, Vehicle as TellVehicle, Refused, Starved as StarvedReply}
 use Rattle.street_base.specs.declared.reply.Outcome.TheVariants.{Whole, Starved}
-use Rattle.street_base.specs.State.{Traffic}
-use Rattle.street_base.specs.Effects.{taken_out}
-use Rattle.street_base.specs.Machine.{end_of, vehicle_refusal, seen, told}
-use Rattle.street_base.specs.Outcomes.{MayStarveUnder}
-use Rattle.street_engine.specs.Streets.{StreetsView, StreetsStandFor, StreetsGo}
-use Rattle.street_engine.specs.Refines.{Serves}
+use Rattle.street_base.specs.Prelude.{Traffic, taken_out, end_of, vehicle_refusal, seen, told, MayStarveUnder}
+use Rattle.street_engine.specs.Prelude.{StreetsView, StreetsStandFor, StreetsGo, Serves}
 use Rattle.street_engine.proofs.Serves.{same-ends, streets-refused, streets-starving, streets-done, streets-told}
 
 module _ (s : StreetsView) (car : ℕ) where

@@ -1,11 +1,8 @@
 -- How vehicles have ended, by their numbers, and who is about to arrive.
 -- Source: this profile.
-use Rattle.std.specs.Prelude.{ℕ, ◌≡◌, ◌+◌, ◌≤◌, ◌==◌, nat_lt, List, [], ◌∷◌, ◌++◌, length, Option}
-use Rattle.std.specs.List.{count_by}
+use Rattle.std.specs.Prelude.{ℕ, ◌≡◌, ◌+◌, ◌≤◌, ◌==◌, nat_lt, List, [], ◌∷◌, ◌++◌, length, Option, count_by}
 use Rattle.street_base.specs.declared.reply.End.{End}
-use Rattle.street_base.specs.Limits.{most_vehicles}
-use Rattle.street_base.specs.Census.{has_ended, one_if}
-use Rattle.street_base.specs.Shown.{has_arrived, was_taken}
+use Rattle.street_base.specs.Prelude.{most_vehicles, has_ended, one_if, has_arrived, was_taken}
 
 -- what contracts see: how each vehicle ended, if it did, and for how many more numbers there is room
 pub record EndsView : Type 0 where

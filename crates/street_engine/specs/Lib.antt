@@ -3,3 +3,4 @@ pub mod Sites
 pub mod Streets
 pub mod Ends
 pub mod Ran
+pub mod Prelude

@@ -1,6 +1,6 @@
 -- What contracts see of steps that a team has made.
 use Rattle.std.specs.Prelude.{◌≡◌, ℕ, ◌+◌, ◌≤◌}
-use Rattle.street_base.specs.Step.{steps}
+use Rattle.street_base.specs.Prelude.{steps}
 use Rattle.street_engine.specs.Streets.{StreetsView, StreetsGo}
 
 -- the streets after steps, and how many were made

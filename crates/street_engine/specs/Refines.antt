@@ -1,6 +1,6 @@
 -- What an engine stands for, and what it owes at each command.
 -- Source: this profile.
-use Rattle.std.specs.Prelude.{◌≡◌, ℕ, List, ◌++◌, Bool, true, false, Option, Some, None}
+use Rattle.std.specs.Prelude.{◌≡◌, ℕ, List, ◌++◌, length, Bool, true, false, Option, Some, None}
 use Rattle.street_base.specs.declared.command.Command.{Command}
 use Rattle.street_base.specs.declared.command.Command.TheVariants.{CloseLane, ReopenLane}
 use Rattle.street_base.specs.declared.refusal.Refusal.{Refusal}
@@ -8,10 +8,7 @@ use Rattle.street_base.specs.declared.reply.Reply.{Reply}
 use Rattle.street_base.specs.declared.reply.Reply.TheVariants.{Refused}
 use Rattle.street_base.specs.declared.reply.Outcome.{Outcome}
 use Rattle.street_base.specs.declared.net.NetSpec.{NetSpec}
-use Rattle.street_base.specs.Machine.{first_of, lane_tests}
-use Rattle.street_base.specs.State.{State, Traffic}
-use Rattle.street_base.specs.Outcomes.{Answers}
-use Rattle.street_base.specs.Run.{Runs}
+use Rattle.street_base.specs.Prelude.{first_of, lane_tests, enter_refusal, State, Traffic, Answers, Runs}
 use Rattle.street_engine.specs.Streets.{StreetsView, StreetsStandFor}
 
 -- what contracts see of an engine: nothing loaded, or its streets
@@ -42,6 +39,11 @@ PassesLane net link lane = (m : Traffic) (rest : List (Bool × Refusal)) → m.n
 abbrev pub RefusesLane : NetSpec → ℕ → ℕ → Refusal → Type 0
 RefusesLane net link lane refusal = (m : Traffic) (rest : List (Bool × Refusal)) → m.network ≡ net
     → first_of (lane_tests link lane m ++ rest) ≡ Some refusal
+
+-- the refusal of such an entry, or that there is none, is the machine's, whatever traffic has this network and admitted as many
+abbrev pub TellsEntry : StreetsView → List ℕ → ℕ → ℕ → ℕ → Option Refusal → Type 0
+TellsEntry s plan lane depart size refusal = (m : Traffic) → m.network ≡ s.tiles.network → length m.ends ≡ length s.ends
+    → refusal ≡ enter_refusal plan lane depart size m
 
 -- the command that closes cells of a lane, or opens them
 abbrev pub closing : Bool → ℕ → ℕ → ℕ → ℕ → Command

@@ -2,10 +2,9 @@
 -- Source: this profile.
 use Rattle.std.specs.Prelude.{◌≡◌, ◌<◌, ◌≤◌, ℕ, List, length, slice_get, slice_index_or}
 use Rattle.street_base.specs.declared.net.NetSpec.{NetSpec}
-use Rattle.street_base.specs.Limits.{most_detectors}
-use Rattle.street_base.specs.State.{Detector}
-use Rattle.street_lanes.specs.Lanes.{IsLane}
-use Rattle.street_tile.specs.TileDetectors.{detectors_on}
+use Rattle.street_base.specs.Prelude.{most_detectors, Detector}
+use Rattle.street_lanes.specs.Prelude.{IsLane}
+use Rattle.street_tile.specs.Prelude.{detectors_on}
 use Rattle.street_engine.specs.declared.sites.DetectorSite.{DetectorSite}
 
 -- detector i is the one with this number among those of this lane

@@ -2,15 +2,9 @@
 -- Source: this profile.
 use Rattle.std.specs.Prelude.{ℕ, ◌≡◌, ◌≤◌, List, length, Option, Some}
 use Rattle.street_base.specs.declared.reply.End.{End}
-use Rattle.street_base.specs.Limits.{last_clock}
-use Rattle.street_base.specs.Network.{node_of}
-use Rattle.street_base.specs.Signal.{SignalPlan}
-use Rattle.street_base.specs.Effects.{signalled}
-use Rattle.street_base.specs.Machine.{entered, plan_links}
-use Rattle.street_base.specs.State.{Traffic}
-use Rattle.street_node.specs.Greens.{ShowsAs}
-use Rattle.street_base.specs.Census.{IsSound}
-use Rattle.street_tile.specs.Together.{TilesView, TilesStandFor, NobodyArrived}
+use Rattle.street_base.specs.Prelude.{last_clock, node_of, SignalPlan, signalled, entered, plan_links, Traffic, IsSound}
+use Rattle.street_node.specs.Prelude.{ShowsAs}
+use Rattle.street_tile.specs.Prelude.{TilesView, TilesStandFor, NobodyArrived}
 use Rattle.street_engine.specs.declared.sites.DetectorSite.{DetectorSite}
 use Rattle.street_engine.specs.Sites.{AreDetectorSites}
 

@@ -3,11 +3,8 @@
 //! Source: this profile.
 ghost use Rattle.std.specs.Prelude.{◌≡◌, ◌+◌, ◌≤◌, Some, None};
 ghost use Rattle.street_base.specs.declared.command.Command.TheVariants.{Advance, Count};
-ghost use Rattle.street_base.specs.Limits.{last_clock};
-ghost use Rattle.street_base.specs.Machine.{advance_refusal};
-ghost use Rattle.street_base.specs.State.{Traffic};
-ghost use Rattle.street_engine.specs.Refines.{Serves, KeepsRefused};
-ghost use Rattle.street_engine.specs.Streets.{StreetsStandFor};
+ghost use Rattle.street_base.specs.Prelude.{last_clock, advance_refusal, Traffic};
+ghost use Rattle.street_engine.specs.Prelude.{Serves, KeepsRefused, StreetsStandFor};
 
 use crate::Streets;
 use std::alloc::Global;
@@ -30,7 +27,7 @@ pub(crate) fn advance_refusal(streets: &Streets, steps: u64) -> Option<Refusal>
     None
 }
 
-/// Takes memory before each step.
+/// Serves an advance: so many steps, or as many as there was memory for, which is taken before each step.
 pub(crate) fn advance<R: Threads + Sync, G: Gate + Sync>(
     rt: &R,
     gate: &G,
@@ -55,7 +52,7 @@ pub(crate) fn advance<R: Threads + Sync, G: Gate + Sync>(
     }
 }
 
-/// As [`advance`], by workers that stay: also what they leave.
+/// As [`advance`], by workers that stay for many steps. Gives the streets back as the steps left them.
 pub(crate) fn advance_by_team<R: Threads + Wait + Sync, G: Gate + Sync>(
     rt: &R,
     gate: &G,
@@ -85,7 +82,7 @@ pub(crate) fn advance_by_team<R: Threads + Wait + Sync, G: Gate + Sync>(
     }
 }
 
-/// Takes no memory.
+/// Serves the count of all vehicles. Takes no memory.
 pub(crate) fn count(streets: &Streets) -> (Reply, Outcome)
     ensures { Serves (Some streets.now) Count result.0 result.1 (Some streets.now) }
 {

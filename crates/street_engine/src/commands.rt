@@ -3,7 +3,7 @@
 //! Source: this profile.
 ghost use Rattle.std.specs.Prelude.{◌≤◌, Some, None};
 ghost use Rattle.street_base.specs.declared.command.Command.TheVariants.{Load};
-ghost use Rattle.street_engine.specs.Refines.{Serves, KeepsRefused};
+ghost use Rattle.street_engine.specs.Prelude.{Serves, KeepsRefused};
 
 use crate::Streets;
 use crate::clock_commands::{advance, advance_by_team, count};
@@ -17,7 +17,8 @@ use street_base::{Command, NetSpec, Outcome, Refusal, Reply};
 use street_net::NetFault;
 use street_tile::Gate;
 
-/// Applies one command: what it answers, and under which outcome. Steps are made by so many workers, 1 to 64.
+/// Applies one command to what is loaded, or to nothing: what it answers, and under which outcome. `workers`, 1 to 64, is read by a
+/// load alone: at most so many make the steps of what it loads.
 pub(crate) fn apply<R: Threads + Sync, G: Gate + Sync>(
     rt: &R,
     gate: &G,

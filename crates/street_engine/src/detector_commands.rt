@@ -2,14 +2,14 @@
 //!
 //! Source: this profile.
 ghost use Rattle.street_base.specs.declared.command.Command.TheVariants.{PlaceMeter, ReadMeter};
-ghost use Rattle.street_engine.specs.Refines.{Serves, KeepsRefused};
+ghost use Rattle.street_engine.specs.Prelude.{Serves, KeepsRefused};
 
 use crate::Streets;
 use crate::names::named_cells;
 use std::alloc::Global;
 use street_base::{MOST_DETECTORS, MOST_PERIOD, Outcome, Refusal, Reply};
 
-/// Takes memory for the detector.
+/// Serves the placing of a detector in a cell of a lane. Takes memory for the detector.
 pub(crate) fn place_meter(
     alloc: Global,
     streets: &mut Streets,
@@ -40,7 +40,7 @@ pub(crate) fn place_meter(
     }
 }
 
-/// Takes memory for the list of rows.
+/// Serves the question what a detector has measured, row by row. Takes memory for the list of rows.
 pub(crate) fn read_meter(alloc: Global, streets: &Streets, meter: u64) -> (Reply, Outcome)
     ensures { Serves (Some streets.now) (ReadMeter meter) result.0 result.1 (Some streets.now) }
 {

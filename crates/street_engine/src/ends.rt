@@ -1,15 +1,11 @@
 //! How vehicles ended.
 //!
 //! Source: this profile.
-ghost use Rattle.std.specs.Prelude.{◌≡◌, ◌+◌, ◌<◌, ◌≤◌, ◌++◌, ◌∷◌, [], length, Some, None, slice_get, slice_set, slice_index_or, OnOk};
-ghost use Rattle.std.specs.List.{count_by};
+ghost use Rattle.std.specs.Prelude.{◌≡◌, ◌+◌, ◌<◌, ◌≤◌, ◌++◌, ◌∷◌, [], length, Some, None, slice_get, slice_set, slice_index_or, OnOk, count_by};
 ghost use Rattle.street_base.specs.declared.reply.End.TheVariants.{Arrived, Taken};
-ghost use Rattle.street_base.specs.Limits.{most_vehicles};
-ghost use Rattle.street_base.specs.Shown.{has_arrived, was_taken};
-ghost use Rattle.street_base.specs.Step.{with_arrivals};
-ghost use Rattle.street_tile.specs.Tiles.{Each};
-ghost use Rattle.street_tile.specs.Together.{all_arrived};
-ghost use Rattle.street_engine.specs.Ends.{AreComing};
+ghost use Rattle.street_base.specs.Prelude.{most_vehicles, has_arrived, was_taken, with_arrivals};
+ghost use Rattle.street_tile.specs.Prelude.{Each, all_arrived};
+ghost use Rattle.street_engine.specs.Prelude.{AreComing};
 
 use std::alloc::Global;
 use std::marker::Model;
@@ -26,7 +22,7 @@ pub(crate) struct Ends {
 
 impl Model for Ends {
     ghost use Rattle.std.specs.Prelude.{◌-◌, length, vec_capacity};
-    ghost use Rattle.street_engine.specs.Ends.{EndsView, AreCounted};
+    ghost use Rattle.street_engine.specs.Prelude.{EndsView, AreCounted};
 
     ghost Value = { EndsView };
 
@@ -36,7 +32,7 @@ impl Model for Ends {
 }
 
 impl Ends {
-    /// No number is given.
+    /// The ends of no vehicles: no number is given yet.
     pub(crate) fn new(alloc: Global) -> Ends
         ensures { result.ends ≡ [] }
     {
@@ -91,8 +87,8 @@ impl Ends {
         Ok(())
     }
 
-    /// One more number is given, for which there is room.
-    pub(crate) fn give(&mut self)
+    /// Notes that one more number is given, for which there is room. Its vehicle has not ended.
+    pub(crate) fn note_given(&mut self)
         requires room { 1 ≤ self.old.room }
         requires few { length self.old.ends < most_vehicles }
         ensures { self.new.ends ≡ self.old.ends ++ None ∷ [] }
@@ -100,8 +96,8 @@ impl Ends {
         self.ends.push_reserved(None);
     }
 
-    /// A vehicle that had not ended has arrived in this step.
-    pub(crate) fn arrive(&mut self, number: CarNo, clock: Step)
+    /// Notes that a vehicle that had not ended has arrived in the step of this clock.
+    pub(crate) fn note_arrived(&mut self, number: CarNo, clock: Step)
         requires { slice_get self.old.ends number ≡ Some None }
         ensures { self.new.ends ≡ slice_set self.old.ends number (Some (Arrived clock)) }
     {
@@ -112,7 +108,7 @@ impl Ends {
     }
 
     /// Notes that a vehicle that had not ended was taken out at this clock.
-    pub(crate) fn take(&mut self, number: CarNo, clock: Step)
+    pub(crate) fn note_taken(&mut self, number: CarNo, clock: Step)
         requires { slice_get self.old.ends number ≡ Some None }
         ensures { self.new.ends ≡ slice_set self.old.ends number (Some (Taken clock)) }
     {
@@ -123,7 +119,7 @@ impl Ends {
     }
 }
 
-/// Takes note of all who arrived.
+/// Notes the end of each vehicle whose number the tiles hold as one that arrived in the step of this clock; the tiles then hold none.
 pub(crate) fn note_arrivals(tiles: &mut Tiles, ends: &mut Ends, clock: Step)
     requires { AreComing (all_arrived tiles.old.tiles) ends.old.ends }
     ensures network { tiles.new.network ≡ tiles.old.network }
@@ -132,6 +128,6 @@ pub(crate) fn note_arrivals(tiles: &mut Tiles, ends: &mut Ends, clock: Step)
     ensures ends { ends.new.ends ≡ with_arrivals clock (all_arrived tiles.old.tiles) ends.old.ends }
 {
     while let Some(number) = tiles.next_arrival() {
-        ends.arrive(number, clock);
+        ends.note_arrived(number, clock);
     }
 }

@@ -1,13 +1,12 @@
-//! The engine.
+//! The engine, and the gate of an engine whose steps nobody watches.
 //!
 //! Source: this profile.
 ghost use Rattle.std.specs.Prelude.{◌≡◌, ◌≤◌, IfOk, OnErr, None};
 ghost use Rattle.street_base.specs.declared.command.Command.TheVariants.{Advance};
 ghost use Rattle.street_base.specs.declared.refusal.Refusal.{Refusal};
 ghost use Rattle.street_base.specs.declared.reply.Reply.TheVariants.{Refused};
-ghost use Rattle.street_base.specs.Machine.{refusal};
-ghost use Rattle.street_base.specs.State.{State};
-ghost use Rattle.street_engine.specs.Refines.{StandsFor, Serves, ServesAll};
+ghost use Rattle.street_base.specs.Prelude.{refusal, State};
+ghost use Rattle.street_engine.specs.Prelude.{StandsFor, Serves, ServesAll};
 
 use crate::clock_commands::advance_refusal;
 use crate::{Streets, commands};
@@ -17,6 +16,53 @@ use std::sync::Wait;
 use std::thread::Threads;
 use street_base::{Command, Outcome, Refusal, Reply};
 use street_tile::Gate;
+
+/// From about how many vehicles in cells on threads that are started for each part of a step save more time than that takes.
+const LEAST_LENT: u64 = 30_000;
+
+/// From about how many vehicles in cells on threads that stay for many steps save more time than they wait for each other.
+const LEAST_STAYING: u64 = 1_500;
+
+/// A gate that watches no worker, and lets them share a step where there is enough to do. Threads that are started for each part of a
+/// step, and threads that stay, are worth their cost from different numbers of vehicles on: a gate is for the ones or the others.
+#[derive(Drop)]
+pub struct Unwatched {
+    /// From how many vehicles in cells on workers share a step, if half as many are in other tiles than the fullest: 0 is
+    /// always.
+    pub from: u64,
+    /// How many threads at most stay for the steps of an advance.
+    pub processors: usize,
+}
+
+impl Unwatched {
+    /// For calls that never wait for another thread (`Engine::apply`): workers share a step where threads that are started for each
+    /// part of it save time.
+    pub fn new() -> Self {
+        Unwatched {
+            from: LEAST_LENT,
+            processors: 1,
+        }
+    }
+
+    /// For calls that may wait (`Engine::apply_by_team`), on so many processors: workers share a step where threads that stay save time.
+    pub fn staying(processors: usize) -> Self {
+        Unwatched {
+            from: LEAST_STAYING,
+            processors,
+        }
+    }
+}
+
+impl Gate for Unwatched {
+    // Only what lies in other tiles than the fullest is spared, so half of the bound has to: as of two tiles that have the same.
+    fn shares(&self, vehicles: u64, fullest: u64) -> bool {
+        vehicles >= self.from && vehicles.saturating_sub(fullest) >= self.from / 2
+    }
+
+    fn processors(&self) -> usize {
+        self.processors
+    }
+}
 
 /// Serves commands over one network, or over nothing loaded. The gate is called by the workers of each step.
 pub struct Engine<G: Gate + Sync + Drop> {
@@ -39,7 +85,7 @@ impl<G: Gate + Sync + Drop> Drop for Engine<G> {
 
 impl<G: Gate + Sync + Drop> Model for Engine<G> {
     ghost use Rattle.std.specs.Prelude.{◌≤◌};
-    ghost use Rattle.street_engine.specs.Refines.{EngineView};
+    ghost use Rattle.street_engine.specs.Prelude.{EngineView};
 
     ghost Value = { EngineView };
 

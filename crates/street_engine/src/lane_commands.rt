@@ -2,7 +2,7 @@
 //!
 //! Source: this profile.
 ghost use Rattle.street_base.specs.declared.command.Command.TheVariants.{Signal, Lane};
-ghost use Rattle.street_engine.specs.Refines.{closing, Serves, KeepsRefused};
+ghost use Rattle.street_engine.specs.Prelude.{closing, Serves, KeepsRefused};
 
 use crate::Streets;
 use crate::names::{named_cells, named_lane};
@@ -10,7 +10,7 @@ use std::alloc::Global;
 use street_base::{Outcome, PhaseSpec, Refusal, Reply};
 use street_node::{SignalFault, SignalPlan};
 
-/// Takes memory for the plan.
+/// Serves a signal plan, which a node then has. Takes memory for the plan.
 pub(crate) fn signal(
     alloc: Global,
     streets: &mut Streets,
@@ -37,7 +37,7 @@ pub(crate) fn signal(
     }
 }
 
-/// Cells are closed, or opened again. Takes memory for a stretch of closed cells.
+/// Serves the closing of cells of a lane, or, where `closed` is false, their opening. Takes memory for a stretch of closed cells.
 pub(crate) fn set_closed(
     streets: &mut Streets,
     link: u64,
@@ -59,7 +59,7 @@ pub(crate) fn set_closed(
     }
 }
 
-/// Takes memory for the lists that it answers.
+/// Serves the question who is on a lane, and which of its cells are closed. Takes memory for the lists that it answers.
 pub(crate) fn lane(alloc: Global, streets: &Streets, link: u64, lane: u64) -> (Reply, Outcome)
     ensures { Serves (Some streets.now) (Lane link lane) result.0 result.1 (Some streets.now) }
 {

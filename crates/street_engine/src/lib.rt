@@ -17,11 +17,9 @@ mod names;
 mod sites;
 mod streets;
 mod teams;
-mod unwatched;
 mod vehicle_commands;
 
-pub use engine::Engine;
+pub use engine::{Engine, Unwatched};
 pub use sites::DetectorSite;
 pub use street_tile::Gate;
 pub use streets::Streets;
-pub use unwatched::Unwatched;

@@ -3,12 +3,9 @@
 //! Source: this profile.
 ghost use Rattle.std.specs.Prelude.{◌≡◌, ℕ, ◌≤◌, ◌<◌, None, Some, length, IfOk, IfErr, OnOk};
 ghost use Rattle.street_base.specs.declared.refusal.Refusal.{Refusal};
-ghost use Rattle.street_base.specs.Network.{link_at};
-ghost use Rattle.street_base.specs.State.{Traffic};
-ghost use Rattle.street_base.specs.Effects.{named_lane as lane_named};
-ghost use Rattle.street_base.specs.Machine.{closure_refusal};
-ghost use Rattle.street_lanes.specs.Lanes.{IsLane};
-ghost use Rattle.street_engine.specs.Refines.{PassesLane, RefusesLane};
+ghost use Rattle.street_base.specs.Prelude.{link_at, Traffic, named_lane as lane_named, closure_refusal};
+ghost use Rattle.street_lanes.specs.Prelude.{IsLane};
+ghost use Rattle.street_engine.specs.Prelude.{PassesLane, RefusesLane};
 
 use street_base::{CellNo, LaneNo, Place, Refusal};
 use street_net::Network;

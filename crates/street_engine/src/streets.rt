@@ -1,19 +1,9 @@
 //! The traffic on a loaded network.
 ghost use Rattle.std.specs.Prelude.{◌≡◌, ℕ, ◌+◌, ◌<◌, ◌≤◌, List, length, slice_get, slice_index_or, min, Some, None, option_map, IfOk, IfErr, OnOk, OnErr};
-ghost use Rattle.std.specs.List.{All};
-ghost use Rattle.street_base.specs.Limits.{last_clock, most_plan, most_vehicles, most_period, most_detectors};
-ghost use Rattle.street_base.specs.Network.{link_at};
-ghost use Rattle.street_base.specs.Faults.{network_fault};
-ghost use Rattle.street_base.specs.State.{Traffic, lane_at};
-ghost use Rattle.street_base.specs.Step.{step, steps};
-ghost use Rattle.street_base.specs.Closing.{with_closure};
-ghost use Rattle.street_base.specs.Effects.{taken_out, metered};
-ghost use Rattle.street_base.specs.Machine.{loaded, plan_links, closed_after, seen};
-ghost use Rattle.street_base.specs.Shown.{shown_lane, shown_rows, census, in_cells};
-ghost use Rattle.street_net.specs.Refused.{TellsFault};
-ghost use Rattle.street_lanes.specs.Lanes.{IsLane};
-ghost use Rattle.street_tile.specs.Tiles.{IsPrepared};
-ghost use Rattle.street_engine.specs.Streets.{StreetsStandFor, StreetsGo, StreetsAdmit, StreetsSignal};
+ghost use Rattle.street_base.specs.Prelude.{last_clock, most_plan, most_vehicles, most_period, most_detectors, link_at, network_fault, Traffic, lane_at, step, steps, with_closure, taken_out, metered, loaded, plan_links, closed_after, seen, shown_lane, shown_rows, census, in_cells};
+ghost use Rattle.street_net.specs.Prelude.{TellsFault};
+ghost use Rattle.street_lanes.specs.Prelude.{IsLane};
+ghost use Rattle.street_engine.specs.Prelude.{StreetsStandFor, StreetsGo, StreetsAdmit, StreetsSignal};
 
 use crate::ends::{Ends, note_arrivals};
 use crate::sites::DetectorSite;
@@ -57,7 +47,7 @@ impl Drop for Streets {
 }
 
 impl Model for Streets {
-    ghost use Rattle.street_engine.specs.Streets.{StreetsView, IsKept, streets_of};
+    ghost use Rattle.street_engine.specs.Prelude.{StreetsView, IsKept, streets_of};
 
     ghost Value = { StreetsView };
 
@@ -168,7 +158,7 @@ impl Streets {
         };
         self.ends.reserve()?;
         self.tiles.admit(at, car)?;
-        self.ends.give();
+        self.ends.note_given();
         Ok(())
     }
 
@@ -208,7 +198,7 @@ impl Streets {
         ensures { StreetsGo (λ m. taken_out m number) self.old self.new }
     {
         self.tiles.take_out(number);
-        self.ends.take(number, self.clock);
+        self.ends.note_taken(number, self.clock);
     }
 
     /// Where a vehicle is that has not ended. Takes memory for the plan that it answers.
@@ -304,19 +294,6 @@ impl Streets {
         }
     }
 
-    /// Takes the memory for a step.
-    ///
-    /// # Errors
-    /// Memory was refused.
-    pub(crate) fn prepare(&mut self) -> Result<(), Starved>
-        ensures prepared { OnOk result (All IsPrepared self.new.tiles.tiles) }
-        ensures network { self.new.tiles.network ≡ self.old.tiles.network }
-        ensures clock { self.new.clock ≡ self.old.clock }
-        ensures kept { StreetsGo (λ m. m) self.old self.new }
-    {
-        self.tiles.prepare()
-    }
-
     /// How many vehicles are in cells.
     fn in_cells(&self) -> u64
         ensures { (m : Traffic) → StreetsStandFor self.now m → result ≡ in_cells m }
@@ -326,55 +303,54 @@ impl Streets {
         self.tiles.totals().cells
     }
 
-    /// Whether the workers share the next step, as the gate says of the vehicles in cells: never where there is one tile.
-    fn are_shared<G: Gate>(&self, gate: &G) -> bool {
-        self.tiles.len() > 1 && gate.shares(self.in_cells(), self.tiles.fullest())
+    /// Whether the workers share the next step, as the gate says of the vehicles in cells; never where there is one tile.
+    fn shares_next_step<G: Gate>(&self, gate: &G) -> bool {
+        if self.tiles.len() < 2 {
+            return false;
+        }
+        let vehicles = self.in_cells();
+        let fullest = self.tiles.fullest();
+        gate.shares(vehicles, fullest)
     }
 
     /// How many threads the next step takes, after so many others of the same advance that took so many: one for each tile
     /// where the gate lets the workers share it, else the caller's alone. The gate is asked once in 16 steps, in which traffic
     /// changes little.
-    fn threads<G: Gate>(&self, gate: &G, done: u64, before: usize) -> usize
+    fn threads_of_step<G: Gate>(&self, gate: &G, done: u64, before: usize) -> usize
         requires { 0 < before }
         ensures { 0 < result }
     {
         if done % STEPS_BETWEEN_COUNTS != 0 {
             return before;
         }
-        if self.are_shared(gate) {
+        if self.shares_next_step(gate) {
             return self.tiles.len().max(1);
         }
         1
     }
 
-    /// One step, by so many threads at most. Takes no memory.
-    fn step<R: Threads + Sync, G: Gate + Sync>(&mut self, rt: &R, gate: &G, threads: usize)
+    /// One step, by so many threads at most. All the memory that it needs is taken before it begins.
+    ///
+    /// # Errors
+    /// Memory was refused; the streets stand for what they stood for.
+    fn step<R: Threads + Sync, G: Gate + Sync>(
+        &mut self,
+        rt: &R,
+        gate: &G,
+        threads: usize,
+    ) -> Result<(), Starved>
         requires some { 0 < threads }
-        requires prepared { All IsPrepared self.old.tiles.tiles }
         requires in_time { self.old.clock < last_clock }
-        ensures clock { self.new.clock ≡ self.old.clock + 1 }
-        ensures step { StreetsGo step self.old self.new }
+        ensures clock { OnOk result (self.new.clock ≡ self.old.clock + 1) }
+        ensures step { OnOk result (StreetsGo step self.old self.new) }
+        ensures still { OnErr result (self.new.clock ≡ self.old.clock) }
+        ensures starved { OnErr result (StreetsGo (λ m. m) self.old self.new) }
     {
+        self.tiles.prepare()?;
         self.tiles.step(rt, gate, threads);
         note_arrivals(&mut self.tiles, &mut self.ends, self.clock);
         self.clock += 1;
-    }
-
-    /// One step by a team. Takes no memory.
-    pub(crate) fn step_by_team<G: Gate + Sync, K: TeamNetwork, R: Wait>(
-        &mut self,
-        team: &mut Team<'_, '_, '_, '_, Tile, TileWork<'_, G, K>, R>,
-    )
-        requires team { self.old.tiles.network ≡ K.net }
-        requires prepared { All IsPrepared self.old.tiles.tiles }
-        requires in_time { self.old.clock < last_clock }
-        ensures network { self.new.tiles.network ≡ self.old.tiles.network }
-        ensures clock { self.new.clock ≡ self.old.clock + 1 }
-        ensures step { StreetsGo step self.old self.new }
-    {
-        self.tiles.step_by_team(team);
-        note_arrivals(&mut self.tiles, &mut self.ends, self.clock);
-        self.clock += 1;
+        Ok(())
     }
 
     /// So many steps, or fewer where memory was refused for one: tells how many.
@@ -385,34 +361,35 @@ impl Streets {
     {
         let mut threads = 1;
         for done in 0..count {
-            if self.prepare().is_err() {
+            threads = self.threads_of_step(gate, done, threads);
+            if self.step(rt, gate, threads).is_err() {
                 return done;
             }
-            threads = self.threads(gate, done, threads);
-            self.step(rt, gate, threads);
         }
         count
     }
 
-    /// So many steps by the caller's thread alone, or fewer where memory was refused for one: tells how many.
-    fn steps_in_turn<R: Threads + Sync, G: Gate + Sync>(
+    /// As [`step`](Self::step), by a team.
+    ///
+    /// # Errors
+    /// Memory was refused; the streets stand for what they stood for.
+    pub(crate) fn step_by_team<G: Gate + Sync, K: TeamNetwork, R: Wait>(
         &mut self,
-        rt: &R,
-        gate: &G,
-        count: u64,
-    ) -> u64
-        requires { self.old.clock + count ≤ last_clock }
-        ensures most { result ≤ count }
-        ensures clock { self.new.clock ≡ self.old.clock + result }
-        ensures steps { StreetsGo (steps result) self.old self.new }
+        team: &mut Team<'_, '_, '_, '_, Tile, TileWork<'_, G, K>, R>,
+    ) -> Result<(), Starved>
+        requires team { self.old.tiles.network ≡ K.net }
+        requires in_time { self.old.clock < last_clock }
+        ensures network { self.new.tiles.network ≡ self.old.tiles.network }
+        ensures clock { OnOk result (self.new.clock ≡ self.old.clock + 1) }
+        ensures step { OnOk result (StreetsGo step self.old self.new) }
+        ensures still { OnErr result (self.new.clock ≡ self.old.clock) }
+        ensures starved { OnErr result (StreetsGo (λ m. m) self.old self.new) }
     {
-        for done in 0..count {
-            if self.prepare().is_err() {
-                return done;
-            }
-            self.step(rt, gate, 1);
-        }
-        count
+        self.tiles.prepare()?;
+        self.tiles.step_by_team(team);
+        note_arrivals(&mut self.tiles, &mut self.ends, self.clock);
+        self.clock += 1;
+        Ok(())
     }
 
     /// So many steps by the caller's thread alone, or fewer where memory was refused for one: what they leave, and how many.
@@ -428,8 +405,12 @@ impl Streets {
         ensures steps { StreetsGo (steps result.1) self result.0 }
     {
         let mut streets = self;
-        let made = streets.steps_in_turn(rt, gate, count);
-        (streets, made)
+        for done in 0..count {
+            if streets.step(rt, gate, 1).is_err() {
+                return (streets, done);
+            }
+        }
+        (streets, count)
     }
 
     /// So many steps by a team of the caller and so many threads: what it leaves, and how many were made, which is none where memory
@@ -460,20 +441,21 @@ impl Streets {
         )
     }
 
-    /// How many threads stay for the next steps: the caller's alone where there is one tile, or the gate does not share them.
-    fn staying<G: Gate>(&self, gate: &G) -> usize
+    /// How many threads a team for the next steps has, with the caller's: this alone, which needs no team, where the workers do not
+    /// share the next step; else one for each tile, and no more than the gate has processors for.
+    fn threads_of_team<G: Gate>(&self, gate: &G) -> usize
         ensures { result ≤ 64 }
     {
-        if self.are_shared(gate) {
+        if self.shares_next_step(gate) {
             self.tiles.len().min(gate.processors())
         } else {
             1
         }
     }
 
-    /// At most 16 steps: by a team where several threads stay, else in turn. Where a team makes none, they are made in turn too, so
-    /// that memory for the team alone starves no step.
-    fn some_steps<R: Threads + Wait + Sync, G: Gate + Sync>(
+    /// `count` steps, or fewer where memory was refused for one: what they leave, and how many. The gate is asked before them only: a
+    /// team of several threads makes them, else the caller alone, who also does where the team made none, as for want of its own memory.
+    fn steps_between_counts<R: Threads + Wait + Sync, G: Gate + Sync>(
         self,
         rt: &R,
         alloc: Global,
@@ -486,7 +468,7 @@ impl Streets {
         ensures clock { result.0.clock ≡ self.clock + result.1 }
         ensures steps { StreetsGo (steps result.1) self result.0 }
     {
-        let threads = self.staying(gate);
+        let threads = self.threads_of_team(gate);
         if threads > 1 {
             let (left, made) = self.team_steps(rt, alloc, gate, count, threads - 1);
             if made > 0 {
@@ -515,7 +497,7 @@ impl Streets {
         let mut done = 0;
         for _ in 0..count {
             let some = (count - done).min(STEPS_BETWEEN_COUNTS);
-            let (left, made) = streets.some_steps(rt, alloc, gate, some);
+            let (left, made) = streets.steps_between_counts(rt, alloc, gate, some);
             streets = left;
             done += made;
             let over = made < some || done == count;

@@ -1,10 +1,7 @@
 //! Steps by a team: workers that stay for so many steps of an advance.
-ghost use Rattle.std.specs.Prelude.{◌≡◌, ℕ, ◌+◌, ◌^◌, ◌<◌, ◌≤◌, slice_get, Some, OnOk};
-ghost use Rattle.std.specs.List.{All};
-ghost use Rattle.street_base.specs.Limits.{last_clock};
-ghost use Rattle.street_tile.specs.Tiles.{IsPrepared};
-ghost use Rattle.street_engine.specs.Streets.{StreetsView};
-ghost use Rattle.street_engine.specs.Ran.{HaveRun};
+ghost use Rattle.std.specs.Prelude.{◌≡◌, ℕ, ◌+◌, ◌^◌, ◌<◌, ◌≤◌, slice_get, Some, OnOk, OnErr};
+ghost use Rattle.street_base.specs.Prelude.{last_clock};
+ghost use Rattle.street_engine.specs.Prelude.{StreetsView, HaveRun};
 
 use crate::Streets;
 use std::alloc::Global;
@@ -48,7 +45,7 @@ pub(crate) struct Ran<B: Begun> {
 }
 
 impl<B: Begun> Model for Ran<B> {
-    ghost use Rattle.street_engine.specs.Ran.{RanView, HaveRun};
+    ghost use Rattle.street_engine.specs.Prelude.{RanView, HaveRun};
 
     ghost Value = { RanView };
 
@@ -58,7 +55,7 @@ impl<B: Begun> Model for Ran<B> {
 }
 
 impl<B: Begun> Ran<B> {
-    /// No step is made yet.
+    /// The team begins with these streets: no step is made yet.
     fn new(streets: Streets) -> Self
         requires { streets ≡ B.begun }
         ensures { result.made ≡ 0 }
@@ -83,31 +80,24 @@ impl<B: Begun> Ran<B> {
         (streets, made)
     }
 
-    /// Takes the memory for a step.
+    /// One step by a team.
     ///
     /// # Errors
-    /// Memory was refused.
-    fn prepare(&mut self) -> Result<(), Starved>
-        ensures prepared { OnOk result (All IsPrepared self.new.streets.tiles.tiles) }
-        ensures made { self.new.made ≡ self.old.made }
-    {
-        self.streets.prepare()
-    }
-
-    /// One step by a team.
+    /// Memory was refused; no step is made.
     fn step<G: Gate + Sync, K: TeamNetwork, R: Wait>(
         &mut self,
         team: &mut Team<'_, '_, '_, '_, Tile, TileWork<'_, G, K>, R>,
-    )
+    ) -> Result<(), Starved>
         requires team { B.begun.tiles.network ≡ K.net }
-        requires prepared { All IsPrepared self.old.streets.tiles.tiles }
         requires in_time { B.begun.clock + B.most ≤ last_clock }
         requires more { self.old.made < B.most }
         requires fits { B.most < 2 ^ 64 }
-        ensures made { self.new.made ≡ self.old.made + 1 }
+        ensures made { OnOk result (self.new.made ≡ self.old.made + 1) }
+        ensures still { OnErr result (self.new.made ≡ self.old.made) }
     {
-        self.streets.step_by_team(team);
+        self.streets.step_by_team(team)?;
         self.made += 1;
+        Ok(())
     }
 }
 
@@ -124,10 +114,9 @@ fn run<G: Gate + Sync, K: TeamNetwork, B: Begun, R: Wait>(
 {
     let mut ran = Ran::<B>::new(streets);
     for _ in 0..count {
-        if ran.prepare().is_err() {
+        if ran.step(team).is_err() {
             return ran;
         }
-        ran.step(team);
     }
     ran
 }

@@ -3,12 +3,9 @@
 //! Source: this profile.
 ghost use Rattle.std.specs.Prelude.{◌≡◌, ◌<◌, ◌≤◌, None, length, true};
 ghost use Rattle.street_base.specs.declared.command.Command.TheVariants.{Enter, TakeOut, Vehicle};
-ghost use Rattle.street_base.specs.Limits.{last_clock, most_vehicles, most_size};
-ghost use Rattle.street_base.specs.Faults.{is_within};
-ghost use Rattle.street_base.specs.State.{Traffic};
-ghost use Rattle.street_base.specs.Machine.{enter_refusal};
-ghost use Rattle.street_net.specs.Refused.{plan_refusal};
-ghost use Rattle.street_engine.specs.Refines.{Serves, KeepsRefused};
+ghost use Rattle.street_base.specs.Prelude.{last_clock, most_vehicles, most_size, is_within};
+ghost use Rattle.street_net.specs.Prelude.{plan_refusal};
+ghost use Rattle.street_engine.specs.Prelude.{Serves, KeepsRefused, TellsEntry};
 
 use crate::Streets;
 use crate::names::lane_number;
@@ -16,18 +13,27 @@ use std::alloc::Global;
 use street_base::{
     CarNo, LAST_CLOCK, MOST_VEHICLES, Outcome, Refusal, Reply, Size, Step, Whereabouts,
 };
-use street_net::{Network, PlanFault};
+use street_net::PlanFault;
 
-/// Why a vehicle is refused where fewer than 1,000,000 were admitted: for its plan, or else its lane, or else its depart
-/// or its size. Takes no memory.
-fn entry_refusal(net: &Network, plan: &[u64], lane: u64, depart: u64, size: u64) -> Option<Refusal>
-    ensures refusal { (m : Traffic) → m.network ≡ net.now → length m.ends < most_vehicles
-        → result ≡ enter_refusal plan.now lane depart size m }
-    ensures planned { result ≡ None → plan_refusal net.now plan.now lane ≡ None }
+/// Why a vehicle is refused: where 1,000,000 were admitted, or else for its plan, or else its lane, or else its depart or its size.
+/// Takes no memory.
+fn entry_refusal(
+    streets: &Streets,
+    plan: &[u64],
+    lane: u64,
+    depart: u64,
+    size: u64,
+) -> Option<Refusal>
+    ensures refusal { TellsEntry streets.now plan.now lane depart size result }
+    ensures few { result ≡ None → length streets.now.ends < most_vehicles }
+    ensures planned { result ≡ None → plan_refusal streets.now.tiles.network plan.now lane ≡ None }
     ensures in_time { result ≡ None → depart ≤ last_clock }
     ensures sized { result ≡ None → is_within 1 most_size size ≡ true }
 {
-    match net.plan_refusal(plan, lane) {
+    if streets.admitted() >= MOST_VEHICLES {
+        return Some(Refusal::TooMany);
+    }
+    match streets.network().plan_refusal(plan, lane) {
         Some(PlanFault::Bad { at }) => Some(Refusal::BadPlan { at }),
         Some(PlanFault::Lane) => Some(Refusal::NoLane),
         _ if depart > u64::from(LAST_CLOCK) || Size::new(size).is_none() => {
@@ -37,7 +43,7 @@ fn entry_refusal(net: &Network, plan: &[u64], lane: u64, depart: u64, size: u64)
     }
 }
 
-/// Takes memory for the vehicle and its plan.
+/// Serves the entry of a vehicle, which then waits on a lane of the first link of its plan. Takes memory for the vehicle and its plan.
 pub(crate) fn enter(
     alloc: Global,
     streets: &mut Streets,
@@ -49,11 +55,7 @@ pub(crate) fn enter(
     ensures serves { Serves (Some streets.old) (Enter plan.now lane depart size) result.0 result.1 (Some streets.new) }
     ensures refused { KeepsRefused (Some streets.old) result.0 (Some streets.new) }
 {
-    let car = streets.admitted();
-    if car >= MOST_VEHICLES {
-        return (Reply::Refused(Refusal::TooMany), Outcome::Whole);
-    }
-    if let Some(refusal) = entry_refusal(streets.network(), plan, lane, depart, size) {
+    if let Some(refusal) = entry_refusal(streets, plan, lane, depart, size) {
         return (Reply::Refused(refusal), Outcome::Whole);
     }
     let Some(size) = Size::new(size) else {
@@ -63,6 +65,7 @@ pub(crate) fn enter(
         return (Reply::Starved, Outcome::Starved);
     };
     let lane = lane_number(streets.network(), lane);
+    let car = streets.admitted();
     match streets.admit(alloc, links, lane, depart as Step, size) {
         Ok(()) => {
             let car = u64::from(car);
@@ -72,7 +75,7 @@ pub(crate) fn enter(
     }
 }
 
-/// Takes no memory.
+/// Serves the taking out of a vehicle that has not ended, wherever it is. Takes no memory.
 pub(crate) fn take_out(streets: &mut Streets, car: u64) -> (Reply, Outcome)
     ensures serves { Serves (Some streets.old) (TakeOut car) result.0 result.1 (Some streets.new) }
     ensures refused { KeepsRefused (Some streets.old) result.0 (Some streets.new) }
@@ -88,7 +91,7 @@ pub(crate) fn take_out(streets: &mut Streets, car: u64) -> (Reply, Outcome)
     (Reply::Taken { taken: car }, Outcome::Whole)
 }
 
-/// Takes memory for the plan that it answers, where the vehicle has not ended.
+/// Serves the question where a vehicle is, or how it ended. Takes memory for the plan that it answers, where it has not ended.
 pub(crate) fn vehicle(alloc: Global, streets: &Streets, car: u64) -> (Reply, Outcome)
     ensures { Serves (Some streets.now) (Vehicle car) result.0 result.1 (Some streets.now) }
 {

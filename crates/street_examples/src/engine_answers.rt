@@ -1,6 +1,6 @@
 //! What is answered to the lines of a session.
 ghost use Rattle.std.specs.Prelude.{◌≤◌, None, IfOk};
-ghost use Rattle.street_base.specs.State.{State};
+ghost use Rattle.street_base.specs.Prelude.{State};
 ghost use Rattle.street_stream.specs.Lines.{lines_of};
 ghost use Rattle.street_line.specs.Engines.{MachineServes};
 ghost use Rattle.street_line.specs.Runs.{Goes};

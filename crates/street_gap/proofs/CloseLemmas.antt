@@ -1,10 +1,9 @@
 -- What closing some cells does.
-use Rattle.std.proofs.Common.{◌≡◌, ℕ, ◌+◌, ◌-◌, ◌<◌, ◌≤◌, Bool, true, false, List, [], ◌∷◌, ◌++◌, refl, sym, ap, ◌∙◌, inl, inr, arith}
-use Rattle.std.specs.Prelude.{nat_le, min, max, ◌||◌}
+use Rattle.std.proofs.Common.{◌≡◌, ℕ, ◌+◌, ◌-◌, ◌<◌, ◌≤◌, Bool, true, false, List, [], ◌∷◌, ◌++◌, refl, sym, ap, ◌∙◌, inl, inr, arith, nat_le, min, max, ◌||◌}
 use Rattle.std.proofs.lemmas.Bool.{cases_lt, or_from, or_right}
 use Rattle.std.proofs.lemmas.Bool.Decides.{nat_tests}
 use Rattle.street_gap.specs.declared.closures.Stretch.{Stretch}
-use Rattle.street_gap.specs.Closed.{is_between, is_in, RisesFrom}
+use Rattle.street_gap.specs.Prelude.{is_between, is_in, RisesFrom}
 use Rattle.street_gap.specs.Inside.{Each}
 use Rattle.street_gap.proofs.StretchLemmas.{final, end_of, Each-map, is_in-append, is_in-above, is_in-below, between-yes, RisesFrom-split, RisesFrom-join, RisesFrom-to, end_of-within, end_of-final, is_in-front, is_in-back}
 

@@ -1,9 +1,8 @@
 -- Where cells are closed there are stretches.
-use Rattle.std.proofs.Common.{◌≡◌, ◌≢◌, ℕ, ◌≤◌, List, [], sym, ap, ◌∙◌, arith}
-use Rattle.std.specs.Prelude.{◌||◌, Result, Ok, Err, OnOk, OnErr}
+use Rattle.std.proofs.Common.{◌≡◌, ◌≢◌, ℕ, ◌≤◌, List, [], sym, ap, ◌∙◌, arith, ◌||◌, Result, Ok, Err, OnOk, OnErr}
 use Rattle.std.proofs.lemmas.Bool.{both_ways, or_right}
 use Rattle.street_gap.specs.declared.closures.Stretch.{Stretch}
-use Rattle.street_gap.specs.Closed.{is_between, is_in}
+use Rattle.street_gap.specs.Prelude.{is_between, is_in}
 use Rattle.street_gap.proofs.StretchLemmas.{between-yes}
 
 module _ (old new : List Stretch) (first last : ℕ) (le : first ≤ last) where

@@ -1,10 +1,9 @@
 -- A search for the last key above a cell, from a key on.
 use Rattle.std.proofs.Common.{◌≡◌, ℕ, ◌<◌, ◌≤◌, List, [], ◌∷◌, ◌++◌, Option, Some, None, MatchOption, sym, ap, subst, ◌∙◌, arith}
 use Rattle.std.proofs.lemmas.List.{append_assoc}
-use Rattle.street_yard.specs.Yard.{Yard, list_at, list_on, first_or, last_or, IsWhole, IsBehind}
+use Rattle.street_yard.specs.Prelude.{Yard, list_at, list_on, first_or, last_or, IsWhole, IsBehind, cell_at, AllAbove}
 use Rattle.street_yard.proofs.Keys.{last_or-push}
-use Rattle.street_yard.specs.Listed.{cell_at, AllAbove}
-use Rattle.street_gap.specs.Sight.{IsUpTo, IsPosition, IsNextBehind}
+use Rattle.street_gap.specs.Prelude.{IsUpTo, IsPosition, IsNextBehind}
 use Rattle.street_yard.proofs.YardLemmas.{left, left-is, head_is, AllAbove-push}
 
 -- the search has come to the cursor, and this is the key above it

@@ -2,12 +2,9 @@
 //!
 //! Source: Nagel and Schreckenberg 1992 ahead, Rickert, Nagel, Schreckenberg and Latour 1996 beside and behind; closed cells
 //! are this profile.
-ghost use Rattle.std.specs.Option.{option_map};
-ghost use Rattle.std.specs.Prelude.{◌≡◌, ℕ, ◌-◌, ◌<◌, false, [], length};
-ghost use Rattle.street_yard.specs.Yard.{IsOnList};
-ghost use Rattle.street_yard.specs.Listed.{cell_at, rear_at};
-ghost use Rattle.street_gap.specs.Closed.{IsWithin, closed_marks};
-ghost use Rattle.street_gap.specs.Sight.{lesser, obstacle_by, HasCar, IsNextBehind, IsUpTo, IsPosition};
+ghost use Rattle.std.specs.Prelude.{option_map, ◌≡◌, ℕ, ◌-◌, ◌<◌, false, [], length};
+ghost use Rattle.street_yard.specs.Prelude.{IsOnList, IsWhole, cell_at, rear_at};
+ghost use Rattle.street_gap.specs.Prelude.{IsWithin, closed_marks, lesser, obstacle_by, HasCar, IsNextBehind, IsUpTo, IsPosition};
 
 use crate::closures::Closures;
 use street_base::CellNo;
@@ -36,10 +33,11 @@ pub(crate) fn rear_of(yard: &Yard, key: Option<Key>) -> Option<CellNo>
 }
 
 /// The key behind `ahead` on the list, or the first one.
-pub(crate) fn next_behind(yard: &Yard, list: ListId, ahead: &Option<Key>) -> Option<Key>
+pub fn next_behind(yard: &Yard, list: ListId, ahead: &Option<Key>) -> Option<Key>
     requires list { list.0 < length yard.now.lists }
     requires ahead { IsOnList yard.now list.0 ahead.now }
-    ensures { IsNextBehind yard.now list.0 ahead.now result }
+    ensures next { IsNextBehind yard.now list.0 ahead.now result }
+    ensures whole { IsWhole yard.now }
 {
     match ahead {
         Some(key) => yard.behind(*key),

@@ -2,7 +2,7 @@
 //!
 //! Source: closed cells are this profile.
 ghost use Rattle.std.specs.Prelude.{◌≡◌, ◌↔◌, ℕ, ◌+◌, ◌-◌, ◌<◌, ◌≤◌, not, ◌&&◌, ◌||◌, true, false, IsTrue, [], ◌∷◌, ◌++◌, length, take, drop, count_by, OnOk, OnErr};
-ghost use Rattle.street_gap.specs.Closed.{is_between, is_in, IsRising, IsWithin, closed_marks, entrance_after, closed_count};
+ghost use Rattle.street_gap.specs.Prelude.{is_between, is_in, IsRising, IsWithin, closed_marks, entrance_after, closed_count};
 ghost use Rattle.street_gap.specs.Inside.{IsCut};
 
 use crate::closures::Stretch;
@@ -19,7 +19,7 @@ pub(crate) struct Stretches {
 impl Model for Stretches {
     ghost use Rattle.std.specs.Prelude.{List};
     ghost use Rattle.street_gap.specs.declared.closures.Stretch.{Stretch as Closed};
-    ghost use Rattle.street_gap.specs.Closed.{IsRising};
+    ghost use Rattle.street_gap.specs.Prelude.{IsRising};
 
     ghost Value = { List Closed };
 

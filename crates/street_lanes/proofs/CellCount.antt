@@ -1,15 +1,12 @@
 -- How many stand in the cells of a list.
-use Rattle.std.proofs.Common.{◌≡◌, ℕ, zero, suc, ◌+◌, ◌<◌, cond, List, [], ◌∷◌, length, map, get_or, set, Option, Some, None, refl, sym, ap, subst, ◌∙◌, inl, inr, arith}
-use Rattle.std.specs.Prelude.{is_some}
-use Rattle.std.specs.List.{count_by, range_with_len}
-use Rattle.std.specs.Option.{option_map, option_and_then}
+use Rattle.std.proofs.Common.{◌≡◌, ℕ, zero, suc, ◌+◌, ◌<◌, cond, List, [], ◌∷◌, length, map, get_or, set, Option, Some, None, refl, sym, ap, subst, ◌∙◌, inl, inr, arith, is_some, count_by, option_map, option_and_then}
+use Rattle.std.specs.List.{range_with_len}
 use Rattle.std.proofs.lemmas.Bool.{cases_eq, cond-true, cond-false, eq-eqb, ne_eqb}
 use Rattle.std.proofs.lemmas.List.{length-set, get_or-set_same, get_or-set_other}
 use Rattle.std.proofs.lemmas.List.FromFn.{length-map-range_with_len, get_or-map-range_with_len, fill_by_all}
 use Rattle.std.proofs.lemmas.List.Sums.{sum_by-cons, sum_by-set}
-use Rattle.street_base.specs.Vehicle.{Vehicle, vehicle_of}
-use Rattle.street_yard.specs.Yard.{Yard, list_at, Has, IsWhole}
-use Rattle.street_yard.specs.Listed.{cell_at, vehicle_with, cells_at, IsFalling, IsLane}
+use Rattle.street_base.specs.Prelude.{Vehicle, vehicle_of}
+use Rattle.street_yard.specs.Prelude.{Yard, list_at, Has, IsWhole, cell_at, vehicle_with, cells_at, IsFalling, IsLane}
 use Rattle.street_yard.proofs.Keys.{has-later}
 use Rattle.street_yard.proofs.FallingLists.{found, falling-below, falling-wider}
 use Rattle.street_lanes.proofs.Cars.{car_there}

@@ -1,26 +1,18 @@
 -- Closures of one lane changed.
-use Rattle.std.proofs.Common.{◌≡◌, ◌≢◌, ℕ, ◌<◌, Bool, true, false, cond, List, [], length, get_or, set, refl, sym, ap, subst, ◌∙◌, inl, inr, arith}
-use Rattle.std.specs.Prelude.{not, ◌&&◌, ◌||◌, Result, Ok, Err, OnOk}
+use Rattle.std.proofs.Common.{◌≡◌, ◌≢◌, ℕ, ◌<◌, Bool, true, false, cond, List, [], length, get_or, set, refl, sym, ap, subst, ◌∙◌, inl, inr, arith, not, ◌&&◌, ◌||◌, Result, Ok, Err, OnOk}
 use Rattle.std.specs.List.{enumerate_from}
 use Rattle.std.proofs.lemmas.Bool.{cases_eq, cases_lt}
 use Rattle.std.proofs.lemmas.List.{ext_get_or, get_or-map, length-map, length-set, get_or_past, get_or-set_same, get_or-set_other}
 use Rattle.std.proofs.lemmas.List.FromFn.{length-enumerate_from, get_or-enumerate_from}
-use Rattle.street_base.specs.Lane.{Track}
-use Rattle.street_base.specs.State.{no_lane}
-use Rattle.street_base.specs.Faults.{is_within}
-use Rattle.street_base.specs.Closing.{marked, with_marks}
-use Rattle.street_rule.specs.Odds.{Odds}
+use Rattle.street_base.specs.Prelude.{Track, no_lane, is_within, marked, with_marks}
+use Rattle.street_rule.specs.Prelude.{Odds}
 use Rattle.street_gap.specs.declared.closures.Stretch.{Stretch}
-use Rattle.street_gap.specs.Closed.{is_between, is_in, IsWithin, closed_marks}
+use Rattle.street_gap.specs.Prelude.{is_between, is_in, IsWithin, closed_marks}
 use Rattle.street_gap.proofs.Marks.{closed_marks-length, closed_marks-at}
 use Rattle.street_gap.proofs.Uniqueness.{IsWithin-closed, IsWithin-opened}
-use Rattle.street_yard.specs.Yard.{Yard}
-use Rattle.street_yard.specs.Listed.{cells_at}
+use Rattle.street_yard.specs.Prelude.{Yard, cells_at}
 use Rattle.street_lanes.specs.declared.lanes.Extent.{Extent}
-use Rattle.street_lanes.specs.Views.{LaneView, IsLaneOf, LaneStands}
-use Rattle.street_lanes.specs.Lanes.{GoesAt}
-use Rattle.street_lanes.specs.Marks.{Marks}
-use Rattle.street_lanes.specs.Lists.{cells_list}
+use Rattle.street_lanes.specs.Prelude.{LaneView, IsLaneOf, LaneStands, GoesAt, Marks, cells_list}
 use Rattle.street_lanes.specs.Inside.{length_at, closed_at, lane_in, lanes_in, view_of, IsLaidOut}
 use Rattle.street_lanes.proofs.Frames.{lane-in, lanes-count, sizes-are}
 

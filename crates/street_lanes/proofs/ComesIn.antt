@@ -1,21 +1,17 @@
 -- A vehicle comes into cell 0 of a list.
-use Rattle.std.proofs.Common.{◌≡◌, ◌≢◌, ℕ, ◌<◌, List, [], ◌∷◌, ◌++◌, get_or, set, false, Option, Some, None, refl, sym, ap, subst, ◌∙◌, inl, inr, arith}
-use Rattle.std.specs.Option.{option_map, option_and_then, unwrap_or}
+use Rattle.std.proofs.Common.{◌≡◌, ◌≢◌, ℕ, ◌<◌, List, [], ◌∷◌, ◌++◌, get_or, set, false, Option, Some, None, refl, sym, ap, subst, ◌∙◌, inl, inr, arith, option_map, option_and_then, unwrap_or}
 use Rattle.std.proofs.lemmas.Bool.{cases_eq, cond-true, cond-false, eq-eqb, ne_eqb}
 use Rattle.std.proofs.lemmas.List.{append-nil, length-set, get_or-set_same, get_or-set_other}
 use Rattle.std.proofs.lemmas.List.FromFn.{length-map-range_with_len, fill_by_all}
 use Rattle.street_base.specs.declared.car.Car.{Car}
-use Rattle.street_base.specs.Vehicle.{Vehicle, vehicle_of}
-use Rattle.street_base.specs.Lane.{is_covered}
-use Rattle.street_base.specs.Apart.{AreDisjoint}
+use Rattle.street_base.specs.Prelude.{Vehicle, vehicle_of, is_covered, AreDisjoint}
 use Rattle.street_base.proofs.CoverLemmas.{uncovered-empty}
 use Rattle.street_base.proofs.ApartLemmas.{uncovered-entry}
-use Rattle.street_yard.specs.Yard.{Yard, list_at, car_of, Has, IsWhole}
-use Rattle.street_yard.specs.Listed.{cell_at, vehicle_with, key_at, seen_at, cells_at, IsFalling, IsLane, AllAbove}
+use Rattle.street_yard.specs.Prelude.{Yard, list_at, car_of, Has, IsWhole, cell_at, vehicle_with, key_at, seen_at, cells_at, IsFalling, IsLane, AllAbove}
 use Rattle.street_yard.proofs.Keys.{has-later}
 use Rattle.street_yard.proofs.YardLemmas.{cell_is}
 use Rattle.street_yard.proofs.FallingLists.{falling-push, above-none, key_at-append, key_at-drop, cells-length, cells-read, seen-key, falling-agree, found-agree}
-use Rattle.street_lanes.specs.Lists.{ComesIn}
+use Rattle.street_lanes.specs.Prelude.{ComesIn}
 
 -- where nobody stands in cell 0, all stand above it
 pub all-above : (f : ℕ → ℕ) (xs : List ℕ) → key_at f xs 0 ≡ None → AllAbove f 0 xs

@@ -3,12 +3,8 @@ use Rattle.std.proofs.Common.{◌≡◌, ℕ, ◌<◌, ◌≤◌, true, false, L
 use Rattle.std.specs.Set.{remove_key}
 use Rattle.std.specs.Option.{option_map_or}
 use Rattle.std.proofs.lemmas.Bool.{cases_Bool}
-use Rattle.street_base.specs.Vehicle.{with_speed}
-use Rattle.street_base.specs.Lane.{is_free}
-use Rattle.street_base.specs.State.{LaneState, Waiting}
-use Rattle.street_base.specs.Departure.{departs, departing, with_departure, departed_lane}
-use Rattle.street_base.specs.Shown.{in_order}
-use Rattle.street_lanes.specs.Views.{GoesBefore, AreInOrder}
+use Rattle.street_base.specs.Prelude.{with_speed, is_free, LaneState, Waiting, departs, departing, with_departure, departed_lane, in_order}
+use Rattle.street_lanes.specs.Prelude.{GoesBefore, AreInOrder}
 use Rattle.street_lanes.proofs.WaitingOrder.{Split, first-split, in_order-before, first-goes, first-stays, first-gone, in_order-length}
 
 none-waits : (ws : List Waiting) → in_order ws ≡ [] → ws ≡ []

@@ -5,17 +5,14 @@ use Rattle.std.proofs.lemmas.List.{get_or-map, get_or_read, length-map}
 use Rattle.std.proofs.lemmas.List.FromFn.{get_or-map-range_with_len}
 use Rattle.street_base.specs.declared.net.NetSpec.{NetSpec}
 use Rattle.street_base.specs.declared.names.Place.{Place}
-use Rattle.street_rule.specs.Odds.{Odds}
+use Rattle.street_rule.specs.Prelude.{Odds}
 use Rattle.street_gap.specs.declared.closures.Stretch.{Stretch}
-use Rattle.street_gap.specs.Closed.{IsWithin}
-use Rattle.street_yard.specs.Yard.{Yard}
-use Rattle.street_yard.specs.Listed.{IsLane as IsLaneOn}
+use Rattle.street_gap.specs.Prelude.{IsWithin}
+use Rattle.street_yard.specs.Prelude.{Yard, IsLane as IsLaneOn}
 use Rattle.street_lanes.specs.declared.lanes.Extent.{Extent}
-use Rattle.street_lanes.specs.Views.{LaneView}
-use Rattle.street_lanes.specs.Lanes.{lane_of, place_at, no_place, size_of, size_on, IsLane, IsOf}
-use Rattle.street_lanes.specs.Lists.{cells_list, lane_seen}
+use Rattle.street_lanes.specs.Prelude.{LaneView, lane_of, place_at, no_place, size_of, size_on, IsLane, cells_list, lane_seen, cells_on}
+use Rattle.street_lanes.specs.Lanes.{IsOf}
 use Rattle.street_lanes.specs.Inside.{no_extent, length_at, closed_at, lanes_in, view_of, IsLaidOut}
-use Rattle.street_lanes.specs.Motion.{cells_on}
 use Rattle.street_lanes.proofs.Frames.{lane-in, cells-count, sizes-are}
 
 module _ (closures : List (List Stretch)) (extents : List Extent) (odds : Odds) (n : ℕ) (within : n < length extents) (extent : Extent) (closed : List Stretch) (extent_is : extent ≡ get_or extents n extent) (closed_is : closed ≡ get_or closures n closed) (net : NetSpec) (y : Yard) (of : IsOf net (view_of y closures extents odds)) (sound : IsLaidOut y closures extents) where

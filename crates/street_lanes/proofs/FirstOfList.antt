@@ -1,12 +1,10 @@
 -- The first key of a list leaves it.
-use Rattle.std.proofs.Common.{◌≡◌, ◌≢◌, ℕ, ◌+◌, ◌<◌, List, [], ◌∷◌, ◌++◌, length, get_or, set, Option, Some, None, IsSomeAnd, refl, sym, ap, subst, ◌∙◌, arith}
-use Rattle.std.specs.Prelude.{slice_get, drop}
-use Rattle.std.specs.Option.{option_map, option_and_then}
+use Rattle.std.proofs.Common.{◌≡◌, ◌≢◌, ℕ, ◌+◌, ◌<◌, List, [], ◌∷◌, ◌++◌, length, get_or, set, Option, Some, None, IsSomeAnd, refl, sym, ap, subst, ◌∙◌, arith, slice_get, drop, option_map, option_and_then}
 use Rattle.std.proofs.lemmas.List.{get_or-set_other}
 use Rattle.street_base.specs.declared.car.Car.{Car}
-use Rattle.street_yard.specs.Yard.{YardEntry, Yard, list_at, entry_at, car_of, list_on, list_set, car_set, without, first_or, Has, IsLoose, IsWhole}
+use Rattle.street_yard.specs.Prelude.{YardEntry, Yard, list_at, entry_at, car_of, list_on, list_set, car_set, without, first_or, Has, IsLoose, IsWhole}
 use Rattle.street_yard.proofs.YardLemmas.{list-written, list-other, on_within, without-is, car_of-list_set, car_of-car_set, car_of-car_set_other, entry-kept_set, entry-kept_set_other}
-use Rattle.street_lanes.specs.Lists.{Touches, LetsGo, Departs}
+use Rattle.street_lanes.specs.Prelude.{Touches, LetsGo, Departs}
 use Rattle.street_lanes.proofs.Cars.{head-of, head-on, cars-none, get-first, cars-rest}
 use Rattle.street_lanes.proofs.Touches.{touch-none-at-all, touch-trans, touch-wider, touch-more, relisted, taken, written}
 use Rattle.street_lanes.proofs.Loose.{loose-but, loose-placed, loose-gone}
@@ -45,9 +43,6 @@ module _ (y u : Yard) (list key from : ℕ) (whole : IsWhole y) (first : first_o
 
   pub unlink-loose : list_on u key ≡ None
   unlink-loose = ap (λ w. list_on w key) unlinked ∙ ap (option_and_then (λ (e : YardEntry). e.list)) (entry-kept_set y.kept key (λ e. record e { list = None })) ∙ loose-of (get_or y.kept key None)
-
-loose-by : (o : Option YardEntry) (car : Car) → option_map (λ (e : YardEntry). e.car) o ≡ Some car → option_and_then (λ (e : YardEntry). e.list) o ≡ None → ◌≡◌ {A = Option YardEntry} o None → ⊥
-loose-by o car is off none = (let bad : ◌≡◌ {A = Option Car} (Some car) None = sym is ∙ ap (option_map (λ (e : YardEntry). e.car)) none in cc)
 
 pub loose-is : (o : Option YardEntry) (car : Car) → option_map (λ (e : YardEntry). e.car) o ≡ Some car → option_and_then (λ (e : YardEntry). e.list) o ≡ None → IsSomeAnd o (λ (e : YardEntry). e.list ≡ None)
 loose-is None car is off = cc

@@ -1,15 +1,12 @@
 -- Whether cell 0 is free, by the last key of a list.
-use Rattle.std.proofs.Common.{◌≡◌, ◌≢◌, ℕ, ◌-◌, ◌<◌, Bool, true, false, List, [], ◌∷◌, ◌++◌, Option, Some, None, IsSome, refl, sym, ap, subst, ◌∙◌, inl, inr, arith}
-use Rattle.std.specs.Prelude.{not, ◌&&◌}
-use Rattle.std.specs.Option.{option_map, unwrap_or}
+use Rattle.std.proofs.Common.{◌≡◌, ◌≢◌, ℕ, ◌-◌, ◌<◌, Bool, true, false, List, [], ◌∷◌, ◌++◌, Option, Some, None, IsSome, refl, sym, ap, subst, ◌∙◌, inl, inr, arith, not, ◌&&◌, option_map, unwrap_or}
 use Rattle.std.proofs.lemmas.Bool.{cond-false, ne_eqb}
 use Rattle.street_base.specs.declared.car.Car.{Car}
-use Rattle.street_base.specs.Lane.{Cells, is_covered, is_free}
+use Rattle.street_base.specs.Prelude.{Cells, is_covered, is_free}
 use Rattle.street_gap.specs.declared.closures.Stretch.{Stretch}
-use Rattle.street_gap.specs.Closed.{is_in, IsWithin, closed_marks}
+use Rattle.street_gap.specs.Prelude.{is_in, IsWithin, closed_marks}
 use Rattle.street_gap.proofs.Marks.{closed_marks-at}
-use Rattle.street_yard.specs.Yard.{Yard, list_at, entry_at, car_of, last_or, IsWhole}
-use Rattle.street_yard.specs.Listed.{cell_at, rear_at, key_at, cells_at, IsFalling, IsLane}
+use Rattle.street_yard.specs.Prelude.{Yard, list_at, entry_at, car_of, last_or, IsWhole, cell_at, rear_at, key_at, cells_at, IsFalling, IsLane}
 use Rattle.street_yard.proofs.Keys.{snoc_cases, last_or-push}
 use Rattle.street_yard.proofs.YardLemmas.{on_has_entry}
 use Rattle.street_yard.proofs.FallingLists.{falling-split, key_at-split, key_at-append, above-none, covered-key, uncovered-past, uncovered-before}

@@ -1,17 +1,14 @@
 -- A car comes in.
-use Rattle.std.proofs.Common.{◌≡◌, ◌≢◌, ℕ, ◌+◌, ◌<◌, false, List, [], ◌∷◌, ◌++◌, length, get_or, set, Option, Some, None, refl, sym, ap, subst, ◌∙◌, inl, inr, arith}
-use Rattle.std.specs.Prelude.{filter_map, map}
+use Rattle.std.proofs.Common.{◌≡◌, ◌≢◌, ℕ, ◌+◌, ◌<◌, false, List, [], ◌∷◌, ◌++◌, length, get_or, set, Option, Some, None, refl, sym, ap, subst, ◌∙◌, inl, inr, arith, filter_map, map, option_map, option_and_then}
 use Rattle.std.specs.List.{cons_option}
-use Rattle.std.specs.Option.{option_map, option_and_then}
 use Rattle.std.proofs.lemmas.List.{map-append, append_assoc}
 use Rattle.std.proofs.lemmas.List.Elements.{filter_map-append}
 use Rattle.street_base.specs.declared.car.Car.{Car}
-use Rattle.street_base.specs.Shown.{put_in_order}
-use Rattle.street_yard.specs.Yard.{YardEntry, Yard, list_at, entry_at, car_of, list_on, list_set, put_behind, first_or, last_or, Has, IsApart, IsOnList, IsWhole, Updates}
+use Rattle.street_base.specs.Prelude.{put_in_order}
+use Rattle.street_yard.specs.Prelude.{YardEntry, Yard, list_at, entry_at, car_of, list_on, list_set, put_behind, first_or, last_or, Has, IsApart, IsOnList, IsWhole, Updates}
 use Rattle.street_yard.proofs.Keys.{snoc_cases, last_or-push, has-behind, put_behind-last}
 use Rattle.street_yard.proofs.YardLemmas.{list-written, car_of-list_set, mapped-same}
-use Rattle.street_lanes.specs.Views.{waiting_of, AreInOrder}
-use Rattle.street_lanes.specs.Lists.{cars_on, Touches, IsShort, IsPlaceFor, Enters, Joins}
+use Rattle.street_lanes.specs.Prelude.{waiting_of, AreInOrder, cars_on, Touches, IsShort, IsPlaceFor, Enters, Joins}
 use Rattle.street_lanes.proofs.WaitingOrder.{LastNotAfter, LastNotAfter-push, GoesBeforeFirst, put-split}
 use Rattle.street_lanes.proofs.Cars.{car_there}
 use Rattle.street_lanes.proofs.Touches.{touch-trans, touch-more, relisted, admitted, not-loose}

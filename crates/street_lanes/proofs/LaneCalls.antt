@@ -1,26 +1,15 @@
 -- What the calls on one lane do to the lanes.
-use Rattle.std.proofs.Common.{◌≡◌, ◌≢◌, ℕ, ◌<◌, ◌≤◌, Bool, true, false, List, [], ◌∷◌, length, map, get_or, set, Option, Some, None, IfSome, refl, sym, ap, subst, ◌∙◌, arith}
-use Rattle.std.specs.Prelude.{slice_get, drop, filter_map, option_map}
+use Rattle.std.proofs.Common.{◌≡◌, ◌≢◌, ℕ, ◌<◌, ◌≤◌, Bool, true, false, List, [], ◌∷◌, length, map, get_or, set, Option, Some, None, IfSome, refl, sym, ap, subst, ◌∙◌, arith, slice_get, drop, filter_map, option_map}
 use Rattle.std.proofs.lemmas.List.{get_or_read}
 use Rattle.street_base.specs.declared.car.Car.{Car}
-use Rattle.street_base.specs.Vehicle.{Vehicle, vehicle_of, with_speed}
-use Rattle.street_base.specs.Lane.{Track, is_covered, is_free}
-use Rattle.street_base.specs.State.{LaneState}
-use Rattle.street_base.specs.Census.{in_lane}
-use Rattle.street_base.specs.Release.{with_entry}
-use Rattle.street_base.specs.Departure.{departed_lane}
-use Rattle.street_base.specs.Machine.{with_waiting}
-use Rattle.street_base.specs.Shown.{put_in_order, in_order}
-use Rattle.street_rule.specs.Odds.{Odds}
+use Rattle.street_base.specs.Prelude.{Vehicle, vehicle_of, with_speed, Track, is_covered, is_free, LaneState, in_lane, with_entry, departed_lane, with_waiting, put_in_order, in_order}
+use Rattle.street_rule.specs.Prelude.{Odds}
 use Rattle.street_gap.specs.declared.closures.Stretch.{Stretch}
-use Rattle.street_gap.specs.Closed.{IsWithin, closed_marks}
-use Rattle.street_yard.specs.Yard.{Yard, list_at, car_of}
-use Rattle.street_yard.specs.Listed.{cells_at, IsLane}
+use Rattle.street_gap.specs.Prelude.{IsWithin, closed_marks}
+use Rattle.street_yard.specs.Prelude.{Yard, list_at, car_of, cells_at, IsLane}
 use Rattle.street_yard.proofs.FallingLists.{IsLane-agree, cells-agree}
 use Rattle.street_lanes.specs.declared.lanes.Extent.{Extent}
-use Rattle.street_lanes.specs.Views.{LaneView, IsLaneOf, waiting_of, queued_of, AreInOrder, without_front}
-use Rattle.street_lanes.specs.Lanes.{Lanes, GoesIf, GoesAt}
-use Rattle.street_lanes.specs.Lists.{cells_list, buffer_list, waiting_list, cars_on, HasShortPlan, AreShort, SameList, Joins, Enters, LetsGo, Departs}
+use Rattle.street_lanes.specs.Prelude.{LaneView, IsLaneOf, waiting_of, queued_of, AreInOrder, without_front, Lanes, GoesIf, GoesAt, cells_list, buffer_list, waiting_list, cars_on, HasShortPlan, AreShort, SameList, Joins, Enters, LetsGo, Departs}
 use Rattle.street_lanes.specs.declared.lanes.Lanes.TheInside.{Inside}
 use Rattle.street_lanes.specs.Inside.{length_at, closed_at, lane_in, view_of, seen, IsSound, IsLaidOut}
 use Rattle.street_lanes.proofs.Access.{in-extents, in-closures}

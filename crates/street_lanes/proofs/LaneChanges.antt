@@ -4,22 +4,16 @@ use Rattle.std.proofs.lemmas.Bool.{cases_eq, cases_lt}
 use Rattle.std.proofs.lemmas.List.{get_or_past, get_or_default}
 use Rattle.street_base.specs.declared.net.NetSpec.{NetSpec}
 use Rattle.street_base.specs.declared.names.Place.{Place}
-use Rattle.street_base.specs.Network.{link_at}
-use Rattle.street_base.specs.State.{Traffic, LaneState, no_lane}
-use Rattle.street_base.specs.Step.{changing_on}
-use Rattle.street_rule.specs.Odds.{Odds}
+use Rattle.street_base.specs.Prelude.{link_at, Traffic, LaneState, no_lane, changing_on}
+use Rattle.street_rule.specs.Prelude.{Odds}
 use Rattle.street_gap.specs.declared.closures.Stretch.{Stretch}
-use Rattle.street_gap.specs.Closed.{IsWithin}
-use Rattle.street_yard.specs.Yard.{Yard}
-use Rattle.street_yard.specs.Listed.{IsLane as IsLaneOn}
+use Rattle.street_gap.specs.Prelude.{IsWithin}
+use Rattle.street_yard.specs.Prelude.{Yard, IsLane as IsLaneOn}
 use Rattle.street_yard.proofs.FallingLists.{IsLane-agree}
 use Rattle.street_lanes.specs.declared.lanes.Extent.{Extent}
-use Rattle.street_lanes.specs.Views.{LaneView, LaneStands, IsLaneOf}
-use Rattle.street_lanes.specs.Lanes.{Lanes, lane_of, place_at, Same, IsOf}
-use Rattle.street_lanes.specs.Lists.{cells_list, buffer_list, waiting_list, lane_seen, NoneLoose, SameList, Touches}
+use Rattle.street_lanes.specs.Prelude.{LaneView, LaneStands, IsLaneOf, Lanes, lane_of, place_at, Same, cells_list, buffer_list, waiting_list, lane_seen, NoneLoose, SameList, Touches, changed_lane, ChangesLanes, ChangesAt, cells_on}
+use Rattle.street_lanes.specs.Lanes.{IsOf}
 use Rattle.street_lanes.specs.Inside.{no_extent, length_at, closed_at, lane_in, lanes_in, view_of, IsLaidOut}
-use Rattle.street_lanes.specs.LaneChanges.{changed_lane, ChangesLanes, ChangesAt}
-use Rattle.street_lanes.specs.Motion.{cells_on}
 use Rattle.street_lanes.proofs.Frames.{lane-in, lanes-count, sizes-are, lane-same}
 use Rattle.street_lanes.proofs.Loose.{nobody-loose}
 use Rattle.street_lanes.proofs.Extents.{place-is, place-on, kept-is, falls-on, closed-on, falls-again}
@@ -67,7 +61,7 @@ module _ (y new : Yard) (closures : List (List Stretch)) (extents : List Extent)
 
 -- ---- two lanes of a link
 
-module _ (x : Lanes) (y : Yard) (closures : List (List Stretch)) (extents : List Extent) (odds : Odds) (n : ℕ) (extent : Extent) (own other : List Stretch) (net : NetSpec)
+module _ {x : Lanes} {y : Yard} {closures : List (List Stretch)} {extents : List Extent} {extent : Extent} {own other : List Stretch} {net : NetSpec} (odds : Odds) (n : ℕ)
     (view_is : view_of y closures extents odds ≡ x) (sound : IsLaidOut y closures extents) (listed : n + 1 < length x.lanes) (of : IsOf net x) (joined : (place_at x (n + 1)).link ≡ (place_at x n).link)
     (extent_is : extent ≡ get_or extents n extent) (own_is : own ≡ get_or closures n own) (other_is : other ≡ get_or closures (n + 1) other) where
   abbrev link : ℕ

@@ -1,20 +1,14 @@
 -- How many are on the lists of a lane, and of all lanes.
-use Rattle.std.proofs.Common.{◌≡◌, ℕ, ◌+◌, ◌*◌, ◌<◌, List, [], length, map, get_or, sym, ap, ◌∙◌, arith}
-use Rattle.std.specs.Prelude.{is_some}
-use Rattle.std.specs.List.{count_by, sum_by}
+use Rattle.std.proofs.Common.{◌≡◌, ℕ, ◌+◌, ◌*◌, ◌<◌, List, [], length, map, get_or, sym, ap, ◌∙◌, arith, is_some, count_by, sum_by}
 use Rattle.std.proofs.lemmas.List.{length-map, get_or-map}
 use Rattle.std.proofs.lemmas.Option.{slice_get-get_or}
-use Rattle.street_base.specs.Lane.{Track}
-use Rattle.street_base.specs.State.{Traffic, LaneState, lane_at, no_lane}
-use Rattle.street_yard.specs.Yard.{list_at, IsWhole, every_third, totals_of}
+use Rattle.street_base.specs.Prelude.{Track, Traffic, LaneState, lane_at, no_lane}
+use Rattle.street_yard.specs.Prelude.{list_at, IsWhole, every_third, totals_of}
 use Rattle.street_yard.proofs.Thirds.{third-sum}
 use Rattle.street_lanes.specs.declared.lanes.Lanes.TheInside.{Inside}
 use Rattle.street_lanes.specs.declared.lanes.Extent.{Extent}
-use Rattle.street_lanes.specs.Views.{LaneStands, waiting_of, queued_of}
-use Rattle.street_lanes.specs.Lanes.{Lanes, lane_of, place_at, no_place}
-use Rattle.street_lanes.specs.Lists.{cells_list, buffer_list, waiting_list, cars_on}
+use Rattle.street_lanes.specs.Prelude.{LaneStands, waiting_of, queued_of, Lanes, lane_of, place_at, no_place, cells_list, buffer_list, waiting_list, cars_on, LanesStand}
 use Rattle.street_lanes.specs.Inside.{length_at, seen, IsSound}
-use Rattle.street_lanes.specs.Whole.{LanesStand}
 use Rattle.street_lanes.proofs.Access.{lanes-are, in-extents, stands-in}
 use Rattle.street_lanes.proofs.Cars.{cars-length}
 use Rattle.street_lanes.proofs.CellCount.{cells-number}

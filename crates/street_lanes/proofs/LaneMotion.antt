@@ -1,29 +1,22 @@
 -- The motion of one lane among those of a tile.
-use Rattle.std.proofs.Common.{◌≡◌, ℕ, ◌<◌, List, [], ◌∷◌, length, map, get_or, Option, None, refl, sym, ap, subst, ◌∙◌}
-use Rattle.std.specs.List.{All}
+use Rattle.std.proofs.Common.{◌≡◌, ℕ, ◌<◌, List, [], ◌∷◌, length, map, get_or, Option, None, refl, sym, ap, subst, ◌∙◌, All}
 use Rattle.street_base.specs.declared.net.NetSpec.{NetSpec}
 use Rattle.street_base.specs.declared.names.Place.{Place}
-use Rattle.street_base.specs.Signal.{SignalPlan}
-use Rattle.street_base.specs.State.{Traffic, LaneState, lane_at}
-use Rattle.street_base.specs.Step.{drive_on, leaver_of, driven_lane, arrival}
-use Rattle.street_rule.specs.Odds.{Odds}
+use Rattle.street_base.specs.Prelude.{SignalPlan, Traffic, LaneState, lane_at, drive_on, leaver_of, driven_lane, arrival}
+use Rattle.street_rule.specs.Prelude.{Odds, watched, IsReady}
 use Rattle.street_gap.specs.declared.closures.Stretch.{Stretch}
-use Rattle.street_gap.specs.Closed.{IsWithin}
+use Rattle.street_gap.specs.Prelude.{IsWithin}
 use Rattle.street_rule.specs.declared.watch.Watch.{Watch}
-use Rattle.street_rule.specs.Watch.{watched, IsReady}
-use Rattle.street_yard.specs.Yard.{Yard, list_at, first_or, IsWhole}
-use Rattle.street_yard.specs.Listed.{IsLane as IsLaneOn}
+use Rattle.street_yard.specs.Prelude.{Yard, list_at, first_or, IsWhole, IsLane as IsLaneOn}
 use Rattle.street_lanes.specs.declared.lanes.Extent.{Extent}
-use Rattle.street_lanes.specs.Views.{LaneView, LaneStands, IsLaneOf}
-use Rattle.street_lanes.specs.Lanes.{Lanes, lane_of, place_at, IsOf}
-use Rattle.street_lanes.specs.Lists.{cells_list, buffer_list, lane_seen}
+use Rattle.street_lanes.specs.Prelude.{LaneView, LaneStands, IsLaneOf, Lanes, lane_of, place_at, cells_list, buffer_list, lane_seen, IsStepOf, cells_on, MovesLane, DrivesAt}
+use Rattle.street_lanes.specs.Lanes.{IsOf}
 use Rattle.street_lanes.specs.Inside.{view_of, IsLaidOut}
-use Rattle.street_lanes.specs.Motion.{IsStepOf, cells_on, MovesLane, DrivesAt}
 use Rattle.street_lanes.proofs.ListMotion.{MovesLane-nobody}
 use Rattle.street_lanes.proofs.Frames.{lanes-count, with-cells, with-buffer, frame-others, frame-same, frame-sound}
 use Rattle.street_lanes.proofs.Extents.{place-is, place-on, kept-is, falls-on, closed-on, falls-again, cells-seen}
 
-module _ (x : Lanes) (y : Yard) (closures : List (List Stretch)) (extents : List Extent) (odds : Odds) (n : ℕ) (extent : Extent) (closed : List Stretch) (net : NetSpec)
+module _ {x : Lanes} {y : Yard} {closures : List (List Stretch)} {extents : List Extent} {extent : Extent} {closed : List Stretch} {net : NetSpec} (odds : Odds) (n : ℕ)
     (view_is : view_of y closures extents odds ≡ x) (sound : IsLaidOut y closures extents) (listed : n < length x.lanes) (of : IsOf net x) (extent_is : extent ≡ get_or extents n extent) (closed_is : closed ≡ get_or closures n closed) where
   abbrev p : Place
   p = extent.at

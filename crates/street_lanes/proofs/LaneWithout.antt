@@ -1,46 +1,32 @@
 -- The vehicle of a number is taken out of a lane.
-use Rattle.std.proofs.Common.{◌≡◌, ◌≢◌, ℕ, zero, suc, ◌<◌, ◌≤◌, Bool, eqb, List, [], ◌∷◌, ◌++◌, length, map, get_or, set, Option, Some, None, IsSomeAnd, refl, sym, ap, subst, ◌∙◌, inl, inr, arith}
-use Rattle.std.specs.Prelude.{filter_map}
-use Rattle.std.specs.List.{cons_option, filter, sum_by}
-use Rattle.std.specs.Option.{option_map, option_and_then, unwrap_or}
+use Rattle.std.proofs.Common.{◌≡◌, ◌≢◌, ℕ, zero, suc, ◌<◌, ◌≤◌, Bool, eqb, List, [], ◌∷◌, ◌++◌, length, map, get_or, set, Option, Some, None, refl, sym, ap, subst, ◌∙◌, inl, inr, arith, filter_map, filter, sum_by, option_map, option_and_then, unwrap_or}
+use Rattle.std.specs.List.{cons_option}
 use Rattle.std.proofs.lemmas.Bool.{cases_eq, cond-false, ne_eqb}
 use Rattle.std.proofs.lemmas.List.{map-append, length-set, get_or-set_same, get_or-set_other}
 use Rattle.std.proofs.lemmas.List.Elements.{filter_map-append}
 use Rattle.std.proofs.lemmas.List.FromFn.{length-map-range_with_len, fill_by_all}
 use Rattle.std.proofs.lemmas.List.Sums.{sum_by-cons}
 use Rattle.street_base.specs.declared.car.Car.{Car}
-use Rattle.street_base.specs.Vehicle.{Vehicle, vehicle_of}
-use Rattle.street_base.specs.Lane.{Cells, Track, vehicle_at}
-use Rattle.street_base.specs.Apart.{AreDisjoint, weight}
-use Rattle.street_base.specs.State.{LaneState, Queued, Waiting}
-use Rattle.street_base.specs.Census.{in_lane}
-use Rattle.street_base.specs.Effects.{lane_without, cell_without}
-use Rattle.street_base.specs.Shown.{in_order}
-use Rattle.street_rule.specs.Odds.{Odds}
+use Rattle.street_base.specs.Prelude.{Vehicle, vehicle_of, Cells, Track, vehicle_at, AreDisjoint, weight, LaneState, in_lane, lane_without, cell_without, in_order}
+use Rattle.street_rule.specs.Prelude.{Odds}
 use Rattle.street_gap.specs.declared.closures.Stretch.{Stretch}
-use Rattle.street_gap.specs.Closed.{closed_marks}
-use Rattle.street_yard.specs.Yard.{Yard, list_at, car_of, without, Has, IsWhole}
-use Rattle.street_yard.specs.Listed.{cell_at, vehicle_with, key_at, seen_at, cells_at, IsFalling, IsLane}
+use Rattle.street_gap.specs.Prelude.{closed_marks}
+use Rattle.street_yard.specs.Prelude.{Yard, list_at, car_of, without, Has, IsWhole, cell_at, vehicle_with, key_at, seen_at, cells_at, IsFalling, IsLane}
 use Rattle.street_yard.proofs.Keys.{has-later, has-away, append-Away}
 use Rattle.street_yard.proofs.YardLemmas.{without-is, parts_apart, mapped-same}
 use Rattle.street_yard.proofs.FallingLists.{falling-wider, falling-split, key_at-split, key_at-is, key_at-drop, key_at-gone, cells-length, cells-read, seen-key, falling-agree, found-agree}
 use Rattle.street_lanes.specs.declared.lanes.Extent.{Extent}
-use Rattle.street_lanes.specs.Views.{IsLaneOf, waiting_of, queued_of, AreInOrder}
-use Rattle.street_lanes.specs.Lanes.{GoesIf}
-use Rattle.street_lanes.specs.Lists.{cells_list, buffer_list, waiting_list, cars_on, SameList, Touches}
-use Rattle.street_lanes.specs.Search.{IsSought, IsOf, IsFound, TakesOut}
+use Rattle.street_lanes.specs.Prelude.{IsLaneOf, waiting_of, queued_of, AreInOrder, GoesIf, cells_list, buffer_list, waiting_list, cars_on, SameList, Touches, IsSought, IsFound, TakesOut}
+use Rattle.street_lanes.specs.Search.{IsOf}
 use Rattle.street_lanes.specs.Inside.{length_at, closed_at, lane_in, view_of, IsLaidOut}
 use Rattle.street_lanes.proofs.Cars.{car_there}
 use Rattle.street_lanes.proofs.Frames.{with-cells, with-buffer, with-waiting, frame-sound, frame-if}
 use Rattle.street_lanes.proofs.LaneCalls.{still-cells, same-track, same-queue, same-waiting, three-apart}
-use Rattle.street_lanes.proofs.Without.{counted, stays, all-stay, at-least, one-goes, cells-stay, cell-counted, cell-goes, cells-none, order-filter, filter-in_order, in_order-sum}
+use Rattle.street_lanes.proofs.Without.{in_queue, in_wait, cars, cars-split, numbered, counted, stays, all-stay, at-least, one-goes, cells-stay, cell-counted, cell-goes, cells-none, order-filter, filter-in_order, in_order-sum}
 
 falling-remove : (f : ℕ → ℕ) (bound : ℕ) (us : List ℕ) (k : ℕ) (vs : List ℕ) → IsFalling f bound (us ++ k ∷ vs) → IsFalling f bound (us ++ vs)
 falling-remove f bound [] k vs h = falling-wider f (f k) bound vs (let a = h.0 in omega arith) h.1
 falling-remove f bound (u ∷ us) k vs h = (h.0, falling-remove f (f u) us k vs h.1)
-
-abbrev cars : Yard → List ℕ → List Car
-cars y = filter_map (car_of y)
 
 -- cells without one of the vehicles
 gone-was : (cells : Cells) (at x : ℕ) (v : Vehicle) → vehicle_at (set cells at None) x ≡ Some v → vehicle_at cells x ≡ Some v
@@ -71,7 +57,7 @@ module _ (y new : Yard) (key : ℕ) (car : Car) (whole : IsWhole y) (t : TakesOu
   cars-now = ap (filter_map (car_of new)) left_is ∙ mapped-same (car_of new) (car_of y) (us ++ vs) same_cars ∙ filter_map-append (car_of y) us vs
 
   pub cars-were : cars_on y list ≡ cars y us ++ car ∷ cars y vs
-  cars-were = ap (filter_map (car_of y)) split ∙ filter_map-append (car_of y) us (key ∷ vs) ∙ ap (λ o. cars y us ++ cons_option o (cars y vs)) t.car
+  cars-were = cars-split y list key car t.car us vs split
 
   module _ (count : ℕ) (lane : IsLane y list count) where
     falls : IsFalling (cell_at y) count (us ++ key ∷ vs)
@@ -113,14 +99,14 @@ module _ (y new : Yard) (key : ℕ) (car : Car) (whole : IsWhole y) (t : TakesOu
 
 -- ---- as the lane sees it
 
-abbrev in_queue : Queued → Vehicle
-in_queue q = q.vehicle
-
-abbrev in_wait : Waiting → Vehicle
-in_wait w = w.vehicle
-
 abbrev Once : ℕ → LaneState → Type 0
 Once number s = in_lane number s ≤ 1
+
+-- the vehicle of a number was on the lane, and is on it no more
+pub record IsTaken (y new : Yard) (closures : List (List Stretch)) (extents : List Extent) (odds : Odds) (n number : ℕ) : Type 0 where
+  pub still : IsLaidOut new closures extents
+  pub found : (s : LaneState) → IsLaneOf (lane_in y closures extents n) s → Once number s → 1 ≡ in_lane number s
+  pub goes : GoesIf n (Once number) (lane_without number) (view_of y closures extents odds) (view_of new closures extents odds)
 
 module _ (y new : Yard) (closures : List (List Stretch)) (extents : List Extent) (odds : Odds) (n : ℕ) (sound : IsLaidOut y closures extents) (within : n < length extents) (number key : ℕ) (car : Car) (whole : IsWhole y) (t : TakesOut y new key car) (is : car.number ≡ number) (us vs : List ℕ) where
   abbrev size : ℕ
@@ -145,23 +131,21 @@ module _ (y new : Yard) (closures : List (List Stretch)) (extents : List Extent)
     c_counted : (s : LaneState) → IsLaneOf (lane_in y closures extents n) s → 1 ≤ sum_by (weight number) s.track.cells
     c_counted s st = subst (λ (k : Track). 1 ≤ sum_by (weight number) k.cells) st.track (cell-counted number (cells_at y (cells_list n) size) (cell_at y key) (vehicle_of car) there is)
 
-    pub cells-sound : IsLaidOut new closures extents
-    cells-sound = frame-sound y new closures extents odds n (cells_list n ∷ []) sound within (with-cells n, tt) cells_touch t.none_loose (lane-left y new key car whole t (cells_list n) us vs split size (sound.falls n within))
-
-    pub cells-found : (s : LaneState) → IsLaneOf (lane_in y closures extents n) s → Once number s → 1 ≡ in_lane number s
-    cells-found s st few = (let some = c_counted s st in omega (arith, some, few))
-
-    pub cells-goes : GoesIf n (Once number) (lane_without number) (view_of y closures extents odds) (view_of new closures extents odds)
-    cells-goes = frame-if y new closures extents odds n (cells_list n ∷ []) sound within (with-cells n, tt) cells_touch t.none_loose (Once number) (lane_without number) (λ s st few.
-        let some = c_counted s st in
-        let few_cells : sum_by (weight number) (cells_at y (cells_list n) size) ≤ 1 = subst (λ (k : Track). sum_by (weight number) k.cells ≤ 1) (sym st.track) (omega (arith, few)) in
-        let gone = cells-left y new key car whole t (cells_list n) us vs split size (sound.falls n within) ∙ sym (cell-goes number (cells_at y (cells_list n) size) (cell_at y key) (vehicle_of car) there is few_cells) in
-        record {
-          track = (λ i. record { cells = gone i; closed = shut }) ∙ ap (λ (k : Track). record k { cells = map (cell_without number) k.cells }) st.track;
-          queue = same-queue y new closures extents odds n sound within c_buffer ∙ st.queue ∙ sym (all-stay number in_queue s.queue (omega (arith, some, few)));
-          waiting = same-waiting y new closures extents odds n sound within c_waiting ∙ st.waiting ∙ sym (ap in_order (all-stay number in_wait s.waiting (omega (arith, some, few))));
-          order = subst AreInOrder (sym (same-waiting y new closures extents odds n sound within c_waiting)) st.order;
-        })
+    cells-taken : IsTaken y new closures extents odds n number
+    cells-taken = record {
+      still = frame-sound y new closures extents odds n (cells_list n ∷ []) sound within (with-cells n, tt) cells_touch t.none_loose (lane-left y new key car whole t (cells_list n) us vs split size (sound.falls n within));
+      found = λ s st few. (let some = c_counted s st in omega (arith, some, few));
+      goes = frame-if y new closures extents odds n (cells_list n ∷ []) sound within (with-cells n, tt) cells_touch t.none_loose (Once number) (lane_without number) (λ s st few.
+          let some = c_counted s st in
+          let few_cells : sum_by (weight number) (cells_at y (cells_list n) size) ≤ 1 = subst (λ (k : Track). sum_by (weight number) k.cells ≤ 1) (sym st.track) (omega (arith, few)) in
+          let gone = cells-left y new key car whole t (cells_list n) us vs split size (sound.falls n within) ∙ sym (cell-goes number (cells_at y (cells_list n) size) (cell_at y key) (vehicle_of car) there is few_cells) in
+          record {
+            track = (λ i. record { cells = gone i; closed = shut }) ∙ ap (λ (k : Track). record k { cells = map (cell_without number) k.cells }) st.track;
+            queue = same-queue y new closures extents odds n sound within c_buffer ∙ st.queue ∙ sym (all-stay number in_queue s.queue (omega (arith, some, few)));
+            waiting = same-waiting y new closures extents odds n sound within c_waiting ∙ st.waiting ∙ sym (ap in_order (all-stay number in_wait s.waiting (omega (arith, some, few))));
+            order = subst AreInOrder (sym (same-waiting y new closures extents odds n sound within c_waiting)) st.order;
+          });
+    }
 
   module _ (split : list_at y (buffer_list n) ≡ us ++ key ∷ vs) where
     buffer_touch : Touches (buffer_list n ∷ []) y new
@@ -179,25 +163,23 @@ module _ (y new : Yard) (closures : List (List Stretch)) (extents : List Extent)
     b_counted : (s : LaneState) → IsLaneOf (lane_in y closures extents n) s → 1 ≤ sum_by (counted number in_queue) s.queue
     b_counted s st = subst (λ qs. 1 ≤ sum_by (counted number in_queue) qs) (sym queue_were ∙ st.queue) (at-least number in_queue (map queued_of (cars y us)) (queued_of car) (map queued_of (cars y vs)) is)
 
-    pub buffer-sound : IsLaidOut new closures extents
-    buffer-sound = frame-sound y new closures extents odds n (buffer_list n ∷ []) sound within (with-buffer n, tt) buffer_touch t.none_loose (still-cells y new closures extents odds n sound within b_cells)
-
-    pub buffer-found : (s : LaneState) → IsLaneOf (lane_in y closures extents n) s → Once number s → 1 ≡ in_lane number s
-    buffer-found s st few = (let some = b_counted s st in omega (arith, some, few))
-
-    pub buffer-goes : GoesIf n (Once number) (lane_without number) (view_of y closures extents odds) (view_of new closures extents odds)
-    buffer-goes = frame-if y new closures extents odds n (buffer_list n ∷ []) sound within (with-buffer n, tt) buffer_touch t.none_loose (Once number) (lane_without number) (λ s st few.
-        let some = b_counted s st in
-        let few_queue : sum_by (counted number in_queue) (map queued_of (cars y us) ++ queued_of car ∷ map queued_of (cars y vs)) ≤ 1 = subst (λ qs. sum_by (counted number in_queue) qs ≤ 1) (sym st.queue ∙ queue_were) (omega (arith, few)) in
-        record {
-          track = same-track y new closures extents odds n sound within b_cells ∙ st.track ∙ sym (ap (λ cs. record s.track { cells = cs }) (cells-stay number s.track.cells (omega (arith, some, few))));
-          queue =
-              ap (map queued_of) (cars-now y new key car whole t (buffer_list n) us vs split) ∙ map-append queued_of (cars y us) (cars y vs)
-              ∙ sym (one-goes number in_queue (map queued_of (cars y us)) (queued_of car) (map queued_of (cars y vs)) is few_queue)
-              ∙ ap (filter (stays number in_queue)) (sym queue_were ∙ st.queue);
-          waiting = same-waiting y new closures extents odds n sound within b_waiting ∙ st.waiting ∙ sym (ap in_order (all-stay number in_wait s.waiting (omega (arith, some, few))));
-          order = subst AreInOrder (sym (same-waiting y new closures extents odds n sound within b_waiting)) st.order;
-        })
+    buffer-taken : IsTaken y new closures extents odds n number
+    buffer-taken = record {
+      still = frame-sound y new closures extents odds n (buffer_list n ∷ []) sound within (with-buffer n, tt) buffer_touch t.none_loose (still-cells y new closures extents odds n sound within b_cells);
+      found = λ s st few. (let some = b_counted s st in omega (arith, some, few));
+      goes = frame-if y new closures extents odds n (buffer_list n ∷ []) sound within (with-buffer n, tt) buffer_touch t.none_loose (Once number) (lane_without number) (λ s st few.
+          let some = b_counted s st in
+          let few_queue : sum_by (counted number in_queue) (map queued_of (cars y us) ++ queued_of car ∷ map queued_of (cars y vs)) ≤ 1 = subst (λ qs. sum_by (counted number in_queue) qs ≤ 1) (sym st.queue ∙ queue_were) (omega (arith, few)) in
+          record {
+            track = same-track y new closures extents odds n sound within b_cells ∙ st.track ∙ sym (ap (λ cs. record s.track { cells = cs }) (cells-stay number s.track.cells (omega (arith, some, few))));
+            queue =
+                ap (map queued_of) (cars-now y new key car whole t (buffer_list n) us vs split) ∙ map-append queued_of (cars y us) (cars y vs)
+                ∙ sym (one-goes number in_queue (map queued_of (cars y us)) (queued_of car) (map queued_of (cars y vs)) is few_queue)
+                ∙ ap (filter (stays number in_queue)) (sym queue_were ∙ st.queue);
+            waiting = same-waiting y new closures extents odds n sound within b_waiting ∙ st.waiting ∙ sym (ap in_order (all-stay number in_wait s.waiting (omega (arith, some, few))));
+            order = subst AreInOrder (sym (same-waiting y new closures extents odds n sound within b_waiting)) st.order;
+          });
+    }
 
   module _ (split : list_at y (waiting_list n) ≡ us ++ key ∷ vs) where
     waiting_touch : Touches (waiting_list n ∷ []) y new
@@ -218,64 +200,41 @@ module _ (y new : Yard) (closures : List (List Stretch)) (extents : List Extent)
     w_counted : (s : LaneState) → IsLaneOf (lane_in y closures extents n) s → 1 ≤ sum_by (counted number in_wait) s.waiting
     w_counted s st = subst (λ k. 1 ≤ k) (same_sum s st) (at-least number in_wait (map waiting_of (cars y us)) (waiting_of car) (map waiting_of (cars y vs)) is)
 
-    pub waiting-sound : IsLaidOut new closures extents
-    waiting-sound = frame-sound y new closures extents odds n (waiting_list n ∷ []) sound within (with-waiting n, tt) waiting_touch t.none_loose (still-cells y new closures extents odds n sound within w_cells)
-
-    pub waiting-found : (s : LaneState) → IsLaneOf (lane_in y closures extents n) s → Once number s → 1 ≡ in_lane number s
-    waiting-found s st few = (let some = w_counted s st in omega (arith, some, few))
-
-    pub waiting-goes : GoesIf n (Once number) (lane_without number) (view_of y closures extents odds) (view_of new closures extents odds)
-    waiting-goes = frame-if y new closures extents odds n (waiting_list n ∷ []) sound within (with-waiting n, tt) waiting_touch t.none_loose (Once number) (lane_without number) (λ s st few.
-        let some = w_counted s st in
-        let few_wait : sum_by (counted number in_wait) (map waiting_of (cars y us) ++ waiting_of car ∷ map waiting_of (cars y vs)) ≤ 1 = subst (λ k. k ≤ 1) (sym (same_sum s st)) (omega (arith, few)) in
-        let left : (lane_in new closures extents n).waiting ≡ filter (stays number in_wait) (lane_in y closures extents n).waiting =
-        ap (map waiting_of) (cars-now y new key car whole t (waiting_list n) us vs split) ∙ map-append waiting_of (cars y us) (cars y vs)
-        ∙ sym (one-goes number in_wait (map waiting_of (cars y us)) (waiting_of car) (map waiting_of (cars y vs)) is few_wait)
-        ∙ ap (filter (stays number in_wait)) (sym waiting_were) in
-        record {
-          track = same-track y new closures extents odds n sound within w_cells ∙ st.track ∙ sym (ap (λ cs. record s.track { cells = cs }) (cells-stay number s.track.cells (omega (arith, some, few))));
-          queue = same-queue y new closures extents odds n sound within w_buffer ∙ st.queue ∙ sym (all-stay number in_queue s.queue (omega (arith, some, few)));
-          waiting = left ∙ ap (filter (stays number in_wait)) st.waiting ∙ filter-in_order (stays number in_wait) s.waiting (subst AreInOrder st.waiting st.order);
-          order = subst AreInOrder (sym left) (order-filter (stays number in_wait) (lane_in y closures extents n).waiting st.order);
-        })
+    waiting-taken : IsTaken y new closures extents odds n number
+    waiting-taken = record {
+      still = frame-sound y new closures extents odds n (waiting_list n ∷ []) sound within (with-waiting n, tt) waiting_touch t.none_loose (still-cells y new closures extents odds n sound within w_cells);
+      found = λ s st few. (let some = w_counted s st in omega (arith, some, few));
+      goes = frame-if y new closures extents odds n (waiting_list n ∷ []) sound within (with-waiting n, tt) waiting_touch t.none_loose (Once number) (lane_without number) (λ s st few.
+          let some = w_counted s st in
+          let few_wait : sum_by (counted number in_wait) (map waiting_of (cars y us) ++ waiting_of car ∷ map waiting_of (cars y vs)) ≤ 1 = subst (λ k. k ≤ 1) (sym (same_sum s st)) (omega (arith, few)) in
+          let left : (lane_in new closures extents n).waiting ≡ filter (stays number in_wait) (lane_in y closures extents n).waiting =
+          ap (map waiting_of) (cars-now y new key car whole t (waiting_list n) us vs split) ∙ map-append waiting_of (cars y us) (cars y vs)
+          ∙ sym (one-goes number in_wait (map waiting_of (cars y us)) (waiting_of car) (map waiting_of (cars y vs)) is few_wait)
+          ∙ ap (filter (stays number in_wait)) (sym waiting_were) in
+          record {
+            track = same-track y new closures extents odds n sound within w_cells ∙ st.track ∙ sym (ap (λ cs. record s.track { cells = cs }) (cells-stay number s.track.cells (omega (arith, some, few))));
+            queue = same-queue y new closures extents odds n sound within w_buffer ∙ st.queue ∙ sym (all-stay number in_queue s.queue (omega (arith, some, few)));
+            waiting = left ∙ ap (filter (stays number in_wait)) st.waiting ∙ filter-in_order (stays number in_wait) s.waiting (subst AreInOrder st.waiting st.order);
+            order = subst AreInOrder (sym left) (order-filter (stays number in_wait) (lane_in y closures extents n).waiting st.order);
+          });
+    }
 
 -- ---- the car of a key that was found
 
 module _ (y new : Yard) (closures : List (List Stretch)) (extents : List Extent) (odds : Odds) (n : ℕ) (sound : IsLaidOut y closures extents) (within : n < length extents) (number key : ℕ) (car : Car) (whole : IsWhole y) (t : TakesOut y new key car) where
-  pub record IsTaken : Type 0 where
-    pub still : IsLaidOut new closures extents
-    pub goes : GoesIf n (Once number) (lane_without number) (view_of y closures extents odds) (view_of new closures extents odds)
-    pub found : (s : LaneState) → IsLaneOf (lane_in y closures extents n) s → Once number s → 1 ≡ in_lane number s
-
-  numbered : (o : Option Car) → o ≡ Some car → IsSomeAnd o (λ c. c.number ≡ number) → car.number ≡ number
-  numbered None e h = cc
-  numbered (Some c) e h = (let same : c ≡ car = cc in subst (λ (d : Car). d.number ≡ number) same h)
-
-  by-list : car.number ≡ number → (list : ℕ) → IsOf n list → Has (list_at y list) key → IsTaken
+  by-list : car.number ≡ number → (list : ℕ) → IsOf n list → Has (list_at y list) key → IsTaken y new closures extents odds n number
   by-list is list (inl e) h =
       let at = subst (λ l. Has (list_at y l) key) e h in
-      record {
-        still = cells-sound y new closures extents odds n sound within number key car whole t is at.0 at.1 at.2;
-        goes = cells-goes y new closures extents odds n sound within number key car whole t is at.0 at.1 at.2;
-        found = cells-found y new closures extents odds n sound within number key car whole t is at.0 at.1 at.2;
-      }
+      cells-taken y new closures extents odds n sound within number key car whole t is at.0 at.1 at.2
   by-list is list (inr (inl e)) h =
       let at = subst (λ l. Has (list_at y l) key) e h in
-      record {
-        still = buffer-sound y new closures extents odds n sound within number key car whole t is at.0 at.1 at.2;
-        goes = buffer-goes y new closures extents odds n sound within number key car whole t is at.0 at.1 at.2;
-        found = buffer-found y new closures extents odds n sound within number key car whole t is at.0 at.1 at.2;
-      }
+      buffer-taken y new closures extents odds n sound within number key car whole t is at.0 at.1 at.2
   by-list is list (inr (inr e)) h =
       let at = subst (λ l. Has (list_at y l) key) e h in
-      record {
-        still = waiting-sound y new closures extents odds n sound within number key car whole t is at.0 at.1 at.2;
-        goes = waiting-goes y new closures extents odds n sound within number key car whole t is at.0 at.1 at.2;
-        found = waiting-found y new closures extents odds n sound within number key car whole t is at.0 at.1 at.2;
-      }
+      waiting-taken y new closures extents odds n sound within number key car whole t is at.0 at.1 at.2
 
-  pub is-taken : IsFound y n number (Some key) → IsTaken
-  is-taken found = by-list (numbered (car_of y key) t.car found.2.1) found.0 found.1 found.2.0
+  pub is-taken : IsFound y n number (Some key) → IsTaken y new closures extents odds n number
+  is-taken found = by-list (numbered number (car_of y key) car t.car found.2.1) found.0 found.1 found.2.0
 
 -- ---- where no car was found
 

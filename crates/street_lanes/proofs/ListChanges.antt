@@ -1,24 +1,16 @@
 -- Lane changes: what the lists of two lanes stand for afterwards.
-use Rattle.std.proofs.Common.{◌≡◌, ℕ, ◌+◌, ◌<◌, List, [], ◌∷◌, length, map, Option, Some, None, refl, sym, ap, subst, ◌∙◌, arith}
-use Rattle.std.specs.Prelude.{Bool, true, not, is_some}
+use Rattle.std.proofs.Common.{◌≡◌, ℕ, ◌+◌, ◌<◌, List, [], ◌∷◌, length, map, Option, Some, None, refl, sym, ap, subst, ◌∙◌, arith, Bool, true, not, is_some}
 use Rattle.std.proofs.lemmas.Bool.{true≢false}
 use Rattle.std.proofs.lemmas.List.Elements.{All-cons}
 use Rattle.street_base.specs.declared.net.NetSpec.{NetSpec}
-use Rattle.street_base.specs.Lane.{Cells, Track}
-use Rattle.street_base.specs.Network.{link_at}
-use Rattle.street_base.specs.State.{Traffic, LaneState}
-use Rattle.street_base.specs.Step.{changing_on}
-use Rattle.street_rule.specs.Road.{Road, no_lane, lists_of, IsRoadLane, IsRoad}
-use Rattle.street_rule.specs.Changed.{Changes, KeepsRest}
+use Rattle.street_base.specs.Prelude.{Cells, Track, link_at, Traffic, LaneState, changing_on}
+use Rattle.street_rule.specs.Prelude.{Road, no_lane, lists_of, IsRoadLane, IsRoad, Changes, KeepsRest}
 use Rattle.street_gap.specs.declared.closures.Stretch.{Stretch}
-use Rattle.street_gap.specs.Closed.{IsWithin}
+use Rattle.street_gap.specs.Prelude.{IsWithin}
 use Rattle.street_yard.specs.declared.names.Key.{Key}
-use Rattle.street_yard.specs.Yard.{Yard, list_at, first_or, Away, IsWhole}
+use Rattle.street_yard.specs.Prelude.{Yard, list_at, first_or, Away, IsWhole, IsLane}
 use Rattle.street_yard.proofs.YardLemmas.{no_head}
-use Rattle.street_yard.specs.Listed.{IsLane}
-use Rattle.street_lanes.specs.Views.{queued_of, IsLaneOf}
-use Rattle.street_lanes.specs.Lists.{cells_list, buffer_list, waiting_list, lane_seen, SameList, Touches}
-use Rattle.street_lanes.specs.LaneChanges.{changed_lane, ChangesLanes}
+use Rattle.street_lanes.specs.Prelude.{queued_of, IsLaneOf, cells_list, buffer_list, waiting_list, lane_seen, SameList, Touches, changed_lane, ChangesLanes}
 use Rattle.street_lanes.proofs.Cars.{cars-kept}
 use Rattle.street_lanes.proofs.Parts.{lane-parts, touch-same}
 use Rattle.street_lanes.proofs.Loose.{loose-changed}

@@ -1,38 +1,24 @@
 -- The motion of a lane: what its lists stand for afterwards.
-use Rattle.std.proofs.Common.{◌≡◌, ◌≢◌, ℕ, ◌+◌, ◌≤◌, Bool, List, [], ◌∷◌, ◌++◌, length, map, Option, Some, None, IsSomeAnd, refl, add-zero, sym, ap, subst, ◌∙◌, inl, inr, arith}
-use Rattle.std.specs.Option.{option_map, option_map_or, option_and_then, option_to_list}
+use Rattle.std.proofs.Common.{◌≡◌, ◌≢◌, ℕ, ◌+◌, ◌≤◌, Bool, List, [], ◌∷◌, ◌++◌, length, map, Option, Some, None, IsSomeAnd, refl, add-zero, sym, ap, subst, ◌∙◌, inl, inr, arith, option_map, option_and_then, option_to_list}
+use Rattle.std.specs.Option.{option_map_or}
 use Rattle.std.proofs.lemmas.List.{length-map, map-append, append-nil}
 use Rattle.std.proofs.lemmas.Bool.{cases_Bool, cases_eq, cond-true, cond-false}
 use Rattle.street_base.specs.declared.car.Car.{Car}
 use Rattle.street_base.specs.declared.net.NodeSpec.{NodeSpec}
 use Rattle.street_base.specs.declared.net.NetSpec.{NetSpec}
-use Rattle.street_base.specs.Lane.{Cells, Track}
+use Rattle.street_base.specs.Prelude.{Cells, Track, link_at, end_node, SignalPlan, Traffic, Queued, lane_at, is_exit_open, drive_on, leaver_of, joining, arrival, most_plan, last_clock, Drive, motion, Vehicle, vehicle_of, is_on_last}
 use Rattle.street_base.specs.declared.names.Place.{Place}
-use Rattle.street_base.specs.Network.{link_at, end_node}
-use Rattle.street_base.specs.Signal.{SignalPlan}
-use Rattle.street_base.specs.State.{Traffic, Queued, lane_at}
-use Rattle.street_base.specs.Step.{is_exit_open, drive_on, leaver_of, joining, arrival}
-use Rattle.street_base.specs.Limits.{most_plan, last_clock}
-use Rattle.street_base.specs.Motion.{Drive, motion}
 use Rattle.street_base.proofs.OptionLemmas.{option_map-some}
-use Rattle.street_base.specs.Vehicle.{Vehicle, vehicle_of, is_on_last}
 use Rattle.street_gap.specs.declared.closures.Stretch.{Stretch}
-use Rattle.street_gap.specs.Closed.{closed_marks}
-use Rattle.street_yard.specs.Yard.{YardEntry, Yard, list_at, entry_at, car_of, first_or, IsLoose, IsWhole}
+use Rattle.street_gap.specs.Prelude.{closed_marks}
+use Rattle.street_yard.specs.Prelude.{YardEntry, Yard, list_at, entry_at, car_of, first_or, IsLoose, IsWhole, cell_at, cells_at, vehicle_with, IsLane}
 use Rattle.street_yard.proofs.YardLemmas.{head_is, no_head, cell_is}
-use Rattle.street_rule.specs.Road.{Road, lane_of, length_of, track_of, IsRoadLane}
-use Rattle.street_rule.specs.Sight.{odds_of}
-use Rattle.street_rule.specs.Odds.{Odds}
-use Rattle.street_yard.specs.Listed.{cell_at, cells_at, vehicle_with, IsLane}
+use Rattle.street_rule.specs.Prelude.{Road, lane_of, length_of, track_of, IsRoadLane, odds_of, Odds, watched, drive_with, IsExit, HasMoved, MovesList, stopped}
 use Rattle.street_yard.proofs.FallingLists.{IsLane-agree, cells-agree, cells-length}
 use Rattle.street_rule.specs.declared.watch.Watch.{Watch}
 use Rattle.street_rule.specs.declared.motion.Leaver.{Leaver}
-use Rattle.street_rule.specs.Watch.{watched}
-use Rattle.street_rule.specs.Pass.{drive_with, IsExit, HasMoved, MovesList, stopped}
 use Rattle.street_rule.proofs.Others.{other-same, other-cars}
-use Rattle.street_lanes.specs.Views.{queued_of, IsLaneOf}
-use Rattle.street_lanes.specs.Lists.{cells_list, buffer_list, waiting_list, cars_on, lane_seen, AreShort, NoneLoose, NoneLooseBut, SameList, Touches}
-use Rattle.street_lanes.specs.Motion.{IsStepOf, is_open_to, cells_on, IsFarFrom, IsToldExit, behind_all, Settles, MovesLane}
+use Rattle.street_lanes.specs.Prelude.{queued_of, IsLaneOf, cells_list, buffer_list, waiting_list, cars_on, lane_seen, AreShort, NoneLoose, NoneLooseBut, SameList, Touches, IsStepOf, is_open_to, cells_on, IsFarFrom, IsToldExit, behind_all, Settles, MovesLane}
 use Rattle.street_lanes.proofs.Cars.{cars-kept, cars-length, car_there}
 use Rattle.street_lanes.proofs.Touches.{SameList-trans, touch-trans, touch-wider}
 use Rattle.street_lanes.proofs.Parts.{lane-parts, touch-same}

@@ -1,16 +1,13 @@
 -- Who is on no list of a yard after a call.
-use Rattle.std.proofs.Common.{◌≡◌, ◌≢◌, ℕ, suc, List, [], ◌∷◌, ◌++◌, get_or, set, Option, Some, None, IsSome, IsSomeAnd, refl, sym, ap, subst, ◌∙◌, inl, inr}
-use Rattle.std.specs.Prelude.{filter_map}
-use Rattle.std.specs.Option.{option_map, option_and_then}
+use Rattle.std.proofs.Common.{◌≡◌, ◌≢◌, ℕ, suc, List, [], ◌∷◌, ◌++◌, get_or, set, Option, Some, None, IsSome, IsSomeAnd, refl, sym, ap, subst, ◌∙◌, inl, inr, filter_map, option_map, option_and_then}
 use Rattle.std.proofs.lemmas.Bool.{cases_eq, eq-eqb, ne_eqb}
 use Rattle.std.proofs.lemmas.List.{get_or-set_other}
 use Rattle.street_base.specs.declared.car.Car.{Car}
-use Rattle.street_rule.specs.Changed.{KeepsRest}
-use Rattle.street_rule.specs.Pass.{MovesList, stopped, left_lists}
-use Rattle.street_yard.specs.Yard.{YardEntry, Yard, list_at, entry_at, list_on, list_set, without, Has, Away, IsLoose, IsWhole}
+use Rattle.street_rule.specs.Prelude.{KeepsRest, MovesList, stopped, left_lists}
+use Rattle.street_yard.specs.Prelude.{YardEntry, Yard, list_at, entry_at, list_on, list_set, without, Has, Away, IsLoose, IsWhole}
 use Rattle.street_yard.proofs.Keys.{has_or_away, has-later, listed_within}
 use Rattle.street_yard.proofs.YardLemmas.{entry-gone, entry-kept_set, entry-kept_set_other, list-written}
-use Rattle.street_lanes.specs.Lists.{NoneLoose, NoneLooseBut}
+use Rattle.street_lanes.specs.Prelude.{NoneLoose, NoneLooseBut}
 use Rattle.street_lanes.specs.Inside.{loose_one, loose_in}
 use Rattle.street_lanes.proofs.Touches.{loose-off}
 

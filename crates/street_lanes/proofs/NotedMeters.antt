@@ -2,11 +2,10 @@
 use Rattle.std.proofs.Common.{◌≡◌, ℕ, ◌+◌, ◌<◌, ◌≤◌, List, length, set, get_or, refl, sym, ◌∙◌, subst, inl, inr, arith}
 use Rattle.std.proofs.lemmas.Bool.{cases_eq}
 use Rattle.std.proofs.lemmas.List.{get_or_read, get_or-set_same, get_or-set_other, length-set}
-use Rattle.street_base.specs.State.{LaneState}
+use Rattle.street_base.specs.Prelude.{LaneState}
 use Rattle.street_meter.specs.Meter.{Meter}
 use Rattle.street_rule.specs.declared.watch.Watch.{Watch}
-use Rattle.street_lanes.specs.Views.{LaneView, LaneStands}
-use Rattle.street_lanes.specs.Detectors.{GoesOn, Notes}
+use Rattle.street_lanes.specs.Prelude.{LaneView, LaneStands, GoesOn, Notes}
 
 module _ (view : LaneView) (ws : List Watch) (olds : List Meter) where
   -- the meters before k have noted the step, and from k on they are as before

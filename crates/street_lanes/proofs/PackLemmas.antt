@@ -1,23 +1,18 @@
 -- Cars under other keys.
-use Rattle.std.proofs.Common.{◌≡◌, ◌≢◌, ℕ, ◌<◌, cond, List, [], ◌∷◌, ◌++◌, length, map, get_or, IsSomeAnd, Option, Some, None, refl, sym, ap, subst, ◌∙◌, inl, inr, arith}
-use Rattle.std.specs.Prelude.{◌==◌, filter_map}
+use Rattle.std.proofs.Common.{◌≡◌, ◌≢◌, ℕ, ◌<◌, cond, List, [], ◌∷◌, ◌++◌, length, map, get_or, IsSomeAnd, Option, Some, None, refl, sym, ap, subst, ◌∙◌, inl, inr, arith, ◌==◌, filter_map, option_map, option_and_then, unwrap_or}
 use Rattle.std.specs.List.{cons_option, range_with_len}
-use Rattle.std.specs.Option.{option_map, option_and_then, unwrap_or}
 use Rattle.std.proofs.lemmas.Bool.{cases_Bool, cases_eq}
 use Rattle.std.proofs.lemmas.List.{length-set, map-append}
 use Rattle.street_base.specs.declared.car.Car.{Car}
-use Rattle.street_base.specs.Vehicle.{Vehicle, vehicle_of}
-use Rattle.street_base.specs.Apart.{AreDisjoint}
-use Rattle.street_rule.specs.Odds.{Odds}
+use Rattle.street_base.specs.Prelude.{Vehicle, vehicle_of, AreDisjoint}
+use Rattle.street_rule.specs.Prelude.{Odds}
 use Rattle.street_gap.specs.declared.closures.Stretch.{Stretch}
-use Rattle.street_gap.specs.Closed.{closed_marks}
-use Rattle.street_yard.specs.Yard.{YardEntry, Yard, list_at, entry_at, car_of, list_on, Has, IsWhole, Renews}
-use Rattle.street_yard.specs.Listed.{cell_at, vehicle_with, key_at, seen_at, cells_at, IsFalling, IsLane}
+use Rattle.street_gap.specs.Prelude.{closed_marks}
+use Rattle.street_yard.specs.Prelude.{YardEntry, Yard, list_at, entry_at, car_of, list_on, Has, IsWhole, Renews, cell_at, vehicle_with, key_at, seen_at, cells_at, IsFalling, IsLane}
 use Rattle.street_yard.proofs.Keys.{has-later, has-away, has-behind}
 use Rattle.street_yard.proofs.YardLemmas.{parts_apart, split-within, list-written, list-other}
 use Rattle.street_lanes.specs.declared.lanes.Extent.{Extent}
-use Rattle.street_lanes.specs.Views.{waiting_of, queued_of}
-use Rattle.street_lanes.specs.Lists.{cells_list, buffer_list, waiting_list, cars_on, held_on, lane_seen, IsShort, AreShort, NoneLoose, Packs}
+use Rattle.street_lanes.specs.Prelude.{waiting_of, queued_of, cells_list, buffer_list, waiting_list, cars_on, held_on, lane_seen, IsShort, AreShort, NoneLoose, Packs}
 use Rattle.street_lanes.specs.Inside.{length_at, closed_at, lanes_in, loose_in, view_of, IsLaidOut}
 use Rattle.street_lanes.proofs.Touches.{loose-off}
 use Rattle.street_lanes.proofs.Joins.{has-left}
@@ -111,9 +106,6 @@ module _ (old new : Yard) (key next : ℕ) (whole : IsWhole old) (few : next < 4
     short = short-then;
     none_loose = loose-then;
   }
-
-  pub renewed-on : (list : ℕ) → list_on old key ≡ Some list → list_on new next ≡ Some list
-  renewed-on list at = r.on ∙ at
 
 -- ---- what a lane has, by what its keys hold
 

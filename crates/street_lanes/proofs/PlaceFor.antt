@@ -1,13 +1,13 @@
 -- The walks over a list to the place for one more who waits.
-use Rattle.std.proofs.Common.{◌≡◌, ℕ, ◌+◌, ◌-◌, ◌<◌, Bool, true, false, List, [], ◌∷◌, ◌++◌, length, Option, Some, None, refl, sym, ap, subst, ◌∙◌, inl, inr, arith}
+use Rattle.std.proofs.Common.{◌≡◌, ℕ, ◌+◌, ◌-◌, ◌<◌, Bool, false, List, [], ◌∷◌, ◌++◌, length, Option, Some, None, refl, sym, ap, subst, ◌∙◌, inl, inr, arith}
 use Rattle.std.proofs.lemmas.List.{append-nil, append_assoc, length-append}
 use Rattle.street_base.specs.declared.car.Car.{Car}
-use Rattle.street_base.specs.Departure.{is_before}
-use Rattle.street_yard.specs.Yard.{Yard, list_at, car_of, list_on, first_or, last_or, Has, IsOnList, IsAhead, IsBehind, IsWhole}
+use Rattle.street_base.specs.Prelude.{is_before}
+use Rattle.street_yard.specs.Prelude.{Yard, list_at, car_of, list_on, first_or, last_or, Has, IsOnList, IsAhead, IsBehind, IsWhole}
 use Rattle.street_yard.proofs.Keys.{snoc_cases, last_or-push}
 use Rattle.street_yard.proofs.YardLemmas.{from_key, left, left-is, head_is}
-use Rattle.street_lanes.specs.Views.{waiting_of}
-use Rattle.street_lanes.specs.Lists.{IsNotAfter, IsStart, IsAfter, IsPlaceFor}
+use Rattle.street_gap.specs.Prelude.{IsNextBehind}
+use Rattle.street_lanes.specs.Prelude.{waiting_of, IsNotAfter, IsStart}
 
 -- ---- keys on a list
 
@@ -83,23 +83,6 @@ module _ (y : Yard) (list : ℕ) (cursor : Option ℕ) (key : ℕ) (whole : IsWh
         let then = left-is y list (stands.0 ++ key ∷ []) stands.1 next whole split-behind next-behind in
         omega (arith, now, then)
 
--- ---- what comes behind a key, or first
-
-pub after-none : (y : Yard) (list : ℕ) (at next : Option ℕ) → at ≡ None → next ≡ first_or (list_at y list) None → IsAfter y list at next
-after-none y list at next none front up down split at_end = elim (snoc_cases up) as (λ _. next ≡ first_or down None) [
-  | inl nil ↦ front ∙ ap (λ l. first_or l None) (split ∙ ap (λ l. l ++ down) nil)
-  | inr s ↦ absurd (let bad : ◌≡◌ {A = Option ℕ} None (Some s.1) = sym none ∙ at_end ∙ ap (λ l. last_or l None) s.2 ∙ last_or-push s.0 s.1 None in cc)
-]
-
-pub after-some : (y : Yard) (list : ℕ) (at next : Option ℕ) (key : ℕ) → at ≡ Some key → IsBehind y key next → IsAfter y list at next
-after-some y list at next key is behind up down split at_end = elim (snoc_cases up) as (λ _. next ≡ first_or down None) [
-  | inl nil ↦ absurd (let bad : ◌≡◌ {A = Option ℕ} (Some key) None = sym is ∙ at_end ∙ ap (λ l. last_or l None) nil in cc)
-  | inr s ↦ (
-      let e : ◌≡◌ {A = Option ℕ} (Some s.1) (Some key) = sym (at_end ∙ ap (λ l. last_or l None) s.2 ∙ last_or-push s.0 s.1 None) ∙ is in
-      let same : s.1 ≡ key = cc in
-      behind list s.0 down (split ∙ ap (λ l. l ++ down) s.2 ∙ append_assoc s.0 (s.1 ∷ []) down ∙ ap (λ k. s.0 ++ k ∷ down) same))
-]
-
 -- ---- the walk to the place
 
 -- the list is cut in two at `at`, behind which the car's place is; `next` is the first of the part behind
@@ -111,7 +94,7 @@ pub record IsBetween (y : Yard) (list : ℕ) (car : Car) (at next : Option ℕ) 
   pub at_next : next ≡ first_or down None
   pub sooner : IsNotAfter y car at
 
-pub between-start : (y : Yard) (list : ℕ) (car : Car) (at next : Option ℕ) → IsWhole y → IsStart y list car at → IsAfter y list at next → IsBetween y list car at next
+pub between-start : (y : Yard) (list : ℕ) (car : Car) (at next : Option ℕ) → IsWhole y → IsStart y list car at → IsNextBehind y list at next → IsBetween y list car at next
 between-start y list car None next whole start after = record { up = []; down = list_at y list; split = refl; at_end = refl; at_next = after [] (list_at y list) refl refl; sooner = start.1 }
 between-start y list car (Some k) next whole start after =
     let on = whole.listed k list start.0 in
@@ -131,19 +114,6 @@ module _ (y : Yard) (list : ℕ) (car : Car) (cursor : Option ℕ) (key : ℕ) (
       sym (says c (subst (λ j. car_of y j ≡ Some c) same held)) ∙ stays
 
   module _ (at : Option ℕ) (b : IsBetween y list car at cursor) where
-    pub between-found : goes ≡ true → IsPlaceFor y list car at
-    between-found before = record {
-      up = b.up;
-      down = b.down;
-      split = b.split;
-      at_end = b.at_end;
-      later = λ k c first held. (
-          let e : ◌≡◌ {A = Option ℕ} (Some k) (Some key) = sym first ∙ sym b.at_next ∙ is in
-          let same : k ≡ key = cc in
-          sym (says c (subst (λ j. car_of y j ≡ Some c) same held)) ∙ before);
-      sooner = b.sooner;
-    }
-
     pub between-step : goes ≡ false → (next : Option ℕ) → IsBehind y key next → IsBetween y list car cursor next
     between-step stays next behind =
         let head = head_is key b.down cursor is b.at_next in
@@ -156,13 +126,3 @@ module _ (y : Yard) (list : ℕ) (car : Car) (cursor : Option ℕ) (key : ℕ) (
           at_next = behind list b.up head.0 listed;
           sooner = not_after stays;
         }
-
-pub between-end : (y : Yard) (list : ℕ) (car : Car) (at cursor : Option ℕ) → IsBetween y list car at cursor → cursor ≡ None → IsPlaceFor y list car at
-between-end y list car at cursor b is = record {
-  up = b.up;
-  down = b.down;
-  split = b.split;
-  at_end = b.at_end;
-  later = λ k c first held. absurd (let bad : ◌≡◌ {A = Option ℕ} None (Some k) = sym is ∙ b.at_next ∙ first in cc);
-  sooner = b.sooner;
-}

@@ -1,17 +1,14 @@
 -- A car that has left its lane is taken out, or comes last into a buffer.
-use Rattle.std.proofs.Common.{◌≡◌, ◌≢◌, ℕ, ◌+◌, ◌<◌, true, false, List, [], ◌∷◌, ◌++◌, length, Option, Some, None, refl, sym, ap, subst, ◌∙◌, add-zero}
-use Rattle.std.specs.Prelude.{slice_set, Bool, not, is_some, is_none}
-use Rattle.std.specs.List.{filter_map, cons_option}
-use Rattle.std.specs.Option.{option_map}
+use Rattle.std.proofs.Common.{◌≡◌, ◌≢◌, ℕ, ◌+◌, ◌<◌, true, false, List, [], ◌∷◌, ◌++◌, length, Option, Some, None, refl, sym, ap, subst, ◌∙◌, add-zero, slice_set, Bool, not, is_some, is_none, filter_map, option_map}
+use Rattle.std.specs.List.{cons_option}
 use Rattle.std.proofs.lemmas.Bool.{cond-true, cond-false}
 use Rattle.std.proofs.lemmas.List.{get_or-set_other, append-nil}
 use Rattle.std.proofs.lemmas.List.Elements.{filter_map-append}
 use Rattle.street_base.specs.declared.car.Car.{Car}
-use Rattle.street_base.specs.Vehicle.{vehicle_of, next_link, is_on_last}
-use Rattle.street_yard.specs.Yard.{YardEntry, Yard, list_at, car_of, entry_at, car_set, list_set, IsLoose, IsWhole}
+use Rattle.street_base.specs.Prelude.{vehicle_of, next_link, is_on_last}
+use Rattle.street_yard.specs.Prelude.{YardEntry, Yard, list_at, car_of, entry_at, car_set, list_set, IsLoose, IsWhole}
 use Rattle.street_yard.proofs.YardLemmas.{car_of-car_set, car_of-car_set_other, car_of-list_set, entry-kept_set_other, list-written, mapped-same}
-use Rattle.street_lanes.specs.Lists.{cars_on, NoneLoose, NoneLooseBut}
-use Rattle.street_lanes.specs.Motion.{Settles}
+use Rattle.street_lanes.specs.Prelude.{cars_on, NoneLoose, NoneLooseBut, Settles}
 use Rattle.street_lanes.proofs.Touches.{touch-trans, touch-more, relisted, not-loose, loose-off, taken, written}
 use Rattle.street_lanes.proofs.Loose.{loose-placed, loose-gone}
 

@@ -1,16 +1,13 @@
 -- The rows of a meter are those of its detector.
-use Rattle.std.proofs.Common.{◌≡◌, ℕ, ◌<◌, ◌≤◌, List, [], length, get_or, sym, ◌∙◌, ap, subst, arith}
-use Rattle.std.specs.Prelude.{Some, None, option_map, slice_get}
+use Rattle.std.proofs.Common.{◌≡◌, ℕ, ◌<◌, ◌≤◌, List, [], length, get_or, sym, ◌∙◌, ap, subst, arith, Some, None, option_map, slice_get}
 use Rattle.std.proofs.lemmas.Option.{slice_get_past, slice_get-get_or}
 use Rattle.street_base.specs.declared.reply.MeterRow.{MeterRow}
 use Rattle.street_base.specs.declared.reply.RunningRow.{RunningRow}
 use Rattle.street_base.specs.declared.reply.Reply.{Reply}
 use Rattle.street_base.specs.declared.reply.Reply.TheVariants.{Rows}
-use Rattle.street_base.specs.Detector.{full_rows}
-use Rattle.street_base.specs.Shown.{running, shown_rows}
-use Rattle.street_base.specs.State.{Triple, Detector}
+use Rattle.street_base.specs.Prelude.{full_rows, running, shown_rows, Triple, Detector}
 use Rattle.street_meter.specs.Meter.{Meter, IsRead, Stands, detector_of}
-use Rattle.street_lanes.specs.Detectors.{MeterStands, MetersStandFor}
+use Rattle.street_lanes.specs.Prelude.{MeterStands, MetersStandFor}
 
 pub shown-read : (d : Detector) (full : List MeterRow) (now : RunningRow) → IsRead full now d → Rows now full ≡ shown_rows d
 unfolding shown_rows

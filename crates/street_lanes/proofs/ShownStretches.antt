@@ -1,19 +1,16 @@
 -- The closed stretches that a lane shows are those that are kept.
-use Rattle.std.proofs.Common.{◌≡◌, ℕ, zero, suc, ◌+◌, ◌-◌, ◌<◌, ◌≤◌, Bool, true, false, List, [], ◌∷◌, length, map, Option, refl, sym, ap, subst, ◌∙◌, inl, inr, arith}
-use Rattle.std.specs.Prelude.{not, ◌&&◌, ◌||◌, ◌==◌, unwrap_or, filter}
+use Rattle.std.proofs.Common.{◌≡◌, ℕ, zero, suc, ◌+◌, ◌-◌, ◌<◌, ◌≤◌, Bool, true, false, List, [], ◌∷◌, length, map, Option, refl, sym, ap, subst, ◌∙◌, inl, inr, arith, not, ◌&&◌, ◌||◌, ◌==◌, unwrap_or, filter}
 use Rattle.std.specs.List.{range_with_len}
 use Rattle.std.proofs.lemmas.Bool.{cases_eq, cases_lt, cond-true, cond-false, or_left, or_right, or_from, eq-eqb, ne_eqb}
 use Rattle.std.proofs.lemmas.Bool.Decides.{nat_tests}
 use Rattle.street_base.specs.declared.reply.Stretch.{Stretch as StretchEntry}
-use Rattle.street_base.specs.Lane.{is_closed, is_entrance}
-use Rattle.street_base.specs.Closing.{stretch_from, stretches}
-use Rattle.street_base.specs.Search.{least}
+use Rattle.street_base.specs.Prelude.{is_closed, is_entrance, stretch_from, stretches, least}
 use Rattle.street_base.proofs.SearchLemmas.{least-past, least-here, least-skip}
 use Rattle.street_gap.specs.declared.closures.Stretch.{Stretch}
-use Rattle.street_gap.specs.Closed.{is_between, is_in, RisesFrom, IsRising, IsWithin, closed_marks}
+use Rattle.street_gap.specs.Prelude.{is_between, is_in, RisesFrom, IsRising, IsWithin, closed_marks}
 use Rattle.street_gap.proofs.StretchLemmas.{between-yes, between-above, is_in-before}
 use Rattle.street_gap.proofs.Marks.{closed_marks-at, closed_marks-length}
-use Rattle.street_lanes.specs.ShownCars.{shown_stretch}
+use Rattle.street_lanes.specs.Prelude.{shown_stretch}
 
 -- ---- where stretches begin
 

@@ -1,12 +1,11 @@
 -- Which lists of a yard a call changes.
-use Rattle.std.proofs.Common.{◌≡◌, ◌≢◌, ℕ, ◌+◌, false, List, [], ◌∷◌, length, get_or, set, Option, Some, None, IsSomeAnd, refl, sym, ap, subst, ◌∙◌, inl, inr}
-use Rattle.std.specs.Option.{option_map, option_and_then}
+use Rattle.std.proofs.Common.{◌≡◌, ◌≢◌, ℕ, ◌+◌, false, List, [], ◌∷◌, length, get_or, set, Option, Some, None, IsSomeAnd, refl, sym, ap, subst, ◌∙◌, inl, inr, option_map, option_and_then}
 use Rattle.std.proofs.lemmas.Bool.{cases_eq}
 use Rattle.std.proofs.lemmas.List.{length-set, get_or-set_other}
 use Rattle.street_base.specs.declared.car.Car.{Car}
-use Rattle.street_yard.specs.Yard.{YardEntry, Yard, list_at, entry_at, car_of, list_on, car_set, Has, Away, IsLoose, IsWhole, Updates}
+use Rattle.street_yard.specs.Prelude.{YardEntry, Yard, list_at, entry_at, car_of, list_on, car_set, Has, Away, IsLoose, IsWhole, Updates}
 use Rattle.street_yard.proofs.YardLemmas.{entry-gone, list-other, car_of-car_set, car_of-car_set_other}
-use Rattle.street_lanes.specs.Lists.{SameList, Touches, IsShort, AreShort}
+use Rattle.street_lanes.specs.Prelude.{SameList, Touches, IsShort, AreShort}
 
 pub touch-none-at-all : (ls : List ℕ) (y : Yard) → Touches ls y y
 touch-none-at-all ls y = record { count = refl; others = λ list away. record { keys = refl; cars = λ k h. refl }; short = λ h. h }

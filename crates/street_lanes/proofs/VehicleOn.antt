@@ -1,39 +1,27 @@
--- Where the vehicle of a number is seen on a lane.
-use Rattle.std.proofs.Common.{◌≡◌, ℕ, zero, suc, ◌<◌, ◌≤◌, Bool, true, false, cond, List, [], ◌∷◌, ◌++◌, length, map, Option, Some, None, IsSome, IsSomeAnd, refl, sym, ap, subst, ◌∙◌, inl, inr, arith}
-use Rattle.std.specs.Prelude.{◌==◌, filter_map, find, position}
-use Rattle.std.specs.List.{cons_option, sum_by, position_or_len}
-use Rattle.std.specs.Option.{option_map, option_map_or, option_and_then, option_or}
+-- Where the vehicle of a number is seen on a lane, and which it is.
+use Rattle.std.proofs.Common.{◌≡◌, ℕ, zero, suc, ◌<◌, ◌≤◌, Bool, true, false, cond, List, [], ◌∷◌, ◌++◌, length, map, Option, Some, None, IsSome, IsSomeAnd, refl, sym, ap, subst, ◌∙◌, inl, inr, arith, ◌==◌, find, position, sum_by, option_map, option_and_then}
+use Rattle.std.specs.List.{position_or_len}
+use Rattle.std.specs.Option.{option_map_or, option_or}
 use Rattle.std.proofs.lemmas.Bool.{cases_Bool, cond-true, cond-false, eq-eqb, ne_eqb, both_ways, le-leb}
 use Rattle.std.proofs.lemmas.List.{map-append}
-use Rattle.std.proofs.lemmas.List.Elements.{filter_map-append}
 use Rattle.std.proofs.lemmas.List.Quantifiers.{position-Some}
 use Rattle.std.proofs.lemmas.List.Sums.{sum_by-cons, position_or_len_is}
 use Rattle.street_base.specs.declared.car.Car.{Car}
 use Rattle.street_base.specs.declared.net.NetSpec.{NetSpec}
 use Rattle.street_base.specs.declared.reply.Whereabouts.{Whereabouts}
+use Rattle.street_base.specs.declared.reply.Whereabouts.TheVariants.{Buffer, Waiting as Waits}
 use Rattle.street_base.specs.declared.names.Place.{Place}
-use Rattle.street_base.specs.Vehicle.{Vehicle, vehicle_of}
-use Rattle.street_base.specs.Lane.{Cells, vehicle_at}
-use Rattle.street_base.specs.State.{LaneState, Queued, Waiting}
-use Rattle.street_base.specs.Apart.{weight}
-use Rattle.street_base.specs.Census.{in_lane}
-use Rattle.street_base.specs.Departure.{is_before}
-use Rattle.street_base.specs.Shown.{put_in_order, in_order}
-use Rattle.street_base.specs.Machine.{told_cell, seen_in_cells, seen_in_buffer, seen_waiting, seen_in}
+use Rattle.street_base.specs.Prelude.{link_at, Vehicle, vehicle_of, Cells, vehicle_at, LaneState, Queued, Waiting, weight, in_lane, is_before, put_in_order, in_order, remaining_ids, told_cell, seen_in}
 use Rattle.street_gap.specs.declared.closures.Stretch.{Stretch}
-use Rattle.street_yard.specs.Yard.{Yard, YardEntry, entry_at, list_at, car_of, IsWhole}
-use Rattle.street_yard.specs.Listed.{cell_at, vehicle_with, key_at, cells_at, IsFalling}
+use Rattle.street_yard.specs.Prelude.{Yard, YardEntry, entry_at, car_of, IsWhole, cell_at, vehicle_with, key_at, cells_at, IsFalling}
 use Rattle.street_yard.proofs.YardLemmas.{cell_is}
 use Rattle.street_yard.proofs.FallingLists.{key_at-split, cells-read}
 use Rattle.street_lanes.specs.declared.lanes.Extent.{Extent}
 use Rattle.street_lanes.specs.declared.lanes.Lanes.TheInside.{Inside}
-use Rattle.street_lanes.specs.Views.{LaneStands, IsLaneOf, waiting_of, queued_of}
-use Rattle.street_lanes.specs.Lanes.{Lanes, lane_of, place_at}
-use Rattle.street_lanes.specs.Lists.{cells_list, buffer_list, waiting_list, cars_on}
-use Rattle.street_lanes.specs.Search.{IsSought, IsFound}
+use Rattle.street_lanes.specs.Prelude.{LaneStands, IsLaneOf, waiting_of, queued_of, Lanes, lane_of, place_at, cells_list, buffer_list, waiting_list, IsSought, IsFound, told_in_cell, told_in_buffer, told_waiting, vehicle_on}
+use Rattle.street_lanes.specs.Search.{IsOf}
 use Rattle.street_lanes.specs.Inside.{length_at, lane_in, seen, IsLaidOut, IsSound}
-use Rattle.street_lanes.specs.Whereabouts.{told_in_cell, told_in_buffer, told_waiting}
-use Rattle.street_lanes.proofs.Without.{counted, at-least, cell-counted, in_order-sum}
+use Rattle.street_lanes.proofs.Without.{in_queue, in_wait, cars, cars-split, numbered, counted, at-least, cell-counted, in_order-sum}
 use Rattle.street_lanes.proofs.LaneWithout.{none-there}
 use Rattle.street_lanes.proofs.Access.{in-extents, stands-in}
 
@@ -94,12 +82,6 @@ find-put-it test w (u ∷ us) t none = elim (cases_Bool (is_before w u)) as (λ 
   ]
 ]
 
-abbrev in_wait : Waiting → Vehicle
-in_wait w = w.vehicle
-
-abbrev in_queue : Queued → Vehicle
-in_queue q = q.vehicle
-
 -- who alone has the number is found in the order as he is without it
 pub find-order : (number : ℕ) (ws : List Waiting) → sum_by (counted number in_wait) ws ≤ 1 → find (is_it number in_wait) (in_order ws) ≡ find (is_it number in_wait) ws
 find-order number [] few = refl
@@ -158,104 +140,129 @@ module _ (number : ℕ) where
           let at = position-Some stands cells x None e in
           absurd (both_ways (stands (vehicle_at cells x)) (fails-or (vehicle_at cells x) (λ v there f. (let some = cell-counted number cells x v there f in omega (arith, some, none)))) at.1)
 
--- ---- what is seen on a lane
+-- ---- what is told of who has a number: of who stands in a cell, in the buffer, or waits
 
--- somebody has the number, and where he alone has it this is what is seen
-pub record IsSeen (net : NetSpec) (place : Place) (number : ℕ) (s : LaneState) (told : Whereabouts) : Type 0 where
-  pub some : 0 < in_lane number s
-  pub seen : in_lane number s ≤ 1 → seen_in net place number s ≡ Some told
+module _ {T : Type 0} (cell : ℕ → Option T) (queue : Queued → T) (wait : Waiting → T) (number : ℕ) (s : LaneState) where
+  abbrev by_number : Option T
+  by_number = option_or (option_and_then cell (position (stands number) s.track.cells)) (option_or (option_map queue (find (is_it number in_queue) s.queue)) (option_map wait (find (is_it number in_wait) s.waiting)))
 
-module _ (net : NetSpec) (place : Place) (number : ℕ) (s : LaneState) where
-  no-cell : sum_by (weight number) s.track.cells ≡ 0 → seen_in_cells net place number s ≡ None
-  no-cell none = ap (λ (o : Option ℕ). option_and_then (λ x. option_map (told_cell net place number x) (vehicle_at s.track.cells x)) o) (position-none number s.track.cells none)
+  -- somebody has the number, and where he alone has it this is told
+  abbrev IsTold : T → Type 0
+  IsTold told = (0 < in_lane number s) × (in_lane number s ≤ 1 → by_number ≡ Some told)
 
-  no-buffer : sum_by (counted number in_queue) s.queue ≡ 0 → seen_in_buffer net place number s ≡ None
-  no-buffer none = rw (find-none number in_queue s.queue none) refl
+  told-none : in_lane number s ≡ 0 → by_number ≡ None
+  told-none none = rw (position-none number s.track.cells (omega (arith, none)), find-none number in_queue s.queue (omega (arith, none)), find-none number in_wait s.waiting (omega (arith, none))) refl
 
-  no-waiting : sum_by (counted number in_wait) s.waiting ≡ 0 → seen_waiting net place number s ≡ None
-  no-waiting none = rw (find-none number in_wait s.waiting none) refl
+  told-cell : (x : ℕ) (v : Vehicle) (told : T) → vehicle_at s.track.cells x ≡ Some v → cell x ≡ Some told → v.number ≡ number → IsTold told
+  told-cell x v told at tells is =
+      let counts = cell-counted number s.track.cells x v at is in
+      (omega (arith, counts), λ few. rw (position-one number s.track.cells x v at is (omega (arith, few)), tells) refl)
 
-  pub seen-nowhere : in_lane number s ≡ 0 → seen_in net place number s ≡ None
-  unfolding seen_in
-  seen-nowhere none = rw (no-cell (omega (arith, none)), no-buffer (omega (arith, none))) (no-waiting (omega (arith, none)))
+  told-queue : (us : List Queued) (q : Queued) (vs : List Queued) → s.queue ≡ us ++ q ∷ vs → q.vehicle.number ≡ number → IsTold (queue q)
+  told-queue us q vs split is =
+      let counts : 1 ≤ sum_by (counted number in_queue) s.queue = subst (λ qs. 1 ≤ sum_by (counted number in_queue) qs) (sym split) (at-least number in_queue us q vs is) in (
+        omega (arith, counts),
+        λ few.
+            let once : sum_by (counted number in_queue) (us ++ q ∷ vs) ≤ 1 = subst (λ qs. sum_by (counted number in_queue) qs ≤ 1) split (omega (arith, few)) in
+            let found : find (is_it number in_queue) s.queue ≡ Some q = ap (find (is_it number in_queue)) split ∙ find-one number in_queue us q vs is once in
+            rw (position-none number s.track.cells (omega (arith, counts, few)), found) refl,
+      )
 
-  in-cells : (car : Car) → vehicle_at s.track.cells car.cell ≡ Some (vehicle_of car) → car.number ≡ number → IsSeen net place number s (told_in_cell net place car)
-  unfolding seen_in
-  in-cells car at is =
-      let counts = cell-counted number s.track.cells car.cell (vehicle_of car) at is in
-      record {
-        some = omega (arith, counts);
-        seen = λ few.
-            ap (λ o. option_or o (option_or (seen_in_buffer net place number s) (seen_waiting net place number s)))
-            (ap (λ (o : Option ℕ). option_and_then (λ x. option_map (told_cell net place number x) (vehicle_at s.track.cells x)) o) (position-one number s.track.cells car.cell (vehicle_of car) at is (omega (arith, few)))
-            ∙ ap (option_map (told_cell net place number car.cell)) at);
-      }
-
-  in-buffer : (car : Car) (us vs : List Queued) → s.queue ≡ us ++ queued_of car ∷ vs → car.number ≡ number → IsSeen net place number s (told_in_buffer net place car)
-  unfolding seen_in
-  in-buffer car us vs split is =
-      let counts : 1 ≤ sum_by (counted number in_queue) s.queue = subst (λ qs. 1 ≤ sum_by (counted number in_queue) qs) (sym split) (at-least number in_queue us (queued_of car) vs is) in
-      record {
-        some = omega (arith, counts);
-        seen = λ few.
-            let once : sum_by (counted number in_queue) (us ++ queued_of car ∷ vs) ≤ 1 = subst (λ qs. sum_by (counted number in_queue) qs ≤ 1) split (omega (arith, few)) in
-            let found : find (is_it number in_queue) s.queue ≡ Some (queued_of car) = ap (find (is_it number in_queue)) split ∙ find-one number in_queue us (queued_of car) vs is once in
-            rw (no-cell (omega (arith, counts, few)), found) refl;
-      }
-
-  in-waiting : (car : Car) (us vs : List Waiting) → in_order s.waiting ≡ us ++ waiting_of car ∷ vs → car.number ≡ number → IsSeen net place number s (told_waiting net place car)
-  unfolding seen_in
-  in-waiting car us vs split is =
+  told-wait : (us : List Waiting) (w : Waiting) (vs : List Waiting) → in_order s.waiting ≡ us ++ w ∷ vs → w.vehicle.number ≡ number → IsTold (wait w)
+  told-wait us w vs split is =
       let ordered = in_order-sum (counted number in_wait) s.waiting in
-      let counts : 1 ≤ sum_by (counted number in_wait) (in_order s.waiting) = subst (λ ws. 1 ≤ sum_by (counted number in_wait) ws) (sym split) (at-least number in_wait us (waiting_of car) vs is) in
-      record {
-        some = omega (arith, counts, ordered);
-        seen = λ few.
-            let once : sum_by (counted number in_wait) (us ++ waiting_of car ∷ vs) ≤ 1 = subst (λ ws. sum_by (counted number in_wait) ws ≤ 1) split (omega (arith, few, ordered)) in
-            let found : find (is_it number in_wait) s.waiting ≡ Some (waiting_of car) = sym (find-order number s.waiting (omega (arith, few))) ∙ ap (find (is_it number in_wait)) split ∙ find-one number in_wait us (waiting_of car) vs is once in
-            rw (no-cell (omega (arith, counts, ordered, few)), no-buffer (omega (arith, counts, ordered, few)), found) refl;
-      }
+      let counts : 1 ≤ sum_by (counted number in_wait) (in_order s.waiting) = subst (λ ws. 1 ≤ sum_by (counted number in_wait) ws) (sym split) (at-least number in_wait us w vs is) in (
+        omega (arith, counts, ordered),
+        λ few.
+            let once : sum_by (counted number in_wait) (us ++ w ∷ vs) ≤ 1 = subst (λ ws. sum_by (counted number in_wait) ws ≤ 1) split (omega (arith, few, ordered)) in
+            let found : find (is_it number in_wait) s.waiting ≡ Some w = sym (find-order number s.waiting (omega (arith, few))) ∙ ap (find (is_it number in_wait)) split ∙ find-one number in_wait us w vs is once in
+            rw (position-none number s.track.cells (omega (arith, counts, ordered, few)), find-none number in_queue s.queue (omega (arith, counts, ordered, few)), found) refl,
+      )
 
 -- ---- by the lists of a lane
 
-abbrev pub cars : Yard → List ℕ → List Car
-cars y = filter_map (car_of y)
+module _ (y : Yard) (closures : List (List Stretch)) (extents : List Extent) (n : ℕ) (sound : IsLaidOut y closures extents) (inside : n < length extents) (whole : IsWhole y) (s : LaneState) (st : IsLaneOf (lane_in y closures extents n) s)
+    (number key : ℕ) (car : Car) (held : car_of y key ≡ Some car) {T : Type 0} (cell : ℕ → Option T) (queue : Queued → T) (wait : Waiting → T) where
+  by-cells : (told : T) → (vehicle_at s.track.cells car.cell ≡ Some (vehicle_of car) → cell car.cell ≡ Some told) → IsSought y (cells_list n) number (Some key) → IsTold cell queue wait number s told
+  by-cells told tells found =
+      let count = length_at extents n in
+      let split = found.0.2 in
+      let falls = (sound.falls n inside).falls in
+      let there : vehicle_at (cells_at y (cells_list n) count) (cell_at y key) ≡ Some (vehicle_of car) =
+      cells-read y (cells_list n) count whole falls (cell_at y key)
+      ∙ ap (option_and_then (vehicle_with y)) (ap (λ l. key_at (cell_at y) l (cell_at y key)) split ∙ key_at-split (cell_at y) count found.0.0 key found.0.1 (subst (IsFalling (cell_at y) count) split falls))
+      ∙ ap (option_map vehicle_of) held in
+      let at : vehicle_at s.track.cells car.cell ≡ Some (vehicle_of car) = sym (λ i. vehicle_at (st.track i).cells (cell_is y key car held i)) ∙ there in
+      told-cell cell queue wait number s car.cell (vehicle_of car) told at (tells at) (numbered number (car_of y key) car held found.1)
 
-pub cars-split : (y : Yard) (list key : ℕ) (car : Car) → car_of y key ≡ Some car → (us vs : List ℕ) → list_at y list ≡ us ++ key ∷ vs → cars_on y list ≡ cars y us ++ car ∷ cars y vs
-cars-split y list key car held us vs split = ap (filter_map (car_of y)) split ∙ filter_map-append (car_of y) us (key ∷ vs) ∙ ap (λ o. cars y us ++ cons_option o (cars y vs)) held
+  by-buffer : IsSought y (buffer_list n) number (Some key) → IsTold cell queue wait number s (queue (queued_of car))
+  by-buffer found =
+      told-queue cell queue wait number s (map queued_of (cars y found.0.0)) (queued_of car) (map queued_of (cars y found.0.1))
+      (sym st.queue ∙ ap (map queued_of) (cars-split y (buffer_list n) key car held found.0.0 found.0.1 found.0.2) ∙ map-append queued_of (cars y found.0.0) (car ∷ cars y found.0.1))
+      (numbered number (car_of y key) car held found.1)
 
-pub numbered : (number : ℕ) (o : Option Car) (car : Car) → o ≡ Some car → IsSomeAnd o (λ c. c.number ≡ number) → car.number ≡ number
-numbered number None car e h = cc
-numbered number (Some c) car e h = (let same : c ≡ car = cc in subst (λ (d : Car). d.number ≡ number) same h)
+  by-waiting : IsSought y (waiting_list n) number (Some key) → IsTold cell queue wait number s (wait (waiting_of car))
+  by-waiting found =
+      told-wait cell queue wait number s (map waiting_of (cars y found.0.0)) (waiting_of car) (map waiting_of (cars y found.0.1))
+      (sym st.waiting ∙ ap (map waiting_of) (cars-split y (waiting_list n) key car held found.0.0 found.0.1 found.0.2) ∙ map-append waiting_of (cars y found.0.0) (car ∷ cars y found.0.1))
+      (numbered number (car_of y key) car held found.1)
 
-module _ (net : NetSpec) (place : Place) (number : ℕ) (y : Yard) (closures : List (List Stretch)) (extents : List Extent) (n : ℕ) (sound : IsLaidOut y closures extents) (inside : n < length extents) (whole : IsWhole y) (s : LaneState) (st : IsLaneOf (lane_in y closures extents n) s) where
-  module _ (key : ℕ) (car : Car) (held : car_of y key ≡ Some car) where
-    pub found-in-cell : IsSought y (cells_list n) number (Some key) → IsSeen net place number s (told_in_cell net place car)
-    found-in-cell found =
-        let split = found.0.2 in
-        let count = length_at extents n in
-        let falls = (sound.falls n inside).falls in
-        let there : vehicle_at (cells_at y (cells_list n) count) (cell_at y key) ≡ Some (vehicle_of car) =
-        cells-read y (cells_list n) count whole falls (cell_at y key)
-        ∙ ap (option_and_then (vehicle_with y)) (ap (λ l. key_at (cell_at y) l (cell_at y key)) split ∙ key_at-split (cell_at y) count found.0.0 key found.0.1 (subst (IsFalling (cell_at y) count) split falls))
-        ∙ ap (option_map vehicle_of) held in
-        let at : vehicle_at s.track.cells car.cell ≡ Some (vehicle_of car) = sym (λ i. vehicle_at (st.track i).cells (cell_is y key car held i)) ∙ there in
-        in-cells net place number s car at (numbered number (car_of y key) car held found.1)
+-- ---- where it is seen
 
-    pub found-in-buffer : IsSought y (buffer_list n) number (Some key) → IsSeen net place number s (told_in_buffer net place car)
-    found-in-buffer found =
-        in-buffer net place number s car (map queued_of (cars y found.0.0)) (map queued_of (cars y found.0.1))
-        (sym st.queue ∙ ap (map queued_of) (cars-split y (buffer_list n) key car held found.0.0 found.0.1 found.0.2) ∙ map-append queued_of (cars y found.0.0) (car ∷ cars y found.0.1))
-        (numbered number (car_of y key) car held found.1)
+module _ (net : NetSpec) (place : Place) (number : ℕ) (s : LaneState) where
+  abbrev seen_cell : ℕ → Option Whereabouts
+  seen_cell x = option_map (told_cell net place number x) (vehicle_at s.track.cells x)
 
-    pub found-waiting : IsSought y (waiting_list n) number (Some key) → IsSeen net place number s (told_waiting net place car)
-    found-waiting found =
-        in-waiting net place number s car (map waiting_of (cars y found.0.0)) (map waiting_of (cars y found.0.1))
-        (sym st.waiting ∙ ap (map waiting_of) (cars-split y (waiting_list n) key car held found.0.0 found.0.1 found.0.2) ∙ map-append waiting_of (cars y found.0.0) (car ∷ cars y found.0.1))
-        (numbered number (car_of y key) car held found.1)
+  abbrev seen_queue : Queued → Whereabouts
+  seen_queue q = Buffer (link_at net place.link).id place.lane q.ready q.vehicle.speed q.vehicle.size (remaining_ids net q.vehicle)
 
-  pub found-nowhere : IsFound y n number None → (in_lane number s ≡ 0) × (seen_in net place number s ≡ None)
-  found-nowhere none = (let zero_there = sym (none-there y closures extents n sound inside number whole none s st) in (zero_there, seen-nowhere net place number s zero_there))
+  abbrev seen_wait : Waiting → Whereabouts
+  seen_wait w = Waits (link_at net place.link).id place.lane w.depart w.vehicle.size (remaining_ids net w.vehicle)
+
+  -- somebody has the number, and where he alone has it this is what is seen
+  abbrev pub IsSeen : Whereabouts → Type 0
+  IsSeen told = (0 < in_lane number s) × (in_lane number s ≤ 1 → seen_in net place number s ≡ Some told)
+
+  seen-as : (told : Whereabouts) → IsTold seen_cell seen_queue seen_wait number s told → IsSeen told
+  unfolding seen_in
+  seen-as told r = r
+
+  seen-nowhere : in_lane number s ≡ 0 → seen_in net place number s ≡ None
+  unfolding seen_in
+  seen-nowhere none = told-none seen_cell seen_queue seen_wait number s none
+
+  module _ (y : Yard) (closures : List (List Stretch)) (extents : List Extent) (n : ℕ) (sound : IsLaidOut y closures extents) (inside : n < length extents) (whole : IsWhole y) (st : IsLaneOf (lane_in y closures extents n) s) where
+    module _ (key : ℕ) (car : Car) (held : car_of y key ≡ Some car) where
+      found-in-cell : IsSought y (cells_list n) number (Some key) → IsSeen (told_in_cell net place car)
+      found-in-cell found =
+          seen-as (told_in_cell net place car)
+          (by-cells y closures extents n sound inside whole s st number key car held seen_cell seen_queue seen_wait (told_in_cell net place car) (λ at. ap (option_map (told_cell net place number car.cell)) at) found)
+
+      found-in-buffer : IsSought y (buffer_list n) number (Some key) → IsSeen (told_in_buffer net place car)
+      found-in-buffer found = seen-as (told_in_buffer net place car) (by-buffer y closures extents n sound inside whole s st number key car held seen_cell seen_queue seen_wait found)
+
+      found-waiting : IsSought y (waiting_list n) number (Some key) → IsSeen (told_waiting net place car)
+      found-waiting found = seen-as (told_waiting net place car) (by-waiting y closures extents n sound inside whole s st number key car held seen_cell seen_queue seen_wait found)
+
+    found-nowhere : IsFound y n number None → (in_lane number s ≡ 0) × (seen_in net place number s ≡ None)
+    found-nowhere none = (let zero_there = sym (none-there y closures extents n sound inside number whole none s st) in (zero_there, seen-nowhere zero_there))
+
+-- ---- which vehicle it is
+
+module _ (number : ℕ) (s : LaneState) where
+  pub on-nowhere : in_lane number s ≡ 0 → vehicle_on number s ≡ None
+  unfolding vehicle_on
+  on-nowhere none = told-none (vehicle_at s.track.cells) in_queue in_wait number s none
+
+  module _ (y : Yard) (closures : List (List Stretch)) (extents : List Extent) (n : ℕ) (sound : IsLaidOut y closures extents) (inside : n < length extents) (whole : IsWhole y) (st : IsLaneOf (lane_in y closures extents n) s) (key : ℕ) (car : Car) (held : car_of y key ≡ Some car) where
+    taken-on : (list : ℕ) → IsOf n list → IsSought y list number (Some key) → IsTold (vehicle_at s.track.cells) in_queue in_wait number s (vehicle_of car)
+    taken-on list (inl e) sought = by-cells y closures extents n sound inside whole s st number key car held (vehicle_at s.track.cells) in_queue in_wait (vehicle_of car) (λ at. at) (subst (λ l. IsSought y l number (Some key)) e sought)
+    taken-on list (inr (inl e)) sought = by-buffer y closures extents n sound inside whole s st number key car held (vehicle_at s.track.cells) in_queue in_wait (subst (λ l. IsSought y l number (Some key)) e sought)
+    taken-on list (inr (inr e)) sought = by-waiting y closures extents n sound inside whole s st number key car held (vehicle_at s.track.cells) in_queue in_wait (subst (λ l. IsSought y l number (Some key)) e sought)
+
+    pub taken-vehicle : in_lane number s ≤ 1 → IsFound y n number (Some key) → vehicle_on number s ≡ Some (vehicle_of car)
+    unfolding vehicle_on
+    taken-vehicle few found = (taken-on found.0 found.1 found.2).1 few
 
 -- ---- as a method tells it
 
@@ -268,24 +275,24 @@ module _ (x : Inside) (v : Lanes) (is : seen x ≡ v) (sound : IsSound x) (n : �
   pub answer-seen : (told found : Whereabouts) → found ≡ told → ((s : LaneState) → IsLaneOf (lane_in x.yard x.closures.items x.extents.items n) s → IsSeen net (place_at v n) number s told) → IsAnswer (Some found)
   answer-seen told found e each s stands =
       let r = each s (stands-in x v is n h s stands) in
-      ((λ few. ap Some e ∙ sym (r.seen few)), (λ none. cc), (λ some. r.some))
+      ((λ few. ap Some e ∙ sym (r.1 few)), (λ none. cc), (λ some. r.0))
 
   module _ (at : Place) (there : at ≡ place_at v n) (spec : NetSpec) (same : spec ≡ net) (key : ℕ) (car : Car) (held : car_of x.yard key ≡ Some car) (list : ℕ) (found : Whereabouts) where
     pub answer-cell : list ≡ cells_list n → IsSought x.yard list number (Some key) → found ≡ told_in_cell spec at car → IsAnswer (Some found)
     answer-cell e sought told = answer-seen (told_in_cell net (place_at v n) car) found (told ∙ (λ i. told_in_cell (same i) (there i) car))
-        (λ s st. found-in-cell net (place_at v n) number x.yard x.closures.items x.extents.items n sound (in-extents x v is n h) whole s st key car held (subst (λ l. IsSought x.yard l number (Some key)) e sought))
+        (λ s st. found-in-cell net (place_at v n) number s x.yard x.closures.items x.extents.items n sound (in-extents x v is n h) whole st key car held (subst (λ l. IsSought x.yard l number (Some key)) e sought))
 
     pub answer-buffer : list ≡ buffer_list n → IsSought x.yard list number (Some key) → found ≡ told_in_buffer spec at car → IsAnswer (Some found)
     answer-buffer e sought told = answer-seen (told_in_buffer net (place_at v n) car) found (told ∙ (λ i. told_in_buffer (same i) (there i) car))
-        (λ s st. found-in-buffer net (place_at v n) number x.yard x.closures.items x.extents.items n sound (in-extents x v is n h) whole s st key car held (subst (λ l. IsSought x.yard l number (Some key)) e sought))
+        (λ s st. found-in-buffer net (place_at v n) number s x.yard x.closures.items x.extents.items n sound (in-extents x v is n h) whole st key car held (subst (λ l. IsSought x.yard l number (Some key)) e sought))
 
     pub answer-waiting : list ≡ waiting_list n → IsSought x.yard list number (Some key) → found ≡ told_waiting spec at car → IsAnswer (Some found)
     answer-waiting e sought told = answer-seen (told_waiting net (place_at v n) car) found (told ∙ (λ i. told_waiting (same i) (there i) car))
-        (λ s st. found-waiting net (place_at v n) number x.yard x.closures.items x.extents.items n sound (in-extents x v is n h) whole s st key car held (subst (λ l. IsSought x.yard l number (Some key)) e sought))
+        (λ s st. found-waiting net (place_at v n) number s x.yard x.closures.items x.extents.items n sound (in-extents x v is n h) whole st key car held (subst (λ l. IsSought x.yard l number (Some key)) e sought))
 
   pub answer-none : (cells buffer waiting : ℕ) → cells ≡ cells_list n → buffer ≡ buffer_list n → waiting ≡ waiting_list n
       → IsSought x.yard cells number None → IsSought x.yard buffer number None → IsSought x.yard waiting number None → IsAnswer None
   answer-none cells buffer waiting e f g a b c s stands =
       let none : IsFound x.yard n number None = (subst (λ l. IsSought x.yard l number None) e a, subst (λ l. IsSought x.yard l number None) f b, subst (λ l. IsSought x.yard l number None) g c) in
-      let r = found-nowhere net (place_at v n) number x.yard x.closures.items x.extents.items n sound (in-extents x v is n h) whole s (stands-in x v is n h s stands) none in
+      let r = found-nowhere net (place_at v n) number s x.yard x.closures.items x.extents.items n sound (in-extents x v is n h) whole (stands-in x v is n h s stands) none in
       ((λ few. sym r.1), (λ empty. r.0), (λ some. cc))

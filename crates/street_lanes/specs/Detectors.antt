@@ -1,13 +1,11 @@
 -- The detectors of a lane, and what they note of a step.
 -- Source: meters that sum what detectors note are this profile; what a detector notes in a step is street_base's Detector.
 use Rattle.std.specs.Prelude.{◌≡◌, ℕ, ◌+◌, ◌<◌, List, [], ◌∷◌, ◌++◌, length, slice_index_or, if◌then◌else◌}
-use Rattle.street_base.specs.Lane.{Cells, is_covered}
+use Rattle.street_base.specs.Prelude.{Cells, is_covered, Traffic, Triple, Detector, lane_at, drive_on}
 use Rattle.street_base.specs.declared.names.Place.{Place}
-use Rattle.street_base.specs.State.{Traffic, Triple, Detector, lane_at}
-use Rattle.street_base.specs.Step.{drive_on}
 use Rattle.street_meter.specs.Meter.{Meter, Stands, IsPlacedAs, detector_of, next_step}
 use Rattle.street_rule.specs.declared.watch.Watch.{Watch}
-use Rattle.street_rule.specs.Watch.{watched}
+use Rattle.street_rule.specs.Prelude.{watched}
 
 -- how many cells the lane has, its meters, and for each what its detector saw of the last motion
 pub record Detectors : Type 0 where

@@ -2,13 +2,9 @@
 -- Source: this profile.
 use Rattle.std.specs.Prelude.{◌≡◌, ◌≢◌, ℕ, ◌+◌, List, [], ◌∷◌}
 use Rattle.street_base.specs.declared.net.NetSpec.{NetSpec}
-use Rattle.street_base.specs.LaneChange.{Changing, changed_cells}
-use Rattle.street_base.specs.Network.{link_at}
-use Rattle.street_base.specs.State.{Traffic, LaneState}
-use Rattle.street_base.specs.Step.{changing_on, with_cells}
+use Rattle.street_base.specs.Prelude.{Changing, changed_cells, link_at, Traffic, LaneState, changing_on, with_cells}
 use Rattle.street_gap.specs.declared.closures.Stretch.{Stretch}
-use Rattle.street_yard.specs.Yard.{Yard}
-use Rattle.street_yard.specs.Listed.{IsLane}
+use Rattle.street_yard.specs.Prelude.{Yard, IsLane}
 use Rattle.street_lanes.specs.Views.{LaneView, LaneStands, IsLaneOf}
 use Rattle.street_lanes.specs.Lanes.{Lanes, lane_of, place_at, Same}
 use Rattle.street_lanes.specs.Lists.{cells_list, lane_seen, NoneLoose, Touches}

@@ -1,6 +1,5 @@
 -- What the fields of `LaneMeters` stand for.
-use Rattle.std.specs.Prelude.{◌≡◌, ◌<◌, length}
-use Rattle.std.specs.List.{All}
+use Rattle.std.specs.Prelude.{◌≡◌, ◌<◌, length, All}
 use Rattle.street_lanes.specs.declared.lane_meters.LaneMeters.TheInside.{Inside}
 use Rattle.street_lanes.specs.Detectors.{Detectors}
 

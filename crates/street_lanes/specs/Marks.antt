@@ -2,7 +2,7 @@
 -- Source: this profile.
 use Rattle.std.specs.Prelude.{◌≡◌, ℕ, List, Bool, if◌then◌else◌}
 use Rattle.street_gap.specs.declared.closures.Stretch.{Stretch}
-use Rattle.street_gap.specs.Closed.{is_between, is_in}
+use Rattle.street_gap.specs.Prelude.{is_between, is_in}
 
 -- the cells from the first to the last are closed now, or open, and all others as they were
 abbrev pub Marks : Bool → ℕ → ℕ → List Stretch → List Stretch → Type 0

@@ -1,21 +1,15 @@
 -- Motion on one lane of a tile.
 -- Source: this profile.
-use Rattle.std.specs.Prelude.{◌≡◌, ◌⊎◌, ℕ, ◌+◌, ◌<◌, ◌≤◌, nat_lt, List, [], ◌∷◌, ◌++◌, length, map, Bool, true, false, ◌&&◌, Option, Some, if◌then◌else◌}
-use Rattle.std.specs.Option.{option_map_or, option_to_list}
+use Rattle.std.specs.Prelude.{◌≡◌, ◌⊎◌, ℕ, ◌+◌, ◌<◌, ◌≤◌, nat_lt, List, [], ◌∷◌, ◌++◌, length, map, Bool, true, false, ◌&&◌, Option, Some, if◌then◌else◌, option_to_list}
+use Rattle.std.specs.Option.{option_map_or}
 use Rattle.street_base.specs.declared.car.Car.{Car}
 use Rattle.street_base.specs.declared.net.NetSpec.{NetSpec}
-use Rattle.street_base.specs.Limits.{last_clock}
+use Rattle.street_base.specs.Prelude.{last_clock, link_at, end_node, serves, Vehicle, vehicle_of, next_link, is_on_last, SignalPlan, is_green, Traffic, lane_at, plan_at, drive_on, leaver_of, driven_lane, arrival}
 use Rattle.street_base.specs.declared.names.Place.{Place}
-use Rattle.street_base.specs.Network.{link_at, end_node, serves}
-use Rattle.street_base.specs.Vehicle.{Vehicle, vehicle_of, next_link, is_on_last}
-use Rattle.street_base.specs.Signal.{SignalPlan, is_green}
-use Rattle.street_base.specs.State.{Traffic, lane_at}
-use Rattle.street_base.specs.Step.{plan_at, drive_on, leaver_of, driven_lane, arrival}
 use Rattle.street_gap.specs.declared.closures.Stretch.{Stretch}
-use Rattle.street_yard.specs.Yard.{Yard, list_at, car_of}
-use Rattle.street_yard.specs.Listed.{IsLane}
+use Rattle.street_yard.specs.Prelude.{Yard, list_at, car_of, IsLane}
 use Rattle.street_rule.specs.declared.watch.Watch.{Watch}
-use Rattle.street_rule.specs.Watch.{watched}
+use Rattle.street_rule.specs.Prelude.{watched}
 use Rattle.street_lanes.specs.declared.motion.Leg.{Leg}
 use Rattle.street_lanes.specs.Views.{LaneView, LaneStands, IsLaneOf}
 use Rattle.street_lanes.specs.Lanes.{Lanes, lane_of, place_at, Same, Others}

@@ -2,7 +2,7 @@
 -- Source: this profile.
 use Rattle.std.specs.Prelude.{ℕ, ◌≡◌, ◌≢◌, ◌⊎◌, ◌+◌, Option, Some, None, IsSomeAnd, ◌∷◌, []}
 use Rattle.street_base.specs.declared.car.Car.{Car}
-use Rattle.street_yard.specs.Yard.{Yard, list_at, car_of, list_on, without, Has}
+use Rattle.street_yard.specs.Prelude.{Yard, list_at, car_of, list_on, without, Has}
 use Rattle.street_lanes.specs.Lists.{cells_list, buffer_list, waiting_list, NoneLoose, Touches}
 
 -- the car of this key on the list has the number; with no key, none on the list has it

@@ -1,13 +1,8 @@
 //! The detectors of a lane, which has some or none.
-ghost use Rattle.std.specs.Prelude.{◌≡◌, ◌<◌, ◌≤◌, length, List, [], option_map, slice_get, IfOk, OnOk, OnErr};
-ghost use Rattle.std.specs.List.{All};
-ghost use Rattle.street_base.specs.Limits.{last_clock, most_period};
-ghost use Rattle.street_base.specs.Shown.{shown_rows};
-ghost use Rattle.street_base.specs.State.{LaneState, Detector};
-ghost use Rattle.street_lanes.specs.Views.{LaneStands};
-ghost use Rattle.street_lanes.specs.Lanes.{lane_of};
+ghost use Rattle.std.specs.Prelude.{◌≡◌, ◌<◌, ◌≤◌, length, List, [], option_map, slice_get, IfOk, OnOk, OnErr, All};
+ghost use Rattle.street_base.specs.Prelude.{last_clock, most_period, shown_rows, LaneState, Detector};
+ghost use Rattle.street_lanes.specs.Prelude.{LaneStands, lane_of, AllGoOn, AllNote, MetersStandFor, Placed};
 ghost use Rattle.street_meter.specs.Meter.{next_step};
-ghost use Rattle.street_lanes.specs.Detectors.{AllGoOn, AllNote, MetersStandFor, Placed};
 
 use crate::Lanes;
 use crate::lane_meters::LaneMeters;
@@ -40,7 +35,7 @@ pub(crate) enum Kind {
 }
 
 impl Model for Detectors {
-    ghost use Rattle.street_lanes.specs.Detectors.{Detectors as Seen};
+    ghost use Rattle.street_lanes.specs.Prelude.{Detectors as Seen};
 
     ghost Value = { Seen };
 

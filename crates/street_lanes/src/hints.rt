@@ -1,6 +1,6 @@
 //! Where those who wait are to be looked for. A hint may be wrong: whoever takes one tests it.
 ghost use Rattle.std.specs.Prelude.{◌<◌, length};
-ghost use Rattle.street_yard.specs.Yard.{IsOnList};
+ghost use Rattle.street_yard.specs.Prelude.{IsOnList};
 
 use crate::search::stands_on;
 use std::alloc::{AllocError, Global};
@@ -42,7 +42,6 @@ impl Marks {
         requires { list.0 < length yard.now.lists }
         ensures { IsOnList yard.now list.0 result }
     {
-        yard.whole();
         let ahead = self
             .marks
             .partition_point(|mark: &Mark| -> bool { mark.is_ahead_of(car) });

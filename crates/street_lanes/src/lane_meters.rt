@@ -1,16 +1,11 @@
 //! The detectors of a lane that has some.
 //!
 //! Source: detectors are this profile.
-ghost use Rattle.std.specs.Prelude.{◌≡◌, ◌<◌, ◌≤◌, length, List, [], map, option_map, slice_get, IfOk, OnOk, OnErr};
-ghost use Rattle.std.specs.List.{All};
-ghost use Rattle.street_base.specs.Limits.{last_clock, most_period};
-ghost use Rattle.street_base.specs.Shown.{shown_rows};
-ghost use Rattle.street_base.specs.State.{LaneState, Detector};
-ghost use Rattle.street_lanes.specs.Views.{LaneStands};
-ghost use Rattle.street_lanes.specs.Lanes.{lane_of};
+ghost use Rattle.std.specs.Prelude.{◌≡◌, ◌<◌, ◌≤◌, length, List, [], map, option_map, slice_get, IfOk, OnOk, OnErr, All};
+ghost use Rattle.street_base.specs.Prelude.{last_clock, most_period, shown_rows, LaneState, Detector};
+ghost use Rattle.street_lanes.specs.Prelude.{LaneStands, lane_of, cleared, GoesOn, Notes, AllGoOn, AllNote, MetersStandFor, Placed};
 ghost use Rattle.street_meter.specs.Meter.{next_step};
-ghost use Rattle.street_rule.specs.Watch.{IsReady};
-ghost use Rattle.street_lanes.specs.Detectors.{cleared, GoesOn, Notes, AllGoOn, AllNote, MetersStandFor, Placed};
+ghost use Rattle.street_rule.specs.Prelude.{IsReady};
 
 use crate::Lanes;
 use std::alloc::Global;
@@ -32,7 +27,7 @@ pub(crate) struct LaneMeters {
 }
 
 impl Model for LaneMeters {
-    ghost use Rattle.street_lanes.specs.Detectors.{Detectors as Seen};
+    ghost use Rattle.street_lanes.specs.Prelude.{Detectors as Seen};
 
     ghost Value = { Seen };
 

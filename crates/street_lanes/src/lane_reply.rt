@@ -3,13 +3,9 @@
 //! Source: this profile.
 ghost use Rattle.std.specs.Prelude.{◌≡◌, ◌<◌, length, map, IfOk};
 ghost use Rattle.street_base.specs.declared.car.Car.{Car as Driven};
-ghost use Rattle.street_base.specs.State.{LaneState};
-ghost use Rattle.street_base.specs.Shown.{shown_lane};
-ghost use Rattle.street_lanes.specs.Views.{LaneStands};
-ghost use Rattle.street_lanes.specs.Lanes.{lane_of};
-ghost use Rattle.street_lanes.specs.Lists.{cars_on};
-ghost use Rattle.street_lanes.specs.ShownCars.{shown_in_buffer, shown_in_cell, shown_waiting, shown_stretch};
-ghost use Rattle.street_yard.specs.View.{viewed};
+ghost use Rattle.street_base.specs.Prelude.{LaneState, shown_lane};
+ghost use Rattle.street_lanes.specs.Prelude.{LaneStands, lane_of, cars_on, shown_in_buffer, shown_in_cell, shown_waiting, shown_stretch};
+ghost use Rattle.street_yard.specs.Prelude.{viewed};
 
 use crate::lanes::Lanes;
 use crate::lists::{buffer_list, cells_list, waiting_list};

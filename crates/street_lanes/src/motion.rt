@@ -1,21 +1,14 @@
 //! Motion on one lane of a tile.
 //!
 //! Source: Nagel and Schreckenberg 1992; exits, buffers and detectors are this profile.
-ghost use Rattle.std.specs.Prelude.{◌≡◌, ◌^◌, ◌<◌, ◌≤◌, [], length, map, Some, IsSome};
-ghost use Rattle.std.specs.List.{All};
+ghost use Rattle.std.specs.Prelude.{◌≡◌, ◌^◌, ◌<◌, ◌≤◌, [], length, map, Some, IsSome, All};
 ghost use Rattle.street_base.specs.declared.car.Car.{Car as CarOf};
-ghost use Rattle.street_base.specs.Limits.{most_residence};
-ghost use Rattle.street_base.specs.Network.{end_node};
-ghost use Rattle.street_base.specs.Signal.{is_green};
-ghost use Rattle.street_rule.specs.Sight.{odds_of};
-ghost use Rattle.street_gap.specs.Closed.{IsWithin};
-ghost use Rattle.street_rule.specs.Watch.{IsReady};
-ghost use Rattle.street_yard.specs.Yard.{list_at, entry_at, car_of, IsLoose};
-ghost use Rattle.street_yard.specs.Listed.{IsLane};
-ghost use Rattle.street_lanes.specs.Detectors.{cleared};
-ghost use Rattle.street_lanes.specs.Lanes.{lane_of, IsOf};
-ghost use Rattle.street_lanes.specs.Lists.{cells_list, buffer_list, NoneLoose, NoneLooseBut};
-ghost use Rattle.street_lanes.specs.Motion.{opens_to, cells_on, Settles, MovesLeg, DrivesAt, TellsExit};
+ghost use Rattle.street_base.specs.Prelude.{most_residence, end_node, is_green};
+ghost use Rattle.street_rule.specs.Prelude.{odds_of, IsReady};
+ghost use Rattle.street_gap.specs.Prelude.{IsWithin};
+ghost use Rattle.street_yard.specs.Prelude.{list_at, entry_at, car_of, IsLoose, IsLane};
+ghost use Rattle.street_lanes.specs.Prelude.{cleared, lane_of, cells_list, buffer_list, NoneLoose, NoneLooseBut, opens_to, cells_on, Settles, MovesLeg, DrivesAt, TellsExit};
+ghost use Rattle.street_lanes.specs.Lanes.{IsOf};
 
 use crate::detectors::{Detectors, Kind};
 use crate::lanes::Lanes;
@@ -112,7 +105,6 @@ fn settle(yard: &mut Yard, buffer: ListId, key: Key, ready: Step) -> Option<CarN
     ensures settles { (car : CarOf) → car_of yard.old key ≡ Some car → Settles buffer.0 ready car yard.old yard.new result }
     ensures none_loose { NoneLooseBut key yard.old → NoneLoose yard.new }
 {
-    yard.whole();
     if yard.next_link(key).is_none() {
         let car = yard.take(key);
         return Some(car.number);

@@ -1,6 +1,6 @@
 //! Vehicles in memory in the order in which they stand on the road.
 ghost use Rattle.std.specs.Prelude.{◌≡◌, ◌*◌, ◌^◌, ◌<◌, ◌≤◌, length};
-ghost use Rattle.street_lanes.specs.Lists.{Packs};
+ghost use Rattle.street_lanes.specs.Prelude.{Packs};
 
 use crate::lanes::Lanes;
 use crate::lists::{buffer_list, cells_list};
@@ -15,8 +15,8 @@ const FEWEST: usize = 64;
 /// for the slowest of them in each step.
 const TOGETHER: Step = 8;
 
-/// The cars on a list take spare keys one after another, from a position among those on; answers the position behind them.
-/// Where there are no more, cars keep their keys.
+/// The cars on a list, from the front, take the spare keys from position `from` among these on, and the draws kept for them follow;
+/// where no more are spare they keep their keys. Answers `from` and how many cars are on the list, added.
 fn pack_list(yard: &mut Yard, dice: &mut Dice, list: ListId, from: usize) -> usize
     requires { list.0 < length yard.old.lists }
     ensures packs { Packs yard.old yard.new }
@@ -28,9 +28,7 @@ fn pack_list(yard: &mut Yard, dice: &mut Dice, list: ListId, from: usize) -> usi
         let Some(key) = cursor else {
             return at;
         };
-        yard.whole();
         let next = yard.renew(key, at);
-        yard.whole();
         dice.follow(key.index(), next.index());
         at = at.saturating_add(1);
         cursor = yard.behind(next);

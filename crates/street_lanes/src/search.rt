@@ -1,8 +1,7 @@
 //! The vehicle of a number on a lane.
 ghost use Rattle.std.specs.Prelude.{◌≡◌, ◌^◌, ◌<◌, length, true, IsSome, Some};
-ghost use Rattle.street_lanes.specs.Lists.{waiting_list};
-ghost use Rattle.street_yard.specs.Yard.{list_on};
-ghost use Rattle.street_lanes.specs.Search.{IsSought, IsFound, TakesOut};
+ghost use Rattle.street_lanes.specs.Prelude.{waiting_list, IsSought, IsFound, TakesOut};
+ghost use Rattle.street_yard.specs.Prelude.{list_on, IsWhole};
 
 use crate::lists::{buffer_list, cells_list, waiting_list};
 use street_base::{Car, CarNo};
@@ -10,9 +9,9 @@ use street_yard::{Key, ListId, Yard};
 
 /// Whether the car of a key has the number, and is on the list.
 pub(crate) fn stands_on(yard: &Yard, list: ListId, key: Key, number: CarNo) -> bool
-    ensures { result ≡ true → IsSought yard.now list.0 number (Some key) }
+    ensures stands { result ≡ true → IsSought yard.now list.0 number (Some key) }
+    ensures whole { IsWhole yard.now }
 {
-    yard.whole();
     match yard.list_of(key) {
         Some(on) => on == list && yard.number(key) == number,
         None => false,
@@ -22,9 +21,9 @@ pub(crate) fn stands_on(yard: &Yard, list: ListId, key: Key, number: CarNo) -> b
 /// The key on a list whose car has the number. First it is asked whether that is the key of the hint.
 pub(crate) fn seek(yard: &Yard, list: ListId, number: CarNo, hint: Option<Key>) -> Option<Key>
     requires { list.0 < length yard.now.lists }
-    ensures { IsSought yard.now list.0 number result }
+    ensures sought { IsSought yard.now list.0 number result }
+    ensures whole { IsWhole yard.now }
 {
-    yard.whole();
     if let Some(key) = hint
         && stands_on(yard, list, key, number)
     {
@@ -49,7 +48,8 @@ pub(crate) fn seek_on_lane(
 ) -> Option<Key>
     requires few { lane < 2 ^ 32 }
     requires lists { waiting_list lane < length yard.now.lists }
-    ensures { IsFound yard.now lane number result }
+    ensures found { IsFound yard.now lane number result }
+    ensures whole { IsWhole yard.now }
 {
     if let Some(key) = seek(yard, cells_list(lane), number, *hint) {
         return Some(key);
@@ -65,8 +65,6 @@ pub(crate) fn take_out(yard: &mut Yard, key: Key) -> Car
     requires { IsSome (list_on yard.old key) }
     ensures { TakesOut yard.old yard.new key result }
 {
-    yard.whole();
     yard.unlink(key);
-    yard.whole();
     yard.take(key)
 }

@@ -2,12 +2,10 @@
 //!
 //! Source: this profile.
 ghost use Rattle.std.specs.Prelude.{◌≡◌, ◌<◌, length, None, IfOk};
-ghost use Rattle.street_base.specs.Network.{link_at};
-ghost use Rattle.street_base.specs.Vehicle.{vehicle_of, remaining_plan};
-ghost use Rattle.street_base.specs.Machine.{remaining_ids};
+ghost use Rattle.street_base.specs.Prelude.{link_at, vehicle_of, remaining_plan, remaining_ids};
 ghost use Rattle.street_lanes.specs.Lanes.{IsOf};
-ghost use Rattle.street_lanes.specs.Whereabouts.{told_in_cell, told_in_buffer, told_waiting, TellsWhere, TellsWhether};
-ghost use Rattle.street_yard.specs.View.{viewed};
+ghost use Rattle.street_lanes.specs.Prelude.{told_in_cell, told_in_buffer, told_waiting, TellsWhere, TellsWhether};
+ghost use Rattle.street_yard.specs.Prelude.{viewed};
 
 use crate::lanes::Lanes;
 use crate::lists::{buffer_list, cells_list, waiting_list};
@@ -125,7 +123,6 @@ impl Lanes {
         ensures found { IfOk result (TellsWhere net.now self.now lane number) }
         ensures there { IfOk result (TellsWhether self.now lane number) }
     {
-        self.yard.whole();
         let spec = net.spec();
         let at = self.extents[lane].at;
         let hint = self.hints.key_of(number);

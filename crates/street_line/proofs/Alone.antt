@@ -1,10 +1,8 @@
 -- A session that nobody stands beside: its pass has seen the whole history, and that has its calls alone.
-use Rattle.std.proofs.Common.{◌≡◌, ◌∙◌, ℕ, ◌+◌, ◌<◌, List, [], ◌∷◌, ◌++◌, length, Option, refl, sym, ap, subst, arith, append-nil, length-append, eq-eqb, true}
-use Rattle.std.specs.Prelude.{None, Result, Ok, Err, IfOk, IfErr}
+use Rattle.std.proofs.Common.{◌≡◌, ◌∙◌, ℕ, ◌+◌, ◌<◌, List, [], ◌∷◌, ◌++◌, length, Option, refl, sym, ap, subst, arith, append-nil, length-append, eq-eqb, true, None, Result, Ok, Err, IfOk, IfErr}
 use Rattle.street_base.specs.declared.command.Command.{Command}
 use Rattle.street_base.specs.declared.reply.Reply.{Reply}
-use Rattle.street_base.specs.State.{State}
-use Rattle.street_base.specs.Outcomes.{Allows, state_after, reply_to}
+use Rattle.street_base.specs.Prelude.{State, Allows, state_after, reply_to}
 use Rattle.street_desk.specs.declared.journal.Entry.{Entry}
 use Rattle.street_desk.specs.History.{entry, state_from, state_of, IsLegalFrom, AllBelow, calls_of, IsHistory}
 use Rattle.street_desk.specs.Passes.{DeskView, PassView, Answered as IsAnswered, Filled, Finished}

@@ -3,11 +3,10 @@ use Rattle.std.proofs.Common.{ℕ, List, [], ◌∷◌, ◌++◌, Option, refl, 
 use Rattle.street_base.specs.declared.command.Command.{Command}
 use Rattle.street_base.specs.declared.reply.Outcome.{Outcome}
 use Rattle.street_base.specs.declared.reply.Reply.{Reply}
-use Rattle.street_base.specs.Run.{Runs}
-use Rattle.street_base.specs.State.{State}
+use Rattle.street_base.specs.Prelude.{Runs, State}
 use Rattle.street_stream.specs.declared.tally.FaultKind.{FaultKind}
 use Rattle.street_stream.specs.declared.tally.Tally.{Tally}
-use Rattle.street_engine.specs.Refines.{EngineView, StandsFor}
+use Rattle.street_engine.specs.Prelude.{EngineView, StandsFor}
 use Rattle.street_line.specs.declared.service.Served.{Served}
 use Rattle.street_line.specs.declared.service.Served.TheVariants.{Answered, Full}
 use Rattle.street_line.specs.Faults.{Breaks}

@@ -3,11 +3,9 @@
 use Rattle.std.specs.Prelude.{ℕ, List, [], ◌∷◌, ◌++◌}
 use Rattle.street_base.specs.declared.command.Command.{Command}
 use Rattle.street_base.specs.declared.reply.Outcome.{Outcome}
-use Rattle.street_base.specs.State.{State}
+use Rattle.street_base.specs.Prelude.{State, Answers, Runs}
 use Rattle.street_base.specs.declared.reply.Reply.{Reply}
-use Rattle.street_base.specs.Outcomes.{Answers}
-use Rattle.street_base.specs.Run.{Runs}
-use Rattle.street_engine.specs.Refines.{EngineView, Serves}
+use Rattle.street_engine.specs.Prelude.{EngineView, Serves}
 use Rattle.street_line.specs.declared.service.Served.{Served}
 use Rattle.street_line.specs.declared.service.Served.TheVariants.{Answered, Full}
 use Rattle.street_line.specs.Runs.{Said, silent, faulty, calls, said}

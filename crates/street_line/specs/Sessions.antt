@@ -3,7 +3,7 @@
 use Rattle.std.specs.Prelude.{◌≡◌, ◌<◌, ℕ, List, [], ◌∷◌, ◌++◌, length}
 use Rattle.street_base.specs.declared.command.Command.{Command}
 use Rattle.street_base.specs.declared.reply.Outcome.{Outcome}
-use Rattle.street_base.specs.Outcomes.{Allows, reply_to}
+use Rattle.street_base.specs.Prelude.{Allows, reply_to}
 use Rattle.street_desk.specs.declared.journal.Entry.{Entry}
 use Rattle.street_desk.specs.History.{entry, state_of, IsHistory}
 use Rattle.street_desk.specs.Passes.{PassView, Answered as IsAnswered, Filled}

@@ -2,9 +2,9 @@
 -- Source: this profile.
 use Rattle.std.specs.Prelude.{ℕ, ◌≤◌, List, Option, Result, IfOk, IfErr}
 use Rattle.street_base.specs.declared.command.Command.{Command}
-use Rattle.street_base.specs.State.{State}
+use Rattle.street_base.specs.Prelude.{State}
 use Rattle.street_desk.specs.Passes.{PassView}
-use Rattle.street_engine.specs.Refines.{EngineView, StandsFor}
+use Rattle.street_engine.specs.Prelude.{EngineView, StandsFor}
 use Rattle.street_stream.specs.Faults.{IsCaused}
 use Rattle.street_stream.specs.declared.counted.Counted.{Counted}
 use Rattle.street_stream.specs.declared.tally.RunFault.{RunFault}

@@ -9,7 +9,7 @@ use std::alloc::Global;
 use street_base::Starved;
 use street_text::{error_text, reply_text};
 
-/// The line that answers a command.
+/// The line that answers a command, with its LF.
 #[tactic(auto, unfolding(crate::specs::Runs::served_line))]
 pub(crate) fn served_text(alloc: Global, served: Served) -> Result<Vec<u8>, Starved>
     ensures { IfOk result (λ text. text.items ≡ served_line served) }

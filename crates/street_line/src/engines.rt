@@ -29,7 +29,7 @@ impl<'a, R: Threads + Sync> Drop for EngineSession<'a, R> {
 }
 
 impl<'a, R: Threads + Sync> Model for EngineSession<'a, R> {
-    ghost use Rattle.street_engine.specs.Refines.{EngineView};
+    ghost use Rattle.street_engine.specs.Prelude.{EngineView};
 
     ghost Value = { EngineView };
 

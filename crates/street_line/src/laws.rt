@@ -2,8 +2,7 @@
 //!
 //! Source: this profile.
 ghost use Rattle.std.specs.Prelude.{ℕ, List, None};
-ghost use Rattle.street_base.specs.Census.{IsSoundState};
-ghost use Rattle.street_base.specs.State.{State};
+ghost use Rattle.street_base.specs.Prelude.{IsSoundState, State};
 ghost use Rattle.street_line.specs.Engines.{AreRunOf, MachineServes};
 ghost use Rattle.street_line.specs.Runs.{Goes};
 

@@ -1,6 +1,5 @@
 -- A text that an answer may give.
-use Rattle.std.proofs.Common.{ℕ, List, [], ◌∷◌, Option, Some, None, Result, Ok, Err, refl, arith}
-use Rattle.std.specs.Prelude.{Vec}
+use Rattle.std.proofs.Common.{ℕ, List, [], ◌∷◌, Option, Some, None, Result, Ok, Err, refl, arith, Vec}
 use Rattle.std.specs.declared.alloc.Global.{Global}
 use Rattle.street_base.specs.declared.reply.Starved.{Starved}
 use Rattle.street_stream.specs.HandledLines.{GivesText}

@@ -2,7 +2,7 @@
 //! from then on is refused, each is made without memory; it is answered as it should be whatever is refused.
 ghost use Rattle.std.specs.Prelude.{◌≡◌, ◌<◌, ◌≤◌, ◌∷◌, [], IfOk, IfSome, length};
 ghost use Rattle.street_meter.specs.Meter.{next_step};
-ghost use Rattle.street_lanes.specs.Lists.{HasShortPlan};
+ghost use Rattle.street_lanes.specs.Prelude.{HasShortPlan};
 
 use std::alloc::{AllocError, Global};
 use street_base::{

@@ -1,6 +1,5 @@
 -- The rows of a detector that notes one triple more.
-use Rattle.std.proofs.Common.{◌≡◌, ℕ, suc, ◌+◌, ◌-◌, ◌*◌, ◌<◌, ◌≤◌, List, [], ◌∷◌, ◌++◌, map, length, take, drop, sym, ap, ◌∙◌, arith, add-one, length-append}
-use Rattle.std.specs.Prelude.{◌/◌, sum_by}
+use Rattle.std.proofs.Common.{◌≡◌, ℕ, suc, ◌+◌, ◌-◌, ◌*◌, ◌<◌, ◌≤◌, List, [], ◌∷◌, ◌++◌, map, length, take, drop, sym, ap, ◌∙◌, arith, add-one, length-append, ◌/◌, sum_by}
 use Rattle.std.specs.List.{range_with_len}
 use Rattle.std.proofs.lemmas.List.{take-append-le, drop-append-le, length-drop, take_all, drop_all}
 use Rattle.std.proofs.lemmas.List.Sums.{sum_by-append}
@@ -10,8 +9,7 @@ use Rattle.circular_buffer.specs.Buffer.{keep_last}
 use Rattle.street_base.specs.declared.reply.MeterRow.{MeterRow}
 use Rattle.street_base.specs.declared.reply.RunningRow.{RunningRow}
 use Rattle.street_base.specs.declared.names.Place.{Place}
-use Rattle.street_base.specs.State.{Triple, Detector}
-use Rattle.street_base.specs.Detector.{row_of, row, full_periods, full_rows}
+use Rattle.street_base.specs.Prelude.{Triple, Detector, row_of, row, full_periods, full_rows}
 use Rattle.street_meter.specs.Meter.{running_seen, IsRead}
 use Rattle.street_meter.specs.Inside.{row_with, row_full, row_from}
 use Rattle.street_meter.proofs.Ranges.{times-below, range-same, last-more}

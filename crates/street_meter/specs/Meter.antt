@@ -4,8 +4,7 @@ use Rattle.std.specs.Prelude.{◌≡◌, ℕ, ◌+◌, List}
 use Rattle.street_base.specs.declared.reply.MeterRow.{MeterRow}
 use Rattle.street_base.specs.declared.reply.RunningRow.{RunningRow}
 use Rattle.street_base.specs.declared.names.Place.{Place}
-use Rattle.street_base.specs.State.{Triple, Detector}
-use Rattle.street_base.specs.Detector.{full_rows, running_row}
+use Rattle.street_base.specs.Prelude.{Triple, Detector, full_rows, running_row}
 
 -- a lane and a cell of it, how many steps a row sums, the first step noted, the rows of the last full periods, at most 32, and the running one
 pub record Meter : Type 0 where

@@ -2,8 +2,7 @@
 //!
 //! Source: this profile.
 ghost use Rattle.std.specs.Prelude.{◌≡◌, ◌+◌, ◌*◌, ◌^◌, ◌<◌, ◌≤◌, List, [], ◌∷◌, ◌++◌, IfOk};
-ghost use Rattle.street_base.specs.Limits.{last_clock, most_period};
-ghost use Rattle.street_base.specs.State.{Triple};
+ghost use Rattle.street_base.specs.Prelude.{last_clock, most_period, Triple};
 ghost use Rattle.street_meter.specs.Meter.{Stands, IsRead, IsPlacedAs, detector_of, next_step, triple};
 ghost use Rattle.street_meter.specs.Inside.{row_with, row_full, row_from};
 

@@ -4,7 +4,7 @@ use Rattle.std.proofs.lemmas.Bool.{cases_eq}
 use Rattle.std.proofs.lemmas.List.{get_or_append_left, get_or_push}
 use Rattle.street_base.specs.declared.net.NetSpec.{NetSpec}
 use Rattle.street_net.specs.declared.briefs.Brief.{Brief}
-use Rattle.street_net.specs.Tables.{IsBrief, AreBriefs}
+use Rattle.street_net.specs.Prelude.{IsBrief, AreBriefs}
 
 -- a brief that was read from the table
 pub told-at : (net seen : NetSpec) → net ≡ seen → (briefs : List Brief) → AreBriefs net briefs → (link at : ℕ) (brief : Brief) → link < length seen.links → at ≡ link → brief ≡ get_or briefs at brief → IsBrief seen link brief

@@ -1,7 +1,5 @@
 -- What a network without a fault keeps, link by link and turn by turn.
-use Rattle.std.proofs.Common.{◌≡◌, ℕ, ◌<◌, ◌≤◌, Bool, true, false, length, get_or, take, refl, sym, ◌∙◌, ap, subst, arith}
-use Rattle.std.specs.Prelude.{Option, Some, None, is_some, slice_get, ◌==◌}
-use Rattle.std.specs.Option.{option_and_then}
+use Rattle.std.proofs.Common.{◌≡◌, ℕ, ◌<◌, ◌≤◌, Bool, true, false, length, get_or, take, refl, sym, ◌∙◌, ap, subst, arith, Option, Some, None, is_some, slice_get, ◌==◌, option_and_then}
 use Rattle.std.specs.List.{list_any}
 use Rattle.std.proofs.lemmas.Bool.{and_parts, or_parts, ltb-true, leb-true, eqb-true}
 use Rattle.std.proofs.lemmas.List.Quantifiers.{position-Some}
@@ -9,9 +7,7 @@ use Rattle.std.proofs.lemmas.Option.{slice_get_within, get_or_from_slice_get}
 use Rattle.street_base.specs.declared.net.LinkSpec.{LinkSpec}
 use Rattle.street_base.specs.declared.net.TurnSpec.{TurnSpec}
 use Rattle.street_base.specs.declared.net.NetSpec.{NetSpec}
-use Rattle.street_base.specs.Limits.{most_lanes, most_limit}
-use Rattle.street_base.specs.Network.{no_link, link_at, link_of, node_of, names_link}
-use Rattle.street_base.specs.Faults.{is_within, is_bad_link, is_bad_turn, is_same_turn, link_with, joins, network_fault}
+use Rattle.street_base.specs.Prelude.{most_lanes, most_limit, no_link, link_at, link_of, node_of, names_link, is_within, is_bad_link, is_bad_turn, is_same_turn, link_with, joins, network_fault}
 use Rattle.street_base.proofs.OptionLemmas.{holds-some}
 use Rattle.street_base.proofs.FirstBadLemmas.{first_bad-none}
 use Rattle.street_base.proofs.FaultLemmas.{not-false, turns-good, links-good}

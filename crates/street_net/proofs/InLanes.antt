@@ -1,6 +1,5 @@
 -- The lanes that run to a node, link by link.
-use Rattle.std.proofs.Common.{◌≡◌, ℕ, zero, suc, ◌+◌, Bool, true, false, List, [], ◌∷◌, ◌++◌, map, refl, sym, ◌∙◌, ap, zero-add}
-use Rattle.std.specs.Prelude.{flat_map, filter, Some, ◌==◌}
+use Rattle.std.proofs.Common.{◌≡◌, ℕ, zero, suc, ◌+◌, Bool, true, false, List, [], ◌∷◌, ◌++◌, map, refl, sym, ◌∙◌, ap, zero-add, flat_map, filter, Some, ◌==◌}
 use Rattle.std.specs.Option.{option_map_or}
 use Rattle.std.specs.List.{range_with_len}
 use Rattle.std.proofs.lemmas.Bool.{cond-true, cond-false, eq-eqb, ne_eqb}
@@ -10,8 +9,8 @@ use Rattle.std.proofs.lemmas.List.Elements.{filter-append}
 use Rattle.std.proofs.lemmas.Grind.{flat_map-append}
 use Rattle.street_base.specs.declared.net.NetSpec.{NetSpec}
 use Rattle.street_base.specs.declared.names.Place.{Place}
-use Rattle.street_base.specs.Network.{link_at, node_of}
-use Rattle.street_net.specs.Tables.{ends_at}
+use Rattle.street_base.specs.Prelude.{link_at, node_of}
+use Rattle.street_net.specs.Prelude.{ends_at}
 
 -- the lanes of a link
 abbrev pub lanes_of : NetSpec → ℕ → List Place

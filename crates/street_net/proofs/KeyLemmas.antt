@@ -1,14 +1,10 @@
 -- A search by keys is a search of the entries.
-use Rattle.std.proofs.Common.{◌≡◌, ℕ, Bool, false, cond, eqb, List, [], ◌∷◌, ◌++◌, ◌+◌, ◌<◌, length, map, take, get_or, refl, sym, ◌∙◌, ap}
-use Rattle.std.specs.Prelude.{Option, Some, None, position, slice_get, ◌&&◌, nat_lt}
-use Rattle.std.specs.Option.{option_and_then}
-use Rattle.std.specs.List.{list_any, find, position_or_len}
+use Rattle.std.proofs.Common.{◌≡◌, ℕ, Bool, false, cond, eqb, List, [], ◌∷◌, ◌++◌, ◌+◌, ◌<◌, length, map, take, get_or, refl, sym, ◌∙◌, ap, Option, Some, None, position, slice_get, ◌&&◌, nat_lt, option_and_then, find, inl, inr, Bor, ltb, is_some, option_copied, IfSome}
+use Rattle.std.specs.List.{list_any, position_or_len}
 use Rattle.std.proofs.lemmas.Bool.{eqb-true, eqb-false, eq-eqb, ne_eqb, cases_Bool, cond-true, cond-false, ltb-false, ltb-true}
 use Rattle.std.proofs.lemmas.List.{length-map, map-append, take_more}
 use Rattle.std.proofs.lemmas.List.Folds.{find_at}
 use Rattle.std.proofs.lemmas.Option.{slice_get_past, slice_get-get_or}
-use Rattle.std.proofs.Common.{inl, inr, Bor, ltb}
-use Rattle.std.specs.Prelude.{is_some, option_copied, IfSome}
 
 pub eqb-sym : (a b : ℕ) → eqb a b ≡ eqb b a
 eqb-sym a b = elim (cases_Bool (eqb b a)) as (λ _. eqb a b ≡ eqb b a) [

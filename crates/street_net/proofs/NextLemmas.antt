@@ -4,7 +4,7 @@ use Rattle.std.proofs.lemmas.Bool.{cases_eq}
 use Rattle.std.proofs.lemmas.List.{get_or_append_left, get_or_push}
 use Rattle.street_base.specs.declared.net.NetSpec.{NetSpec}
 use Rattle.street_net.specs.declared.nexts.Pair.{Pair}
-use Rattle.street_net.specs.Tables.{IsKept, AreKept}
+use Rattle.street_net.specs.Prelude.{IsKept, AreKept}
 
 -- those so far, with those of the next link
 pub kept-more : (net : NetSpec) (pairs : List Pair) (i : ℕ) (pair : Pair) → length pairs ≡ i → AreKept net pairs → IsKept net i pair → AreKept net (pairs ++ pair ∷ [])

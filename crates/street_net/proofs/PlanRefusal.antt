@@ -1,10 +1,8 @@
 -- Plans, entry by entry.
-use Rattle.std.proofs.Common.{◌≡◌, ℕ, ◌<◌, ◌≤◌, ◌+◌, ◌++◌, true, false, List, [], ◌∷◌, length, get_or, take, sym, ◌∙◌, ap, arith, refl, inl, inr, ◌≢◌}
-use Rattle.std.specs.Prelude.{Option, Some, None, filter_map}
+use Rattle.std.proofs.Common.{◌≡◌, ℕ, ◌<◌, ◌≤◌, ◌+◌, ◌++◌, true, false, List, [], ◌∷◌, length, get_or, take, sym, ◌∙◌, ap, arith, refl, inl, inr, ◌≢◌, Option, Some, None, filter_map}
 use Rattle.std.specs.List.{cons_option}
 use Rattle.street_base.specs.declared.net.NetSpec.{NetSpec}
-use Rattle.street_base.specs.Limits.{most_plan}
-use Rattle.street_base.specs.Network.{link_of}
+use Rattle.street_base.specs.Prelude.{most_plan, link_of, plan_links, is_bad_entry, first_bad, plan_fault}
 use Rattle.std.specs.Option.{option_map_or}
 use Rattle.std.proofs.lemmas.Bool.{true≢false, cond-true, cond-false, ne_eqb, le-leb, cases_lt}
 use Rattle.std.proofs.lemmas.List.{take_more, take_all}
@@ -13,9 +11,7 @@ use Rattle.street_base.proofs.FaultLemmas.{not-false}
 use Rattle.street_base.proofs.FirstBadLemmas.{first_bad-none as faultless-each}
 use Rattle.street_net.specs.declared.faults.PlanFault.{PlanFault}
 use Rattle.street_net.specs.declared.faults.PlanFault.TheVariants.{Bad, Lane}
-use Rattle.street_net.specs.Refused.{entry_lanes, lane_refusal, plan_refusal}
-use Rattle.street_base.specs.Machine.{plan_links}
-use Rattle.street_base.specs.Faults.{is_bad_entry, first_bad, plan_fault}
+use Rattle.street_net.specs.Prelude.{entry_lanes, lane_refusal, plan_refusal}
 use Rattle.street_net.proofs.FirstBad.{NoneBad, first_bad-here, first_bad-none}
 
 module _ (net : NetSpec) (plan : List ℕ) (some : 0 < length plan) where

@@ -1,7 +1,6 @@
 -- The sorted list of all turns, cut where the lists of lanes start.
-use Rattle.std.proofs.Common.{◌≡◌, ℕ, zero, suc, ◌+◌, ◌-◌, ◌*◌, ◌<◌, ◌≤◌, Bool, true, false, List, [], ◌∷◌, length, get_or, take, drop, map, refl, sym, ◌∙◌, ap, subst, arith, inl, inr}
-use Rattle.std.specs.Prelude.{None, unwrap_or, filter, ◌==◌}
-use Rattle.std.specs.List.{between, Contains}
+use Rattle.std.proofs.Common.{◌≡◌, ℕ, zero, suc, ◌+◌, ◌-◌, ◌*◌, ◌<◌, ◌≤◌, Bool, true, false, List, [], ◌∷◌, length, get_or, take, drop, map, refl, sym, ◌∙◌, ap, subst, arith, inl, inr, None, unwrap_or, filter, ◌==◌, Contains}
+use Rattle.std.specs.List.{between}
 use Rattle.std.specs.List.Sorted.{IsPermutation, IsNonDecreasingBy}
 use Rattle.std.proofs.lemmas.Bool.{cases_eq, cases_lt, cond-true, cond-false, eq-eqb, ne_eqb, both_ways}
 use Rattle.std.proofs.lemmas.List.{length-take, length-drop, length-map, get_or-take, get_or-drop, get_or-map, get_or_default}
@@ -9,12 +8,11 @@ use Rattle.std.proofs.lemmas.List.Sorted.{Contains-permutation, IsPermutation-sy
 use Rattle.street_base.specs.declared.net.NetSpec.{NetSpec}
 use Rattle.street_base.specs.declared.net.TurnSpec.{TurnSpec}
 use Rattle.street_base.specs.declared.net.Turn.{Turn}
-use Rattle.street_base.specs.Limits.{most_turns}
+use Rattle.street_base.specs.Prelude.{most_turns, network_fault, is_bad_turn}
 use Rattle.street_base.specs.declared.names.Place.{Place}
-use Rattle.street_base.specs.Faults.{network_fault, is_bad_turn}
 use Rattle.street_base.proofs.FirstBadLemmas.{first_bad-none}
 use Rattle.street_base.proofs.FaultLemmas.{link_of_below, turns-good}
-use Rattle.street_net.specs.Tables.{seen_turn, is_from, turns_from, list_number, turn_rank, list_at, IsStart, IsTurnTable, AreTurnsFrom}
+use Rattle.street_net.specs.Prelude.{seen_turn, is_from, turns_from, list_number, turn_rank, list_at, IsStart, IsTurnTable, AreTurnsFrom}
 use Rattle.street_net.proofs.GoodLinks.{joined, good-link, good-turn}
 use Rattle.street_net.proofs.TurnTable.{no_turn, from-list, from-other}
 use Rattle.street_net.proofs.Permutation.{filter-permutation, filter-map}

@@ -1,12 +1,11 @@
 -- A load's first fault, part by part.
-use Rattle.std.proofs.Common.{◌≡◌, ◌∙◌, refl, sym, ap, subst}
-use Rattle.std.specs.Prelude.{Option, Some, None}
+use Rattle.std.proofs.Common.{◌≡◌, ◌∙◌, refl, sym, ap, subst, Option, Some, None}
 use Rattle.street_base.specs.declared.net.NetSpec.{NetSpec}
 use Rattle.street_base.specs.declared.refusal.Part.TheVariants.{Nodes, Links, Turns, Values}
-use Rattle.street_base.specs.Faults.{Fault, in_part, nodes_fault, links_fault, turns_fault, values_fault, network_fault}
+use Rattle.street_base.specs.Prelude.{Fault, in_part, nodes_fault, links_fault, turns_fault, values_fault, network_fault}
 use Rattle.street_net.specs.declared.faults.NetFault.{NetFault}
 use Rattle.street_net.specs.declared.faults.NetFault.TheVariants.{Bad, Starved}
-use Rattle.street_net.specs.Refused.{TellsFault}
+use Rattle.street_net.specs.Prelude.{TellsFault}
 
 -- what tells the first fault of a part tells that of parts of which it is the first
 first-of : (part all : Option Fault) (e : NetFault) → ((fault : Fault) → part ≡ Some fault → all ≡ Some fault) → TellsFault part e → TellsFault all e

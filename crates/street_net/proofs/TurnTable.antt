@@ -1,9 +1,7 @@
 -- The turn from a lane to a next link, and the sorted list of the turns from the lane.
-use Rattle.std.proofs.Common.{◌≡◌, ℕ, zero, suc, ◌+◌, ◌*◌, ◌<◌, Bool, true, false, List, [], ◌∷◌, ◌++◌, length, get_or, take, map, refl, sym, ◌∙◌, ap, subst, arith, inl, inr}
-use Rattle.std.specs.Prelude.{Option, Some, None, option_map, unwrap_or, filter, slice_get, MatchOption, ◌==◌, ◌&&◌, ◌≢◌}
+use Rattle.std.proofs.Common.{◌≡◌, ℕ, zero, suc, ◌+◌, ◌*◌, ◌<◌, Bool, true, false, List, [], ◌∷◌, ◌++◌, length, get_or, take, map, refl, sym, ◌∙◌, ap, subst, arith, inl, inr, Option, Some, None, option_map, unwrap_or, filter, slice_get, MatchOption, ◌==◌, ◌&&◌, ◌≢◌, Contains, Ok, Err}
 use Rattle.std.specs.Option.{option_map_or}
-use Rattle.std.specs.List.{Contains, list_any, position_or_len}
-use Rattle.std.specs.Prelude.{Ok, Err}
+use Rattle.std.specs.List.{list_any, position_or_len}
 use Rattle.std.specs.Ordering.{nat_cmp, ordering_index}
 use Rattle.std.proofs.lemmas.Cmp.{ranked}
 use Rattle.std.proofs.lemmas.Bool.Decides.{nat_tests}
@@ -19,10 +17,9 @@ use Rattle.street_base.specs.declared.net.NetSpec.{NetSpec}
 use Rattle.street_base.specs.declared.net.TurnSpec.{TurnSpec}
 use Rattle.street_base.specs.declared.net.Turn.{Turn}
 use Rattle.street_base.specs.declared.names.Place.{Place}
-use Rattle.street_base.specs.Network.{link_of, names_link, turn}
-use Rattle.street_base.specs.Faults.{is_same_turn, joins, network_fault}
+use Rattle.street_base.specs.Prelude.{link_of, names_link, turn, is_same_turn, joins, network_fault}
 use Rattle.street_base.proofs.ReleaseLemmas.{find-holds}
-use Rattle.street_net.specs.Tables.{turn_by_position, seen_turn, is_from, turns_from, AreTurnsFrom}
+use Rattle.street_net.specs.Prelude.{turn_by_position, seen_turn, is_from, turns_from, AreTurnsFrom}
 use Rattle.street_net.proofs.GoodLinks.{named-at, same-id, joined, good-link, good-turn}
 
 -- past the end

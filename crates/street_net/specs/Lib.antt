@@ -2,3 +2,4 @@ pub mod Keys
 pub mod Refused
 pub mod Slots
 pub mod Tables
+pub mod Prelude

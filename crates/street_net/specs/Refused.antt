@@ -3,9 +3,7 @@
 use Rattle.std.specs.Prelude.{◌≡◌, ℕ, nat_le, List, Option, Some, None, if◌then◌else◌, Bool, true, false, MatchOption, slice_index}
 use Rattle.std.specs.Option.{option_map_or}
 use Rattle.street_base.specs.declared.net.NetSpec.{NetSpec}
-use Rattle.street_base.specs.Network.{link_at, serves}
-use Rattle.street_base.specs.Faults.{Fault, plan_fault, is_bad_entry}
-use Rattle.street_base.specs.Machine.{entry_of}
+use Rattle.street_base.specs.Prelude.{link_at, serves, Fault, plan_fault, is_bad_entry, entry_of}
 use Rattle.street_net.specs.declared.faults.NetFault.{NetFault}
 use Rattle.street_net.specs.declared.faults.NetFault.TheVariants.{Bad as BadLoad, Starved as StarvedLoad}
 use Rattle.street_net.specs.declared.faults.PlanFault.{PlanFault}

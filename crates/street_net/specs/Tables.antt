@@ -1,16 +1,15 @@
 -- What a network keeps beside its lists, so that a step searches for nothing in them.
 -- Source: the order of release is this profile's.
-use Rattle.std.specs.Prelude.{◌≡◌, ℕ, ◌+◌, ◌*◌, ◌<◌, ◌≤◌, ◌==◌, List, map, filter, length, nat_lt, Bool, true, false, ◌&&◌, ◌||◌, Some, None, Vec, unwrap_or, slice_index_or, ◌≢◌, Option, MatchOption}
+use Rattle.std.specs.Prelude.{◌≡◌, ℕ, ◌+◌, ◌*◌, ◌<◌, ◌≤◌, ◌==◌, List, map, filter, length, nat_lt, Bool, true, false, ◌&&◌, ◌||◌, Some, None, Vec, unwrap_or, slice_index_or, ◌≢◌, Option, MatchOption, Contains}
 use Rattle.std.specs.Option.{option_map_or}
-use Rattle.std.specs.List.{between, Contains}
+use Rattle.std.specs.List.{between}
 use Rattle.std.specs.declared.alloc.Global.{Global}
 use Rattle.std.specs.List.Sorted.{IsPermutation, IsNonDecreasingBy}
 use Rattle.street_base.specs.declared.net.NetSpec.{NetSpec}
 use Rattle.street_base.specs.declared.net.TurnSpec.{TurnSpec}
 use Rattle.street_base.specs.declared.net.Turn.{Turn}
 use Rattle.street_base.specs.declared.names.Place.{Place}
-use Rattle.street_base.specs.Network.{names_link, link_of, link_at, node_of, places, serves}
-use Rattle.street_base.specs.Faults.{network_fault}
+use Rattle.street_base.specs.Prelude.{names_link, link_of, link_at, node_of, places, serves, network_fault}
 use Rattle.street_net.specs.Keys.{ids_of_nodes, ids_of_links}
 use Rattle.street_net.specs.declared.briefs.Brief.{Brief}
 use Rattle.street_net.specs.declared.nexts.Nexts.{Nexts}

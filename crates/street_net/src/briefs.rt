@@ -1,8 +1,7 @@
 //! What a step asks of a link, in a table of its own.
 ghost use Rattle.std.specs.Prelude.{◌≡◌, None, IfOk};
-ghost use Rattle.street_base.specs.Faults.{network_fault};
-ghost use Rattle.street_net.specs.Keys.{ids_of_nodes};
-ghost use Rattle.street_net.specs.Tables.{AreBriefs};
+ghost use Rattle.street_base.specs.Prelude.{network_fault};
+ghost use Rattle.street_net.specs.Prelude.{ids_of_nodes, AreBriefs};
 
 use crate::keys::find_node;
 use indexmap::IndexSet;

@@ -2,8 +2,8 @@
 //!
 //! Source: nodes, links and turns of TRANSIMS; their ranges are this profile.
 ghost use Rattle.std.specs.Prelude.{◌≡◌, take};
-ghost use Rattle.street_base.specs.Faults.{is_within, is_bad_node, is_bad_link, is_bad_turn, joins};
-ghost use Rattle.street_net.specs.Keys.{ids_of_nodes, ids_of_links, keys_of_turns};
+ghost use Rattle.street_base.specs.Prelude.{is_within, is_bad_node, is_bad_link, is_bad_turn, joins};
+ghost use Rattle.street_net.specs.Prelude.{ids_of_nodes, ids_of_links, keys_of_turns};
 
 use crate::keys::{
     TurnKey, find_node, is_repeated_link, is_repeated_node, is_repeated_turn, link_with,

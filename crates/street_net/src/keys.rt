@@ -1,9 +1,8 @@
 //! Look-ups of entries by their keys.
 ghost use Rattle.std.specs.Prelude.{◌≡◌, ◌==◌, take, option_copied};
 ghost use Rattle.std.specs.List.{list_any};
-ghost use Rattle.street_base.specs.Network.{node_of, link_of};
-ghost use Rattle.street_base.specs.Faults.{is_same_turn, link_with};
-ghost use Rattle.street_net.specs.Keys.{ids_of_nodes, ids_of_links, turn_key, keys_of_turns};
+ghost use Rattle.street_base.specs.Prelude.{node_of, link_of, is_same_turn, link_with};
+ghost use Rattle.street_net.specs.Prelude.{ids_of_nodes, ids_of_links, turn_key, keys_of_turns};
 
 use indexmap::IndexSet;
 use street_base::{LinkSpec, NetSpec, TurnSpec};

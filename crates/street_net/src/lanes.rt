@@ -4,8 +4,8 @@
 ghost use Rattle.std.specs.Prelude.{◌≡◌, ◌+◌, ◌*◌, ◌<◌, ◌++◌, [], length, map, slice_index_or, Vec, EachIndex, None, IfOk, OnOk};
 ghost use Rattle.std.specs.List.{range_with_len};
 ghost use Rattle.std.specs.declared.alloc.Global.{Global};
-ghost use Rattle.street_base.specs.Faults.{network_fault};
-ghost use Rattle.street_net.specs.Tables.{AreBriefs, AreInLanes};
+ghost use Rattle.street_base.specs.Prelude.{network_fault};
+ghost use Rattle.street_net.specs.Prelude.{AreBriefs, AreInLanes};
 
 use crate::briefs::Brief;
 use std::alloc::{AllocError, Global};

@@ -2,10 +2,9 @@
 //!
 //! Source: this profile.
 ghost use Rattle.std.specs.Prelude.{◌≡◌, None, IfOk, IfErr, OnOk};
-ghost use Rattle.street_base.specs.Faults.{in_part, nodes_fault, links_fault, turns_fault, values_fault};
+ghost use Rattle.street_base.specs.Prelude.{in_part, nodes_fault, links_fault, turns_fault, values_fault};
 ghost use Rattle.street_base.specs.declared.refusal.Part.TheVariants.{Nodes, Links, Turns, Values};
-ghost use Rattle.street_net.specs.Keys.{ids_of_nodes, ids_of_links};
-ghost use Rattle.street_net.specs.Refused.{TellsFault};
+ghost use Rattle.street_net.specs.Prelude.{ids_of_nodes, ids_of_links, TellsFault};
 
 use crate::entries::{is_bad_link, is_bad_node, is_bad_turn};
 use crate::faults::NetFault;

@@ -2,11 +2,8 @@
 //!
 //! Source: this profile.
 ghost use Rattle.std.specs.Prelude.{◌≡◌, ◌<◌, None, Some, length, option_map, slice_get, IfOk, IfErr, IfSome, OnOk};
-ghost use Rattle.street_base.specs.Network.{link_at, link_of, node_of, end_node, turn, serves};
-ghost use Rattle.street_base.specs.Faults.{network_fault};
-ghost use Rattle.street_net.specs.Keys.{ids_of_nodes, ids_of_links};
-ghost use Rattle.street_net.specs.Tables.{AreServed, IsServedOrNone, AreKept, in_places, turn_by_position, AreTables};
-ghost use Rattle.street_net.specs.Refused.{TellsFault};
+ghost use Rattle.street_base.specs.Prelude.{link_at, link_of, node_of, end_node, turn, serves, network_fault};
+ghost use Rattle.street_net.specs.Prelude.{ids_of_nodes, ids_of_links, AreServed, IsServedOrNone, AreKept, in_places, turn_by_position, AreTables, TellsFault};
 
 use crate::briefs::{Brief, briefs_of_links};
 use crate::faults::NetFault;
@@ -51,7 +48,7 @@ impl Model for Network {
 
     ghost Value = { NetSpec };
 
-    ghost use Rattle.street_net.specs.Tables.{IsChecked};
+    ghost use Rattle.street_net.specs.Prelude.{IsChecked};
 
     ghost view = { λ n. n.spec };
 

@@ -2,7 +2,7 @@
 //!
 //! Source: this profile.
 ghost use Rattle.std.specs.Prelude.{◌≡◌, ◌<◌};
-ghost use Rattle.street_net.specs.Tables.{has_next};
+ghost use Rattle.street_net.specs.Prelude.{has_next};
 
 use street_base::LinkIx;
 

@@ -2,11 +2,8 @@
 //!
 //! Source: this profile. An entry is good if it is a link, and the first or one to which a lane of the link before has a turn.
 ghost use Rattle.std.specs.Prelude.{◌≡◌, ◌-◌, ◌<◌, ◌≤◌, None, Some, length, IfOk, IfErr, OnOk, MatchOption, slice_index};
-ghost use Rattle.street_base.specs.Limits.{most_plan};
-ghost use Rattle.street_base.specs.Network.{link_of, serves};
-ghost use Rattle.street_base.specs.Faults.{plan_fault};
-ghost use Rattle.street_base.specs.Machine.{plan_links};
-ghost use Rattle.street_net.specs.Refused.{TellsRefusal, plan_refusal, has_turn, TellsEntry};
+ghost use Rattle.street_base.specs.Prelude.{most_plan, link_of, serves, plan_fault, plan_links};
+ghost use Rattle.street_net.specs.Prelude.{TellsRefusal, plan_refusal, has_turn, TellsEntry};
 
 use crate::faults::PlanFault;
 use crate::network::Network;

@@ -3,10 +3,8 @@
 //! Source: turns of TRANSIMS; that a lane serves a link by a turn is this profile.
 ghost use Rattle.std.specs.Prelude.{◌≡◌, ◌+◌, ◌*◌, ◌<◌, ◌≤◌, length, map, true, None, IfOk};
 ghost use Rattle.std.specs.List.Sorted.{IsNonDecreasingBy};
-ghost use Rattle.street_base.specs.Faults.{network_fault, joins};
-ghost use Rattle.street_base.specs.Limits.{most_turns};
-ghost use Rattle.street_net.specs.Keys.{ids_of_links};
-ghost use Rattle.street_net.specs.Tables.{seen_turn, list_number, turn_rank, list_at, IsStart, AreStarts, IsTurnTable, FindsTurn};
+ghost use Rattle.street_base.specs.Prelude.{network_fault, joins, most_turns};
+ghost use Rattle.street_net.specs.Prelude.{ids_of_links, seen_turn, list_number, turn_rank, list_at, IsStart, AreStarts, IsTurnTable, FindsTurn};
 
 use crate::keys::find_link;
 use indexmap::IndexSet;

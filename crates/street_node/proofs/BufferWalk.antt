@@ -1,6 +1,5 @@
 -- The order of a walk over buffers, against the choice by entrance.
-use Rattle.std.proofs.Common.{◌≡◌, ℕ, zero, suc, ◌+◌, ◌<◌, ◌≤◌, Bool, true, false, List, [], ◌∷◌, length, get_or, take, refl, sym, ◌∙◌, ap, subst, arith, inl, inr}
-use Rattle.std.specs.Prelude.{Option, Some, None, slice_get, find, not, ◌&&◌, if◌then◌else◌}
+use Rattle.std.proofs.Common.{◌≡◌, ℕ, zero, suc, ◌+◌, ◌<◌, ◌≤◌, Bool, true, false, List, [], ◌∷◌, length, get_or, take, refl, sym, ◌∙◌, ap, subst, arith, inl, inr, Option, Some, None, slice_get, find, not, ◌&&◌, if◌then◌else◌}
 use Rattle.std.specs.Option.{option_map_or}
 use Rattle.std.specs.List.{list_any}
 use Rattle.std.proofs.lemmas.Bool.{cases_Bool, both_ways, or_left}
@@ -8,14 +7,10 @@ use Rattle.std.proofs.lemmas.List.Folds.{list_any_at}
 use Rattle.std.proofs.lemmas.List.Sums.{sum_by-cons}
 use Rattle.std.proofs.lemmas.Option.{slice_get_within, get_or_from_slice_get}
 use Rattle.street_base.specs.declared.names.Place.{Place}
-use Rattle.street_base.specs.Network.{is_place, places}
-use Rattle.street_base.specs.Lane.{is_free}
-use Rattle.street_base.specs.State.{Traffic, lane_at}
-use Rattle.street_base.specs.Census.{one_if}
-use Rattle.street_base.specs.Release.{target, is_this, may_give, giver, gives}
+use Rattle.street_base.specs.Prelude.{is_place, places, is_free, Traffic, lane_at, one_if, target, is_this, may_give, giver, gives}
 use Rattle.street_base.proofs.OptionLemmas.{holds-some}
 use Rattle.street_base.proofs.ReleaseLemmas.{is_place-same, is_place-refl, find-holds}
-use Rattle.street_node.specs.Walks.{times, AtMostOnce, IsWalk}
+use Rattle.street_node.specs.Prelude.{times, AtMostOnce, IsWalk}
 
 -- ---- a place stands at most once in a list
 

@@ -1,18 +1,14 @@
 -- Who crosses from a buffer, and where to.
-use Rattle.std.proofs.Common.{◌≡◌, ℕ, ◌+◌, Bool, true, false, List, [], ◌∷◌, ◌++◌, take, refl, sym, ◌∙◌, ap, subst, inl, inr}
-use Rattle.std.specs.Prelude.{Option, Some, None, IsSome, slice_get, filter_map, nat_le, if◌then◌else◌}
+use Rattle.std.proofs.Common.{◌≡◌, ℕ, ◌+◌, Bool, true, false, List, [], ◌∷◌, ◌++◌, take, refl, sym, ◌∙◌, ap, subst, inl, inr, Option, Some, None, IsSome, slice_get, filter_map, nat_le, if◌then◌else◌}
 use Rattle.std.specs.List.{cons_option}
 use Rattle.std.proofs.lemmas.Bool.{cases_Bool}
 use Rattle.std.proofs.lemmas.List.{take_more}
 use Rattle.std.proofs.lemmas.List.Elements.{filter_map-append}
 use Rattle.std.proofs.lemmas.Option.{slice_get_within, get_or_from_slice_get}
 use Rattle.street_base.specs.declared.names.Place.{Place}
-use Rattle.street_base.specs.Network.{link_at}
-use Rattle.street_base.specs.Vehicle.{Vehicle, next_link}
-use Rattle.street_base.specs.State.{Traffic, Queued}
-use Rattle.street_base.specs.Release.{front, exit_lane, target, is_this, giver, gives, on_next_link}
+use Rattle.street_base.specs.Prelude.{link_at, Vehicle, next_link, Traffic, Queued, front, exit_lane, target, is_this, giver, gives, on_next_link}
 use Rattle.street_base.proofs.ReleaseLemmas.{is_place-refl}
-use Rattle.street_node.specs.Releases.{Crossing, crossing}
+use Rattle.street_node.specs.Prelude.{Crossing, crossing}
 use Rattle.street_node.proofs.BufferWalk.{taken-from, stays}
 
 -- what is known of a front that may go to a lane

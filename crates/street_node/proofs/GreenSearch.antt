@@ -1,9 +1,7 @@
 -- A search among green turns in order.
-use Rattle.std.proofs.Common.{◌≡◌, ℕ, zero, suc, ◌<◌, Bool, true, false, List, [], ◌∷◌, map, length, get_or, refl, sym, subst, ◌∙◌, arith, inl, inr}
-use Rattle.std.specs.Prelude.{Result, Ok, Err, ◌==◌, ◌&&◌}
+use Rattle.std.proofs.Common.{◌≡◌, ℕ, zero, suc, ◌<◌, Bool, true, false, List, [], ◌∷◌, map, length, get_or, refl, sym, subst, ◌∙◌, arith, inl, inr, Result, Ok, Err, ◌==◌, ◌&&◌, is_ok}
 use Rattle.std.specs.Int.{bit_at}
 use Rattle.std.specs.List.{list_any}
-use Rattle.std.specs.Result.{is_ok}
 use Rattle.std.specs.List.Sorted.{IsBinarySearchResult, IsSearchInRange}
 use Rattle.std.specs.declared.cmp.Ordering.{Ordering}
 use Rattle.std.specs.declared.cmp.Ordering.TheVariants.{Less, Equal, Greater}
@@ -14,10 +12,10 @@ use Rattle.std.proofs.lemmas.Bool.{cases_Bool, cases_lt, and_parts, eqb-true, eq
 use Rattle.std.proofs.lemmas.List.Folds.{list_any_at}
 use Rattle.std.proofs.lemmas.List.Sorted.{searchable_from_sorted}
 use Rattle.street_base.specs.declared.names.Place.{Place}
-use Rattle.street_base.specs.Signal.{Green}
+use Rattle.street_base.specs.Prelude.{Green}
 use Rattle.street_net.proofs.KeyLemmas.{list_any-keys}
 use Rattle.street_node.specs.declared.phase.GreenTurn.{GreenTurn}
-use Rattle.street_node.specs.Greens.{turn_cmp, green_seen, mark_of, HasMarks, IsInOrder}
+use Rattle.street_node.specs.Prelude.{turn_cmp, green_seen, mark_of, HasMarks, IsInOrder}
 
 pub turns_total : IsTotalOrder turn_cmp
 turns_total = then_total (on_total (λ (t : GreenTurn). t.link) nat_cmp_total) (then_total (on_total (λ (t : GreenTurn). t.lane) nat_cmp_total) (on_total (λ (t : GreenTurn). t.next) nat_cmp_total))

@@ -1,7 +1,6 @@
 -- Whether a green turn is one of the network's.
-use Rattle.std.proofs.Common.{◌≡◌, ℕ, ◌<◌, ◌≤◌, Bool, true, false, List, [], ◌∷◌, length, get_or, refl, sym, ◌∙◌, ap, arith, inl, inr}
-use Rattle.std.specs.Prelude.{Option, Some, None, is_some, find, slice_get, ◌==◌, ◌&&◌}
-use Rattle.std.specs.Option.{option_map_or, option_and_then}
+use Rattle.std.proofs.Common.{◌≡◌, ℕ, ◌<◌, ◌≤◌, Bool, true, false, List, [], ◌∷◌, length, get_or, refl, sym, ◌∙◌, ap, arith, inl, inr, Option, Some, None, is_some, find, slice_get, ◌==◌, ◌&&◌, option_and_then}
+use Rattle.std.specs.Option.{option_map_or}
 use Rattle.std.specs.List.{list_any}
 use Rattle.std.proofs.lemmas.Bool.{cases_Bool, and_parts, eqb-true, eq-eqb, eqb-false}
 use Rattle.std.proofs.lemmas.Option.{slice_get-get_or}
@@ -9,8 +8,7 @@ use Rattle.street_base.specs.declared.net.LinkSpec.{LinkSpec}
 use Rattle.street_base.specs.declared.net.NetSpec.{NetSpec}
 use Rattle.street_base.specs.declared.net.TurnSpec.{TurnSpec}
 use Rattle.street_base.specs.declared.command.GreenSpec.{GreenSpec}
-use Rattle.street_base.specs.Network.{no_link, link_at, link_of, names_link, serves}
-use Rattle.street_base.specs.Faults.{network_fault, link_with}
+use Rattle.street_base.specs.Prelude.{no_link, link_at, link_of, names_link, serves, network_fault, link_with}
 use Rattle.street_net.proofs.KeyLemmas.{find-position}
 use Rattle.street_net.proofs.GoodLinks.{IsJoined, joined, named-at, same-id, good-link, good-turn}
 use Rattle.street_node.proofs.GreenSearch.{none-of}

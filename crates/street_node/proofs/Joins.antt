@@ -1,6 +1,5 @@
 -- Where the turns of a network without a fault lead.
-use Rattle.std.proofs.Common.{◌≡◌, ℕ, ◌<◌, Bool, true, false, length, get_or, refl, sym, ◌∙◌, ap, subst, arith}
-use Rattle.std.specs.Prelude.{Option, Some, None, option_map, option_and_then, slice_get, ◌&&◌, ◌==◌, nat_le, if◌then◌else◌}
+use Rattle.std.proofs.Common.{◌≡◌, ℕ, ◌<◌, Bool, true, false, length, get_or, refl, sym, ◌∙◌, ap, subst, arith, Option, Some, None, option_map, option_and_then, slice_get, ◌&&◌, ◌==◌, nat_le, if◌then◌else◌}
 use Rattle.std.specs.Option.{option_map_or}
 use Rattle.std.specs.List.{position_or_len}
 use Rattle.std.proofs.lemmas.Bool.{and_parts}
@@ -8,16 +7,13 @@ use Rattle.std.proofs.lemmas.List.Folds.{find_at}
 use Rattle.std.proofs.lemmas.Option.{slice_get_within, get_or_from_slice_get}
 use Rattle.street_base.specs.declared.net.NetSpec.{NetSpec}
 use Rattle.street_base.specs.declared.net.TurnSpec.{TurnSpec}
-use Rattle.street_base.specs.Faults.{network_fault}
+use Rattle.street_base.specs.Prelude.{network_fault, link_of, link_at, node_of, names_link, turn, Vehicle, next_link, Queued}
 use Rattle.street_base.specs.declared.names.Place.{Place}
-use Rattle.street_base.specs.Network.{link_of, link_at, node_of, names_link, turn}
-use Rattle.street_base.specs.Vehicle.{Vehicle, next_link}
-use Rattle.street_base.specs.State.{Queued}
 use Rattle.street_base.proofs.ReleaseLemmas.{find-holds}
-use Rattle.street_net.specs.Tables.{ends_at}
+use Rattle.street_net.specs.Prelude.{ends_at}
 use Rattle.street_net.proofs.GoodLinks.{named-at, joined, good-link, good-turn}
 use Rattle.street_net.proofs.TurnTable.{no_turn}
-use Rattle.street_node.specs.Releases.{begins_at, IsAhead, way_out}
+use Rattle.street_node.specs.Prelude.{begins_at, IsAhead, way_out}
 
 -- what a turn from a lane leads to
 pub record Joins (net : NetSpec) (from to : Place) : Type 0 where

@@ -1,6 +1,5 @@
 -- A plan that is kept, against the plan that was told.
-use Rattle.std.proofs.Common.{◌≡◌, ℕ, zero, suc, ◌+◌, ◌<◌, ◌≤◌, ◌%◌, Bool, true, List, [], ◌∷◌, map, length, get_or, refl, sym, ◌∙◌, ap, subst, arith, inl, inr}
-use Rattle.std.specs.Prelude.{None, nat_lt, sum_by, ◌==◌}
+use Rattle.std.proofs.Common.{◌≡◌, ℕ, zero, suc, ◌+◌, ◌<◌, ◌≤◌, ◌%◌, Bool, true, List, [], ◌∷◌, map, length, get_or, refl, sym, ◌∙◌, ap, subst, arith, inl, inr, None, nat_lt, sum_by, ◌==◌}
 use Rattle.std.specs.List.{list_all}
 use Rattle.std.proofs.lemmas.Bool.{cases_Bool, cond-true, cond-false, and_parts, or_parts, leb-true, leb-false, ltb-true, ltb-false, both_ways}
 use Rattle.std.proofs.lemmas.List.{length-map, get_or-map}
@@ -9,14 +8,11 @@ use Rattle.std.proofs.lemmas.Option.{none-some}
 use Rattle.street_base.specs.declared.net.NetSpec.{NetSpec}
 use Rattle.street_base.specs.declared.command.GreenSpec.{GreenSpec}
 use Rattle.street_base.specs.declared.command.PhaseSpec.{PhaseSpec}
-use Rattle.street_base.specs.Limits.{most_phases, most_duration}
-use Rattle.street_base.specs.Faults.{first_bad, is_within, is_bad_phase, is_turn_to, offset_fault, signal_fault, network_fault}
-use Rattle.street_base.specs.Effects.{phase_of_spec, plan_of}
-use Rattle.street_base.specs.Signal.{Phase, cycle}
+use Rattle.street_base.specs.Prelude.{most_phases, most_duration, first_bad, is_within, is_bad_phase, is_turn_to, offset_fault, signal_fault, network_fault, phase_of_spec, plan_of, Phase, cycle}
 use Rattle.street_base.proofs.OptionLemmas.{option_or-none}
 use Rattle.street_base.proofs.FirstBadLemmas.{first_bad-none}
 use Rattle.street_base.proofs.FaultLemmas.{not-false}
-use Rattle.street_node.specs.Greens.{plan_seen, shown, IsSamePhase, ShowsAs}
+use Rattle.street_node.specs.Prelude.{plan_seen, shown, IsSamePhase, ShowsAs}
 use Rattle.street_node.proofs.Shown.{shown-at, shown-same, durations-same}
 use Rattle.street_node.proofs.GreenTurns.{no-lane}
 

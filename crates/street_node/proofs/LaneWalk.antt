@@ -1,6 +1,5 @@
 -- The lanes that run to some nodes are a walk: each stands once among them, and all buffers that lead to one lane are at one node.
-use Rattle.std.proofs.Common.{◌≡◌, ℕ, ◌≤◌, Bool, true, false, List, [], ◌∷◌, refl, sym, ◌∙◌, ap, arith, inl, inr}
-use Rattle.std.specs.Prelude.{Option, Some, slice_get, find, filter, if◌then◌else◌}
+use Rattle.std.proofs.Common.{◌≡◌, ℕ, ◌≤◌, Bool, true, false, List, [], ◌∷◌, refl, sym, ◌∙◌, ap, arith, inl, inr, Option, Some, slice_get, find, filter, if◌then◌else◌}
 use Rattle.std.specs.Option.{option_map_or}
 use Rattle.std.specs.List.{list_any}
 use Rattle.std.proofs.lemmas.Bool.{cases_Bool, both_ways, false_from_ne_true}
@@ -9,14 +8,11 @@ use Rattle.std.proofs.lemmas.Option.{slice_get_within, get_or_from_slice_get}
 use Rattle.street_base.specs.declared.net.NetSpec.{NetSpec}
 use Rattle.street_base.specs.declared.net.TurnSpec.{TurnSpec}
 use Rattle.street_base.specs.declared.names.Place.{Place}
-use Rattle.street_base.specs.Network.{is_place, link_at, node_of, turn, places}
-use Rattle.street_base.specs.State.{Traffic}
-use Rattle.street_base.specs.Census.{one_if}
-use Rattle.street_base.specs.Release.{front, target, may_give}
+use Rattle.street_base.specs.Prelude.{is_place, link_at, node_of, turn, places, Traffic, one_if, front, target, may_give}
 use Rattle.street_base.proofs.OptionLemmas.{holds-some}
 use Rattle.street_base.proofs.ReleaseLemmas.{is_place-same}
 use Rattle.street_base.proofs.PlaceOnceLemmas.{places-once}
-use Rattle.street_node.specs.Walks.{times, AtMostOnce, IsWalk}
+use Rattle.street_node.specs.Prelude.{times, AtMostOnce, IsWalk}
 use Rattle.street_node.proofs.BufferWalk.{times-cons, none-times}
 use Rattle.street_node.proofs.Joins.{way-turn}
 

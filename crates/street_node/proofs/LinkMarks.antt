@@ -5,7 +5,7 @@ use Rattle.std.specs.Int.Bits.{bit_or}
 use Rattle.std.proofs.lemmas.Nat.Bits.{bit_at_or, bit_at-lt, bit_at_set_same}
 use Rattle.std.proofs.lemmas.List.Elements.{All-more}
 use Rattle.street_node.specs.declared.phase.GreenTurn.{GreenTurn}
-use Rattle.street_node.specs.Greens.{mark_of, HasMarks}
+use Rattle.street_node.specs.Prelude.{mark_of, HasMarks}
 
 -- a mark stays when others come
 stays : (marks others i : ℕ) → bit_at marks i ≡ 1 → bit_at (bit_or marks others) i ≡ 1

@@ -1,6 +1,5 @@
 -- Mouths that close behind those who go, buffer after buffer of a walk.
-use Rattle.std.proofs.Common.{◌≡◌, ℕ, ◌+◌, ◌<◌, Bool, true, false, List, length, take, refl, sym, ◌∙◌, ap, arith, inl, inr}
-use Rattle.std.specs.Prelude.{Option, Some, None, slice_get, slice_set, not, ◌&&◌, ◌||◌}
+use Rattle.std.proofs.Common.{◌≡◌, ℕ, ◌+◌, ◌<◌, Bool, true, false, List, length, take, refl, sym, ◌∙◌, ap, arith, inl, inr, Option, Some, None, slice_get, slice_set, not, ◌&&◌, ◌||◌}
 use Rattle.std.specs.Option.{option_map_or}
 use Rattle.std.specs.List.{list_any}
 use Rattle.std.proofs.lemmas.Bool.{cases_Bool, both_ways}
@@ -8,13 +7,10 @@ use Rattle.std.proofs.lemmas.List.{get_or-set_same, get_or-set_other}
 use Rattle.std.proofs.lemmas.List.Folds.{list_any_more}
 use Rattle.std.proofs.lemmas.Option.{slice_get_within, get_or_from_slice_get}
 use Rattle.street_base.specs.declared.names.Place.{Place}
-use Rattle.street_base.specs.Network.{is_place}
-use Rattle.street_base.specs.Lane.{is_free}
-use Rattle.street_base.specs.State.{Traffic, lane_at}
-use Rattle.street_base.specs.Release.{target, may_give, gives}
+use Rattle.street_base.specs.Prelude.{is_place, is_free, Traffic, lane_at, target, may_give, gives}
 use Rattle.street_base.proofs.ReleaseLemmas.{is_place-same, is_place-refl, is_place-swap}
-use Rattle.street_net.specs.Slots.{slot_of, mouth}
-use Rattle.street_node.specs.Walks.{IsWalk, AreShut}
+use Rattle.street_net.specs.Prelude.{slot_of, mouth}
+use Rattle.street_node.specs.Prelude.{IsWalk, AreShut}
 use Rattle.street_node.proofs.BufferWalk.{goes-at}
 
 pub slot-apart : (p q : Place) → p.lane < 2 → q.lane < 2 → is_place p q ≡ false → (slot_of q ≡ slot_of p → ⊥)

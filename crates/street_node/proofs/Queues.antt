@@ -1,15 +1,11 @@
 -- The queue that a list stands for.
-use Rattle.std.proofs.Common.{◌≡◌, ◌≢◌, ℕ, zero, suc, ◌<◌, List, [], ◌∷◌, length, get_or, Option, Some, None, IsSome, refl, sym, ap, subst, ◌∙◌, arith}
-use Rattle.std.specs.Prelude.{filter_map, drop, take, slice_get}
-use Rattle.std.specs.Option.{option_map, option_and_then}
+use Rattle.std.proofs.Common.{◌≡◌, ◌≢◌, ℕ, zero, suc, ◌<◌, List, [], ◌∷◌, length, get_or, Option, Some, None, IsSome, refl, sym, ap, subst, ◌∙◌, arith, filter_map, drop, take, slice_get, option_map, option_and_then}
 use Rattle.street_base.specs.declared.car.Car.{Car}
-use Rattle.street_base.specs.Vehicle.{vehicle_of}
-use Rattle.street_base.specs.Release.{on_next_link}
-use Rattle.street_yard.specs.Yard.{YardEntry, Yard, list_at, entry_at, car_of, list_on, first_or, Has, Away, IsApart, IsWhole}
+use Rattle.street_base.specs.Prelude.{vehicle_of, on_next_link}
+use Rattle.street_yard.specs.Prelude.{YardEntry, Yard, list_at, entry_at, car_of, list_on, first_or, Has, Away, IsApart, IsWhole}
 use Rattle.street_yard.proofs.Keys.{has-away}
 use Rattle.street_yard.proofs.YardLemmas.{some_car, mapped-same, head_is, on_has_entry, parts_apart, without-is}
-use Rattle.street_node.specs.Buffers.{queued_of, queue_of}
-use Rattle.street_node.specs.Releases.{sent_on, SendsOn}
+use Rattle.street_node.specs.Prelude.{queued_of, queue_of, sent_on, SendsOn}
 
 -- ---- the front
 

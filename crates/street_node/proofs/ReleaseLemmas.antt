@@ -1,26 +1,17 @@
 -- The walk over buffers against the release phase, whatever traffic the lists and mouths stand for.
-use Rattle.std.proofs.Common.{◌≡◌, ℕ, suc, ◌+◌, ◌*◌, ◌<◌, Bool, true, false, List, [], ◌∷◌, ◌++◌, length, map, get_or, take, drop, refl, sym, ◌∙◌, ap, arith, inl, inr}
-use Rattle.std.specs.Prelude.{Option, Some, None, option_map, slice_get, slice_set, filter_map, ◌==◌}
-use Rattle.std.specs.List.{All, cons_option}
+use Rattle.std.proofs.Common.{◌≡◌, ℕ, suc, ◌+◌, ◌*◌, ◌<◌, Bool, true, false, List, [], ◌∷◌, ◌++◌, length, map, get_or, take, drop, refl, sym, ◌∙◌, ap, arith, inl, inr, Option, Some, None, option_map, slice_get, slice_set, filter_map, ◌==◌, All}
+use Rattle.std.specs.List.{cons_option}
 use Rattle.std.proofs.lemmas.Bool.{cases_eq}
 use Rattle.std.proofs.lemmas.List.{append-nil, map-append}
 use Rattle.std.proofs.lemmas.Option.{slice_get_within, same_Some}
 use Rattle.street_base.specs.declared.net.NetSpec.{NetSpec}
 use Rattle.street_base.specs.declared.net.TurnSpec.{TurnSpec}
 use Rattle.street_base.specs.declared.net.Turn.{Turn}
-use Rattle.street_base.specs.Faults.{network_fault}
+use Rattle.street_base.specs.Prelude.{network_fault, link_at, turn, places, Vehicle, vehicle_of, Traffic, Queued, lane_at, front, target, gives, on_next_link}
 use Rattle.street_base.specs.declared.names.Place.{Place}
-use Rattle.street_base.specs.Network.{link_at, turn, places}
-use Rattle.street_base.specs.Vehicle.{Vehicle, vehicle_of}
-use Rattle.street_base.specs.State.{Traffic, Queued, lane_at}
-use Rattle.street_base.specs.Release.{front, target, gives, on_next_link}
-use Rattle.street_net.specs.Slots.{slot_of, mouth}
-use Rattle.street_net.specs.Tables.{ends_at, in_places, turn_by_position}
-use Rattle.street_yard.specs.Yard.{YardEntry, Yard, entry_at, list_on, IsApart}
-use Rattle.street_yard.specs.Listed.{vehicle_with}
-use Rattle.street_node.specs.Buffers.{queued_of, queue_of}
-use Rattle.street_node.specs.Walks.{IsWalk, AreShut}
-use Rattle.street_node.specs.Releases.{Crossing, crossing, crossing_in, queue_after, IsAhead, IsFront, Shows, SendsOn, ReleasesFirst, lane_to, lane_from, way_out}
+use Rattle.street_net.specs.Prelude.{slot_of, mouth, ends_at, in_places, turn_by_position}
+use Rattle.street_yard.specs.Prelude.{YardEntry, Yard, entry_at, list_on, IsApart, vehicle_with}
+use Rattle.street_node.specs.Prelude.{queued_of, queue_of, IsWalk, AreShut, Crossing, crossing, crossing_in, queue_after, IsAhead, IsFront, Shows, SendsOn, ReleasesFirst, lane_to, lane_from, way_out}
 use Rattle.street_node.specs.declared.release.Released.{Released}
 use Rattle.street_node.proofs.Joins.{Joins, turn-joins, way-joins, joins-ahead, ahead-few}
 use Rattle.street_node.proofs.Queues.{head-on, queue-first, queue-sent, queue-other, sent-vehicle, apart-at}

@@ -1,15 +1,12 @@
 -- The walk over buffers, one after another: who was sent on, and what stayed.
-use Rattle.std.proofs.Common.{◌≡◌, ◌≢◌, ℕ, zero, suc, ◌+◌, ◌<◌, List, [], ◌∷◌, ◌++◌, length, get_or, take, Option, Some, None, refl, sym, ap, subst, ◌∙◌, arith}
-use Rattle.std.specs.Option.{option_map, option_and_then}
-use Rattle.std.specs.List.{All}
+use Rattle.std.proofs.Common.{◌≡◌, ◌≢◌, ℕ, zero, suc, ◌+◌, ◌<◌, List, [], ◌∷◌, ◌++◌, length, get_or, take, Option, Some, None, refl, sym, ap, subst, ◌∙◌, arith, option_map, option_and_then, All}
 use Rattle.std.proofs.lemmas.List.{take_more}
 use Rattle.std.proofs.lemmas.List.Elements.{All-append}
 use Rattle.street_base.specs.declared.net.NetSpec.{NetSpec}
-use Rattle.street_base.specs.Network.{link_at}
-use Rattle.street_yard.specs.Yard.{YardEntry, Yard, list_at, entry_at, list_on, Has, Away, IsApart, IsWhole}
+use Rattle.street_base.specs.Prelude.{link_at}
+use Rattle.street_yard.specs.Prelude.{YardEntry, Yard, list_at, entry_at, list_on, Has, Away, IsApart, IsWhole}
 use Rattle.street_yard.proofs.Keys.{Away-append}
-use Rattle.street_node.specs.Buffers.{queue_of}
-use Rattle.street_node.specs.Releases.{sent_on, SendsOn, Sends}
+use Rattle.street_node.specs.Prelude.{queue_of, sent_on, SendsOn, Sends}
 use Rattle.street_node.specs.declared.release.Released.{Released}
 use Rattle.street_node.proofs.Queues.{sent-loose, apart-before, queue-kept}
 

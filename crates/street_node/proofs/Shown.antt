@@ -1,18 +1,16 @@
 -- What the phase at a time shows.
-use Rattle.std.proofs.Common.{◌≡◌, ℕ, zero, suc, ◌+◌, ◌-◌, ◌<◌, ◌≤◌, Bool, false, List, [], ◌∷◌, length, get_or, drop, refl, sym, ◌∙◌, ap, arith, add-one, inl, inr}
-use Rattle.std.specs.Prelude.{nat_lt, slice_get, sum_by, ◌==◌, ◌&&◌, if◌then◌else◌}
-use Rattle.std.specs.Option.{option_map_or, option_and_then}
+use Rattle.std.proofs.Common.{◌≡◌, ℕ, zero, suc, ◌+◌, ◌-◌, ◌<◌, ◌≤◌, Bool, false, List, [], ◌∷◌, length, get_or, drop, refl, sym, ◌∙◌, ap, arith, add-one, inl, inr, nat_lt, slice_get, sum_by, ◌==◌, ◌&&◌, if◌then◌else◌, option_and_then}
+use Rattle.std.specs.Option.{option_map_or}
 use Rattle.std.proofs.Math.Seq.{drop-cons}
 use Rattle.std.proofs.lemmas.Bool.{cases_Bool, cond-true, cond-false, ltb-true, ltb-false, lt-ltb, le-ltb}
 use Rattle.std.proofs.lemmas.List.{drop_all}
 use Rattle.std.proofs.lemmas.List.Sums.{sum_by_more, sum_by-cons}
 use Rattle.std.proofs.lemmas.List.Sorted.{list_any-IsPermutation}
 use Rattle.std.proofs.lemmas.Option.{slice_get-get_or}
-use Rattle.street_base.specs.Search.{least}
+use Rattle.street_base.specs.Prelude.{least, Phase, Green, time_of, phase_at, lists}
 use Rattle.street_base.specs.declared.names.Place.{Place}
-use Rattle.street_base.specs.Signal.{Phase, Green, time_of, phase_at, lists}
 use Rattle.street_base.proofs.SearchLemmas.{least-past, least-here, least-skip}
-use Rattle.street_node.specs.Greens.{shown, IsSamePhase}
+use Rattle.street_node.specs.Prelude.{shown, IsSamePhase}
 
 pub no_phase : Phase
 no_phase = record { duration = 0; greens = [] }

@@ -1,24 +1,16 @@
 -- One buffer of the walk after another.
-use Rattle.std.proofs.Common.{◌≡◌, ℕ, ◌+◌, ◌*◌, ◌<◌, ◌≤◌, Bool, true, false, List, [], ◌∷◌, ◌++◌, length, map, get_or, take, Option, Some, None, sym, ap, subst, ◌∙◌, arith}
-use Rattle.std.specs.Prelude.{slice_get, slice_set, drop, filter_map, not, ◌&&◌, IsSomeAnd}
-use Rattle.std.specs.Option.{option_map}
+use Rattle.std.proofs.Common.{◌≡◌, ℕ, ◌+◌, ◌*◌, ◌<◌, ◌≤◌, Bool, true, false, List, [], ◌∷◌, ◌++◌, length, map, get_or, take, Option, Some, None, sym, ap, subst, ◌∙◌, arith, slice_get, slice_set, drop, filter_map, not, ◌&&◌, IsSomeAnd, option_map}
 use Rattle.std.specs.List.{list_any}
 use Rattle.std.proofs.lemmas.List.{length-drop, take_all, get_or-map}
 use Rattle.std.proofs.lemmas.Option.{slice_get_within, slice_get-get_or}
 use Rattle.street_base.specs.declared.net.NetSpec.{NetSpec}
 use Rattle.street_base.specs.declared.car.Car.{Car}
-use Rattle.street_base.specs.Faults.{network_fault}
+use Rattle.street_base.specs.Prelude.{network_fault, link_at, is_free, Traffic, lane_at, may_give}
 use Rattle.street_base.specs.declared.names.Place.{Place}
-use Rattle.street_base.specs.Network.{link_at}
-use Rattle.street_base.specs.Lane.{is_free}
-use Rattle.street_base.specs.State.{Traffic, lane_at}
-use Rattle.street_base.specs.Release.{may_give}
-use Rattle.street_net.specs.Slots.{mouth, slot_of}
-use Rattle.street_net.specs.Tables.{in_places}
+use Rattle.street_net.specs.Prelude.{mouth, slot_of, in_places}
 use Rattle.street_yard.specs.declared.names.ListId.{ListId}
-use Rattle.street_yard.specs.Yard.{YardEntry, Yard, car_of, list_on, IsApart, IsWhole}
-use Rattle.street_node.specs.Buffers.{queue_of, HaveShortPlans}
-use Rattle.street_node.specs.Releases.{lane_to, way_out, IsFront, SendsOn, Shows, ReleasesFirst, crossing}
+use Rattle.street_yard.specs.Prelude.{YardEntry, Yard, car_of, list_on, IsApart, IsWhole}
+use Rattle.street_node.specs.Prelude.{queue_of, HaveShortPlans, lane_to, way_out, IsFront, SendsOn, Shows, ReleasesFirst, crossing}
 use Rattle.street_node.specs.declared.release.Released.{Released}
 use Rattle.street_node.proofs.Joins.{Joins, way-joins}
 use Rattle.street_node.proofs.Queues.{head-on}

@@ -6,7 +6,7 @@ use Rattle.std.specs.Cmp.{nat_cmp_is}
 use Rattle.std.specs.Ordering.{nat_cmp, ordering_then, MatchOrdering}
 use Rattle.std.proofs.lemmas.Cmp.{ranked}
 use Rattle.street_node.specs.declared.phase.GreenTurn.{GreenTurn}
-use Rattle.street_node.specs.Greens.{turn_cmp, turn_rank}
+use Rattle.street_node.specs.Prelude.{turn_cmp, turn_rank}
 
 module _ (t u : GreenTurn) (small : t.lane < 256) (small' : u.lane < 256) (short : t.next < 65536) (short' : u.next < 65536) where
   abbrev Ranks : Ordering → Type 0

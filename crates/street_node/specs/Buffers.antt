@@ -1,15 +1,12 @@
 -- The buffers of a node, as lists of a yard.
 -- Source: this profile.
-use Rattle.std.specs.Prelude.{◌≡◌, ℕ, ◌<◌, ◌≤◌, List, [], ◌∷◌, ◌++◌, length, filter_map, Some, option_map, slice_set, slice_index_or}
-use Rattle.std.specs.List.{All}
+use Rattle.std.specs.Prelude.{◌≡◌, ℕ, ◌<◌, ◌≤◌, List, [], ◌∷◌, ◌++◌, length, filter_map, Some, option_map, slice_set, slice_index_or, All}
 use Rattle.street_base.specs.declared.net.NetSpec.{NetSpec}
 use Rattle.street_base.specs.declared.net.NodeSpec.{NodeSpec}
 use Rattle.street_base.specs.declared.car.Car.{Car}
-use Rattle.street_base.specs.Limits.{most_plan}
-use Rattle.street_base.specs.Vehicle.{vehicle_of}
-use Rattle.street_base.specs.State.{Queued}
-use Rattle.street_net.specs.Tables.{in_places}
-use Rattle.street_yard.specs.Yard.{Yard, list_at, car_of, car_set, list_set, IsApart}
+use Rattle.street_base.specs.Prelude.{most_plan, vehicle_of, Queued}
+use Rattle.street_net.specs.Prelude.{in_places}
+use Rattle.street_yard.specs.Prelude.{Yard, list_at, car_of, car_set, list_set, IsApart}
 
 -- the position of a node, how many vehicles each of its buffers holds, and their lists
 pub record Buffers : Type 0 where

@@ -1,19 +1,17 @@
 -- How a signal plan is kept, and what it shows.
 -- Source: this profile.
-use Rattle.std.specs.Prelude.{◌≡◌, ℕ, ◌+◌, ◌*◌, ◌-◌, ◌%◌, ◌<◌, nat_lt, List, [], ◌∷◌, map, Bool, false, Option, Some, None, slice_index_or, if◌then◌else◌, length}
+use Rattle.std.specs.Prelude.{◌≡◌, ℕ, ◌+◌, ◌*◌, ◌-◌, ◌%◌, ◌<◌, nat_lt, List, [], ◌∷◌, map, Bool, false, Option, Some, None, slice_index_or, if◌then◌else◌, length, All}
 use Rattle.std.specs.Int.{bit_at}
-use Rattle.std.specs.List.{All}
 use Rattle.std.specs.declared.cmp.Ordering.{Ordering}
 use Rattle.std.specs.Ordering.{nat_cmp, is_lt, then_cmp, on}
 use Rattle.std.specs.List.Sorted.{IsPermutation, IsSortedBy}
 use Rattle.street_base.specs.declared.net.NetSpec.{NetSpec}
 use Rattle.street_base.specs.declared.names.Place.{Place}
-use Rattle.street_base.specs.Signal.{Green, Phase, SignalPlan, cycle, lists, is_green}
+use Rattle.street_base.specs.Prelude.{Green, Phase, SignalPlan, cycle, lists, is_green, phase_of_spec}
 use Rattle.street_node.specs.declared.phase.GreenTurn.{GreenTurn}
 use Rattle.street_node.specs.declared.faults.SignalFault.{SignalFault}
 use Rattle.street_node.specs.declared.faults.SignalFault.TheVariants.{Bad, Starved}
 use Rattle.street_base.specs.declared.command.PhaseSpec.{PhaseSpec}
-use Rattle.street_base.specs.Effects.{phase_of_spec}
 
 -- turns by their links, then by their lanes, then by their next links
 abbrev pub turn_cmp : GreenTurn → GreenTurn → Ordering

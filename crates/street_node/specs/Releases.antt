@@ -1,20 +1,13 @@
 -- The release phase of one node: which fronts go, whereto, and what is left.
 -- Source: this profile.
-use Rattle.std.specs.Prelude.{◌≡◌, ◌≢◌, ℕ, ◌+◌, ◌<◌, ◌==◌, nat_le, min, List, [], ◌∷◌, ◌++◌, length, map, drop, take, filter_map, Bool, true, false, Option, Some, None, option_map, option_and_then, slice_get, slice_set, slice_index_or, if◌then◌else◌}
-use Rattle.std.specs.List.{All}
+use Rattle.std.specs.Prelude.{◌≡◌, ◌≢◌, ℕ, ◌+◌, ◌<◌, ◌==◌, nat_le, min, List, [], ◌∷◌, ◌++◌, length, map, drop, take, filter_map, Bool, true, false, Option, Some, None, option_map, option_and_then, slice_get, slice_set, slice_index_or, if◌then◌else◌, All}
 use Rattle.std.specs.Option.{option_map_or}
 use Rattle.street_base.specs.declared.net.NetSpec.{NetSpec}
 use Rattle.street_base.specs.declared.car.Car.{Car}
-use Rattle.street_base.specs.Vehicle.{Vehicle, vehicle_of, next_link}
-use Rattle.street_base.specs.Lane.{is_free}
+use Rattle.street_base.specs.Prelude.{Vehicle, vehicle_of, next_link, is_free, link_at, node_of, turn, Traffic, Queued, lane_at, target, gives, entering}
 use Rattle.street_base.specs.declared.names.Place.{Place}
-use Rattle.street_base.specs.Network.{link_at, node_of, turn}
-use Rattle.street_base.specs.State.{Traffic, Queued, lane_at}
-use Rattle.street_base.specs.Release.{target, gives, entering}
-use Rattle.street_net.specs.Slots.{slot_of, mouth}
-use Rattle.street_net.specs.Tables.{in_places, turn_by_position}
-use Rattle.street_yard.specs.Yard.{Yard, YardEntry, list_at, entry_at, car_of, without, first_or, Away, IsWhole}
-use Rattle.street_yard.specs.Listed.{vehicle_with}
+use Rattle.street_net.specs.Prelude.{slot_of, mouth, in_places, turn_by_position}
+use Rattle.street_yard.specs.Prelude.{Yard, YardEntry, list_at, entry_at, car_of, without, first_or, Away, IsWhole, vehicle_with}
 use Rattle.street_node.specs.Buffers.{queue_of}
 use Rattle.street_node.specs.Walks.{AreShut}
 use Rattle.street_node.specs.declared.release.Released.{Released}

@@ -3,12 +3,8 @@
 use Rattle.std.specs.Prelude.{◌≡◌, ℕ, ◌≤◌, List, Bool, true, not, ◌&&◌, Some, find, sum_by, slice_get, take}
 use Rattle.std.specs.List.{list_any}
 use Rattle.street_base.specs.declared.names.Place.{Place}
-use Rattle.street_base.specs.Network.{is_place, places}
-use Rattle.street_base.specs.Lane.{is_free}
-use Rattle.street_base.specs.State.{Traffic, lane_at}
-use Rattle.street_base.specs.Census.{one_if}
-use Rattle.street_base.specs.Release.{may_give}
-use Rattle.street_net.specs.Slots.{mouth}
+use Rattle.street_base.specs.Prelude.{is_place, places, is_free, Traffic, lane_at, one_if, may_give}
+use Rattle.street_net.specs.Prelude.{mouth}
 
 -- how often a lane stands in a list
 abbrev pub times : Place → List Place → ℕ

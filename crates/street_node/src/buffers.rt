@@ -2,10 +2,9 @@
 //!
 //! Source: this profile.
 ghost use Rattle.std.specs.Prelude.{◌≡◌, ◌+◌, ◌*◌, ◌<◌, ◌≤◌, length, map, nat_lt, vec_len, vec_capacity};
-ghost use Rattle.street_net.specs.Tables.{in_places};
-ghost use Rattle.street_yard.specs.Yard.{list_at, IsLoose};
-ghost use Rattle.street_node.specs.Buffers.{node_at, list_of, taken_in, AreOf, AreIn, HaveShortPlans};
-ghost use Rattle.street_node.specs.Releases.{Releases};
+ghost use Rattle.street_net.specs.Prelude.{in_places};
+ghost use Rattle.street_yard.specs.Prelude.{list_at, IsLoose};
+ghost use Rattle.street_node.specs.Prelude.{node_at, list_of, taken_in, AreOf, AreIn, HaveShortPlans, Releases};
 
 use crate::release::{Released, release_lanes};
 use std::marker::Model;
@@ -23,7 +22,7 @@ pub struct Buffers {
 }
 
 impl Model for Buffers {
-    ghost use Rattle.street_node.specs.Buffers.{Buffers as Seen};
+    ghost use Rattle.street_node.specs.Prelude.{Buffers as Seen};
 
     ghost Value = { Seen };
 

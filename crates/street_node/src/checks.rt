@@ -3,8 +3,7 @@
 //! Source: this profile.
 ghost use Rattle.std.specs.Prelude.{◌≡◌, ◌*◌, ◌≤◌, None, length, sum_by};
 ghost use Rattle.std.specs.List.{list_all};
-ghost use Rattle.street_base.specs.Limits.{most_phases, most_duration};
-ghost use Rattle.street_base.specs.Faults.{first_bad, is_turn_to, is_bad_phase, signal_fault};
+ghost use Rattle.street_base.specs.Prelude.{most_phases, most_duration, first_bad, is_turn_to, is_bad_phase, signal_fault};
 
 use street_base::{
     GreenSpec, LaneNo, MOST_DURATION, MOST_GREENS, MOST_LANES, MOST_PHASES, PhaseSpec,

@@ -4,8 +4,8 @@
 ghost use Rattle.std.specs.Prelude.{◌≡◌, ◌<◌, map};
 ghost use Rattle.std.specs.List.Sorted.{IsPermutation};
 ghost use Rattle.street_base.specs.declared.names.Place.{Place};
-ghost use Rattle.street_base.specs.Signal.{lists};
-ghost use Rattle.street_node.specs.Greens.{turn_cmp, green_seen, mark_of, HasMarks};
+ghost use Rattle.street_base.specs.Prelude.{lists};
+ghost use Rattle.street_node.specs.Prelude.{turn_cmp, green_seen, mark_of, HasMarks};
 
 use std::cmp::Ordering;
 use std::marker::Model;
@@ -29,11 +29,11 @@ pub(crate) struct KeptPhase {
 }
 
 impl Model for KeptPhase {
-    ghost use Rattle.street_base.specs.Signal.{Phase};
+    ghost use Rattle.street_base.specs.Prelude.{Phase};
 
     ghost Value = { Phase };
 
-    ghost use Rattle.street_node.specs.Greens.{phase_seen, AreKeptGreens};
+    ghost use Rattle.street_node.specs.Prelude.{phase_seen, AreKeptGreens};
 
     ghost view = { λ p. phase_seen p.duration p.greens.items };
 
@@ -41,7 +41,7 @@ impl Model for KeptPhase {
 }
 
 impl GreenTurn {
-    ghost use Rattle.street_node.specs.Greens.{turn_rank};
+    ghost use Rattle.street_node.specs.Prelude.{turn_rank};
 
     /// The turn as one number, so that a search compares once.
     fn rank(&self) -> u64

@@ -4,10 +4,8 @@
 ghost use Rattle.std.specs.Prelude.{◌≡◌, ◌<◌, true, length, map, None, Some, IfOk, IfErr, OnOk};
 ghost use Rattle.std.specs.List.{list_all};
 ghost use Rattle.street_base.specs.declared.names.Place.{Place};
-ghost use Rattle.street_base.specs.Faults.{network_fault, signal_fault, first_bad, is_bad_phase, is_turn_to};
-ghost use Rattle.street_base.specs.Effects.{plan_of, green_of, position_of};
-ghost use Rattle.street_base.specs.Signal.{is_green, cycle};
-ghost use Rattle.street_node.specs.Greens.{ShowsAs, TellsSignalFault, node_id, green_seen, shown, AreSamePhases};
+ghost use Rattle.street_base.specs.Prelude.{network_fault, signal_fault, first_bad, is_bad_phase, is_turn_to, plan_of, green_of, position_of, is_green, cycle};
+ghost use Rattle.street_node.specs.Prelude.{ShowsAs, TellsSignalFault, node_id, green_seen, shown, AreSamePhases};
 
 use crate::checks::{cycle_of, signal_fault};
 use crate::faults::SignalFault;
@@ -35,11 +33,11 @@ impl Drop for SignalPlan {
 }
 
 impl Model for SignalPlan {
-    ghost use Rattle.street_base.specs.Signal.{SignalPlan as Plan};
+    ghost use Rattle.street_base.specs.Prelude.{SignalPlan as Plan};
 
     ghost Value = { Plan };
 
-    ghost use Rattle.street_node.specs.Greens.{plan_seen, IsCycle};
+    ghost use Rattle.street_node.specs.Prelude.{plan_seen, IsCycle};
 
     ghost view = { λ p. plan_seen p.offset p.phases.items };
 

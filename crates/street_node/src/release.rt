@@ -2,12 +2,10 @@
 //!
 //! Source: this profile.
 ghost use Rattle.std.specs.Prelude.{◌≡◌, ◌+◌, ◌*◌, ◌<◌, ◌≤◌, false, length, map, option_map, slice_get, vec_len, vec_capacity, IfSome, IsSomeAnd, Some};
-ghost use Rattle.street_base.specs.Vehicle.{vehicle_of, next_link};
-ghost use Rattle.street_net.specs.Tables.{in_places};
-ghost use Rattle.street_yard.specs.Yard.{car_of, list_on};
-ghost use Rattle.street_yard.specs.View.{viewed};
-ghost use Rattle.street_node.specs.Buffers.{queue_of, AreListed, HaveShortPlans};
-ghost use Rattle.street_node.specs.Releases.{way_out, lane_to, IsFront, SendsOn, SendsFront, Releases};
+ghost use Rattle.street_base.specs.Prelude.{vehicle_of, next_link};
+ghost use Rattle.street_net.specs.Prelude.{in_places};
+ghost use Rattle.street_yard.specs.Prelude.{car_of, list_on, viewed};
+ghost use Rattle.street_node.specs.Prelude.{queue_of, AreListed, HaveShortPlans, way_out, lane_to, IsFront, SendsOn, SendsFront, Releases};
 
 use street_base::{LinkIx, NodeIx, Place, Speed, Step, Turn};
 use street_net::{Network, slot};
@@ -60,13 +58,13 @@ fn send_on(yard: &mut Yard, list: ListId, key: Key, limit: Speed)
     let car = yard.car(key);
     let speed = car.speed.min(limit);
     let at = car.at + 1;
-    yard.unlink(key);
     yard.set_speed(key, speed);
     yard.set_at(key, at);
-    yard.whole();
+    yard.unlink(key);
 }
 
-/// A front goes, if the mouth that its turn leads to is open, which then closes.
+/// A front that is ready, which the caller has seen, leaves its buffer's `list` and is told in `released`, if the mouth that its turn
+/// leads to is open, which then closes; else nothing changes.
 fn release_front(
     network: &Network,
     yard: &mut Yard,

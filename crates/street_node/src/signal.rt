@@ -1,6 +1,5 @@
 //! The signal plan of a node, looked up where it is asked for.
-ghost use Rattle.std.specs.Prelude.{◌≡◌, ◌<◌, length, None, slice_index_or};
-ghost use Rattle.std.specs.Option.{option_copied};
+ghost use Rattle.std.specs.Prelude.{◌≡◌, ◌<◌, length, None, slice_index_or, option_copied};
 
 use crate::plan::SignalPlan;
 use std::marker::Model;
@@ -15,7 +14,7 @@ pub struct Signal<'a> {
 
 impl<'a> Model for Signal<'a> {
     ghost use Rattle.std.specs.Prelude.{◌<◌, length, Option, None, slice_index_or};
-    ghost use Rattle.street_base.specs.Signal.{SignalPlan as Plan};
+    ghost use Rattle.street_base.specs.Prelude.{SignalPlan as Plan};
 
     ghost Value = { Option Plan };
 

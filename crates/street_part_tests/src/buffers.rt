@@ -1,8 +1,8 @@
 //! Releases with values known beforehand.
 
 ghost use Rattle.std.specs.Prelude.{◌≡◌, ◌≤◌, ◌∷◌, [], length, IfOk};
-ghost use Rattle.street_base.specs.Limits.{most_plan};
-ghost use Rattle.street_node.specs.Buffers.{AreIn, AreOf, HaveShortPlans};
+ghost use Rattle.street_base.specs.Prelude.{most_plan};
+ghost use Rattle.street_node.specs.Prelude.{AreIn, AreOf, HaveShortPlans};
 
 use crate::nets;
 use crate::nets::{link, node, turn};

@@ -1,8 +1,7 @@
 //! Closures and gaps, with values known beforehand.
 
 ghost use Rattle.std.specs.Prelude.{◌≡◌, ◌<◌, length, true};
-ghost use Rattle.street_base.specs.Faults.{is_within};
-ghost use Rattle.street_base.specs.Limits.{most_size};
+ghost use Rattle.street_base.specs.Prelude.{is_within, most_size};
 
 use std::alloc::Global;
 use std::process::Abort;

@@ -1,11 +1,9 @@
 //! Motion with values reckoned by hand.
 
-ghost use Rattle.std.specs.Prelude.{◌≡◌, ◌-◌, ◌<◌, ℕ, [], IfOk, OnOk, length};
-ghost use Rattle.std.specs.List.{All};
-ghost use Rattle.street_rule.specs.Watch.{IsReady};
-ghost use Rattle.street_yard.specs.Yard.{list_at};
-ghost use Rattle.street_yard.specs.Listed.{rear_at, AllAbove, IsLane};
-ghost use Rattle.street_gap.specs.Closed.{IsWithin};
+ghost use Rattle.std.specs.Prelude.{◌≡◌, ◌-◌, ◌<◌, ℕ, [], IfOk, OnOk, length, All};
+ghost use Rattle.street_rule.specs.Prelude.{IsReady};
+ghost use Rattle.street_yard.specs.Prelude.{list_at, rear_at, AllAbove, IsLane};
+ghost use Rattle.street_gap.specs.Prelude.{IsWithin};
 
 use crate::nets;
 use crate::nets::{link, node};
@@ -54,7 +52,6 @@ fn put(
     ensures lane { OnOk result (IsLane yard.new 0 40) }
     ensures below { OnOk result ((cell : ℕ) → cell < standing.cell - (size - 1) → AllAbove (rear_at yard.new) cell (list_at yard.new 0)) }
 {
-    yard.whole();
     let plan = Box::new(
         alloc,
         Plan::from_vec(Vec::from_slice(alloc, &[LinkIx::new(0)])?),
@@ -70,7 +67,6 @@ fn put(
         size,
     });
     yard.push_back(ListId(0), key);
-    yard.whole();
     Ok(key)
 }
 

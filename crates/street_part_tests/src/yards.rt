@@ -1,6 +1,6 @@
 //! Calls of the arena; the expected values are reckoned by hand.
 ghost use Rattle.std.specs.Prelude.{◌≡◌, ◌<◌, IfOk, IsSome, length};
-ghost use Rattle.street_yard.specs.Yard.{entry_at};
+ghost use Rattle.street_yard.specs.Prelude.{entry_at};
 
 use std::alloc::{AllocError, Global};
 use std::process::Abort;

@@ -1,9 +1,8 @@
 -- A key goes to another list.
-use Rattle.std.proofs.Common.{◌≡◌, ◌≢◌, ℕ, ◌<◌, true, false, not, [], length, get_or, set, Option, Some, None, refl, sym, ap, ◌∙◌}
-use Rattle.std.specs.Option.{option_map, option_and_then, unwrap_or}
+use Rattle.std.proofs.Common.{◌≡◌, ◌≢◌, ℕ, ◌<◌, true, false, not, [], length, get_or, set, Option, Some, None, refl, sym, ap, ◌∙◌, option_map, option_and_then, unwrap_or}
 use Rattle.std.proofs.lemmas.List.{get_or-set_same, get_or-set_other, length-set}
-use Rattle.street_yard.specs.Yard.{YardEntry, Yard, list_at, entry_at, car_of, list_on, list_set, mark_set, without, put_behind, IsWhole}
-use Rattle.street_rule.specs.Relinked.{is_unmarked, Carries}
+use Rattle.street_yard.specs.Prelude.{YardEntry, Yard, list_at, entry_at, car_of, list_on, list_set, mark_set, without, put_behind, IsWhole}
+use Rattle.street_rule.specs.Prelude.{is_unmarked, Carries}
 use Rattle.street_yard.proofs.YardLemmas.{entry-kept_set, entry-kept_set_other, field-kept_set}
 
 same_list : (n : Option ℕ) (o : Option YardEntry) → option_and_then (λ (e : YardEntry). e.list) (option_map (λ (e : YardEntry). record e { mark = false }) o) ≡ option_and_then (λ (e : YardEntry). e.list) o

@@ -1,22 +1,16 @@
 -- What a driver sees, by the neighbours on the lists.
-use Rattle.std.proofs.Common.{◌≡◌, ℕ, zero, suc, ◌+◌, ◌-◌, ◌<◌, ◌≤◌, Bool, true, false, List, [], ◌∷◌, ◌++◌, length, Option, Some, None, refl, sym, ap, subst, ◌∙◌, inl, inr, arith}
-use Rattle.std.specs.Prelude.{◌&&◌, not, nat_lt, MatchOption}
-use Rattle.std.specs.Option.{option_map, unwrap_or}
+use Rattle.std.proofs.Common.{◌≡◌, ℕ, zero, suc, ◌+◌, ◌-◌, ◌<◌, ◌≤◌, Bool, true, false, List, [], ◌∷◌, ◌++◌, length, Option, Some, None, refl, sym, ap, subst, ◌∙◌, inl, inr, arith, ◌&&◌, not, nat_lt, MatchOption, option_map, unwrap_or}
 use Rattle.std.specs.List.{list_all, range_with_len}
 use Rattle.std.proofs.lemmas.Bool.{cases_Bool, cases_lt, both_ways, cond-true, cond-false, lt-ltb, le-ltb}
 use Rattle.std.proofs.lemmas.List.{append_assoc}
-use Rattle.street_yard.specs.Yard.{Yard, list_at, first_or, last_or, IsWhole}
+use Rattle.street_yard.specs.Prelude.{Yard, list_at, first_or, last_or, IsWhole, cell_at, rear_at, vehicle_with, key_at, cells_at, IsFalling, IsLane, AllAbove}
 use Rattle.street_yard.proofs.Keys.{snoc_cases, last_or-push}
 use Rattle.street_yard.proofs.YardLemmas.{AllAbove-lower}
-use Rattle.street_base.specs.Vehicle.{Vehicle, next_link}
-use Rattle.street_base.specs.Lane.{Track, vehicle_at, rear, is_covered, is_closed, is_free, are_free}
-use Rattle.street_base.specs.LaneChange.{Changing, free_ahead, free_behind, wishes, is_safe, changes}
+use Rattle.street_base.specs.Prelude.{Vehicle, next_link, Track, vehicle_at, rear, is_covered, is_closed, is_free, are_free, Changing, free_ahead, free_behind, wishes, is_safe, changes}
 use Rattle.street_base.proofs.CoverLemmas.{rear-le, free-uncovered, all-free}
-use Rattle.street_yard.specs.Listed.{cell_at, rear_at, vehicle_with, key_at, cells_at, IsFalling, IsLane, AllAbove}
-use Rattle.street_gap.specs.Closed.{entrance_after}
-use Rattle.street_gap.specs.Sight.{lesser}
+use Rattle.street_gap.specs.Prelude.{entrance_after, lesser}
 use Rattle.street_gap.proofs.Sights.{AllAbove-last, uncovered, obstacle-is, gap-behind-is, clear-of-key}
-use Rattle.street_rule.specs.Sight.{gap_between, gap_up, gap_down, has_room, has_room_between, wishes_with, decision}
+use Rattle.street_rule.specs.Prelude.{gap_between, gap_up, gap_down, has_room, has_room_between, wishes_with, decision}
 use Rattle.street_yard.proofs.FallingLists.{falling-below, falling-split, key_at-split, cells-length, seen-key, stands-key, covered-key}
 
 -- the track of a list, with these closed marks

@@ -1,22 +1,15 @@
 -- What a driver decides, from what the code has looked up.
-use Rattle.std.proofs.Common.{◌≡◌, ℕ, zero, suc, ◌+◌, ◌-◌, ◌<◌, ◌≤◌, Bool, List, [], ◌∷◌, ◌++◌, IsSome, Option, Some, None, refl, sym, ap, subst, ◌∙◌, arith}
-use Rattle.std.specs.Prelude.{MatchOption, ◌&&◌, not}
-use Rattle.std.specs.Option.{option_map}
+use Rattle.std.proofs.Common.{◌≡◌, ℕ, zero, suc, ◌+◌, ◌-◌, ◌<◌, ◌≤◌, Bool, List, [], ◌∷◌, ◌++◌, IsSome, Option, Some, None, refl, sym, ap, subst, ◌∙◌, arith, MatchOption, ◌&&◌, not, option_map}
 use Rattle.std.specs.List.{list_all, range_with_len}
 use Rattle.street_base.specs.declared.car.Car.{Car}
-use Rattle.street_base.specs.Vehicle.{Vehicle, vehicle_of, next_link}
-use Rattle.street_base.specs.Lane.{Track, is_closed}
-use Rattle.street_base.specs.LaneChange.{Changing}
-use Rattle.street_yard.specs.Yard.{YardEntry, Yard, entry_at, car_of, first_or, IsWhole}
-use Rattle.street_yard.specs.Listed.{cell_at, rear_at, vehicle_with, IsFalling}
+use Rattle.street_base.specs.Prelude.{Vehicle, vehicle_of, next_link, Track, is_closed, Changing}
+use Rattle.street_yard.specs.Prelude.{YardEntry, Yard, entry_at, car_of, first_or, IsWhole, cell_at, rear_at, vehicle_with, IsFalling}
 use Rattle.street_yard.proofs.YardLemmas.{cell_is}
 use Rattle.street_yard.proofs.FallingLists.{falling-split}
-use Rattle.street_gap.specs.Closed.{is_in, closed_marks, entrance_after, are_open, IsWithin}
+use Rattle.street_gap.specs.Prelude.{is_in, closed_marks, entrance_after, are_open, IsWithin, lesser, IsPosition}
 use Rattle.street_gap.specs.declared.closures.Stretch.{Stretch}
-use Rattle.street_gap.specs.Sight.{lesser, IsPosition}
 use Rattle.street_gap.proofs.Marks.{closed_marks-length, closed_marks-at}
-use Rattle.street_rule.specs.Road.{RoadLane, IsRoadLane, track_of}
-use Rattle.street_rule.specs.Sight.{gap_between, gap_up, has_room, has_room_between, wishes_with, decision}
+use Rattle.street_rule.specs.Prelude.{RoadLane, IsRoadLane, track_of, gap_between, gap_up, has_room, has_room_between, wishes_with, decision}
 use Rattle.street_rule.proofs.ChangeSights.{room-is}
 
 -- the vehicles below the last above fall from the cell on

@@ -1,14 +1,13 @@
 -- Kept bits and draws.
-use Rattle.std.proofs.Common.{◌≡◌, ℕ, zero, suc, ◌+◌, ◌-◌, ◌*◌, ◌/◌, ◌%◌, ◌^◌, ◌<◌, ◌≤◌, Bool, true, false, List, refl, sym, ap, ap₂, ◌∙◌, inl, inr, Fits, w64, arith}
-use Rattle.std.specs.Prelude.{IsTrue, ◌↔◌, nat_lt, nat_le, ◌==◌, if◌then◌else◌}
+use Rattle.std.proofs.Common.{◌≡◌, ℕ, zero, suc, ◌+◌, ◌-◌, ◌*◌, ◌/◌, ◌%◌, ◌^◌, ◌<◌, ◌≤◌, Bool, true, false, List, refl, sym, ap, ap₂, ◌∙◌, inl, inr, Fits, w64, arith, IsTrue, ◌↔◌, nat_lt, nat_le, ◌==◌, if◌then◌else◌}
 use Rattle.std.proofs.lemmas.Bool.{eq-eqb, ne_eqb, lt-ltb, le-ltb, false≢true}
 use Rattle.std.proofs.lemmas.Bool.Decides.{leb_tells}
 use Rattle.std.proofs.Math.Nat.{pow-succ', mul_assoc, div-one, div-div-eq-div-mul}
 use lib.Lanes.{top}
 use Rattle.rand_chacha.specs.ChaCha.{ChaCha, word_at, next_word}
-use Rattle.street_base.specs.Draw.{draw, key_of_seed, lane_draw, dawdle_draw}
+use Rattle.street_base.specs.Prelude.{draw, key_of_seed, lane_draw, dawdle_draw}
 use Rattle.street_base.proofs.DrawLemmas.{draw-below}
-use Rattle.street_rule.specs.KeptDraws.{is_drawn, bits_of, is_within, Asked}
+use Rattle.street_rule.specs.Prelude.{is_drawn, bits_of, is_within, Asked}
 
 pub one-bit : (b : Bool) → (if b then 1 else 0) ≤ 1
 one-bit true = omega arith

@@ -1,19 +1,11 @@
 -- Motion under two drives that agree. The exit matters to nobody but who has nothing ahead.
-use Rattle.std.proofs.Common.{◌≡◌, ℕ, ◌+◌, Bool, false, List, [], length, map, refl, ap}
-use Rattle.std.specs.Prelude.{Option, Some, None, option_map, option_and_then, nat_le, ◌==◌}
+use Rattle.std.proofs.Common.{◌≡◌, ℕ, ◌+◌, Bool, false, List, [], length, map, refl, ap, Option, Some, None, option_map, option_and_then, nat_le, ◌==◌, nat_lt, sum_by, if◌then◌else◌}
 use Rattle.std.specs.Option.{option_map_or}
 use Rattle.std.specs.List.{range_with_len}
 use Rattle.std.proofs.Math.Path.{fun_ext}
-use Rattle.street_base.specs.Vehicle.{Vehicle, with_speed}
-use Rattle.street_base.specs.Lane.{Cells, vehicle_at, is_covered, obstacle_ahead}
-use Rattle.std.specs.Prelude.{nat_lt, sum_by, if◌then◌else◌}
+use Rattle.street_base.specs.Prelude.{Vehicle, with_speed, Cells, vehicle_at, is_covered, obstacle_ahead, Triple, triple, least, Drive, speed_after, driven_on, motion_gap, moved, comes_to, leaves, comer, motion, leaver}
 use Rattle.street_rule.specs.declared.watch.Watch.{Watch}
-use Rattle.street_base.specs.State.{Triple}
-use Rattle.street_base.specs.Detector.{triple}
-use Rattle.street_rule.specs.Watch.{watched}
-use Rattle.street_base.specs.Search.{least}
-use Rattle.street_rule.specs.Course.{gap_to}
-use Rattle.street_base.specs.Motion.{Drive, speed_after, driven_on, motion_gap, moved, comes_to, leaves, comer, motion, leaver}
+use Rattle.street_rule.specs.Prelude.{watched, gap_to}
 
 -- a triple from what becomes of the vehicle of each cell
 abbrev triple_by : (ℕ → Option Vehicle) → Cells → ℕ → Triple

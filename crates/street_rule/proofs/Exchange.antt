@@ -1,11 +1,8 @@
 -- Two lists whose marked keys change places, by who is in each cell.
-use Rattle.std.proofs.Common.{◌≡◌, ◌≢◌, ◌⊎◌, ℕ, ◌<◌, Bool, true, false, not, cond, List, [], ◌∷◌, Option, Some, None, refl, sym, ap, subst, ◌∙◌, inl, inr, arith}
-use Rattle.std.specs.Prelude.{nat_le, ◌==◌}
-use Rattle.std.specs.List.{filter}
+use Rattle.std.proofs.Common.{◌≡◌, ◌≢◌, ◌⊎◌, ℕ, ◌<◌, Bool, true, false, not, cond, List, [], ◌∷◌, Option, Some, None, refl, sym, ap, subst, ◌∙◌, inl, inr, arith, nat_le, ◌==◌, filter}
 use Rattle.std.proofs.lemmas.Bool.{cases_eq, cases_Bool, cases_lt, cond-true, cond-false, eq-eqb, ne_eqb, le-leb, lt-leb}
-use Rattle.street_yard.specs.Yard.{Has}
-use Rattle.street_yard.specs.Listed.{key_at, IsFalling}
-use Rattle.street_rule.specs.Relinked.{put_falling, put_all}
+use Rattle.street_yard.specs.Prelude.{Has, key_at, IsFalling}
+use Rattle.street_rule.specs.Prelude.{put_falling, put_all}
 use Rattle.street_rule.proofs.RelinkWalk.{put_falling-same}
 use Rattle.street_yard.proofs.FallingLists.{falling-below, falling-wider, key_at-is}
 

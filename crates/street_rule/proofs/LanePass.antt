@@ -1,20 +1,12 @@
 -- The two mark passes and the two relink passes make the new arrays.
-use Rattle.std.proofs.Common.{◌≡◌, ◌≢◌, ℕ, ◌-◌, Bool, true, false, cond, List, [], ◌∷◌, length, get_or, Option, Some, None, refl, sym, ap, subst, ◌∙◌, inl, inr, arith}
-use Rattle.std.specs.Prelude.{◌==◌}
-use Rattle.std.specs.Option.{option_map, option_and_then, unwrap_or}
-use Rattle.std.specs.List.{filter}
+use Rattle.std.proofs.Common.{◌≡◌, ◌≢◌, ℕ, ◌-◌, Bool, true, false, cond, List, [], ◌∷◌, length, get_or, Option, Some, None, refl, sym, ap, subst, ◌∙◌, inl, inr, arith, ◌==◌, option_map, option_and_then, unwrap_or, filter}
 use Rattle.std.proofs.lemmas.Bool.{both_ways, not-true}
 use Rattle.std.proofs.lemmas.List.FromFn.{fill_by_all}
-use Rattle.street_yard.specs.Yard.{YardEntry, Yard, list_at, car_of, mark_of, list_on, Has, IsWhole}
-use Rattle.street_base.specs.Vehicle.{Vehicle}
-use Rattle.street_base.specs.Lane.{Cells, Track, vehicle_at, rear, is_covered}
+use Rattle.street_yard.specs.Prelude.{YardEntry, Yard, list_at, car_of, mark_of, list_on, Has, IsWhole, cell_at, vehicle_with, key_at, seen_at, cells_at, IsFalling, IsLane}
+use Rattle.street_base.specs.Prelude.{Vehicle, Cells, Track, vehicle_at, rear, is_covered, AreDisjoint, Changing, changes, settled, changed_cells}
 use Rattle.street_base.proofs.CoverLemmas.{rear-le, covered-front, free-uncovered, all-free}
 use Rattle.street_base.proofs.LaneChangeLemmas.{changes-beside, changed_cells-apart, changes-empty}
-use Rattle.street_base.specs.Apart.{AreDisjoint}
-use Rattle.street_base.specs.LaneChange.{Changing, changes, settled, changed_cells}
-use Rattle.street_yard.specs.Listed.{cell_at, vehicle_with, key_at, seen_at, cells_at, IsFalling, IsLane}
-use Rattle.street_rule.specs.Relinked.{is_marked, is_unmarked, put_all, IsOnEither, Relinks, IsFallen}
-use Rattle.street_rule.specs.Marks.{Marks}
+use Rattle.street_rule.specs.Prelude.{is_marked, is_unmarked, put_all, IsOnEither, Relinks, IsFallen, Marks}
 use Rattle.street_rule.proofs.ChangeSights.{track}
 use Rattle.street_yard.proofs.YardLemmas.{cell_same}
 use Rattle.street_yard.proofs.FallingLists.{cells-agree, cells-length, cells-read, seen-none, stands-key, IsLane-agree}

@@ -1,23 +1,16 @@
 -- A walk that writes marks.
-use Rattle.std.proofs.Common.{◌≡◌, ◌≢◌, ◌⊎◌, ℕ, ◌-◌, ◌<◌, Bool, false, List, [], ◌∷◌, ◌++◌, length, get_or, Option, Some, None, IsSome, refl, sym, ap, subst, ◌∙◌, inl, inr, arith}
-use Rattle.std.specs.Prelude.{◌||◌}
-use Rattle.std.specs.Option.{option_map, unwrap_or}
+use Rattle.std.proofs.Common.{◌≡◌, ◌≢◌, ◌⊎◌, ℕ, ◌-◌, ◌<◌, Bool, false, List, [], ◌∷◌, ◌++◌, length, get_or, Option, Some, None, IsSome, refl, sym, ap, subst, ◌∙◌, inl, inr, arith, ◌||◌, option_map, unwrap_or}
 use Rattle.std.proofs.lemmas.Bool.{cases_eq, or_parts}
 use Rattle.std.proofs.lemmas.List.{append_assoc, append-nil}
 use Rattle.street_base.specs.declared.car.Car.{Car}
-use Rattle.street_base.specs.Vehicle.{Vehicle, vehicle_of}
-use Rattle.street_base.specs.Lane.{Cells, Track}
-use Rattle.street_base.specs.LaneChange.{Changing, changes}
-use Rattle.street_yard.specs.Yard.{YardEntry, Yard, list_at, entry_at, car_of, list_on, mark_of, mark_set, first_or, last_or, Has, IsWhole, IsBehind}
-use Rattle.street_yard.specs.Listed.{cell_at, rear_at, vehicle_with, IsFalling, IsLane, AllAbove}
+use Rattle.street_base.specs.Prelude.{Vehicle, vehicle_of, Cells, Track, Changing, changes}
+use Rattle.street_yard.specs.Prelude.{YardEntry, Yard, list_at, entry_at, car_of, list_on, mark_of, mark_set, first_or, last_or, Has, IsWhole, IsBehind, cell_at, rear_at, vehicle_with, IsFalling, IsLane, AllAbove}
 use Rattle.street_yard.proofs.Keys.{last_or-push, has_or_away, has-away, has-later}
 use Rattle.street_yard.proofs.YardLemmas.{entry-kept_set, entry-kept_set_other, field-kept_set, IsWhole-kept_set, list_on-mark_set, left, left-is, head_is, no_head, AllAbove-same, AllAbove-lower, cell_same, on_has_entry}
-use Rattle.street_rule.specs.Marks.{Marks}
-use Rattle.street_rule.specs.Relinked.{HasNoMarks}
-use Rattle.street_rule.specs.Sight.{decision}
+use Rattle.street_rule.specs.Prelude.{Marks, HasNoMarks, decision}
 use Rattle.street_yard.proofs.FallingLists.{cells-agree, IsLane-agree}
 use Rattle.street_rule.proofs.ChangeSights.{track, decides}
-use Rattle.street_gap.specs.Sight.{IsUpTo}
+use Rattle.street_gap.specs.Prelude.{IsUpTo}
 
 as_track : Cells → List Bool → Track
 as_track cells closed = record { cells = cells; closed = closed }

@@ -1,31 +1,22 @@
 -- A walk that drives each car of a list.
-use Rattle.std.proofs.Common.{◌≡◌, ◌≢◌, ◌⊎◌, ℕ, ◌+◌, ◌-◌, ◌<◌, ◌≤◌, Bool, List, [], ◌∷◌, ◌++◌, length, get_or, set, Option, Some, None, IsSomeAnd, refl, sym, ap, subst, ◌∙◌, inl, inr, arith, get_or-set_same, get_or-set_other}
-use Rattle.std.specs.Option.{option_map, option_and_then, unwrap_or}
+use Rattle.std.proofs.Common.{◌≡◌, ◌≢◌, ◌⊎◌, ℕ, ◌+◌, ◌-◌, ◌<◌, ◌≤◌, Bool, List, [], ◌∷◌, ◌++◌, length, get_or, set, Option, Some, None, IsSomeAnd, refl, sym, ap, subst, ◌∙◌, inl, inr, arith, get_or-set_same, get_or-set_other, option_map, option_and_then, unwrap_or, MatchOption}
 use Rattle.std.proofs.lemmas.Bool.{cases_eq}
 use Rattle.std.proofs.lemmas.List.{append_assoc, append-nil, length-set}
 use Rattle.street_base.specs.declared.car.Car.{Car}
-use Rattle.street_yard.specs.Yard.{YardEntry, Yard, list_at, entry_at, car_of, list_on, mark_of, without, first_or, last_or, Has, Away, IsApart, IsLoose, IsWhole, IsBehind}
+use Rattle.street_yard.specs.Prelude.{YardEntry, Yard, list_at, entry_at, car_of, list_on, mark_of, without, first_or, last_or, Has, Away, IsApart, IsLoose, IsWhole, IsBehind, cell_at, rear_at, vehicle_with, key_at, cells_at, IsFalling, IsLane, AllAbove}
 use Rattle.street_yard.proofs.Keys.{IsApart-split, last_or-push, snoc_cases, without-split, has-away, has-later, has-behind}
-use Rattle.street_base.specs.Vehicle.{Vehicle, vehicle_of, with_speed}
-use Rattle.street_base.specs.Lane.{Cells, vehicle_at, obstacle_ahead}
-use Rattle.street_base.specs.Motion.{Drive, speed_after, motion_gap, moved, motion, leaver}
-use Rattle.street_yard.specs.Listed.{cell_at, rear_at, vehicle_with, key_at, cells_at, IsFalling, IsLane, AllAbove}
-use Rattle.street_gap.specs.Closed.{entrance_after}
-use Rattle.street_rule.specs.Course.{gap_to}
-use Rattle.street_rule.specs.Pass.{Drives, Leaves, MovesList, left_lists, stopped}
+use Rattle.street_base.specs.Prelude.{Vehicle, vehicle_of, with_speed, Cells, vehicle_at, obstacle_ahead, Drive, speed_after, motion_gap, moved, motion, leaver, AreDisjoint}
+use Rattle.street_gap.specs.Prelude.{entrance_after, lesser}
+use Rattle.street_rule.specs.Prelude.{gap_to, Drives, Leaves, MovesList, left_lists, stopped, watched, noted}
 use Rattle.street_yard.proofs.YardLemmas.{left, left-is, head_is, no_head, cell_is}
 use Rattle.street_yard.proofs.FallingLists.{falling-agree, found, found-agree, key_at-drop, key_at-gone, falling-split, falling-wider, key_at-split, rear-under, cells-length, cells-read}
 use Rattle.street_base.proofs.MotionLemmas.{IsPartMoved, leaver_from, part_moved-start, part_moved-all, part_moved-vehicle, leaver_from-past, leaver_from-stays, leaver_from-goes, leaver_from-all}
 use Rattle.street_rule.specs.declared.watch.Watch.{Watch}
-use Rattle.street_rule.specs.Watch.{watched, noted}
 use Rattle.street_rule.proofs.WatchLemmas.{watched_from, watched-skip, watched-noted, watched-all}
 use Rattle.street_gap.proofs.Sights.{clear-of-key, obstacle-is}
-use Rattle.street_base.specs.Apart.{AreDisjoint}
 use Rattle.street_base.proofs.MotionApartLemmas.{keeps_apart}
-use Rattle.std.specs.Prelude.{MatchOption}
 use Rattle.street_rule.proofs.Steps.{AllFrom, from-lower, from-push, from-same, falling-join, low_of, nobody-between, part_moved-skip, gap-within}
 use Rattle.street_base.proofs.MotionOrderLemmas.{speed_after-le}
-use Rattle.street_gap.specs.Sight.{lesser}
 
 module _ (drive : Drive) (closed : List Bool) where
   pub record IsPass (first now : Yard) (n count : ℕ) (ahead rear cursor away fast : Option ℕ) : Type 0 where

@@ -1,16 +1,12 @@
 -- A walk that carries marked keys to another list.
-use Rattle.std.proofs.Common.{◌≡◌, ◌≢◌, ℕ, ◌<◌, ◌≤◌, Bool, true, false, not, cond, List, [], ◌∷◌, ◌++◌, Option, Some, None, refl, sym, ap, subst, ◌∙◌, inl, inr, arith}
-use Rattle.std.specs.Prelude.{MatchOption, nat_le}
-use Rattle.std.specs.Option.{option_map, option_and_then, unwrap_or}
-use Rattle.std.specs.List.{filter}
+use Rattle.std.proofs.Common.{◌≡◌, ◌≢◌, ℕ, ◌<◌, ◌≤◌, Bool, true, false, not, cond, List, [], ◌∷◌, ◌++◌, Option, Some, None, refl, sym, ap, subst, ◌∙◌, inl, inr, arith, MatchOption, nat_le, option_map, option_and_then, unwrap_or, filter}
 use Rattle.std.proofs.lemmas.Bool.{cases_eq, le-leb, lt-leb, cond-true, cond-false}
 use Rattle.std.proofs.lemmas.List.{append_assoc}
-use Rattle.street_yard.specs.Yard.{YardEntry, Yard, list_at, entry_at, list_on, mark_of, without, put_behind, first_or, last_or, Has, Away, IsApart, IsWhole, IsBehind}
+use Rattle.street_yard.specs.Prelude.{YardEntry, Yard, list_at, entry_at, list_on, mark_of, without, put_behind, first_or, last_or, Has, Away, IsApart, IsWhole, IsBehind, cell_at, IsFalling, AllAbove}
 use Rattle.street_yard.proofs.Keys.{IsApart-split, last_or-push, snoc_cases, without-split, put_behind-split, has-away, has-later}
-use Rattle.street_yard.specs.Listed.{cell_at, IsFalling, AllAbove}
-use Rattle.street_rule.specs.Relinked.{is_marked, is_unmarked, put_falling, put_all, Carries, KeepsOthers, IsOnEither, Relinks, IsFallen}
+use Rattle.street_rule.specs.Prelude.{is_marked, is_unmarked, put_falling, put_all, Carries, KeepsOthers, IsOnEither, Relinks, IsFallen}
 use Rattle.street_yard.proofs.YardLemmas.{left, left-is, head_is, no_head, AllAbove-same, AllAbove-lower, AllAbove-push, cell_same}
-use Rattle.street_gap.specs.Sight.{IsUpTo, IsPosition}
+use Rattle.street_gap.specs.Prelude.{IsUpTo, IsPosition}
 
 -- between those above the cell and those not above it
 pub put_falling-split : (cell : ℕ → ℕ) (key : ℕ) (up down : List ℕ) → AllAbove cell (cell key) up → MatchOption (first_or down None) (Unit {0}) (λ k. cell k ≤ cell key) → put_falling cell key (up ++ down) ≡ up ++ key ∷ down

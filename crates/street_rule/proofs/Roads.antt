@@ -1,21 +1,11 @@
 -- The lanes of a road, when the yard changes.
-use Rattle.std.proofs.Common.{◌≡◌, ◌≢◌, ◌⊎◌, ℕ, zero, suc, ◌<◌, List, [], ◌∷◌, map, length, get_or, Some, refl, sym, ap, subst, ◌∙◌, inl, inr, arith}
-use Rattle.std.specs.Prelude.{nat_lt}
+use Rattle.std.proofs.Common.{◌≡◌, ◌≢◌, ◌⊎◌, ℕ, zero, suc, ◌<◌, List, [], ◌∷◌, map, length, get_or, Some, refl, sym, ap, subst, ◌∙◌, inl, inr, arith, nat_lt}
 use Rattle.std.proofs.lemmas.Bool.{cases_eq}
 use Rattle.street_base.specs.declared.net.NetSpec.{NetSpec}
-use Rattle.street_base.specs.Network.{serves}
-use Rattle.street_base.specs.Draw.{lane_draw}
-use Rattle.street_base.specs.Lane.{Track}
-use Rattle.street_base.specs.LaneChange.{Changing, changed_cells}
-use Rattle.street_base.specs.State.{Traffic, LaneState}
-use Rattle.street_base.specs.Step.{changing_on, changed_lanes}
-use Rattle.street_yard.specs.Yard.{Yard, list_at, entry_at, car_of, list_on, Has, IsApart, IsWhole}
-use Rattle.street_yard.specs.Listed.{cells_at, IsLane}
+use Rattle.street_base.specs.Prelude.{serves, lane_draw, Track, Changing, changed_cells, Traffic, LaneState, changing_on, changed_lanes}
+use Rattle.street_yard.specs.Prelude.{Yard, list_at, entry_at, car_of, list_on, Has, IsApart, IsWhole, cells_at, IsLane}
 use Rattle.street_yard.proofs.Keys.{has-away}
-use Rattle.street_rule.specs.Road.{RoadLane, Road, no_lane, lane_of, length_of, track_of, IsRoad}
-use Rattle.street_rule.specs.Sight.{changing_of}
-use Rattle.street_rule.specs.Relinked.{IsOnEither}
-use Rattle.street_rule.specs.Changed.{Changes, IsOn, KeepsRest}
+use Rattle.street_rule.specs.Prelude.{RoadLane, Road, no_lane, lane_of, length_of, track_of, IsRoad, changing_of, IsOnEither, Changes, IsOn, KeepsRest}
 
 -- what all that follows keeps of a lane: the list is there, and stands for its cells
 pub IsRoad-by : (old new : Yard) (road : Road) → ((n : ℕ) → n < length old.lists → n < length new.lists) → ((k : ℕ) → k < length road.lanes → IsLane new (get_or road.lanes k no_lane).list (length_of road)) → IsRoad old road → IsRoad new road

@@ -1,11 +1,9 @@
 -- Worked rows: what a driver sees on both lanes, whether they wish to change and have room for it, reckoned by hand.
-use Rattle.std.proofs.Common.{◌≡◌, ℕ, Bool, true, false, List, [], ◌∷◌, Option, Some, None, refl}
-use Rattle.std.specs.Prelude.{◌==◌}
-use Rattle.street_base.specs.Search.{least}
-use Rattle.street_base.specs.LaneChange.{Changing}
+use Rattle.std.proofs.Common.{◌≡◌, ℕ, Bool, true, false, List, [], ◌∷◌, Option, Some, None, refl, ◌==◌}
+use Rattle.street_base.specs.Prelude.{least, Changing}
 use Rattle.street_gap.specs.declared.closures.Stretch.{Stretch}
-use Rattle.street_gap.specs.Closed.{closed_marks, are_open}
-use Rattle.street_rule.specs.Sight.{gap_up, wishes_with, has_room_between}
+use Rattle.street_gap.specs.Prelude.{closed_marks, are_open}
+use Rattle.street_rule.specs.Prelude.{gap_up, wishes_with, has_room_between}
 
 -- the marks of a lane of 20 cells with these closed
 abbrev marks : List Stretch → List Bool

@@ -1,10 +1,8 @@
 -- A relink pass over a list on which no key has the mark changes nothing.
-use Rattle.std.proofs.Common.{◌≡◌, ℕ, false, not, cond, List, [], ◌∷◌, refl, sym, ap, ◌∙◌, inl}
-use Rattle.std.specs.List.{filter}
-use Rattle.street_yard.specs.Yard.{Yard, list_at, Has, IsWhole}
-use Rattle.street_yard.specs.Listed.{cell_at}
+use Rattle.std.proofs.Common.{◌≡◌, ℕ, false, not, cond, List, [], ◌∷◌, refl, sym, ap, ◌∙◌, inl, filter}
+use Rattle.street_yard.specs.Prelude.{Yard, list_at, Has, IsWhole, cell_at}
 use Rattle.street_yard.proofs.Keys.{has-later}
-use Rattle.street_rule.specs.Relinked.{is_marked, is_unmarked, put_all, HasNoMarks, Relinks}
+use Rattle.street_rule.specs.Prelude.{is_marked, is_unmarked, put_all, HasNoMarks, Relinks}
 
 module _ (y : Yard) where
   all-unmarked : (xs : List ℕ) → ((k : ℕ) → Has xs k → is_marked y k ≡ false) → xs ≡ filter (is_unmarked y) xs

@@ -1,19 +1,15 @@
 -- What detectors note while the vehicles are moved from the end of the lane to its begin.
-use Rattle.std.proofs.Common.{◌≡◌, ℕ, zero, suc, ◌+◌, ◌-◌, ◌*◌, ◌<◌, ◌≤◌, Bool, true, false, List, length, map, get_or, Option, Some, None, refl, sym, ap, ◌∙◌, inl, inr, arith}
-use Rattle.std.specs.Prelude.{nat_lt, ◌&&◌, sum_by, if◌then◌else◌}
+use Rattle.std.proofs.Common.{◌≡◌, ℕ, zero, suc, ◌+◌, ◌-◌, ◌*◌, ◌<◌, ◌≤◌, Bool, true, false, List, length, map, get_or, Option, Some, None, refl, sym, ap, ◌∙◌, inl, inr, arith, nat_lt, ◌&&◌, sum_by, if◌then◌else◌, All}
 use Rattle.std.specs.Option.{option_map_or}
-use Rattle.std.specs.List.{All, range_with_len}
+use Rattle.std.specs.List.{range_with_len}
 use Rattle.std.proofs.lemmas.Bool.{cases_lt, lt-ltb, le-ltb, le-leb, lt-leb}
 use Rattle.std.proofs.lemmas.List.{length-map, get_or-map, ext_get_or}
 use Rattle.std.proofs.lemmas.List.Elements.{All-get_or}
 use Rattle.std.proofs.lemmas.List.Sums.{sum_by-cons}
 use Rattle.std.proofs.Math.Path.{fun_ext}
-use Rattle.street_base.specs.Vehicle.{Vehicle}
-use Rattle.street_base.specs.Lane.{Cells, vehicle_at}
-use Rattle.street_base.specs.Motion.{Drive, moved}
+use Rattle.street_base.specs.Prelude.{Vehicle, Cells, vehicle_at, Drive, moved, of_passing, triple}
 use Rattle.street_rule.specs.declared.watch.Watch.{Watch}
-use Rattle.street_base.specs.Detector.{of_passing, triple}
-use Rattle.street_rule.specs.Watch.{watched, noted, HasRoom, IsReady}
+use Rattle.street_rule.specs.Prelude.{watched, noted, HasRoom, IsReady}
 use Rattle.street_base.proofs.DrivingLemmas.{moves-within_limit}
 
 module _ (drive : Drive) (old : Cells) (closed : List Bool) where

@@ -1,18 +1,10 @@
 -- The passes of a link, put together.
-use Rattle.std.proofs.Common.{◌≡◌, ◌≢◌, ℕ, zero, suc, ◌-◌, ◌<◌, ◌≤◌, Bool, false, length, get_or, Option, Some, None, refl, sym, ap, subst, ◌∙◌, arith}
+use Rattle.std.proofs.Common.{◌≡◌, ◌≢◌, ℕ, zero, suc, ◌-◌, ◌<◌, ◌≤◌, Bool, false, length, get_or, Option, Some, None, refl, sym, ap, subst, ◌∙◌, arith, option_map, unwrap_or}
 use Rattle.std.proofs.lemmas.Bool.{and_right, cond-false, le-ltb}
-use Rattle.street_base.specs.Vehicle.{Vehicle}
-use Rattle.street_base.specs.Lane.{Track, vehicle_at}
-use Rattle.street_base.specs.LaneChange.{Changing, changes, changed_cells}
-use Rattle.std.specs.Option.{option_map, unwrap_or}
-use Rattle.street_yard.specs.Yard.{YardEntry, Yard, list_at, list_on, first_or, IsWhole}
-use Rattle.street_yard.specs.Listed.{IsLane}
-use Rattle.street_gap.specs.Closed.{closed_marks}
-use Rattle.street_rule.specs.Road.{RoadLane, Road, no_lane, lane_of, length_of, track_of, lists_of, IsRoad}
-use Rattle.street_rule.specs.Sight.{changing_of}
-use Rattle.street_rule.specs.Marks.{Marks}
-use Rattle.street_rule.specs.Relinked.{HasNoMarks, Relinks, IsFallen}
-use Rattle.street_rule.specs.Changed.{Changes, KeepsRest}
+use Rattle.street_base.specs.Prelude.{Vehicle, Track, vehicle_at, Changing, changes, changed_cells}
+use Rattle.street_yard.specs.Prelude.{YardEntry, Yard, list_at, list_on, first_or, IsWhole, IsLane}
+use Rattle.street_gap.specs.Prelude.{closed_marks}
+use Rattle.street_rule.specs.Prelude.{RoadLane, Road, no_lane, lane_of, length_of, track_of, lists_of, IsRoad, changing_of, Marks, HasNoMarks, Relinks, IsFallen, Changes, KeepsRest}
 use Rattle.street_rule.proofs.Roads.{IsRoad-by, two-apart, two-changes, two-keeps}
 use Rattle.street_rule.proofs.MarkWalk.{IsMarking, IsMarking-start}
 use Rattle.street_rule.proofs.Unmarked.{Relinks-none}

@@ -1,9 +1,8 @@
 -- Lane changes of a link, on the lists that its lanes stand for.
 -- Source: this profile.
 use Rattle.std.specs.Prelude.{◌≡◌, ℕ, List, map, length, Some}
-use Rattle.street_base.specs.State.{Traffic, LaneState}
-use Rattle.street_base.specs.Step.{changing_on, changed_lanes}
-use Rattle.street_yard.specs.Yard.{Yard, list_at, entry_at, car_of, list_on, Has, Away, IsWhole}
+use Rattle.street_base.specs.Prelude.{Traffic, LaneState, changing_on, changed_lanes}
+use Rattle.street_yard.specs.Prelude.{Yard, list_at, entry_at, car_of, list_on, Has, Away, IsWhole}
 use Rattle.street_rule.specs.Road.{Road, tracks}
 
 -- the lists of a link stand for the tracks of these lanes

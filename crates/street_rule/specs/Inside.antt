@@ -1,7 +1,6 @@
 -- What the fields of a `Road` stand for.
-use Rattle.std.specs.Prelude.{◌≡◌, ◌∷◌, ◌<◌, length, option_map}
-use Rattle.std.specs.Option.{option_to_list}
-use Rattle.street_base.specs.Network.{link_at}
+use Rattle.std.specs.Prelude.{◌≡◌, ◌∷◌, ◌<◌, length, option_map, option_to_list}
+use Rattle.street_base.specs.Prelude.{link_at}
 use Rattle.street_rule.specs.declared.road.Road.TheInside.{Inside}
 use Rattle.street_rule.specs.Road.{Road, lane_seen}
 

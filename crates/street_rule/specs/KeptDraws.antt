@@ -1,9 +1,8 @@
 -- Draws that are kept: two bits for each of 32 steps of a vehicle. No rule stands here: what a draw is stands in
 -- street_base's Draw.
-use Rattle.std.specs.Prelude.{◌≡◌, ℕ, zero, suc, ◌+◌, ◌*◌, ◌/◌, ◌%◌, ◌^◌, ◌<◌, ◌==◌, nat_lt, nat_le, Bool, IsTrue, ◌↔◌, List, if◌then◌else◌}
-use Rattle.std.specs.List.{All}
+use Rattle.std.specs.Prelude.{◌≡◌, ℕ, zero, suc, ◌+◌, ◌*◌, ◌/◌, ◌%◌, ◌^◌, ◌<◌, ◌==◌, nat_lt, nat_le, Bool, IsTrue, ◌↔◌, List, if◌then◌else◌, All}
 use Rattle.rand_chacha.specs.ChaCha.{ChaCha, word_at}
-use Rattle.street_base.specs.Draw.{key_of_seed}
+use Rattle.street_base.specs.Prelude.{key_of_seed}
 use Rattle.street_rule.specs.declared.dice.KeptDraws.{KeptDraws}
 
 -- the draw at a place of a vehicle's stream is below the odds

@@ -1,15 +1,12 @@
 -- A link of a network, with the list and the closed cells of each of its lanes.
 -- Source: this profile.
-use Rattle.std.specs.Prelude.{ℕ, ◌<◌, List, [], length, map, slice_index_or}
-use Rattle.std.specs.List.{All}
+use Rattle.std.specs.Prelude.{ℕ, ◌<◌, List, [], length, map, slice_index_or, All}
 use Rattle.street_base.specs.declared.net.NetSpec.{NetSpec}
-use Rattle.street_base.specs.Network.{link_at}
-use Rattle.street_base.specs.Lane.{Track}
+use Rattle.street_base.specs.Prelude.{link_at, Track}
 use Rattle.street_gap.specs.declared.closures.Stretch.{Stretch}
-use Rattle.street_gap.specs.Closed.{IsWithin, closed_marks}
+use Rattle.street_gap.specs.Prelude.{IsWithin, closed_marks}
 use Rattle.street_rule.specs.declared.road.RoadLane.{RoadLane as Declared}
-use Rattle.street_yard.specs.Yard.{Yard, IsApart}
-use Rattle.street_yard.specs.Listed.{cells_at, IsLane}
+use Rattle.street_yard.specs.Prelude.{Yard, IsApart, cells_at, IsLane}
 
 -- a lane: the list of its vehicles, the front first, and its closed stretches
 pub record RoadLane : Type 0 where

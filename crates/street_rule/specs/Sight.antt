@@ -1,21 +1,15 @@
 -- What a driver sees from the keys of two lists, and what follows from it.
 -- Source: symmetric lane changes by Rickert, Nagel, Schreckenberg and Latour 1996; the turn zone and closed cells are this
 -- profile.
-use Rattle.std.specs.Prelude.{ℕ, ◌+◌, ◌-◌, nat_lt, nat_le, Bool, ◌&&◌, List, Option, if◌then◌else◌, ◌≡◌, ◌≤◌, [], Some, false}
-use Rattle.std.specs.Option.{option_map, option_map_or, unwrap_or}
+use Rattle.std.specs.Prelude.{ℕ, ◌+◌, ◌-◌, nat_lt, nat_le, Bool, ◌&&◌, List, Option, if◌then◌else◌, ◌≡◌, ◌≤◌, [], Some, false, option_map, unwrap_or}
+use Rattle.std.specs.Option.{option_map_or}
 use Rattle.street_base.specs.declared.net.NetSpec.{NetSpec}
-use Rattle.street_base.specs.Network.{serves}
-use Rattle.street_base.specs.Draw.{lane_draw}
-use Rattle.street_base.specs.Vehicle.{Vehicle, next_link}
-use Rattle.street_base.specs.Lane.{Track, rear, are_free}
-use Rattle.street_base.specs.LaneChange.{Changing, free_ahead, free_behind, zone_wish}
+use Rattle.street_base.specs.Prelude.{serves, lane_draw, Vehicle, next_link, Track, rear, are_free, Changing, free_ahead, free_behind, zone_wish}
 use Rattle.street_rule.specs.Odds.{Odds}
-use Rattle.street_gap.specs.Closed.{entrance_after, closed_marks}
-use Rattle.street_gap.specs.Sight.{lesser}
+use Rattle.street_gap.specs.Prelude.{entrance_after, closed_marks, lesser}
 use Rattle.street_rule.specs.Road.{Road, RoadLane, lane_of, lane_seen, length_of, track_of, IsRoadLane}
 use Rattle.street_rule.specs.declared.sight.Outlook.{Outlook}
-use Rattle.street_yard.specs.Yard.{Yard}
-use Rattle.street_yard.specs.Listed.{cell_at, vehicle_with}
+use Rattle.street_yard.specs.Prelude.{Yard, cell_at, vehicle_with}
 
 -- the dice of a network have its seed and its odds
 abbrev pub odds_of : NetSpec → Odds

@@ -3,9 +3,8 @@
 //! Source: this profile, which says which word of a vehicle's stream is which draw.
 
 ghost use Rattle.std.specs.Prelude.{◌≡◌, ℕ, ◌+◌, ◌-◌, ◌*◌, ◌/◌, ◌%◌, ◌^◌, ◌<◌, ◌==◌, ◌++◌, nat_lt, replicate, IfOk, IsTrue, ◌↔◌};
-ghost use Rattle.street_base.specs.Draw.{key_of_seed, lane_draw, dawdle_draw};
-ghost use Rattle.street_rule.specs.Odds.{Odds};
-ghost use Rattle.street_rule.specs.KeptDraws.{IsKept, Asked};
+ghost use Rattle.street_base.specs.Prelude.{key_of_seed, lane_draw, dawdle_draw};
+ghost use Rattle.street_rule.specs.Prelude.{Odds, IsKept, Asked};
 
 use crate::draws::generator;
 use rand_chacha::ChaCha20Rng;
@@ -60,8 +59,7 @@ impl Drop for Dice {
 const MOST_ASIDE: usize = 8_192;
 
 impl Model for Dice {
-    ghost use Rattle.street_rule.specs.Odds.{Odds};
-    ghost use Rattle.street_rule.specs.KeptDraws.{IsSound};
+    ghost use Rattle.street_rule.specs.Prelude.{Odds, IsSound};
 
     ghost Value = { Odds };
 
@@ -246,8 +244,8 @@ impl Dice {
         }
     }
 
-    /// The draws of a vehicle in a block: those that were put aside, or else drawn now. It stands apart from the walk of a lane,
-    /// which asks for it once in 32 steps and has better use for the registers.
+    /// The draws of a vehicle in the 32 steps from `32 * block` on: those that were put aside, or else drawn now. It stands apart from
+    /// the walk of a lane, which asks for it once in these steps and has better use for the registers.
     #[cold]
     #[inline(never)]
     fn aside_or_drawn(&mut self, number: CarNo, block: u32) -> KeptDraws

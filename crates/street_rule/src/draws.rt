@@ -3,7 +3,7 @@
 //! Source: this profile. The cipher is that of RFC 8439, as `rand_chacha` keys it.
 
 ghost use Rattle.std.specs.Prelude.{◌≡◌, ◌*◌, ◌/◌, ◌^◌};
-ghost use Rattle.street_base.specs.Draw.{draw, key_of_seed};
+ghost use Rattle.street_base.specs.Prelude.{draw, key_of_seed};
 
 use rand_chacha::ChaCha20Rng;
 use rand_core::SeedableRng;

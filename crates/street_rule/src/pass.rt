@@ -2,13 +2,9 @@
 //!
 //! Source: Rickert, Nagel, Schreckenberg and Latour 1996: all decide by where the others stood before.
 ghost use Rattle.std.specs.Prelude.{◌≡◌, ◌<◌, ◌≤◌, ◌-◌, length, Some, None, false, IsSome};
-ghost use Rattle.street_base.specs.LaneChange.{changes};
-ghost use Rattle.street_rule.specs.Road.{lane_of, lists_of, IsRoad};
-ghost use Rattle.street_rule.specs.Sight.{odds_of};
-ghost use Rattle.street_rule.specs.Marks.{MarksChanges};
-ghost use Rattle.street_rule.specs.Changed.{Changes, KeepsRest};
-ghost use Rattle.street_rule.specs.Relinked.{HasNoMarks};
-ghost use Rattle.street_yard.specs.Yard.{list_at, entry_at, mark_set, first_or};
+ghost use Rattle.street_base.specs.Prelude.{changes};
+ghost use Rattle.street_rule.specs.Prelude.{lane_of, lists_of, IsRoad, odds_of, MarksChanges, Changes, KeepsRest, HasNoMarks};
+ghost use Rattle.street_yard.specs.Prelude.{list_at, entry_at, mark_set, first_or};
 
 use crate::Dice;
 use crate::relinks::relink;

@@ -1,7 +1,7 @@
 //! Moves of marked vehicles from one list to another.
 ghost use Rattle.std.specs.Prelude.{◌≡◌, ◌≢◌, ◌<◌, length, Some};
-ghost use Rattle.street_yard.specs.Yard.{list_on, IsOnList};
-ghost use Rattle.street_rule.specs.Relinked.{IsFallen, Carries, Relinks};
+ghost use Rattle.street_yard.specs.Prelude.{list_on, IsOnList};
+ghost use Rattle.street_rule.specs.Prelude.{IsFallen, Carries, Relinks};
 
 use street_gap::last_above;
 use street_yard::{Key, ListId, Yard};
@@ -18,7 +18,6 @@ fn carry(yard: &mut Yard, from: ListId, to: ListId, position: Option<Key>, key: 
     yard.mark(key, false);
     yard.unlink(key);
     yard.insert_behind(to, position, key);
-    yard.whole();
 }
 
 /// Each marked key of one list goes to its position on the other, and its mark is cleared.

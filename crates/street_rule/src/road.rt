@@ -1,8 +1,7 @@
 //! A link, as a network has it and as a yard keeps it.
-ghost use Rattle.std.specs.Prelude.{◌≡◌, ◌∷◌, ◌<◌, ◌≤◌, length, Option, option_map};
-ghost use Rattle.std.specs.Option.{option_to_list};
-ghost use Rattle.street_base.specs.Network.{link_at};
-ghost use Rattle.street_rule.specs.Road.{lane_of, lane_seen, length_of};
+ghost use Rattle.std.specs.Prelude.{◌≡◌, ◌∷◌, ◌<◌, ◌≤◌, length, Option, option_map, option_to_list};
+ghost use Rattle.street_base.specs.Prelude.{link_at};
+ghost use Rattle.street_rule.specs.Prelude.{lane_of, lane_seen, length_of};
 
 use std::marker::Model;
 use street_base::{CellNo, LaneNo, LinkIx, Speed};
@@ -32,7 +31,7 @@ pub struct Road<'a> {
 }
 
 impl<'a> Model for Road<'a> {
-    ghost use Rattle.street_rule.specs.Road.{Road as Link};
+    ghost use Rattle.street_rule.specs.Prelude.{Road as Link};
 
     ghost Value = { Link };
 

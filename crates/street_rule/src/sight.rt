@@ -4,12 +4,10 @@
 ghost use Rattle.std.specs.Prelude.{◌≡◌, ℕ, ◌<◌, ◌≤◌, ◌+◌, ◌-◌, nat_lt, Option, length, Some, not, false};
 ghost use Rattle.std.specs.Option.{option_map_or};
 ghost use Rattle.street_base.specs.declared.names.Place.{Place};
-ghost use Rattle.street_base.specs.Network.{serves};
-ghost use Rattle.street_yard.specs.Yard.{list_on};
-ghost use Rattle.street_yard.specs.Listed.{cell_at};
-ghost use Rattle.street_gap.specs.Sight.{IsUpTo, IsPosition};
-ghost use Rattle.street_rule.specs.Road.{length_of, lane_of, lane_seen, IsRoad};
-ghost use Rattle.street_rule.specs.Sight.{odds_of, changing_of, gap_between, wishes_with, TellsRoom, Decides, DecidesAt, IsOutlook};
+ghost use Rattle.street_base.specs.Prelude.{serves};
+ghost use Rattle.street_yard.specs.Prelude.{list_on, cell_at};
+ghost use Rattle.street_gap.specs.Prelude.{IsUpTo, IsPosition};
+ghost use Rattle.street_rule.specs.Prelude.{length_of, lane_of, lane_seen, IsRoad, odds_of, changing_of, gap_between, wishes_with, TellsRoom, Decides, DecidesAt, IsOutlook};
 
 use crate::Dice;
 use crate::road::{Road, RoadLane};
@@ -23,7 +21,8 @@ const FAR: CellNo = 16;
 /// The gap behind must be longer than this.
 const CLOSE_BEHIND: CellNo = 5;
 
-/// Whether a vehicle with this gap ahead wants the other lane: as it is slow, or in the turn zone for its next link.
+/// Whether a vehicle with this gap ahead wants the other lane: as it is slow or, in the turn zone, as its lane does not serve its next
+/// link. There a slow one wants it only where it serves that link too.
 fn wishes(
     road: &Road<'_>,
     lane: LaneNo,

@@ -6,10 +6,9 @@ use Rattle.street_base.specs.declared.command.Command.TheVariants.{Count}
 use Rattle.street_base.specs.declared.reply.Outcome.{Outcome}
 use Rattle.street_base.specs.declared.reply.Outcome.TheVariants.{Whole, Starved, Short}
 use Rattle.street_base.specs.declared.reply.Reply.{Reply}
-use Rattle.street_base.specs.Outcomes.{Allows, reply_to}
-use Rattle.street_base.specs.State.{State}
+use Rattle.street_base.specs.Prelude.{Allows, reply_to, State}
 use Rattle.street_desk.specs.History.{state_of}
-use Rattle.street_engine.specs.Refines.{EngineView, Serves}
+use Rattle.street_engine.specs.Prelude.{EngineView, Serves}
 use Rattle.street_runs.specs.Outputs.{IsBegun}
 use Rattle.street_runs.specs.Replays.{ReadsTape, ReplaysCounted, CountStops, count_line}
 use Rattle.street_stream.specs.declared.tally.RunFault.{RunFault}

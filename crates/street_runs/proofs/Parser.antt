@@ -2,8 +2,7 @@
 use Rattle.std.proofs.Common.{IfErr, Ok, Err, Result, inr, ◌≡◌, ◌∙◌, ◌≤◌, suc, List, [], ◌∷◌, Option, None, Some, All, IsSome, false, true, length, map, codes, is_some, option_map, true≢false, unwrap_or, vec_len, refl, sym, ap, subst, arith, append_assoc, append-nil}
 use Rattle.std.specs.Borrow.{Bor}
 use Rattle.clap.proofs.OnLiterals.{clap_on_literals}
-use Rattle.clap.specs.Words.{AddsArg, AddsInTurn, App, FailsBy, HasMatchesOf, Row, Rule, Text}
-use Rattle.clap.specs.Words.{app_of, fault_of, first_of, first_value, found_of, is_simple, is_simple_and_free, matched_of, matches_of, raw_values, rows_of, rule_of}
+use Rattle.clap.specs.Words.{AddsArg, AddsInTurn, App, FailsBy, HasMatchesOf, Row, Rule, Text, app_of, fault_of, first_of, first_value, found_of, is_simple, is_simple_and_free, matched_of, matches_of, raw_values, rows_of, rule_of}
 use Rattle.clap.proofs.WalkLemmas.{first_value-rows, raw_values-rows}
 use Rattle.clap.specs.declared.error.Error.{Error}
 use Rattle.clap.specs.declared.error.kind.ErrorKind.{ErrorKind}
@@ -13,8 +12,7 @@ use Rattle.clap.specs.declared.parser.matches.ArgMatches.{ArgMatches}
 use Rattle.street_runs.specs.declared.words.Options.{Options}
 use Rattle.street_runs.specs.declared.words.WordsFault.{WordsFault}
 use Rattle.street_runs.specs.declared.words.WordsFault.TheVariants.{Bad, Help, Starved}
-use Rattle.street_runs.specs.Parser.{IsCountIfSaid, IsFit, IsFound, IsNumberOf, IsRefused, IsUnfit}
-use Rattle.street_runs.specs.Parser.{found_in, refusals_of, scripts_in, streetsim_app, with_rules}
+use Rattle.street_runs.specs.Parser.{IsCountIfSaid, IsFit, IsFound, IsNumberOf, IsRefused, IsUnfit, found_in, refusals_of, scripts_in, streetsim_app, with_rules}
 use Rattle.street_runs.specs.Words.{StandsTogether, TellsBad}
 
 -- a command to which arguments are added in turn has their rules behind its own

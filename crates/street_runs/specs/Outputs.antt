@@ -1,9 +1,8 @@
 -- What is printed of scripts, and what a fault leaves of a text.
 -- Source: this profile.
-use Rattle.std.specs.Prelude.{◌≡◌, ℕ, ◌≤◌, ◌⊎◌, List, length, take, codes, Option}
+use Rattle.std.specs.Prelude.{◌≡◌, ℕ, ◌≤◌, ◌⊎◌, List, length, take, codes, Option, flat_map}
 use Rattle.std.specs.Borrow.{Bor}
 use Rattle.std.specs.Io.KnownBytes.{Appends}
-use Rattle.std.specs.List.{flat_map}
 use Rattle.street_line.specs.declared.script.Script.{Script}
 use Rattle.street_stream.specs.declared.counted.Counted.{Counted}
 use Rattle.street_stream.specs.Streams.{HasFailed, IsFlushed}

@@ -4,10 +4,10 @@ use Rattle.std.specs.Prelude.{◌≡◌, ℕ, ◌⊎◌, List, ◌++◌, Option,
 use Rattle.std.specs.Io.KnownBytes.{Appends, Consumes, IsAtEnd}
 use Rattle.street_base.specs.declared.command.Command.TheVariants.{Count}
 use Rattle.street_base.specs.declared.reply.Outcome.TheVariants.{Whole}
-use Rattle.street_base.specs.Outcomes.{reply_to}
+use Rattle.street_base.specs.Prelude.{reply_to}
 use Rattle.street_desk.specs.declared.journal.Entry.{Entry}
 use Rattle.street_desk.specs.History.{state_of}
-use Rattle.street_engine.specs.Refines.{EngineView}
+use Rattle.street_engine.specs.Prelude.{EngineView}
 use Rattle.street_stream.specs.declared.counted.Counted.{Counted}
 use Rattle.street_tape.specs.declared.fault.TapeFault.{TapeFault}
 use Rattle.street_tape.specs.Entries.{tape_reading}

@@ -1,12 +1,10 @@
 //! From the words of the command line to options.
 //!
 //! Source: this profile.
-ghost use Rattle.std.specs.Prelude.{◌≤◌, ◌<◌, ◌≡◌, [], IfErr, IfOk, IsNone, IsSome, SomeIff};
-ghost use Rattle.std.specs.Prelude.{codes, length, map, option_map, string_bytes, unwrap_or, vec_len};
+ghost use Rattle.std.specs.Prelude.{◌≤◌, ◌<◌, ◌≡◌, [], IfErr, IfOk, IsNone, IsSome, SomeIff, codes, length, map, option_map, string_bytes, unwrap_or, vec_len};
 ghost use Rattle.std.specs.Str.Parse.{digits_value, without_leading_plus};
 ghost use Rattle.clap.specs.Words.{app_of, first_of, found_of, matched_of, raw_values, rows_of};
-ghost use Rattle.street_runs.specs.Parser.{IsAsked, IsCount, IsCountIfSaid, IsFit, IsFound, IsNumberOf};
-ghost use Rattle.street_runs.specs.Parser.{IsRefused, IsUnfit, streetsim_app};
+ghost use Rattle.street_runs.specs.Parser.{IsAsked, IsCount, IsCountIfSaid, IsFit, IsFound, IsNumberOf, IsRefused, IsUnfit, streetsim_app};
 ghost use Rattle.street_runs.specs.Words.{IsInRange, StandsTogether, TellsBad};
 
 use crate::command::streetsim;

@@ -62,7 +62,7 @@ pub fn print_text<W: Write>(writer: &mut Counted<W>, text: &[u8]) -> Result<(), 
     pass_on(writer)
 }
 
-/// Ends the desk and writes its tape to the file that is asked for, if one is.
+/// Ends the desk and writes its tape to the file of this name. With no name no tape is asked for, and none is written.
 pub fn keep_tape<'a, R: Files<File = File>>(
     rt: &R,
     alloc: Global,

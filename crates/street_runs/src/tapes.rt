@@ -23,11 +23,12 @@ use street_engine::{Engine, Unwatched};
 use street_line::{Counted, FaultKind, RunFault, reply_text};
 use street_tape::{TapeFault, replay, upgrade};
 
-/// Replays a tape from nothing loaded, writes its replies in the tape's order, and then what a count answers.
+/// Replays the tape in the file of this name from nothing loaded, by so many workers. Writes its replies to standard output in the
+/// tape's order, and then what a count answers.
 ///
 /// # Errors
 ///
-/// That of the replay, else that of standard output. The replies till then are written, without the count.
+/// That of the file or of the replay, else that of standard output. The replies till then are written, without the count.
 pub fn replay_tape<'a, R: Threads + Sync + Print + AllocGlobal + Files<File = File>>(
     rt: &R,
     workers: u32,
@@ -43,7 +44,7 @@ pub fn replay_tape<'a, R: Threads + Sync + Print + AllocGlobal + Files<File = Fi
     }
 }
 
-/// Replays a tape from nothing loaded, writes its replies in the tape's order, and then what a count answers.
+/// Replays a tape from nothing loaded, by so many workers. Writes its replies in the tape's order, and then what a count answers.
 ///
 /// # Errors
 ///
@@ -96,11 +97,11 @@ fn print_reply<W: Write>(
     }
 }
 
-/// Writes a tape anew in version 2 to standard output.
+/// Writes the tape in the file of this name anew in version 2 to standard output.
 ///
 /// # Errors
 ///
-/// That of the upgrade.
+/// That of the file or of the upgrade.
 pub fn upgrade_tape<'a, R: Print + AllocGlobal + Files<File = File>>(
     rt: &R,
     name: &'a str,

@@ -72,7 +72,8 @@ impl<T> Counted<T> {
 }
 
 impl<R: Read> Counted<R> {
-    /// Reads as `read` does, and keeps where in the calls of the writer that was.
+    /// Reads as `read` does, and keeps of the writer how often it had been called, and whether its last call was a flush that did
+    /// not fail, at this read and at each before it but the first.
     pub fn read_behind<W>(&mut self, writer: &Counted<W>, buffer: &mut [u8]) -> io::Result<usize>
         ensures bound { ReadsAtMost result buffer.new }
         ensures bytes { ReadConsumes (R.remaining self.old.stream) (R.remaining self.new.stream) result buffer.new }

@@ -68,7 +68,7 @@ fn end_line<H: LineHandler, W: Write>(
     Ok(())
 }
 
-/// The bytes of a line up to its end, and LF.
+/// Takes up the last bytes of a line, which its LF follows, and handles the line.
 fn take_line<H: LineHandler, W: Write>(
     alloc: Global,
     handler: &mut H,
@@ -93,7 +93,7 @@ fn take_line<H: LineHandler, W: Write>(
     Ok(())
 }
 
-/// Some bytes more of the text.
+/// Takes up the next bytes of the text: each line that ends in them is handled, and what comes after the last LF is kept.
 fn feed<H: LineHandler, W: Write>(
     alloc: Global,
     handler: &mut H,
@@ -120,7 +120,7 @@ fn feed<H: LineHandler, W: Write>(
     Ok(())
 }
 
-/// Some bytes more of the text, and their replies passed on.
+/// Takes up the next bytes of the text, as [`feed`] does, and passes on the replies.
 fn feed_through<H: LineHandler, W: Write>(
     alloc: Global,
     handler: &mut H,
@@ -144,7 +144,7 @@ fn feed_through<H: LineHandler, W: Write>(
     Ok(())
 }
 
-/// The text has ended, perhaps within a line.
+/// Handles the last line of a text that has ended, where it has no LF.
 fn finish<H: LineHandler, W: Write>(
     alloc: Global,
     handler: &mut H,
@@ -168,7 +168,7 @@ fn finish<H: LineHandler, W: Write>(
     Ok(())
 }
 
-/// The text has ended, and its last replies are passed on.
+/// Handles the last line of a text that has ended, as [`finish`] does, and passes on the replies.
 fn finish_through<H: LineHandler, W: Write>(
     alloc: Global,
     handler: &mut H,

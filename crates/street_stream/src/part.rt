@@ -8,6 +8,7 @@ ghost use Rattle.street_stream.specs.Lines.{is_space, is_blank, kept, IsPart};
 use std::alloc::Global;
 use street_base::Starved;
 
+/// Whether a byte is a space, a tab or a CR.
 fn is_space(byte: u8) -> bool
     ensures { result ≡ is_space byte }
 {

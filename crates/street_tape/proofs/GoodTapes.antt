@@ -4,7 +4,7 @@ use Rattle.std.specs.Prelude.{⊤}
 use Rattle.street_desk.specs.declared.journal.Entry.{Entry}
 use Rattle.street_stream.specs.HandledLines.{EndsLine, IsNext}
 use Rattle.street_stream.specs.Lines.{cut, onto_first, if_any, lines_of}
-use Rattle.street_engine.specs.Refines.{EngineView}
+use Rattle.street_engine.specs.Prelude.{EngineView}
 use Rattle.street_tape.proofs.Legal.{replayable_front}
 use Rattle.street_tape.specs.BadTapes.{IsNoTape, IsBadAt, IsBadAfter}
 use Rattle.street_tape.specs.Faults.{TapeBreaks, IsOfRun}

@@ -1,10 +1,8 @@
 -- What is legal can be replayed.
-use Rattle.std.proofs.Common.{◌≡◌, ◌<◌, ◌≤◌, List, [], ◌∷◌, ◌++◌, true, All, refl, arith}
+use Rattle.std.proofs.Common.{◌≡◌, ◌<◌, ◌≤◌, List, [], ◌∷◌, ◌++◌, true, All, refl, arith, nat_lt}
 use Rattle.std.proofs.lemmas.Bool.{lt-ltb, and_from}
 use Rattle.std.proofs.lemmas.List.Elements.{All-nil, All-cons}
-use Rattle.std.specs.Prelude.{nat_lt}
-use Rattle.street_base.specs.Outcomes.{state_after, Allows}
-use Rattle.street_base.specs.State.{State}
+use Rattle.street_base.specs.Prelude.{state_after, Allows, State}
 use Rattle.street_base.specs.declared.command.Command.{Command}
 use Rattle.street_base.specs.declared.command.Command.TheVariants.{Load, Enter, Signal, Advance, CloseLane, ReopenLane, TakeOut, PlaceMeter, ReadMeter, Vehicle, Lane, Count}
 use Rattle.street_base.specs.declared.reply.Outcome.{Outcome}

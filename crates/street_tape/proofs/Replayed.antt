@@ -2,8 +2,7 @@
 use Rattle.std.proofs.Common.{◌≡◌, ℕ, ◌+◌, ◌<◌, ◌≤◌, List, [], ◌∷◌, ◌++◌, length, take, Bool, true, false, if◌then◌else◌, Option, Some, None, inl, inr, refl, sym, ap, ◌∙◌, subst, append_assoc, append-nil, arith}
 use Rattle.std.proofs.Math.Seq.{take-length}
 use Rattle.std.specs.Io.KnownBytes.{Appends}
-use Rattle.street_base.specs.Outcomes.{reply_to, state_after}
-use Rattle.street_base.specs.State.{State}
+use Rattle.street_base.specs.Prelude.{reply_to, state_after, State}
 use Rattle.street_desk.specs.declared.journal.Entry.{Entry}
 use Rattle.street_desk.specs.History.{state_from}
 use Rattle.street_stream.proofs.Handles.{all_replies}
@@ -13,7 +12,7 @@ use Rattle.street_stream.specs.declared.answer.Cause.{Cause}
 use Rattle.street_stream.specs.declared.answer.Cause.TheVariants as cause
 use Rattle.street_stream.specs.declared.tally.FaultKind.{FaultKind}
 use Rattle.street_stream.specs.declared.tally.Tally.{Tally}
-use Rattle.street_engine.specs.Refines.{EngineView, StandsFor}
+use Rattle.street_engine.specs.Prelude.{EngineView, StandsFor}
 use Rattle.street_text.specs.ReplyLines.{reply_line}
 use Rattle.street_tape.proofs.Counts.{calls_first, replies_first, none_more}
 use Rattle.street_tape.proofs.GoodTapes.{next_lines}

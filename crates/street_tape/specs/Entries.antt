@@ -1,7 +1,6 @@
 -- What the lines of a tape say.
 -- Source: this profile. Keys may stand in any order, and unknown ones are ignored, as in commands.
-use Rattle.std.specs.Prelude.{◌≡◌, ℕ, ◌-◌, ◌==◌, ◌≤◌, List, [], ◌∷◌, length, nat_lt, nat_le, ◌&&◌, if◌then◌else◌, Bool}
-use Rattle.std.specs.Prelude.{true, false, Option, Some, None, option_map, option_and_then, Result, Ok, Err, codes, bytes_eq, All, ⊤}
+use Rattle.std.specs.Prelude.{◌≡◌, ℕ, ◌-◌, ◌==◌, ◌≤◌, List, [], ◌∷◌, length, nat_lt, nat_le, ◌&&◌, if◌then◌else◌, Bool, true, false, Option, Some, None, option_map, option_and_then, Result, Ok, Err, codes, bytes_eq, All, ⊤}
 use Rattle.std.specs.Option.{option_map_or}
 use Rattle.serde_json.specs.Data.{Data}
 use Rattle.serde_json.specs.Find.{as_str}

@@ -3,8 +3,7 @@
 use Rattle.std.specs.Prelude.{◌≡◌, ℕ, ◌≤◌, ◌⊎◌, List, [], ◌∷◌, ◌++◌, length, take, Option, Some, None, ⊤}
 use Rattle.std.specs.Io.KnownBytes.{Appends, Consumes, IsAtEnd}
 use Rattle.street_base.specs.declared.command.Command.{Command}
-use Rattle.street_base.specs.Outcomes.{MayBeShort, short_state}
-use Rattle.street_base.specs.State.{State}
+use Rattle.street_base.specs.Prelude.{MayBeShort, short_state, State}
 use Rattle.street_desk.specs.declared.journal.Entry.{Entry}
 use Rattle.street_desk.specs.History.{state_from, state_of}
 use Rattle.street_stream.specs.Faults.{IsAtRead, IsCaused, CountsLines, CountsReplies}
@@ -12,7 +11,7 @@ use Rattle.street_stream.specs.Lines.{cut, lines_of}
 use Rattle.street_stream.specs.declared.counted.Counted.{Counted}
 use Rattle.street_stream.specs.declared.tally.FaultKind.{FaultKind}
 use Rattle.street_stream.specs.declared.tally.Tally.{Tally}
-use Rattle.street_engine.specs.Refines.{EngineView, StandsFor}
+use Rattle.street_engine.specs.Prelude.{EngineView, StandsFor}
 use Rattle.street_tape.specs.BadTapes.{SaysCalls, IsNoTape, IsBadAt}
 use Rattle.street_tape.specs.declared.fault.TapeFault.{TapeFault}
 use Rattle.street_tape.specs.declared.fault.TapeFault.TheVariants.{NotTape, BadEntry, Run}

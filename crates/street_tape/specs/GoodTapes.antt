@@ -2,7 +2,7 @@
 -- Source: this profile.
 use Rattle.std.specs.Prelude.{◌≡◌, ◌++◌, ℕ, All, List, [], Option, None, Some, false}
 use Rattle.street_desk.specs.declared.journal.Entry.{Entry}
-use Rattle.street_engine.specs.Refines.{EngineView}
+use Rattle.street_engine.specs.Prelude.{EngineView}
 use Rattle.street_tape.specs.declared.fault.TapeFault.{TapeFault}
 use Rattle.street_tape.specs.Entries.{tape_reading}
 use Rattle.street_tape.specs.Faults.{TapeBreaks, IsOfRun}

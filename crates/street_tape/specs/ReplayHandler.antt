@@ -6,15 +6,14 @@ use Rattle.street_base.specs.declared.command.Command.TheVariants.{Advance}
 use Rattle.street_base.specs.declared.reply.Outcome.{Outcome}
 use Rattle.street_base.specs.declared.reply.Outcome.TheVariants.{Whole}
 use Rattle.street_base.specs.declared.reply.Reply.{Reply}
-use Rattle.street_base.specs.Outcomes.{reply_to, state_after}
-use Rattle.street_base.specs.State.{State}
+use Rattle.street_base.specs.Prelude.{reply_to, state_after, State}
 use Rattle.street_desk.specs.declared.journal.Entry.{Entry}
 use Rattle.street_stream.specs.HandledLines.{Effect}
 use Rattle.street_stream.specs.declared.answer.Cause.{Cause}
 use Rattle.street_stream.specs.declared.answer.Cause.TheVariants as cause
 use Rattle.street_stream.specs.declared.tally.FaultKind.TheVariants as kind
 use Rattle.street_stream.specs.declared.tally.Tally.{Tally}
-use Rattle.street_engine.specs.Refines.{EngineView, StandsFor}
+use Rattle.street_engine.specs.Prelude.{EngineView, StandsFor}
 use Rattle.street_text.specs.ReplyLines.{reply_line}
 use Rattle.street_tape.specs.Faults.{HasBegun}
 use Rattle.street_tape.specs.Replies.{IsReplayable, clock_in}
@@ -40,19 +39,15 @@ Applies old (Some e) effect new =
 abbrev pub ReplaysLine : Option Head × EngineView → List ℕ → Effect → Option Head × EngineView → Type 0
 ReplaysLine old line effect new = (call : Option Entry) × Takes old.0 line call new.0 × Applies old.1 call effect new.1
 
--- whatever state the engine stood for, the reply is the machine's, and the engine stands for the state after the call
-abbrev pub CallGoes : EngineView → Command → Outcome → Reply → EngineView → Type 0
-CallGoes before c o reply after = (m : State) → StandsFor before m → (reply ≡ reply_to m c o) × StandsFor after (state_after m c o)
-
--- so of an advance of which the clock alone is asked
-abbrev pub AdvanceGoes : EngineView → ℕ → Option ℕ → EngineView → Type 0
-AdvanceGoes before steps clock after =
-    (m : State) → StandsFor before m → (clock ≡ clock_in (reply_to m (Advance steps) Whole)) × StandsFor after (state_after m (Advance steps) Whole)
-
--- so of a call that can be replayed
+-- whatever state the engine stood for, the call can be replayed there, the reply is the machine's, and the engine stands for the state after the call
 abbrev pub CallReplays : EngineView → Command → Outcome → Reply → EngineView → Type 0
 CallReplays before c o reply after =
     (m : State) → StandsFor before m → IsReplayable m c o × (reply ≡ reply_to m c o) × StandsFor after (state_after m c o)
+
+-- so of an advance of which the clock alone is asked: one that is done whole can always be replayed
+abbrev pub AdvanceGoes : EngineView → ℕ → Option ℕ → EngineView → Type 0
+AdvanceGoes before steps clock after =
+    (m : State) → StandsFor before m → (clock ≡ clock_in (reply_to m (Advance steps) Whole)) × StandsFor after (state_after m (Advance steps) Whole)
 
 -- what a call that was not replayed leaves
 abbrev pub CallStops : State → Command → Outcome → EngineView → Stop → Type 0

@@ -6,8 +6,7 @@ use Rattle.street_base.specs.declared.reply.Outcome.{Outcome}
 use Rattle.street_base.specs.declared.reply.Outcome.TheVariants.{Whole, Starved, Short}
 use Rattle.street_base.specs.declared.reply.Reply.{Reply}
 use Rattle.street_base.specs.declared.reply.Reply.TheVariants.{Clock}
-use Rattle.street_base.specs.Outcomes.{MayBeShort, state_after}
-use Rattle.street_base.specs.State.{State}
+use Rattle.street_base.specs.Prelude.{MayBeShort, state_after, State}
 use Rattle.street_desk.specs.declared.journal.Entry.{Entry}
 use Rattle.street_desk.specs.History.{answers_from}
 use Rattle.street_stream.specs.declared.tally.Tally.{Tally}

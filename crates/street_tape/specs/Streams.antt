@@ -1,7 +1,7 @@
 -- Tapes that are read from one counted stream, and what is written to another.
 -- Source: this profile.
 use Rattle.std.specs.Prelude.{ℕ, List, Option}
-use Rattle.street_engine.specs.Refines.{EngineView}
+use Rattle.street_engine.specs.Prelude.{EngineView}
 use Rattle.street_stream.specs.declared.counted.Counted.{Counted}
 use Rattle.street_stream.specs.declared.tally.Tally.{Tally}
 use Rattle.street_tape.specs.declared.fault.TapeFault.{TapeFault}

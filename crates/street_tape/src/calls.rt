@@ -4,9 +4,9 @@
 ghost use Rattle.std.specs.Prelude.{◌≡◌, ℕ, Option, IfOk, IfErr};
 ghost use Rattle.street_base.specs.declared.command.Command.TheVariants.{Advance};
 ghost use Rattle.street_base.specs.declared.reply.Outcome.TheVariants.{Whole, Short};
-ghost use Rattle.street_base.specs.State.{State};
-ghost use Rattle.street_engine.specs.Refines.{StandsFor};
-ghost use Rattle.street_tape.specs.ReplayHandler.{AdvanceGoes, CallGoes, CallReplays, CallStops};
+ghost use Rattle.street_base.specs.Prelude.{State};
+ghost use Rattle.street_engine.specs.Prelude.{StandsFor};
+ghost use Rattle.street_tape.specs.ReplayHandler.{AdvanceGoes, CallReplays, CallStops};
 ghost use Rattle.street_tape.specs.Replies.{clock_in};
 
 use crate::Stop;
@@ -21,7 +21,7 @@ fn call_whole<R: Threads + Sync, G: Gate + Sync + Drop>(
     engine: &mut Engine<G>,
     command: &Command,
 ) -> Result<Reply, Stop>
-    ensures done { IfOk result (λ reply. CallGoes engine.old command.now Whole reply engine.new) }
+    ensures done { IfOk result (λ reply. CallReplays engine.old command.now Whole reply engine.new) }
     ensures stops { IfErr result (λ stop. (old : State) → StandsFor engine.old old
         → CallStops old command.now Whole engine.new stop) }
 {

@@ -76,7 +76,8 @@ fn is_part(command: &Command, outcome: Outcome) -> bool
     }
 }
 
-/// The call that a JSON value says. Sizes are read or not.
+/// The call that a JSON value says, whether or not it can have its outcome. The size of a vehicle is read only where `sized` is true,
+/// and is 1 otherwise.
 #[tactic(auto, unfolding(crate::specs::Entries::call_in))]
 fn call_of(alloc: Global, value: &Value, sized: bool) -> Result<Entry, LineFault>
     ensures { Gives result (or_fault LineFault.BadCommand (call_in sized (view value.now))) }
@@ -93,7 +94,7 @@ fn call_of(alloc: Global, value: &Value, sized: bool) -> Result<Entry, LineFault
     })
 }
 
-/// The call that a JSON value says, where it can have its outcome.
+/// The call that a JSON value says, where it can have its outcome; sizes as in `call_of`.
 #[tactic(auto, unfolding(crate::specs::Entries::entry_in))]
 fn entry_of(alloc: Global, value: &Value, sized: bool) -> Result<Entry, LineFault>
     ensures { Gives result (or_fault LineFault.BadCommand (entry_in sized (view value.now))) }

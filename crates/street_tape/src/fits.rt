@@ -10,183 +10,183 @@ ghost use Rattle.street_text.specs.Fits.{IsWord, NodeFits, LinkFits, TurnFits, G
 use street_base::{Command, GreenSpec, LinkSpec, NetSpec, NodeSpec, Outcome, PhaseSpec, TurnSpec};
 use street_desk::{Entry, Journal};
 
-/// A number fits.
-fn word(_number: u64)
+/// A number fits: it is one of 64 bits.
+fn word_fits(_number: u64)
     ensures { IsWord _number }
 {}
 
 /// The numbers of a list fit.
-fn words(numbers: &[u64])
+fn words_fit(numbers: &[u64])
     ensures { All IsWord numbers.now }
 {
     for number in numbers {
-        word(*number);
+        word_fits(*number);
     }
 }
 
 /// The numbers of a node fit.
-fn node(spec: &NodeSpec)
+fn node_fits(spec: &NodeSpec)
     ensures { NodeFits spec.now }
 {
-    word(spec.id);
-    word(spec.residence);
-    word(spec.capacity);
+    word_fits(spec.id);
+    word_fits(spec.residence);
+    word_fits(spec.capacity);
 }
 
-/// Those of each node fit.
-fn nodes(specs: &[NodeSpec])
+/// The numbers of each node fit.
+fn nodes_fit(specs: &[NodeSpec])
     ensures { All NodeFits specs.now }
 {
     for spec in specs {
-        node(spec);
+        node_fits(spec);
     }
 }
 
 /// The numbers of a link fit.
-fn link(spec: &LinkSpec)
+fn link_fits(spec: &LinkSpec)
     ensures { LinkFits spec.now }
 {
-    word(spec.id);
-    word(spec.from);
-    word(spec.to);
-    word(spec.lanes);
-    word(spec.length);
-    word(spec.limit);
+    word_fits(spec.id);
+    word_fits(spec.from);
+    word_fits(spec.to);
+    word_fits(spec.lanes);
+    word_fits(spec.length);
+    word_fits(spec.limit);
 }
 
-/// Those of each link fit.
-fn links(specs: &[LinkSpec])
+/// The numbers of each link fit.
+fn links_fit(specs: &[LinkSpec])
     ensures { All LinkFits specs.now }
 {
     for spec in specs {
-        link(spec);
+        link_fits(spec);
     }
 }
 
 /// The numbers of a turn fit.
-fn turn(spec: &TurnSpec)
+fn turn_fits(spec: &TurnSpec)
     ensures { TurnFits spec.now }
 {
-    word(spec.link);
-    word(spec.lane);
-    word(spec.next);
-    word(spec.next_lane);
+    word_fits(spec.link);
+    word_fits(spec.lane);
+    word_fits(spec.next);
+    word_fits(spec.next_lane);
 }
 
-/// Those of each turn fit.
-fn turns(specs: &[TurnSpec])
+/// The numbers of each turn fit.
+fn turns_fit(specs: &[TurnSpec])
     ensures { All TurnFits specs.now }
 {
     for spec in specs {
-        turn(spec);
+        turn_fits(spec);
     }
 }
 
 /// The numbers of a green turn fit.
-fn green(spec: &GreenSpec)
+fn green_fits(spec: &GreenSpec)
     ensures { GreenFits spec.now }
 {
-    word(spec.link);
-    word(spec.lane);
-    word(spec.next);
+    word_fits(spec.link);
+    word_fits(spec.lane);
+    word_fits(spec.next);
 }
 
-/// Those of each green turn fit.
-fn greens(specs: &[GreenSpec])
+/// The numbers of each green turn fit.
+fn greens_fit(specs: &[GreenSpec])
     ensures { All GreenFits specs.now }
 {
     for spec in specs {
-        green(spec);
+        green_fits(spec);
     }
 }
 
 /// The numbers of a phase fit: how long it lasts, and those of its green turns.
-fn phase(spec: &PhaseSpec)
+fn phase_fits(spec: &PhaseSpec)
     ensures { PhaseFits spec.now }
 {
-    word(spec.duration);
-    greens(spec.greens.as_slice());
+    word_fits(spec.duration);
+    greens_fit(spec.greens.as_slice());
 }
 
-/// Those of each phase fit.
-fn phases(specs: &[PhaseSpec])
+/// The numbers of each phase fit.
+fn phases_fit(specs: &[PhaseSpec])
     ensures { All PhaseFits specs.now }
 {
     for spec in specs {
-        phase(spec);
+        phase_fits(spec);
     }
 }
 
-/// The numbers of a load fit.
-fn net(spec: &NetSpec)
+/// The numbers of a network that is loaded fit.
+fn net_fits(spec: &NetSpec)
     ensures { Fits (Load spec.now) }
 {
-    nodes(spec.nodes.as_slice());
-    links(spec.links.as_slice());
-    turns(spec.turns.as_slice());
-    word(spec.zone);
-    word(spec.dawdle);
-    word(spec.change);
-    word(spec.seed);
-    word(spec.start);
+    nodes_fit(spec.nodes.as_slice());
+    links_fit(spec.links.as_slice());
+    turns_fit(spec.turns.as_slice());
+    word_fits(spec.zone);
+    word_fits(spec.dawdle);
+    word_fits(spec.change);
+    word_fits(spec.seed);
+    word_fits(spec.start);
 }
 
-/// The four numbers of a command that names a lane fit.
-fn lane(link: u64, lane: u64, first: u64, last: u64)
-    ensures { IsWord link × IsWord lane × IsWord first × IsWord last }
+/// The four numbers of a command that names a lane fit: those of its link and its lane, and two more.
+fn lane_command_fits(link: u64, lane: u64, one: u64, other: u64)
+    ensures { IsWord link × IsWord lane × IsWord one × IsWord other }
 {}
 
 /// The numbers of a command fit.
-fn numbers_of(command: &Command)
+fn command_fits(command: &Command)
     ensures { Fits command.now }
 {
     match command {
-        Command::Load(spec) => net(spec),
+        Command::Load(spec) => net_fits(spec),
         Command::Enter {
             plan,
             lane,
             depart,
             size,
         } => {
-            words(plan.as_slice());
-            word(*lane);
-            word(*depart);
-            word(*size);
+            words_fit(plan.as_slice());
+            word_fits(*lane);
+            word_fits(*depart);
+            word_fits(*size);
         }
         Command::Signal {
             node,
             offset,
-            phases: all,
+            phases,
         } => {
-            word(*node);
-            word(*offset);
-            phases(all.as_slice());
+            word_fits(*node);
+            word_fits(*offset);
+            phases_fit(phases.as_slice());
         }
-        Command::Advance { steps } => word(*steps),
+        Command::Advance { steps } => word_fits(*steps),
         Command::CloseLane {
             link,
-            lane: of,
+            lane,
             first,
             last,
-        } => lane(*link, *of, *first, *last),
+        } => lane_command_fits(*link, *lane, *first, *last),
         Command::ReopenLane {
             link,
-            lane: of,
+            lane,
             first,
             last,
-        } => lane(*link, *of, *first, *last),
-        Command::TakeOut { car } => word(*car),
+        } => lane_command_fits(*link, *lane, *first, *last),
+        Command::TakeOut { car } => word_fits(*car),
         Command::PlaceMeter {
             link,
-            lane: of,
+            lane,
             cell,
             period,
-        } => lane(*link, *of, *cell, *period),
-        Command::ReadMeter { meter } => word(*meter),
-        Command::Vehicle { car } => word(*car),
+        } => lane_command_fits(*link, *lane, *cell, *period),
+        Command::ReadMeter { meter } => word_fits(*meter),
+        Command::Vehicle { car } => word_fits(*car),
         Command::Lane { link, lane } => {
-            word(*link);
-            word(*lane);
+            word_fits(*link);
+            word_fits(*lane);
         }
         Command::Count => {}
     }
@@ -197,34 +197,34 @@ fn outcome_fits(outcome: Outcome)
     ensures { OutcomeFits outcome }
 {
     if let Outcome::Short(steps) = outcome {
-        word(steps);
+        word_fits(steps);
     }
 }
 
 /// The numbers of a call fit: of its session, its command and its outcome.
-fn call(entry: &Entry)
+fn call_fits(entry: &Entry)
     ensures { IsOfWords entry.now }
 {
-    word(entry.session);
-    numbers_of(&entry.command);
+    word_fits(entry.session);
+    command_fits(&entry.command);
     outcome_fits(entry.outcome);
 }
 
-/// How many calls a journal has.
-pub(crate) fn count(journal: &Journal)
+/// The number of a journal's calls fits.
+pub(crate) fn length_fits(journal: &Journal)
     ensures { IsWord (length journal.now) }
 {
-    word(journal.len() as u64);
+    word_fits(journal.len() as u64);
 }
 
-/// Each of its calls.
-pub(crate) fn each_call(journal: &Journal)
+/// The numbers of each call of a journal fit.
+pub(crate) fn calls_fit(journal: &Journal)
     ensures { All IsOfWords journal.now }
 {
     for at in 0..journal.len() {
         let Some(entry) = journal.entry(at) else {
             unreachable!();
         };
-        call(entry);
+        call_fits(entry);
     }
 }

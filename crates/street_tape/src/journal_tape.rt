@@ -1,12 +1,12 @@
-//! Tapes: of a journal, and of lines that are at hand as text.
+//! The tape of a journal, written.
 //!
 //! Source: this profile.
-ghost use Rattle.std.specs.Prelude.{◌≡◌, ◌≤◌, ◌+◌, ◌-◌, ◌^◌, ◌++◌, OnOk, OnErr, IfOk, IfErr, length, take};
+ghost use Rattle.std.specs.Prelude.{◌≡◌, ◌≤◌, ◌+◌, ◌-◌, ◌^◌, OnOk, OnErr, IfOk, IfErr, length, take};
 ghost use Rattle.std.specs.Io.KnownBytes.{Appends};
 ghost use Rattle.street_stream.specs.Streams.{HasFailed, IsFlushed, IsFresh};
 ghost use Rattle.street_stream.specs.Faults.{IsCausedByWriting};
 ghost use Rattle.street_stream.specs.declared.tally.FaultKind.TheVariants as kinds;
-ghost use Rattle.street_tape.specs.Tapes.{head_line, tape_text};
+ghost use Rattle.street_tape.specs.Tapes.{tape_text};
 ghost use Rattle.street_tape.specs.Written.{IsPrefix, WritesAll, WritesFirst};
 
 use crate::texts::{entry_text, head_text};
@@ -15,8 +15,8 @@ use std::io::Write;
 use street_desk::Journal;
 use street_stream::{Counted, FaultKind, RunFault, Tally, flush_out, write_text};
 
-/// Writes a line, and counts what went out of it.
-fn write_line<W: Write>(
+/// Writes the bytes of one line or of several, and counts what went out of them.
+pub(crate) fn write_line<W: Write>(
     writer: &mut Counted<W>,
     line: &[u8],
     bytes: &mut u128,
@@ -37,30 +37,6 @@ fn write_line<W: Write>(
             Err(FaultKind::Write)
         }
     }
-}
-
-/// Writes a tape of so many calls whose lines are at hand as text, as an upgrade has them: its first line, and then these. Flushes,
-/// and counts what went out of it.
-///
-/// # Errors
-///
-/// `Write` where a write or a flush failed, or a write took no bytes; `Starved` where memory ran out for the first line.
-pub fn write_lines<W: Write>(
-    alloc: Global,
-    calls: u64,
-    lines: &[u8],
-    writer: &mut Counted<W>,
-    bytes: &mut u128,
-) -> Result<(), FaultKind>
-    requires { bytes.old ≡ 0 }
-    ensures written { OnOk result (WritesAll W.contents writer.old (head_line calls ++ lines.now) writer.new bytes.new) }
-    ensures flushed { OnOk result (IsFlushed writer.new) }
-    ensures part { IfErr result (λ kind. WritesFirst W.contents writer.old (head_line calls ++ lines.now) writer.new bytes.new kind) }
-{
-    write_line(writer, head_text(alloc, calls)?.as_slice(), bytes)?;
-    write_line(writer, lines, bytes)?;
-    flush_out(writer)?;
-    Ok(())
 }
 
 /// Writes the first line and the line of each call, and passes them on.

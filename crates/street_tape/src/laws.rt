@@ -7,7 +7,7 @@ ghost use Rattle.street_tape.specs.Entries.{tape_reading, EntryFits, HasTapeLine
 ghost use Rattle.street_tape.specs.GoodTapes.{HaveSizeOne};
 ghost use Rattle.street_tape.specs.Tapes.{tape_text, old_tape_text};
 
-use crate::fits::{count, each_call};
+use crate::fits::{calls_fit, length_fits};
 use street_desk::Journal;
 
 /// The tape of any list of calls of numbers of 64 bits, so of every legal history, reads as that list, if none of its lines is
@@ -25,7 +25,7 @@ pub fn journal_reads_back(journal: &Journal)
     ensures reads { All HasTapeLine journal.now → tape_reading (tape_text journal.now) ≡ Some journal.now }
 {
     journal.legal();
-    count(journal);
-    each_call(journal);
+    length_fits(journal);
+    calls_fit(journal);
     tape_reads_back();
 }

@@ -2,10 +2,10 @@
 //!
 //! Source: this profile. Replies are passed on before the next read.
 ghost use Rattle.std.specs.Prelude.{◌≡◌, ◌≤◌, None, Some, IfOk, IfErr, OnOk};
-ghost use Rattle.street_base.specs.State.{State};
+ghost use Rattle.street_base.specs.Prelude.{State};
 ghost use Rattle.street_stream.specs.Streams.{IsFlushed, IsFresh, IsPrompt};
 ghost use Rattle.street_stream.specs.HandledLines.{Effect, Gives};
-ghost use Rattle.street_engine.specs.Refines.{StandsFor};
+ghost use Rattle.street_engine.specs.Prelude.{StandsFor};
 ghost use Rattle.street_tape.specs.Faults.{IsTapeCaused};
 ghost use Rattle.street_tape.specs.ReplayHandler.{Applies, CallStops};
 ghost use Rattle.street_tape.specs.Streams.{ReplaysAll, ReplaysFirst};

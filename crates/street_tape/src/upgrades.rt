@@ -9,15 +9,18 @@ ghost use Rattle.street_tape.specs.Faults.{IsTapeCaused};
 ghost use Rattle.street_tape.specs.Streams.{UpgradesAll, UpgradesFirst};
 ghost use Rattle.street_tape.specs.Upgrades.{CutShort, IsKept, with_bytes};
 ghost use Rattle.street_tape.specs.Tapes.{entry_line, head_line};
+ghost use Rattle.street_tape.specs.Written.{WritesAll, WritesFirst};
 
 use crate::fault::{TapeFault, check_end, fault_of};
-use crate::{LONGEST_TAPE_LINE, Stop, Tape, entry_text, write_lines};
+use crate::journal_tape::write_line;
+use crate::{LONGEST_TAPE_LINE, Stop, Tape, entry_text, head_text};
 use std::alloc::Global;
 use std::io::{Read, Write};
 use street_base::Starved;
 use street_desk::Entry;
 use street_stream::{
-    Answer, Counted, Limits, LineHandler, PartialLine, RunFault, Tally, drive_lines,
+    Answer, Counted, FaultKind, Limits, LineHandler, PartialLine, RunFault, Tally, drive_lines,
+    flush_out,
 };
 
 /// The most calls of `read` in one upgrade.
@@ -67,6 +70,30 @@ impl LineHandler for Upgrader {
             }
         }
     }
+}
+
+/// Writes the tape of version 2 of so many calls from their lines: its first line, and then these. Flushes, and counts what went
+/// out of it.
+///
+/// # Errors
+///
+/// `Write` where a write or a flush failed, or a write took no bytes; `Starved` where memory ran out for the first line.
+fn write_lines<W: Write>(
+    alloc: Global,
+    calls: u64,
+    lines: &[u8],
+    writer: &mut Counted<W>,
+    bytes: &mut u128,
+) -> Result<(), FaultKind>
+    requires { bytes.old ≡ 0 }
+    ensures written { OnOk result (WritesAll W.contents writer.old (head_line calls ++ lines.now) writer.new bytes.new) }
+    ensures flushed { OnOk result (IsFlushed writer.new) }
+    ensures part { IfErr result (λ kind. WritesFirst W.contents writer.old (head_line calls ++ lines.now) writer.new bytes.new kind) }
+{
+    write_line(writer, head_text(alloc, calls)?.as_slice(), bytes)?;
+    write_line(writer, lines, bytes)?;
+    flush_out(writer)?;
+    Ok(())
 }
 
 /// Writes the tape of so many calls as the tally has, from their lines, and counts its bytes.

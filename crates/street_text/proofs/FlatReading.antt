@@ -1,7 +1,5 @@
 -- A line of numbers, texts and lists of numbers, a token at a time.
-use Rattle.std.proofs.Common.{◌≡◌, ℕ, suc, ◌^◌, ◌<◌, ◌==◌, List, [], ◌∷◌, ◌++◌, length, get_or, true, false, Option, Some, None, IfSome, refl, sym, ap, ◌∙◌, lt-ltb, eq-eqb}
-use Rattle.std.specs.Option.{SomeIff}
-use Rattle.std.specs.Str.{bytes_eq, IsUtf8}
+use Rattle.std.proofs.Common.{◌≡◌, ℕ, suc, ◌^◌, ◌<◌, ◌==◌, List, [], ◌∷◌, ◌++◌, length, get_or, true, false, Option, Some, None, IfSome, refl, sym, ap, ◌∙◌, lt-ltb, eq-eqb, SomeIff, bytes_eq, IsUtf8}
 use Rattle.std.proofs.lemmas.Slice.Eq.{bytes_eq-Decides}
 use Rattle.fast_float.specs.Text.{Parts, scan, digits_of, IsInteger}
 use Rattle.json.specs.Token.{Token}

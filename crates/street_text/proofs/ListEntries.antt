@@ -1,7 +1,5 @@
 -- The entries of a list, one after another.
-use Rattle.std.proofs.Common.{◌≡◌, ℕ, ◌==◌, ◌+◌, ◌<◌, ◌≤◌, suc, List, take, drop, get_or, arith, eq-eqb, append_assoc, append-nil, [], ◌∷◌, ◌++◌, length, if◌then◌else◌, Option, Some, None, Result, Ok, Err, IsErr, option_map, option_and_then, refl, sym, ap, ◌∙◌}
-use Rattle.std.specs.Option.{ok_or}
-use Rattle.std.specs.Result.{IsErrAnd}
+use Rattle.std.proofs.Common.{◌≡◌, ℕ, ◌==◌, ◌+◌, ◌<◌, ◌≤◌, suc, List, take, drop, get_or, arith, eq-eqb, append_assoc, append-nil, [], ◌∷◌, ◌++◌, length, if◌then◌else◌, Option, Some, None, Result, Ok, Err, IsErr, option_map, option_and_then, refl, sym, ap, ◌∙◌, ok_or, IsErrAnd}
 use Rattle.std.proofs.lemmas.Bool.{ne_eqb}
 use Rattle.std.proofs.lemmas.List.{at_drop_more, take_more_set, take_all}
 use Rattle.std.proofs.Math.ListN.{set, drop_of_length-le}

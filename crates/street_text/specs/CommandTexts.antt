@@ -4,8 +4,7 @@ use Rattle.std.specs.Prelude.{ℕ, ◌==◌, List, Bool, false, not, if◌then�
 use Rattle.serde_json.specs.Data.{Data, Members, object, no_members}
 use Rattle.serde_json.specs.Written.{compact_text}
 use Rattle.street_base.specs.declared.command.Command.{Command}
-use Rattle.street_base.specs.declared.command.Command.TheVariants.{Load, Enter, Signal, Advance, CloseLane, ReopenLane}
-use Rattle.street_base.specs.declared.command.Command.TheVariants.{TakeOut, PlaceMeter, ReadMeter, Vehicle, Lane, Count}
+use Rattle.street_base.specs.declared.command.Command.TheVariants.{Load, Enter, Signal, Advance, CloseLane, ReopenLane, TakeOut, PlaceMeter, ReadMeter, Vehicle, Lane, Count}
 use Rattle.street_base.specs.declared.net.NetSpec.{NetSpec}
 use Rattle.street_text.specs.ReplyLines.{number_data, node_data, link_data, turn_data, phase_data, number_at, text_at, list_at}
 

@@ -2,8 +2,7 @@
 -- Source: this profile.
 use Rattle.std.specs.Prelude.{ℕ, ◌<◌, ◌^◌, All}
 use Rattle.street_base.specs.declared.command.Command.{Command}
-use Rattle.street_base.specs.declared.command.Command.TheVariants.{Load, Enter, Signal, Advance, CloseLane, ReopenLane}
-use Rattle.street_base.specs.declared.command.Command.TheVariants.{TakeOut, PlaceMeter, ReadMeter, Vehicle, Lane, Count}
+use Rattle.street_base.specs.declared.command.Command.TheVariants.{Load, Enter, Signal, Advance, CloseLane, ReopenLane, TakeOut, PlaceMeter, ReadMeter, Vehicle, Lane, Count}
 use Rattle.street_base.specs.declared.command.GreenSpec.{GreenSpec}
 use Rattle.street_base.specs.declared.command.PhaseSpec.{PhaseSpec}
 use Rattle.street_base.specs.declared.net.NodeSpec.{NodeSpec}

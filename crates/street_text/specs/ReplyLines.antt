@@ -10,8 +10,7 @@ use Rattle.street_base.specs.declared.reply.MeterRow.{MeterRow}
 use Rattle.street_base.specs.declared.refusal.Refusal.{Refusal}
 use Rattle.street_base.specs.declared.refusal.Refusal.TheVariants.{BadNetwork, BadPlan, BadSignal}
 use Rattle.street_base.specs.declared.reply.Reply.{Reply}
-use Rattle.street_base.specs.declared.reply.Reply.TheVariants.{Loaded, Signalled, Entered, Clock, Short, Closed, Placed}
-use Rattle.street_base.specs.declared.reply.Reply.TheVariants.{Rows, Vehicle, Lane, Census, Refused, Starved}
+use Rattle.street_base.specs.declared.reply.Reply.TheVariants.{Loaded, Signalled, Entered, Clock, Short, Closed, Placed, Rows, Vehicle, Lane, Census, Refused, Starved}
 use Rattle.street_base.specs.declared.reply.RunningRow.{RunningRow}
 use Rattle.street_base.specs.declared.reply.Stretch.{Stretch}
 use Rattle.street_base.specs.declared.reply.WaitingEntry.{WaitingEntry}
@@ -22,7 +21,7 @@ use Rattle.street_base.specs.declared.command.PhaseSpec.{PhaseSpec}
 use Rattle.street_base.specs.declared.net.NodeSpec.{NodeSpec}
 use Rattle.street_base.specs.declared.net.LinkSpec.{LinkSpec}
 use Rattle.street_base.specs.declared.net.TurnSpec.{TurnSpec}
-use Rattle.street_base.specs.Refusals.{number_of, name_of, part_name}
+use Rattle.street_base.specs.Prelude.{number_of, name_of, part_name}
 
 -- ---- lists
 

@@ -12,6 +12,7 @@ use serde_json::Value;
 use std::alloc::{AllocError, Global};
 use street_base::{Command, NetSpec, PhaseSpec, Starved};
 
+/// The command that loads a network.
 fn load_value(alloc: Global, net: &NetSpec) -> Result<Value, AllocError>
     ensures { IfOk result (λ v. view v ≡ command_data (Load net.now)) }
 {
@@ -38,6 +39,7 @@ fn told_size(size: u64) -> Option<u64>
     if size == 1 { None } else { Some(size) }
 }
 
+/// The command that has a vehicle enter.
 fn enter_value(
     alloc: Global,
     plan: &[u64],
@@ -59,6 +61,7 @@ fn enter_value(
     )
 }
 
+/// The command that gives a node its signal plan.
 fn signal_value(
     alloc: Global,
     node: u64,
@@ -78,7 +81,7 @@ fn signal_value(
     )
 }
 
-/// Cells of a lane, from the first to the last.
+/// The command of this name, `close` or `reopen`, about the cells of a lane from the first to the last.
 fn stretch_value(
     alloc: Global,
     name: &str,
@@ -101,6 +104,7 @@ fn stretch_value(
     )
 }
 
+/// The command that makes so many steps.
 fn advance_value(alloc: Global, steps: u64) -> Result<Value, AllocError>
     ensures { IfOk result (λ v. view v ≡ command_data (Advance steps)) }
 {
@@ -113,7 +117,7 @@ fn advance_value(alloc: Global, steps: u64) -> Result<Value, AllocError>
     )
 }
 
-/// What is asked of one vehicle.
+/// The command of this name, `takeout` or `vehicle`, about one vehicle.
 fn car_value(alloc: Global, name: &str, car: u64) -> Result<Value, AllocError>
     ensures { IfOk result (λ v. view v ≡ car_data_of name.now car) }
 {
@@ -123,6 +127,7 @@ fn car_value(alloc: Global, name: &str, car: u64) -> Result<Value, AllocError>
     )
 }
 
+/// The command that places a detector at a cell of a lane, with rows of so many steps.
 fn place_meter_value(
     alloc: Global,
     link: u64,
@@ -144,6 +149,7 @@ fn place_meter_value(
     )
 }
 
+/// The command that reads the rows of a detector.
 fn read_meter_value(alloc: Global, meter: u64) -> Result<Value, AllocError>
     ensures { IfOk result (λ v. view v ≡ command_data (ReadMeter meter)) }
 {
@@ -156,6 +162,7 @@ fn read_meter_value(alloc: Global, meter: u64) -> Result<Value, AllocError>
     )
 }
 
+/// The command that asks what is on a lane.
 fn lane_value(alloc: Global, link: u64, lane: u64) -> Result<Value, AllocError>
     ensures { IfOk result (λ v. view v ≡ command_data (Lane link lane)) }
 {
@@ -169,6 +176,7 @@ fn lane_value(alloc: Global, link: u64, lane: u64) -> Result<Value, AllocError>
     )
 }
 
+/// The command that asks how many vehicles are where.
 fn count_value(alloc: Global) -> Result<Value, AllocError>
     ensures { IfOk result (λ v. view v ≡ command_data Count) }
 {

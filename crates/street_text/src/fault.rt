@@ -36,7 +36,7 @@ impl LineFault {
         }
     }
 
-    /// Its name.
+    /// The name that a reply line tells it by.
     pub fn name(self) -> &'static str
         ensures { result.now ≡ name_of self }
     {

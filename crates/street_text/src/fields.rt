@@ -78,7 +78,7 @@ fn write_field(key: &str, field: &Field<'_>, out: &mut Writer) -> Result<(), All
     field.write(out)
 }
 
-/// Writes the object of these fields, in their order.
+/// Writes the JSON object of these fields, in their order.
 fn write_object(fields: &[(&str, Field<'_>)], out: &mut Writer) -> Result<(), AllocError>
     ensures { OnOk result (Adds (tokens_of (object (members_of fields.now))) out.old out.new) }
 {
@@ -89,7 +89,7 @@ fn write_object(fields: &[(&str, Field<'_>)], out: &mut Writer) -> Result<(), Al
     out.end_object()
 }
 
-/// The line of the object of these fields, in their order.
+/// The line of the JSON object of these fields, in their order, with its LF.
 pub fn object_line(alloc: Global, fields: &[(&str, Field<'_>)]) -> Result<Vec<u8>, Starved>
     ensures { IfOk result (λ text. text.items ≡ line_of (object (members_of fields.now))) }
 {

@@ -42,6 +42,7 @@ pub(crate) struct FlatLine<'a> {
 }
 
 impl<'a> FlatValue<'a> {
+    /// The number, if it is one.
     fn number(&self) -> Option<u64>
         ensures { result ≡ number_in (flat_data self.now) }
     {
@@ -52,6 +53,7 @@ impl<'a> FlatValue<'a> {
         }
     }
 
+    /// The text, if it is one.
     fn text(&self) -> Option<&'a str>
         ensures { option_map (λ s. s.now) result ≡ as_str (flat_data self.now) }
     {
@@ -62,6 +64,7 @@ impl<'a> FlatValue<'a> {
         }
     }
 
+    /// The list, if it is one.
     fn numbers(&self) -> Option<&[u64]>
         ensures { option_map (λ list. list.now) result ≡ list_in number_in (flat_data self.now) }
     {
@@ -73,6 +76,7 @@ impl<'a> FlatValue<'a> {
     }
 }
 
+/// Whether a text begins with a minus sign.
 fn has_minus(text: &[u8]) -> bool
     ensures { result ≡ (slice_index text.now 0 == 45) }
 {
@@ -90,7 +94,7 @@ fn whole_number(text: &str) -> Option<u64>
     Numeral::scan(digits).to_u64()
 }
 
-/// The numbers of a list, up to its end.
+/// The numbers of a list, up to its end. None where anything else stands in it, and where memory was refused.
 fn read_numbers(alloc: Global, reader: &mut Reader<'_>) -> Option<Vec<u64>>
     ensures list { IfSome result (λ list. ReadsItems reader.old (numbers list.items) reader.new) }
     ensures shorter { IfSome result (λ list. length reader.new ≤ length reader.old) }
@@ -105,7 +109,7 @@ fn read_numbers(alloc: Global, reader: &mut Reader<'_>) -> Option<Vec<u64>>
     Some(found)
 }
 
-/// What stands under a name.
+/// What stands under a name, if it may stand in a flat line and there is memory for it.
 fn read_value<'a>(alloc: Global, reader: &mut Reader<'a>) -> Option<FlatValue<'a>>
     ensures value { IfSome result (λ flat. (depth : ℕ) → converted of_json (value (suc depth) reader.old)
         ≡ Some (flat_data flat, reader.new)) }
@@ -119,7 +123,7 @@ fn read_value<'a>(alloc: Global, reader: &mut Reader<'a>) -> Option<FlatValue<'a
     }
 }
 
-/// The members of an object, up to its end.
+/// The members of an object, up to its end. None where one of them may not stand in a flat line, and where memory was refused.
 fn read_members<'a>(alloc: Global, reader: &mut Reader<'a>) -> Option<Vec<FlatMember<'a>>>
     ensures { IfSome result (λ list. ReadsMembers reader.old (flat_members list.items) reader.new) }
 {

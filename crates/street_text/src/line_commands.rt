@@ -4,8 +4,7 @@
 ghost use Rattle.std.specs.Prelude.{◌≡◌, ◌⊎◌};
 ghost use Rattle.serde_json.specs.Errors.{IsMemory};
 ghost use Rattle.serde_json.specs.View.{view};
-ghost use Rattle.street_text.specs.LineCommands.{numbers_in, load_in, signal_in, named};
-ghost use Rattle.street_text.specs.LineCommands.{command_in, or_fault, reading, value_of, Gives, GivesValue};
+ghost use Rattle.street_text.specs.LineCommands.{numbers_in, load_in, signal_in, named, command_in, or_fault, reading, value_of, Gives, GivesValue};
 
 use crate::fault::LineFault;
 use crate::number_commands::of_numbers;
@@ -27,6 +26,7 @@ struct NetNumbers {
     start: u64,
 }
 
+/// The numbers of a network, from the JSON value of a command `load`.
 #[tactic(auto, unfolding(crate::specs::LineCommands::numbers_in))]
 fn numbers(alloc: Global, value: &Value) -> Result<NetNumbers, LineFault>
     ensures { Gives result (or_fault LineFault.BadCommand (numbers_in (view value.now))) }
@@ -45,6 +45,7 @@ fn numbers(alloc: Global, value: &Value) -> Result<NetNumbers, LineFault>
     })
 }
 
+/// The command `load` that a JSON value says.
 #[tactic(auto, unfolding(crate::specs::LineCommands::load_in))]
 fn load(alloc: Global, value: &Value) -> Result<Command, LineFault>
     ensures { Gives result (or_fault LineFault.BadCommand (load_in (view value.now))) }
@@ -65,6 +66,7 @@ fn load(alloc: Global, value: &Value) -> Result<Command, LineFault>
     }))
 }
 
+/// The command `signal` that a JSON value says.
 #[tactic(auto, unfolding(crate::specs::LineCommands::signal_in))]
 fn signal(alloc: Global, value: &Value) -> Result<Command, LineFault>
     ensures { Gives result (or_fault LineFault.BadCommand (signal_in (view value.now))) }
@@ -118,6 +120,7 @@ fn fault_of(error: &Error) -> LineFault
     }
 }
 
+/// The JSON value of a line.
 #[tactic(auto, unfolding(crate::specs::LineCommands::value_of))]
 fn parse(alloc: Global, line: &[u8]) -> Result<Value, LineFault>
     ensures { GivesValue result (value_of line.now) }

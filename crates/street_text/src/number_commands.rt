@@ -1,9 +1,7 @@
 //! Commands whose fields are numbers and lists of numbers: one small function for each.
 //!
 //! Source: this profile.
-ghost use Rattle.street_text.specs.LineCommands.{size_in, enter_in, advance_in, close_in, reopen_in};
-ghost use Rattle.street_text.specs.LineCommands.{take_out_in, place_meter_in, read_meter_in, vehicle_in, lane_in, observing_names, number_names, named_in};
-ghost use Rattle.street_text.specs.LineCommands.{or_fault, Gives};
+ghost use Rattle.street_text.specs.LineCommands.{size_in, enter_in, advance_in, close_in, reopen_in, take_out_in, place_meter_in, read_meter_in, vehicle_in, lane_in, observing_names, number_names, named_in, or_fault, Gives};
 
 use crate::fault::LineFault;
 use crate::lookup::Lookup;
@@ -21,6 +19,7 @@ fn size_of_vehicle<L: Lookup>(line: &L, sized: bool) -> Result<u64, LineFault>
     }
 }
 
+/// The command `enter` that the fields of a line say.
 #[tactic(auto, unfolding(crate::specs::LineCommands::enter_in))]
 fn enter<L: Lookup>(alloc: Global, line: &L, sized: bool) -> Result<Command, LineFault>
     ensures { Gives result (or_fault LineFault.BadCommand (enter_in sized (L.shows line.now))) }
@@ -37,6 +36,7 @@ fn enter<L: Lookup>(alloc: Global, line: &L, sized: bool) -> Result<Command, Lin
     })
 }
 
+/// The command `advance` that the fields of a line say.
 #[tactic(auto, unfolding(crate::specs::LineCommands::advance_in))]
 fn advance<L: Lookup>(line: &L) -> Result<Command, LineFault>
     ensures { Gives result (or_fault LineFault.BadCommand (advance_in (L.shows line.now))) }
@@ -45,6 +45,7 @@ fn advance<L: Lookup>(line: &L) -> Result<Command, LineFault>
     Ok(Command::Advance { steps })
 }
 
+/// The command `close` that the fields of a line say.
 #[tactic(auto, unfolding(crate::specs::LineCommands::close_in))]
 fn close<L: Lookup>(line: &L) -> Result<Command, LineFault>
     ensures { Gives result (or_fault LineFault.BadCommand (close_in (L.shows line.now))) }
@@ -61,6 +62,7 @@ fn close<L: Lookup>(line: &L) -> Result<Command, LineFault>
     })
 }
 
+/// The command `reopen` that the fields of a line say.
 #[tactic(auto, unfolding(crate::specs::LineCommands::reopen_in))]
 fn reopen<L: Lookup>(line: &L) -> Result<Command, LineFault>
     ensures { Gives result (or_fault LineFault.BadCommand (reopen_in (L.shows line.now))) }
@@ -77,6 +79,7 @@ fn reopen<L: Lookup>(line: &L) -> Result<Command, LineFault>
     })
 }
 
+/// The command `takeout` that the fields of a line say.
 #[tactic(auto, unfolding(crate::specs::LineCommands::take_out_in))]
 fn take_out<L: Lookup>(line: &L) -> Result<Command, LineFault>
     ensures { Gives result (or_fault LineFault.BadCommand (take_out_in (L.shows line.now))) }
@@ -85,6 +88,7 @@ fn take_out<L: Lookup>(line: &L) -> Result<Command, LineFault>
     Ok(Command::TakeOut { car })
 }
 
+/// The command `meter` that the fields of a line say.
 #[tactic(auto, unfolding(crate::specs::LineCommands::place_meter_in))]
 fn place_meter<L: Lookup>(line: &L) -> Result<Command, LineFault>
     ensures { Gives result (or_fault LineFault.BadCommand (place_meter_in (L.shows line.now))) }
@@ -101,6 +105,7 @@ fn place_meter<L: Lookup>(line: &L) -> Result<Command, LineFault>
     })
 }
 
+/// The command `read` that the fields of a line say.
 #[tactic(auto, unfolding(crate::specs::LineCommands::read_meter_in))]
 fn read_meter<L: Lookup>(line: &L) -> Result<Command, LineFault>
     ensures { Gives result (or_fault LineFault.BadCommand (read_meter_in (L.shows line.now))) }
@@ -109,6 +114,7 @@ fn read_meter<L: Lookup>(line: &L) -> Result<Command, LineFault>
     Ok(Command::ReadMeter { meter })
 }
 
+/// The command `vehicle` that the fields of a line say.
 #[tactic(auto, unfolding(crate::specs::LineCommands::vehicle_in))]
 fn vehicle<L: Lookup>(line: &L) -> Result<Command, LineFault>
     ensures { Gives result (or_fault LineFault.BadCommand (vehicle_in (L.shows line.now))) }
@@ -117,6 +123,7 @@ fn vehicle<L: Lookup>(line: &L) -> Result<Command, LineFault>
     Ok(Command::Vehicle { car })
 }
 
+/// The command `lane` that the fields of a line say.
 #[tactic(auto, unfolding(crate::specs::LineCommands::lane_in))]
 fn lane<L: Lookup>(line: &L) -> Result<Command, LineFault>
     ensures { Gives result (or_fault LineFault.BadCommand (lane_in (L.shows line.now))) }
@@ -126,7 +133,7 @@ fn lane<L: Lookup>(line: &L) -> Result<Command, LineFault>
     Ok(Command::Lane { link, lane })
 }
 
-/// The command of a name that observes: by a meter, a vehicle, a lane, or a count of all.
+/// The command of a name that observes: by a detector, a vehicle, a lane, or a count of all.
 fn observing<L: Lookup>(name: &str, line: &L) -> Result<Command, LineFault>
     ensures { Gives result (or_fault LineFault.BadCommand (named_in observing_names name.now (L.shows line.now))) }
 {

@@ -14,6 +14,7 @@ use street_base::{
     WaitingEntry, Whereabouts,
 };
 
+/// The line that tells why a command was refused.
 fn refused(alloc: Global, refusal: Refusal) -> Result<Vec<u8>, Starved>
     ensures { IfOk result (λ text. text.items ≡ line_of (refused_data refusal)) }
 {
@@ -54,6 +55,7 @@ struct OnLane {
 }
 
 impl OnLane {
+    /// The vehicle of this number, on this lane.
     fn new(car: u64, link: u64, lane: u64, size: u64) -> OnLane
         ensures { result ≡ record { car = car; link = link; lane = lane; size = size } }
     {
@@ -66,6 +68,7 @@ impl OnLane {
     }
 }
 
+/// The line of a vehicle in a cell of its lane.
 fn in_cell(
     alloc: Global,
     at: OnLane,
@@ -91,6 +94,7 @@ fn in_cell(
     )
 }
 
+/// The line of a vehicle in the buffer of its lane.
 fn in_buffer(
     alloc: Global,
     at: OnLane,
@@ -116,6 +120,7 @@ fn in_buffer(
     )
 }
 
+/// The line of a vehicle that waits for its lane.
 fn waiting(alloc: Global, at: OnLane, depart: u64, plan: &[u64]) -> Result<Vec<u8>, Starved>
     ensures { IfOk result (λ text. text.items
         ≡ line_of (vehicle_data at.car (Waiting at.link at.lane depart at.size plan.now))) }
@@ -134,6 +139,7 @@ fn waiting(alloc: Global, at: OnLane, depart: u64, plan: &[u64]) -> Result<Vec<u
     )
 }
 
+/// The line of a vehicle that has ended in this step, as `arrived` or as `taken`.
 fn ended_as(alloc: Global, car: u64, state: &str, step: u64) -> Result<Vec<u8>, Starved>
     ensures { IfOk result (λ text. text.items ≡ line_of (ended_data car state.now step)) }
 {
@@ -147,6 +153,7 @@ fn ended_as(alloc: Global, car: u64, state: &str, step: u64) -> Result<Vec<u8>, 
     )
 }
 
+/// The line of a vehicle that has ended.
 fn ended(alloc: Global, car: u64, end: &End) -> Result<Vec<u8>, Starved>
     ensures { IfOk result (λ text. text.items ≡ line_of (vehicle_data car (Ended end.now))) }
 {
@@ -156,6 +163,7 @@ fn ended(alloc: Global, car: u64, end: &End) -> Result<Vec<u8>, Starved>
     }
 }
 
+/// The line that tells where a vehicle is.
 fn vehicle(alloc: Global, car: u64, whereabouts: &Whereabouts) -> Result<Vec<u8>, Starved>
     ensures { IfOk result (λ text. text.items ≡ line_of (vehicle_data car whereabouts.now)) }
 {
@@ -204,6 +212,7 @@ fn vehicle(alloc: Global, car: u64, whereabouts: &Whereabouts) -> Result<Vec<u8>
     }
 }
 
+/// The line of the rows of a detector.
 fn rows(alloc: Global, now: &RunningRow, rows: &Listing<MeterRow>) -> Result<Vec<u8>, Starved>
     ensures { IfOk result (λ text. text.items ≡ line_of (reply_data (Rows now.now rows.now))) }
 {
@@ -216,6 +225,7 @@ fn rows(alloc: Global, now: &RunningRow, rows: &Listing<MeterRow>) -> Result<Vec
     )
 }
 
+/// The line that tells who is on a lane or waits for it, and which cells are closed.
 fn lane(
     alloc: Global,
     buffer: &Listing<BufferEntry>,
@@ -237,7 +247,7 @@ fn lane(
     )
 }
 
-/// An object of one number.
+/// The line of an object of one number, under this name.
 fn one_number(alloc: Global, name: &str, number: u64) -> Result<Vec<u8>, Starved>
     ensures { IfOk result (λ text. text.items ≡ line_of (object (number_at name.now number no_members))) }
 {

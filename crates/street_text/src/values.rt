@@ -15,6 +15,11 @@ use street_base::{GreenSpec, LinkSpec, Listing, NodeSpec, PhaseSpec, TurnSpec};
 pub(crate) trait FromValue {
     ghost entry: { Data → Option Self };
 
+    /// What the value says.
+    ///
+    /// # Errors
+    ///
+    /// `BadCommand` where it is of another kind; `Starved` where there was no memory for its lists.
     fn of_value(alloc: Global, value: &Value) -> Result<Self, LineFault>
         ensures { Gives result (or_fault LineFault.BadCommand (entry (view value.now))) };
 }

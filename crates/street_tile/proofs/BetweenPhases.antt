@@ -1,32 +1,19 @@
 -- What holds of all tiles between the phases of a step.
-use Rattle.std.proofs.Common.{◌≡◌, ℕ, zero, suc, ◌<◌, ◌≤◌, Bool, true, List, [], ◌∷◌, length, map, get_or, refl, sym, ◌∙◌, ap, subst, arith}
-use Rattle.std.specs.Prelude.{Option, Some, None, All, filter_map}
+use Rattle.std.proofs.Common.{◌≡◌, ℕ, zero, suc, ◌<◌, ◌≤◌, Bool, true, List, [], ◌∷◌, length, map, get_or, refl, sym, ◌∙◌, ap, subst, arith, Option, Some, None, All, filter_map}
 use Rattle.std.specs.List.{list_any, cons_option}
 use Rattle.street_base.specs.declared.net.NetSpec.{NetSpec}
-use Rattle.street_base.specs.Limits.{last_clock}
+use Rattle.street_base.specs.Prelude.{last_clock, is_place, places, Traffic, changed, driven, step, arrival, leaver_of, released, departed}
 use Rattle.street_base.specs.declared.names.Place.{Place}
-use Rattle.street_base.specs.Network.{is_place, places}
-use Rattle.street_base.specs.State.{Traffic}
-use Rattle.street_base.specs.Step.{changed, driven, step, arrival, leaver_of}
-use Rattle.street_base.specs.Release.{released}
-use Rattle.street_base.specs.Departure.{departed}
 use Rattle.street_base.proofs.OptionLemmas.{option_map-some}
-use Rattle.street_lanes.specs.Lanes.{IsLane}
-use Rattle.street_lanes.specs.Whole.{IsOn}
-use Rattle.street_node.specs.Releases.{Crossing, crossing as crosses}
+use Rattle.street_lanes.specs.Prelude.{IsLane, IsOn, Detectors}
+use Rattle.street_node.specs.Prelude.{Crossing, crossing as crosses}
 use Rattle.street_node.proofs.Crossings.{crossing-leads}
-use Rattle.street_tile.specs.Halves.{Transfer, crossing}
-use Rattle.street_tile.specs.Tiles.{Part, IsRoads, IsTileOf, IsShare, AreTiles, SameTile, Each, AllStand, IsIdle, IsPrepared, nobody, Shows, ShowsOwn}
-use Rattle.street_lanes.specs.Detectors.{Detectors}
-use Rattle.street_tile.specs.TileDetectors.{detectors_at, HaveWatched, MetersStand, AllMetersStand, noted_by}
-use Rattle.street_tile.specs.Phases.{LanePhase, MotionPhase, ReleasePhase, EnterPhase, ticked, MeterPhase}
-use Rattle.street_tile.specs.HandOvers.{all_handed, received}
-use Rattle.street_tile.specs.Steps.{Steps}
-use Rattle.street_tile.proofs.Rows.{AreInRow}
+use Rattle.street_tile.specs.Prelude.{Transfer, crossing, Part, IsTileOf, IsShare, AreTiles, SameTile, Each, AllStand, IsIdle, IsPrepared, nobody, Shows, ShowsOwn, detectors_at, HaveWatched, MetersStand, AllMetersStand, noted_by, LanePhase, MotionPhase, ReleasePhase, EnterPhase, ticked, MeterPhase, all_handed, received, Steps}
+use Rattle.street_tile.proofs.Rows.{in-row, roads-of}
 use Rattle.street_tile.proofs.OwnLanes.{lane-of}
-use Rattle.street_tile.proofs.SameTile.{tile-then, same-moved, tile-of-same}
+use Rattle.street_tile.proofs.SameTile.{same-moved, tile-of-same}
 use Rattle.street_tile.proofs.MetersStand.{meters-through}
-use Rattle.street_tile.proofs.PhasesOfAll.{row-same, goes-all, on-changed, on-driven, on-ticked, enters-all, ends-step}
+use Rattle.street_tile.proofs.PhasesOfAll.{goes-all, on-changed, on-driven, on-ticked, enters-all, ends-step}
 
 -- each hand-over leads to a lane of the network
 crossing-lane : (net : NetSpec) (m : Traffic) → IsOn net m → (p : Place) (e : Transfer) → crossing m p ≡ Some e → IsLane net e.to
@@ -46,9 +33,6 @@ crossings-lanes net m on (p ∷ ps) k d h = by_entry (crossing m p) refl k h (cr
     by_entry (Some e) is (suc k) h rest = rest k d (omega arith)
 
 -- ---- tiles stay the tiles that they were
-
-pub each-then : (xs ys zs : List Part) → length ys ≡ length xs → Each SameTile xs ys → Each SameTile ys zs → Each SameTile xs zs
-each-then xs ys zs e first second i d h = tile-then (get_or xs i d) (get_or ys i d) (get_or zs i d) (first i d h) (second i d (omega arith))
 
 pub tiles-same : (net : NetSpec) (xs ys : List Part) → length ys ≡ length xs → Each SameTile xs ys → AreTiles net xs → AreTiles net ys
 tiles-same net xs ys e same tiles = let some = tiles.some in let few = tiles.few in record {
@@ -96,31 +80,19 @@ unfolding changed
 changed-clock m = refl
 
 module _ (net : NetSpec) (xs ys zs : List Part) (a : length ys ≡ length xs) (b : length zs ≡ length xs) (lanes : Each (LanePhase net) xs ys) where
-  pub row-lanes : AreInRow net xs → AreInRow net ys
-  row-lanes row = row-same net 0 (length net.nodes) xs ys a (λ i d h. (lanes i d h).goes.same) row
-
   pub in-time-lanes : (m : Traffic) → AllStand net xs m → m.clock < last_clock → All (λ x. x.clock < last_clock) ys
   in-time-lanes m s h i d l =
       let one = goes-all net changed xs ys a (λ i d h. (lanes i d h).goes) m (on-changed net m s.on) s in
       let e = (one.each i d l).clock ∙ changed-clock m in
       omega arith
 
-  pub idle-arrived : All IsIdle xs → All (λ x. x.arrived ≡ []) ys
-  idle-arrived idle i d h = (lanes i d (omega arith)).arrived ∙ (idle i d (omega arith)).arrived
-
   module _ (motion : Each (MotionPhase net) ys zs) where
-    pub same-motion : Each SameTile xs zs
-    same-motion = each-then xs ys zs a (λ i d h. (lanes i d h).goes.same) (λ i d h. (motion i d h).goes.same)
-
     pub prepared-motion : All IsPrepared xs → All IsPrepared zs
     prepared-motion prepared i d h =
         let first = (lanes i d (omega arith)).goes in
         let second = (motion i d (omega arith)).goes in
         let middle = prepared-same (get_or xs i d) (get_or ys i d) first.same.own.places first.room (prepared i d (omega arith)) in
         prepared-same (get_or ys i d) (get_or zs i d) second.same.own.places second.room middle
-
-    pub row-motion : AreInRow net xs → AreInRow net zs
-    row-motion row = row-same net 0 (length net.nodes) ys zs (omega arith) (λ i d h. (motion i d h).goes.same) (row-lanes row)
 
     pub idle-handed : All IsIdle xs → All (λ x. x.handed ≡ []) zs
     idle-handed idle i d h = (motion i d (omega arith)).goes.handed ∙ (lanes i d (omega arith)).goes.handed ∙ (idle i d (omega arith)).handed
@@ -142,9 +114,6 @@ module _ (net : NetSpec) (xs ys zs : List Part) (a : length ys ≡ length xs) (b
         ∙ ap (filter_map (λ p. arrival (leaver_of (changed m) p))) (lanes i d h).goes.same.own.places
 
 module _ (net : NetSpec) (view : List Bool) (xs ys : List Part) (a : length ys ≡ length xs) (releases : Each (ReleasePhase net view) xs ys) where
-  pub row-release : AreInRow net xs → AreInRow net ys
-  row-release row = row-same net 0 (length net.nodes) xs ys a (λ i d h. (releases i d h).same) row
-
   pub prepared-release : All IsPrepared xs → All IsPrepared ys
   prepared-release prepared i d h = let r = releases i d (omega arith) in prepared-same (get_or xs i d) (get_or ys i d) r.same.own.places r.room (prepared i d (omega arith))
 
@@ -154,23 +123,11 @@ module _ (net : NetSpec) (view : List Bool) (xs ys : List Part) (a : length ys �
   pub release-lanes : (m : Traffic) → AllStand net xs m → Shows net view m → All (λ y. All (λ (e : Transfer). IsLane net e.to) y.handed) ys
   release-lanes m s shows i d h = subst (All (λ (e : Transfer). IsLane net e.to)) (sym ((releases i d (omega arith)).handed m s.on shows (s.each i d (omega arith)))) (crossings-lanes net m s.on (get_or xs i d).own.places)
 
-received-same : (es : List Transfer) (y z : Part) → z ≡ received es y → SameTile y z
-received-same es y z e = same-moved y z _ _ e
-
 module _ (net : NetSpec) (ys zs ws : List Part) (a : length zs ≡ length ys) (b : length ws ≡ length ys) (moves : Each (λ y z. z ≡ received (all_handed ys) y) ys zs) where
-  pub row-move : AreInRow net ys → AreInRow net zs
-  row-move row = row-same net 0 (length net.nodes) ys zs a (λ i d h. received-same (all_handed ys) (get_or ys i d) (get_or zs i d) (moves i d h)) row
-
   pub prepared-move : All IsPrepared ys → All IsPrepared zs
   prepared-move prepared i d h = subst IsPrepared (sym (moves i d (omega arith))) (prepared i d (omega arith))
 
-  pub row-enter : Each (EnterPhase net) zs ws → AreInRow net ys → AreInRow net ws
-  row-enter enters row = row-same net 0 (length net.nodes) zs ws (omega arith) (λ i d h. (enters i d h).same) (row-move row)
-
   module _ (us : List Part) (c : length us ≡ length ys) (enters : Each (EnterPhase net) zs ws) (meter : Each (MeterPhase net) ws us) where
-    pub row-meter : AreInRow net ys → AreInRow net us
-    row-meter row = row-same net 0 (length net.nodes) ws us (omega arith) (λ i d h. (meter i d h).goes.same) (row-enter enters row)
-
     idle-again : All (λ u. (u.handed ≡ []) × (u.coming ≡ nobody u)) us
     idle-again i d h = (
       (meter i d (omega arith)).goes.handed ∙ (enters i d (omega arith)).handed ∙ ap (λ (t : Part). t.handed) (moves i d (omega arith)),
@@ -191,13 +148,14 @@ unfolding step noted_by
 ends-meters x m s = s
 
 -- a step whole: whatever the tiles stood for, they then stand for the machine's next state
-module _ (net : NetSpec) (roads : IsRoads net) (view : List Bool) (x0 x1 x2 x3 x4 x5 : List Part) (e1 : length x1 ≡ length x0) (e2 : length x2 ≡ length x0) (e3 : length x3 ≡ length x0) (e4 : length x4 ≡ length x0) (e5 : length x5 ≡ length x0)
-    (row : AreInRow net x0) (lanes : Each (LanePhase net) x0 x1) (motion : Each (MotionPhase net) x1 x2) (shows : (m : Traffic) → AllStand net x2 m → Shows net view m)
+module _ (net : NetSpec) (view : List Bool) (x0 x1 x2 x3 x4 x5 : List Part) (e1 : length x1 ≡ length x0) (e2 : length x2 ≡ length x0) (e3 : length x3 ≡ length x0) (e4 : length x4 ≡ length x0) (e5 : length x5 ≡ length x0)
+    (tiles : AreTiles net x0) (lanes : Each (LanePhase net) x0 x1) (motion : Each (MotionPhase net) x1 x2) (shows : (m : Traffic) → AllStand net x2 m → Shows net view m)
     (releases : Each (ReleasePhase net view) x2 x3) (moves : Each (λ y z. z ≡ received (all_handed x3) y) x3 x4) (enters : Each (EnterPhase net) x4 x5) where
   pub stand-enter : (m : Traffic) → AllStand net x0 m → AllStand net x5 (departed (released (driven (changed m))))
   stand-enter m s =
       let two = stand-motion net x0 x1 x2 e1 e2 lanes motion m s in
-      enters-all net roads view x2 x3 x4 x5 (omega arith) (omega arith) (omega arith) (row-motion net x0 x1 x2 e1 e2 lanes motion row) releases moves enters (driven (changed m)) (shows (driven (changed m)) two) two
+      let row = in-row net x2 (tiles-motion net x1 x2 (omega arith) motion (tiles-lanes net x0 x1 e1 lanes tiles)) in
+      enters-all net (roads-of net x0 tiles) view x2 x3 x4 x5 (omega arith) (omega arith) (omega arith) row releases moves enters (driven (changed m)) (shows (driven (changed m)) two) two
 
   pub in-time : (m : Traffic) → AllStand net x0 m → m.clock < last_clock → All (λ x. x.clock < last_clock) x5
   in-time m s h i d l = let e = (stand-enter m s).each i d l in let c = e.clock ∙ clock-through m in omega arith
@@ -231,8 +189,8 @@ module _ (net : NetSpec) (roads : IsRoads net) (view : List Bool) (x0 x1 x2 x3 x
       let stood = meters-through (get_or x0 i d) (get_or x5 i d) m after (places ∙ sideways.goes.same.own.places) meters (detectors-through m) (stands i d (omega arith)) in
       ends-meters (get_or x6 i d) m ((meter i d (omega arith)).noted before after five.on (five.each i d (omega arith)) saw stood)
 
-  pub whole-step : (x6 : List Part) → length x6 ≡ length x0 → Each (MeterPhase net) x5 x6 → AreTiles net x0 → Steps net x0 x6
-  whole-step x6 e6 meter tiles = record {
+  pub whole-step : (x6 : List Part) → length x6 ≡ length x0 → Each (MeterPhase net) x5 x6 → Steps net x0 x6
+  whole-step x6 e6 meter = record {
     machine = stand-step x6 e6 meter;
     arrived = arrived-step x6 e6 meter;
     meters = meters-step x6 e6 meter;

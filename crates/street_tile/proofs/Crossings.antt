@@ -1,20 +1,14 @@
 -- The hand-overs of all tiles together are the entries of the machine.
-use Rattle.std.proofs.Common.{◌≡◌, Bool, true, false, List, [], ◌∷◌, ◌++◌, map, refl, sym, ◌∙◌, ap, arith, inl, inr}
-use Rattle.std.specs.Prelude.{Option, Some, None, filter, filter_map, option_to_list, option_map, option_and_then, if◌then◌else◌}
+use Rattle.std.proofs.Common.{◌≡◌, Bool, true, false, List, [], ◌∷◌, ◌++◌, map, refl, sym, ◌∙◌, ap, arith, inl, inr, Option, Some, None, filter, filter_map, option_to_list, option_map, option_and_then, if◌then◌else◌}
 use Rattle.std.specs.Option.{option_map_or}
 use Rattle.std.specs.List.{list_any, cons_option}
 use Rattle.std.proofs.lemmas.Bool.{cases_Bool, cond-true, cond-false, both_ways, false_from_ne_true}
-use Rattle.street_base.specs.Lane.{is_free}
+use Rattle.std.proofs.lemmas.List.{append-nil}
+use Rattle.street_base.specs.Prelude.{is_free, is_place, link_at, places, Vehicle, Traffic, Queued, lane_at, one_if, front, target, is_this, may_give, giver, gives, entering, on_next_link}
 use Rattle.street_base.specs.declared.names.Place.{Place}
-use Rattle.street_base.specs.Network.{is_place, link_at, places}
-use Rattle.street_base.specs.Vehicle.{Vehicle}
-use Rattle.street_base.specs.State.{Traffic, Queued, lane_at}
-use Rattle.street_base.specs.Census.{one_if}
-use Rattle.street_base.specs.Release.{front, target, is_this, may_give, giver, gives, entering, on_next_link}
 use Rattle.street_base.proofs.ReleaseLemmas.{is_place-same, is_place-refl, is_place-swap, find-among}
-use Rattle.street_tile.specs.Halves.{Transfer, crossing, entries_to}
-use Rattle.street_node.specs.Walks.{times}
-use Rattle.street_node.specs.Releases.{Crossing}
+use Rattle.street_tile.specs.Prelude.{Transfer, crossing, entries_to}
+use Rattle.street_node.specs.Prelude.{times, Crossing}
 use Rattle.street_node.proofs.BufferWalk.{times-cons, chosen-leads, taken-goes, stays, goes-if-taken}
 use Rattle.street_node.proofs.Crossings.{leads-of, crossing-goes, crossing-stays}
 
@@ -43,16 +37,12 @@ module _ (h : Place → List Vehicle) (q : Place) (others : (p : Place) → is_p
             let one : one_if (is_place q p) ≡ 1 = ap one_if here in
             let none : times q ps ≡ 0 = omega (arith, cons, one) in
             let same = is_place-same q p here in
-            rw (nobody ps none, same) (rw append_nil refl))
+            rw (nobody ps none, same) (append-nil (h p)))
         | inr other ↦ (
             let no : one_if (is_place q p) ≡ 0 = ap one_if other in
             let rest : times q ps ≡ 1 = omega (arith, cons, no) in
             rw (others p other) (alone ps rest))
       ]
-    where
-      append_nil : (xs : List Vehicle) → xs ++ [] ≡ xs
-      append_nil [] = refl
-      append_nil (x ∷ xs) = ap (λ (ys : List Vehicle). x ∷ ys) (append_nil xs)
 
   pub none-gathered : ((p : Place) → h p ≡ []) → (ps : List Place) → gathered ps ≡ []
   none-gathered none [] = refl

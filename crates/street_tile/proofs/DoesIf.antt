@@ -1,32 +1,23 @@
 -- A command to one lane or one node of a tile does so to the whole.
-use Rattle.std.proofs.Common.{◌≡◌, ℕ, ◌+◌, ◌-◌, ◌<◌, ◌≤◌, Bool, true, false, List, length, map, set, get_or, refl, sym, ◌∙◌, ap, subst, arith, inl, inr}
-use Rattle.std.specs.Prelude.{Some, None, slice_get, if◌then◌else◌}
-use Rattle.std.proofs.lemmas.Bool.{cases_eq, cond-true, cond-false, false_from_ne_true}
+use Rattle.std.proofs.Common.{◌≡◌, ℕ, ◌+◌, ◌-◌, ◌<◌, ◌≤◌, Bool, true, List, length, map, set, get_or, refl, sym, ◌∙◌, ap, subst, arith, inl, inr, Some, None, slice_get, if◌then◌else◌}
+use Rattle.std.proofs.lemmas.Bool.{cases_eq, cond-true, cond-false}
 use Rattle.std.proofs.lemmas.List.{get_or-map, get_or-set_same, get_or-set_other}
-use Rattle.std.proofs.lemmas.Option.{slice_get_within, slice_get-get_or, get_or_from_slice_get}
+use Rattle.std.proofs.lemmas.Option.{slice_get_within, slice_get-get_or, get_or_from_slice_get, same_Some}
 use Rattle.street_base.specs.declared.net.NetSpec.{NetSpec}
 use Rattle.street_base.specs.declared.names.Place.{Place}
-use Rattle.street_base.specs.Network.{is_place, link_at}
-use Rattle.street_base.specs.Signal.{SignalPlan, is_green}
-use Rattle.street_base.specs.State.{Traffic, LaneState, no_lane, lane_at}
-use Rattle.street_base.specs.Closing.{with_marks, closed_cells}
-use Rattle.street_base.specs.Machine.{closed_after}
-use Rattle.street_base.specs.Shown.{shown_lane}
+use Rattle.street_base.specs.Prelude.{is_place, link_at, SignalPlan, is_green, Traffic, LaneState, no_lane, lane_at, with_marks, closed_cells, closed_after, shown_lane}
 use Rattle.street_base.specs.declared.reply.Reply.{Reply}
-use Rattle.street_base.proofs.ReleaseLemmas.{is_place-same, is_place-refl}
-use Rattle.street_node.specs.Greens.{ShowsAs}
-use Rattle.street_lanes.specs.Views.{LaneView, LaneStands}
-use Rattle.street_lanes.specs.Lanes.{Lanes, IsLane, IsOf, Same, GoesIf, GoesAt, lane_of, size_of, size_on}
-use Rattle.street_lanes.specs.Whole.{IsOn}
-use Rattle.street_net.specs.Slots.{slot_of}
-use Rattle.street_tile.specs.Tiles.{Part, IsTileOf, StandsFor, AreNumbers, is_own}
-use Rattle.street_node.specs.Walks.{AtMostOnce}
-use Rattle.street_tile.specs.Commands.{at_place, planned, DoesIf, Does}
+use Rattle.street_base.proofs.ReleaseLemmas.{is_place-refl}
+use Rattle.street_node.specs.Prelude.{ShowsAs, AtMostOnce}
+use Rattle.street_lanes.specs.Prelude.{LaneView, LaneStands, Lanes, IsLane, Same, GoesIf, GoesAt, lane_of, size_of, size_on, IsOn}
+use Rattle.street_lanes.specs.Lanes.{IsOf}
+use Rattle.street_net.specs.Prelude.{slot_of}
+use Rattle.street_tile.specs.Prelude.{Part, IsTileOf, StandsFor, AreNumbers, is_own, at_place, planned, DoesIf, Does}
 use Rattle.street_tile.proofs.SameLanes.{same-none, same-long, even-of}
-use Rattle.street_tile.proofs.SameTile.{at-view}
+use Rattle.street_tile.proofs.SameTile.{tile-seen, place-seen, at-view}
 use Rattle.street_tile.proofs.Each.{lane_at-each}
 use Rattle.street_tile.proofs.OwnLanes.{own-once}
-use Rattle.street_tile.proofs.Numbers.{number-found, alone-at}
+use Rattle.street_tile.proofs.Numbers.{number-found, apart-at}
 
 -- ---- lanes
 
@@ -90,16 +81,13 @@ module _ (net : NetSpec) (x : Part) (tile : IsTileOf net x) where
             let lane_is : lane_of own k ≡ l = get_or_from_slice_get own.lanes k l no_lane is in
             elim (cases_eq k n) as (λ _. LaneStands l (lane_at (at_place p rule m) q)) [
               | inl here ↦ (
-                  let is_q : Some p ≡ Some q = sym at ∙ ap (slice_get x.own.places) (sym here) ∙ at_k in
-                  let same : p ≡ q = cc in
+                  let same = same_Some p q (sym at ∙ ap (slice_get x.own.places) (sym here) ∙ at_k) in
                   let test : is_place q p ≡ true = ap (is_place q) same ∙ is_place-refl q in
                   let went : LaneStands (lane_of own n) (rule (lane_at m p)) = goes.goes (lane_at m p) (stands-in m s n p at) holds in
                   let at_q : LaneStands l (rule (lane_at m q)) = subst (λ (r : Place). LaneStands l (rule (lane_at m r))) same (subst (λ (v : LaneView). LaneStands v (rule (lane_at m p))) (ap (lane_of own) (sym here) ∙ lane_is) went) in
                   subst (LaneStands l) (sym (lane_at-place net p rule m on q there ∙ cond-true _ _ _ test)) at_q)
               | inr other ↦ (
-                  let away : is_place q p ≡ false = false_from_ne_true (is_place q p) (λ here.
-                  let same : q ≡ p = is_place-same q p here in
-                  absurd (other (alone-at x.own.places once-in k n p (at_k ∙ ap (λ (r : Place). Some r) same) at))) in
+                  let away = apart-at x.own.places once-in k n q p at_k at other in
                   let kept : LaneStands (lane_of x.own k) (lane_at m q) = stands-in m s k q at_k in
                   subst (LaneStands l) (sym (lane_at-place net p rule m on q there ∙ cond-false _ _ _ away)) (subst (λ (v : LaneView). LaneStands v (lane_at m q)) (sym (goes.others k other) ∙ lane_is) kept))
             ];
@@ -140,33 +128,27 @@ does-plan net x node plan other low within shows = record {
 -- ---- of what the fields of a tile show
 
 module _ (net : NetSpec) {x v : Part} (is : x ≡ v) (tile : IsTileOf net v) (n : ℕ) (p : Place) (at : slice_get v.own.places n ≡ Some p) where
-  tile-seen : IsTileOf net x
-  tile-seen = subst (IsTileOf net) (sym is) tile
-
-  place-seen : slice_get x.own.places n ≡ Some p
-  place-seen = subst (λ (t : Part). slice_get t.own.places n ≡ Some p) (sym is) at
-
   pub seen-length : length (lane_of x.own n).track.cells ≡ (link_at net p.link).length
-  seen-length = lane-sized net x.own tile-seen.own n p place-seen
+  seen-length = lane-sized net x.own (tile-seen is tile).own n p (place-seen n p is at)
 
   pub seen-within : (own : Lanes) → Same x.own own → n < length own.lanes
   seen-within own same =
-      let within = slice_get_within x.own.places n p place-seen in
-      let even = even-of net x.own tile-seen.own in
+      let within = slice_get_within x.own.places n p (place-seen n p is at) in
+      let even = even-of net x.own (tile-seen is tile).own in
       let long = same-long x.own own same in
       omega arith
 
   pub seen-if : (P : LaneState → Type 0) (rule : LaneState → LaneState) (roomy own : Lanes) (room : ℕ) → roomy ≡ record x.own { room = room } → GoesIf n P rule roomy own → DoesIf net (λ m. P (lane_at m p)) (at_place p rule) v (record x { own = own })
-  seen-if P rule roomy own room e goes = at-view (DoesIf net (λ m. P (lane_at m p)) (at_place p rule)) is (does-if net x tile-seen n p place-seen rule own P (goes-with-room n P rule x.own roomy own room e goes))
+  seen-if P rule roomy own room e goes = at-view (DoesIf net (λ m. P (lane_at m p)) (at_place p rule)) is (does-if net x (tile-seen is tile) n p (place-seen n p is at) rule own P (goes-with-room n P rule x.own roomy own room e goes))
 
   pub seen-at : (rule : LaneState → LaneState) (own : Lanes) → GoesAt n rule x.own own → Does net (at_place p rule) v (record x { own = own })
-  seen-at rule own goes = at-view (Does net (at_place p rule)) is (does-at net x tile-seen n p place-seen rule own goes)
+  seen-at rule own goes = at-view (Does net (at_place p rule)) is (does-at net x (tile-seen is tile) n p (place-seen n p is at) rule own goes)
 
   pub seen-count : (closed : Bool) (first last : ℕ) (own : Lanes) (count : ℕ) → GoesAt n (with_marks closed first last) x.own own → ((s : LaneState) → LaneStands (lane_of own n) s → count ≡ closed_cells s.track.closed) → (m : Traffic) → StandsFor v m → count ≡ closed_after closed first last (lane_at m p)
-  seen-count closed first last own count goes counts m s = counts (with_marks closed first last (lane_at m p)) (goes.goes (lane_at m p) (stands-in net x tile-seen m (subst (λ (t : Part). StandsFor t m) (sym is) s) n p place-seen))
+  seen-count closed first last own count goes counts m s = counts (with_marks closed first last (lane_at m p)) (goes.goes (lane_at m p) (stands-in net x (tile-seen is tile) m (subst (λ (t : Part). StandsFor t m) (sym is) s) n p (place-seen n p is at)))
 
   pub seen-shown : (reply : Reply) → ((s : LaneState) → LaneStands (lane_of x.own n) s → reply ≡ shown_lane s) → (m : Traffic) → StandsFor v m → reply ≡ shown_lane (lane_at m p)
-  seen-shown reply shows m s = shows (lane_at m p) (stands-in net x tile-seen m (subst (λ (t : Part). StandsFor t m) (sym is) s) n p place-seen)
+  seen-shown reply shows m s = shows (lane_at m p) (stands-in net x (tile-seen is tile) m (subst (λ (t : Part). StandsFor t m) (sym is) s) n p (place-seen n p is at))
 
 pub seen-plan : (net : NetSpec) {x v : Part} → x ≡ v → (node k : ℕ) (plan other : SignalPlan) → v.low ≤ node → node < v.high → x.low + length x.signals ≡ x.high → k ≡ node → ShowsAs plan other → DoesIf net (λ m. node < length m.signals) (planned node other) v (record x { signals = set x.signals (k - x.low) (Some plan) })
 seen-plan net {x} {v} is node k plan other low high nodes same shows =

@@ -1,19 +1,13 @@
 -- Phases that change each lane by its place.
-use Rattle.std.proofs.Common.{◌≡◌, ℕ, zero, suc, ◌+◌, ◌<◌, List, [], ◌∷◌, length, map, get_or, refl, sym, ◌∙◌, ap, arith, add-zero}
+use Rattle.std.proofs.Common.{◌≡◌, ℕ, zero, suc, ◌+◌, ◌<◌, List, [], ◌∷◌, length, map, get_or, refl, sym, ◌∙◌, ap, arith, add-zero, Option}
 use Rattle.std.specs.List.{enumerate_from}
 use Rattle.street_base.specs.declared.net.NetSpec.{NetSpec}
 use Rattle.street_base.specs.declared.names.Place.{Place}
-use Rattle.street_base.specs.Network.{link_at}
-use Rattle.street_base.specs.State.{Traffic, LaneState, no_lane, lane_at, each_lane}
+use Rattle.street_base.specs.Prelude.{link_at, Traffic, LaneState, no_lane, lane_at, each_lane, Vehicle, released, entering, departed, departed_lane}
 use Rattle.street_base.proofs.CensusLemmas.{HasShape}
 use Rattle.street_base.proofs.FormLemmas.{shape-of}
-use Rattle.std.specs.Prelude.{Option}
-use Rattle.street_base.specs.Vehicle.{Vehicle}
-use Rattle.street_base.specs.Release.{released, entering}
-use Rattle.street_base.specs.Departure.{departed, departed_lane}
-use Rattle.street_lanes.specs.Lanes.{IsLane}
-use Rattle.street_lanes.specs.Whole.{IsOn}
-use Rattle.street_tile.specs.Halves.{let_go, let_go_lane, placed, placed_lane}
+use Rattle.street_lanes.specs.Prelude.{IsLane, IsOn}
+use Rattle.street_tile.specs.Prelude.{let_go, let_go_lane, placed, placed_lane}
 
 pub enumerated-at : {A B : Type 0} (f : ℕ → A → B) (n : ℕ) (xs : List A) (k : ℕ) (d : A) (e : B) → k < length xs → get_or (map (λ x. f x.0 x.1) (enumerate_from n xs)) k e ≡ f (n + k) (get_or xs k d)
 enumerated-at f n [] k d e h = absurd (omega arith)
@@ -67,7 +61,3 @@ unfolding departed placed
 lane_at-entered net m on entry p there =
     ap (λ (lanes : List (List LaneState)). get_or (get_or lanes p.link []) p.lane no_lane) (each_lane-twice (λ q lane. departed_lane m.clock lane) (placed_lane entry) m.lanes)
     ∙ lane_at-each net m on p there (λ q lane. departed_lane m.clock (placed_lane entry q lane))
-
-pub entered-clock : (entry : Place → Option Vehicle) (m : Traffic) → (departed (placed entry m)).clock ≡ m.clock
-unfolding departed placed
-entered-clock entry m = refl

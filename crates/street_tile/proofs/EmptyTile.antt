@@ -1,8 +1,7 @@
 -- What a faultless network gives a tile, and a tile with nobody on it.
-use Rattle.std.proofs.Common.{◌≡◌, ℕ, zero, suc, ◌+◌, ◌-◌, ◌<◌, ◌≤◌, Bool, true, false, List, [], ◌∷◌, ◌++◌, length, map, set, get_or, refl, sym, ◌∙◌, ap, subst, arith, inl, inr}
-use Rattle.std.specs.Prelude.{Option, Some, None, filter, replicate, slice_get, option_map, nat_le, nat_lt, ◌&&◌, ◌==◌, if◌then◌else◌}
+use Rattle.std.proofs.Common.{◌≡◌, ℕ, zero, suc, ◌+◌, ◌-◌, ◌<◌, ◌≤◌, Bool, true, false, List, [], ◌∷◌, ◌++◌, length, map, set, get_or, refl, sym, ◌∙◌, ap, subst, arith, inl, inr, Option, Some, None, filter, replicate, slice_get, option_map, nat_le, nat_lt, ◌&&◌, ◌==◌, if◌then◌else◌}
 use Rattle.std.specs.List.{range_with_len, position_or_len}
-use Rattle.std.proofs.lemmas.Bool.{cases_lt, cases_eq, and_parts, eq-eqb, le-leb, lt-ltb, false_from_ne_true}
+use Rattle.std.proofs.lemmas.Bool.{cases_lt, cases_eq, and_parts, eq-eqb, le-leb, lt-ltb}
 use Rattle.std.proofs.lemmas.List.{append-nil, get_or-map, get_or_past, get_or-replicate, get_or-set_same, get_or-set_other}
 use Rattle.std.proofs.lemmas.List.Elements.{filter-append}
 use Rattle.std.proofs.lemmas.List.Folds.{find_at}
@@ -11,27 +10,18 @@ use Rattle.street_base.specs.declared.net.LinkSpec.{LinkSpec}
 use Rattle.street_base.specs.declared.net.NodeSpec.{NodeSpec}
 use Rattle.street_base.specs.declared.net.TurnSpec.{TurnSpec}
 use Rattle.street_base.specs.declared.net.NetSpec.{NetSpec}
-use Rattle.street_base.specs.Faults.{network_fault, joins}
-use Rattle.street_base.specs.Limits.{most_lanes}
+use Rattle.street_base.specs.Prelude.{network_fault, joins, most_lanes, no_link, link_at, node_of, names_link, turn, Vehicle, LaneState, no_lane, lane_at, SignalPlan, empty_lane, empty_lanes, loaded}
 use Rattle.street_base.specs.declared.names.Place.{Place}
-use Rattle.street_base.specs.Network.{is_place, no_link, link_at, node_of, names_link, turn}
-use Rattle.street_base.specs.Vehicle.{Vehicle}
-use Rattle.street_base.specs.State.{LaneState, no_lane, lane_at}
-use Rattle.street_base.specs.Signal.{SignalPlan}
-use Rattle.street_base.specs.Machine.{empty_lane, empty_lanes, loaded}
 use Rattle.street_base.proofs.FaultLemmas.{node_below, few_links, link_keeps_limits}
-use Rattle.street_base.proofs.ReleaseLemmas.{find-holds, is_place-same}
+use Rattle.street_base.proofs.ReleaseLemmas.{find-holds}
 use Rattle.street_net.proofs.GoodLinks.{IsJoined, joined, named-at, good-link, good-turn}
 use Rattle.street_net.proofs.InLanes.{lanes_of, places_below, places-more}
-use Rattle.street_lanes.specs.Views.{LaneView, LaneStands}
-use Rattle.street_lanes.specs.Lanes.{IsLane, AllLanes, fresh_on}
-use Rattle.street_lanes.specs.Whole.{LanesStand}
-use Rattle.street_tile.specs.Halves.{vehicle_in}
-use Rattle.street_net.specs.Slots.{slot_of}
-use Rattle.street_tile.specs.Tiles.{IsRoads, ShowSignals, is_own}
-use Rattle.street_node.specs.Walks.{AtMostOnce}
+use Rattle.street_lanes.specs.Prelude.{LaneView, LaneStands, IsLane, AllLanes, fresh_on, LanesStand}
+use Rattle.street_tile.specs.Prelude.{vehicle_in, IsRoads, ShowSignals, is_own}
+use Rattle.street_net.specs.Prelude.{slot_of}
+use Rattle.street_node.specs.Prelude.{AtMostOnce}
 use Rattle.street_node.proofs.Mouths.{slot-apart}
-use Rattle.street_tile.proofs.Numbers.{alone-at}
+use Rattle.street_tile.proofs.Numbers.{apart-at}
 
 -- ---- a network without a fault
 
@@ -159,12 +149,9 @@ pub numbered-more : (ps : List Place) (links : ℕ) → AtMostOnce ps → ((k : 
     → ((k : ℕ) (q : Place) → k < n → slice_get ps k ≡ Some q → get_or numbers (slot_of q) 0 ≡ k) → (k : ℕ) (q : Place) → k < n + 1 → slice_get ps k ≡ Some q → get_or (set numbers (slot_of p) n) (slot_of q) 0 ≡ k
 numbered-more ps links once two n p numbers at fits before k q h at_k = elim (cases_eq k n) as (λ _. get_or (set numbers (slot_of p) n) (slot_of q) 0 ≡ k) [
   | inl here ↦ (
-      let is : Some p ≡ Some q = sym at ∙ ap (slice_get ps) (sym here) ∙ at_k in
-      let same : p ≡ q = same_Some p q is in
+      let same = same_Some p q (sym at ∙ ap (slice_get ps) (sym here) ∙ at_k) in
       ap (λ (x : Place). get_or (set numbers (slot_of p) n) (slot_of x) 0) (sym same) ∙ get_or-set_same numbers (slot_of p) n 0 fits ∙ sym here)
   | inr other ↦ (
-      let apart : is_place p q ≡ false = false_from_ne_true (is_place p q) (λ e.
-      let same : p ≡ q = is_place-same p q e in
-      absurd (other (alone-at ps once k n q at_k (at ∙ ap Some same)))) in
+      let apart = apart-at ps once n k p q at at_k (λ e. other (sym e)) in
       get_or-set_other numbers (slot_of p) (slot_of q) n 0 (slot-apart p q (two n p at) (two k q at_k) apart) ∙ before k q (omega arith) at_k)
 ]

@@ -1,21 +1,16 @@
 -- A list of mouths, lane after lane.
-use Rattle.std.proofs.Common.{◌≡◌, ℕ, ◌+◌, ◌*◌, ◌<◌, ◌≤◌, Bool, false, List, length, set, refl, sym, ◌∙◌, ap, subst, arith, inl, inr}
-use Rattle.std.specs.Prelude.{Some, slice_get}
+use Rattle.std.proofs.Common.{◌≡◌, ℕ, ◌+◌, ◌*◌, ◌<◌, ◌≤◌, Bool, false, List, length, set, refl, sym, ◌∙◌, ap, subst, arith, inl, inr, Some, slice_get}
 use Rattle.std.specs.List.{list_any}
 use Rattle.std.proofs.lemmas.Bool.{cases_Bool, cases_eq, both_ways, false_from_ne_true}
 use Rattle.std.proofs.lemmas.List.{get_or-set_same, get_or-set_other}
-use Rattle.std.proofs.lemmas.Option.{slice_get-get_or, slice_get_within}
+use Rattle.std.proofs.lemmas.Option.{slice_get-get_or, slice_get_within, same_Some}
 use Rattle.street_base.specs.declared.net.NetSpec.{NetSpec}
 use Rattle.street_base.specs.declared.names.Place.{Place}
-use Rattle.street_base.specs.Network.{is_place}
-use Rattle.street_base.specs.Lane.{is_free}
-use Rattle.street_base.specs.State.{Traffic, LaneState, no_lane, lane_at}
+use Rattle.street_base.specs.Prelude.{is_place, is_free, Traffic, LaneState, no_lane, lane_at}
 use Rattle.street_base.proofs.ReleaseLemmas.{is_place-same, is_place-refl}
-use Rattle.street_lanes.specs.Views.{LaneView, LaneStands}
-use Rattle.street_lanes.specs.Lanes.{Lanes, IsLane, AllLanes, Others, lane_of, place_at}
-use Rattle.street_lanes.specs.Whole.{LanesStand}
-use Rattle.street_net.specs.Slots.{mouth, slot_of}
-use Rattle.street_tile.specs.Tiles.{IsRoads}
+use Rattle.street_lanes.specs.Prelude.{LaneView, LaneStands, Lanes, IsLane, AllLanes, Others, lane_of, place_at, LanesStand}
+use Rattle.street_net.specs.Prelude.{mouth, slot_of}
+use Rattle.street_tile.specs.Prelude.{IsRoads}
 use Rattle.street_tile.proofs.SameLanes.{there-at}
 use Rattle.street_node.proofs.Mouths.{slot-apart}
 use Rattle.street_node.proofs.BufferWalk.{at-any}
@@ -67,8 +62,7 @@ module _ (net : NetSpec) (roads : IsRoads net) (ps : List Place) (there : AllLan
       | inr other ↦ (
           let before : j < k = elim (cases_eq j k) as (λ _. j < k) [
             | inl e ↦ absurd (
-                let same_at : Some p ≡ Some q = sym at ∙ ap (slice_get ps) (sym e) ∙ there_q in
-                let same : p ≡ q = cc in
+                let same = same_Some p q (sym at ∙ ap (slice_get ps) (sym e) ∙ there_q) in
                 both_ways (is_place p q) other (ap (is_place p) (sym same) ∙ is_place-refl p))
             | inr ne ↦ omega arith
           ] in

@@ -1,6 +1,6 @@
 -- Hints that go on, one hand-over after another.
 use Rattle.std.proofs.Common.{refl, ◌∙◌}
-use Rattle.street_tile.specs.Hinted.{Hinted, KeepsHints}
+use Rattle.street_tile.specs.Prelude.{Hinted, KeepsHints}
 
 pub hints-none : (x : Hinted) → KeepsHints x x
 hints-none x = record { given = refl; room = refl }

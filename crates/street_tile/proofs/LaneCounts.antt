@@ -1,17 +1,12 @@
 -- Counts over the lanes of tiles, one tile after another.
-use Rattle.std.proofs.Common.{◌≡◌, ℕ, zero, suc, ◌+◌, ◌<◌, ◌≤◌, List, [], ◌∷◌, length, take, get_or, sym, ◌∙◌, ap, arith}
-use Rattle.std.specs.List.{sum_by}
+use Rattle.std.proofs.Common.{◌≡◌, ℕ, zero, suc, ◌+◌, ◌<◌, ◌≤◌, List, [], ◌∷◌, length, take, get_or, sym, ◌∙◌, ap, arith, sum_by}
 use Rattle.std.proofs.lemmas.List.{take_more, take_all}
 use Rattle.std.proofs.lemmas.List.Sums.{sum_by-append}
 use Rattle.street_base.specs.declared.net.NetSpec.{NetSpec}
 use Rattle.street_base.specs.declared.names.Place.{Place}
-use Rattle.street_base.specs.Network.{places}
-use Rattle.street_base.specs.State.{Traffic, LaneState, lane_at}
-use Rattle.street_base.specs.Shown.{over_all}
+use Rattle.street_base.specs.Prelude.{places, Traffic, LaneState, lane_at, over_all}
 use Rattle.street_base.proofs.FormLemmas.{shape-of}
-use Rattle.street_tile.specs.Tiles.{Part, AreTiles, AllStand}
-use Rattle.street_tile.specs.HandOvers.{all_places}
-use Rattle.street_tile.specs.Commands.{over}
+use Rattle.street_tile.specs.Prelude.{Part, AreTiles, AllStand, all_places, over}
 use Rattle.street_tile.proofs.Rows.{in-row, roads-of}
 use Rattle.street_tile.proofs.PublishedView.{all_places-push}
 use Rattle.street_tile.proofs.Sums.{tiles-sums, over_all-places}

@@ -1,89 +1,22 @@
 -- Tiles in a row: each lane is one tile's.
-use Rattle.std.proofs.Common.{◌≡◌, ℕ, suc, ◌+◌, ◌*◌, ◌/◌, ◌<◌, ◌≤◌, Bool, true, false, List, [], ◌∷◌, ◌++◌, length, get_or, refl, sym, ◌∙◌, ap, subst, arith, inl, inr}
-use Rattle.std.specs.Prelude.{Option, Some, None, IsSome, slice_get, filter_map, option_to_list, ◌&&◌, nat_le, nat_lt, ◌==◌}
-use Rattle.std.specs.Option.{option_map_or}
+use Rattle.std.proofs.Common.{◌≡◌, ℕ, suc, ◌+◌, ◌*◌, ◌/◌, ◌<◌, ◌≤◌, true, List, [], ◌∷◌, ◌++◌, length, get_or, refl, sym, ◌∙◌, ap, subst, arith, Option, Some, None, slice_get, filter_map, option_to_list}
 use Rattle.std.specs.List.{list_any}
-use Rattle.std.proofs.lemmas.Bool.{cases_lt, le-leb, lt-leb, lt-ltb, le-ltb}
-use Rattle.std.proofs.lemmas.List.Sums.{sum_by-append}
+use Rattle.std.proofs.lemmas.Bool.{le-leb, lt-ltb}
 use Rattle.std.proofs.lemmas.List.Elements.{filter_map-append}
-use Rattle.std.proofs.lemmas.List.Quantifiers.{position-Some}
-use Rattle.street_base.specs.declared.net.NodeSpec.{NodeSpec}
 use Rattle.street_base.specs.declared.net.NetSpec.{NetSpec}
 use Rattle.street_base.specs.declared.names.Place.{Place}
-use Rattle.street_base.specs.Network.{is_place, link_at, node_of, places}
-use Rattle.street_base.specs.Vehicle.{Vehicle}
-use Rattle.street_base.specs.State.{Traffic}
-use Rattle.street_base.specs.Census.{one_if}
-use Rattle.street_base.specs.Release.{entering}
+use Rattle.street_base.specs.Prelude.{is_place, link_at, node_of, places, Vehicle, Traffic, one_if, entering}
 use Rattle.street_base.proofs.PlaceOnceLemmas.{places-once}
-use Rattle.street_lanes.specs.Lanes.{IsLane}
-use Rattle.street_tile.specs.Halves.{Transfer, crossing, entry_in}
-use Rattle.street_tile.specs.Tiles.{Part, IsRoads, AreTiles, is_own}
-use Rattle.street_node.specs.Walks.{times}
-use Rattle.street_tile.specs.HandOvers.{all_handed, all_places}
-use Rattle.street_tile.proofs.Rows.{InRow, AreInRow}
-use Rattle.street_node.proofs.LaneWalk.{times-filter, gated}
-use Rattle.street_tile.proofs.OwnLanes.{lane-of}
+use Rattle.street_tile.specs.Prelude.{Transfer, crossing, entry_in, Part, IsRoads, AreTiles, is_own, all_handed, all_places}
+use Rattle.street_node.specs.Prelude.{times}
+use Rattle.street_tile.proofs.Rows.{AreInRow}
+use Rattle.street_tile.proofs.Sums.{tiles-sums}
 use Rattle.street_tile.proofs.Crossings.{crossings-enter}
 
 -- ---- each lane once
 
-pub row-le : (net : NetSpec) (low high : ℕ) (xs : List Part) → InRow net low high xs → low ≤ high
-row-le net low high [] e = omega arith
-row-le net low high (x ∷ xs) r = let rest = row-le net x.high high xs r.3 in let le = r.2 in omega arith
-
-own-split : (net : NetSpec) (a b c : ℕ) (q : Place) (n : ℕ) → a ≤ b → b ≤ c → gated (is_own net b c q) n + gated (is_own net a b q) n ≡ gated (is_own net a c q) n
-own-split net a b c q n h k = by_node (node_of net (link_at net q.link).to)
-  where
-    at : (node : ℕ) → gated (nat_le b node && nat_lt node c) n + gated (nat_le a node && nat_lt node b) n ≡ gated (nat_le a node && nat_lt node c) n
-    at node = elim (cases_lt node a) as (λ _. gated (nat_le b node && nat_lt node c) n + gated (nat_le a node && nat_lt node b) n ≡ gated (nat_le a node && nat_lt node c) n) [
-      | inl below ↦ rw (lt-leb a node below, lt-leb b node (omega arith)) (omega arith)
-      | inr from_a ↦ elim (cases_lt node b) as (λ _. gated (nat_le b node && nat_lt node c) n + gated (nat_le a node && nat_lt node b) n ≡ gated (nat_le a node && nat_lt node c) n) [
-        | inl below ↦ rw (le-leb a node from_a, lt-leb b node below, lt-ltb node b below, lt-ltb node c (omega arith)) (omega arith)
-        | inr from_b ↦ rw (le-leb a node from_a, le-leb b node from_b, le-ltb node b from_b) (omega arith)
-      ]
-    ]
-
-    by_node : (o : Option ℕ) → gated (option_map_or (λ node. nat_le b node && nat_lt node c) o false) n + gated (option_map_or (λ node. nat_le a node && nat_lt node b) o false) n ≡ gated (option_map_or (λ node. nat_le a node && nat_lt node c) o false) n
-    by_node None = omega arith
-    by_node (Some node) = at node
-
-own-none : (net : NetSpec) (a : ℕ) (q : Place) (n : ℕ) → 0 ≡ gated (is_own net a a q) n
-own-none net a q n = by_node (node_of net (link_at net q.link).to)
-  where
-    by_node : (o : Option ℕ) → 0 ≡ gated (option_map_or (λ node. nat_le a node && nat_lt node a) o false) n
-    by_node None = refl
-    by_node (Some node) = elim (cases_lt node a) as (λ _. 0 ≡ gated (nat_le a node && nat_lt node a) n) [
-      | inl below ↦ rw (lt-leb a node below) refl
-      | inr above ↦ rw (le-leb a node above, le-ltb node a above) refl
-    ]
-
-pub row-times : (net : NetSpec) (low high : ℕ) (xs : List Part) → InRow net low high xs → (q : Place) → times q (all_places xs) ≡ gated (is_own net low high q) (times q (places net))
-row-times net low high [] e q = own-none net low q (times q (places net)) ∙ ap (λ (n : ℕ). gated (is_own net low n q) (times q (places net))) e
-row-times net low high (x ∷ xs) r q =
-    sum_by-append (λ p. one_if (is_place q p)) (all_places xs) x.own.places
-    ∙ ap (λ (n : ℕ). n + times q x.own.places) (row-times net x.high high xs r.3 q)
-    ∙ ap (λ (ps : List Place). gated (is_own net x.high high q) (times q (places net)) + times q ps) r.0.places
-    ∙ ap (λ (n : ℕ). gated (is_own net x.high high q) (times q (places net)) + n) (times-filter q (is_own net x.low x.high) (places net))
-    ∙ ap (λ (n : ℕ). gated (is_own net x.high high q) (times q (places net)) + gated (is_own net n x.high q) (times q (places net))) r.1
-    ∙ own-split net low x.high high q (times q (places net)) r.2 (row-le net x.high high xs r.3)
-
--- whose are all nodes, its are all lanes
-pub all-own : (net : NetSpec) → IsRoads net → (p : Place) → IsLane net p → is_own net 0 (length net.nodes) p ≡ true
-all-own net roads p there = whole (node_of net (link_at net p.link).to) refl (roads.ends p.link there.0)
-  where
-    nowhere : NodeSpec
-    nowhere = record { id = 0; residence = 0; capacity = 0 }
-
-    whole : (o : Option ℕ) → node_of net (link_at net p.link).to ≡ o → IsSome o → option_map_or (λ node. nat_le 0 node && nat_lt node (length net.nodes)) o false ≡ true
-    whole None e some = cc
-    whole (Some node) e some = rw (le-leb 0 node (omega arith)) (lt-ltb node (length net.nodes) (position-Some (λ (n : NodeSpec). n.id == (link_at net p.link).to) net.nodes node nowhere e).0)
-
 pub tiles-once : (net : NetSpec) → IsRoads net → (xs : List Part) → AreInRow net xs → (q : Place) → list_any (is_place q) (places net) ≡ true → times q (all_places xs) ≡ 1
-tiles-once net roads xs row q among =
-    row-times net 0 (length net.nodes) xs row q
-    ∙ ap (λ (b : Bool). gated b (times q (places net))) (all-own net roads q (lane-of net q among))
-    ∙ places-once net q among
+tiles-once net roads xs row q among = tiles-sums net roads (λ p. one_if (is_place q p)) xs row ∙ places-once net q among
 
 -- ---- the hand-overs of all tiles are the entries of the machine
 

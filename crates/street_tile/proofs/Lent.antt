@@ -1,99 +1,98 @@
 -- What phases that are one part of a step make of all tiles.
-use Rattle.std.proofs.Common.{◌≡◌, ℕ, zero, suc, ◌<◌, List, [], ◌∷◌, length, get_or, refl, ◌∙◌, ap, arith}
-use Rattle.std.specs.Prelude.{All, Bool}
+use Rattle.std.proofs.Common.{◌≡◌, ℕ, zero, suc, ◌<◌, List, [], ◌∷◌, length, get_or, refl, ◌∙◌, ap, arith, All, Bool}
 use Rattle.street_base.specs.declared.net.NetSpec.{NetSpec}
-use Rattle.street_base.specs.Limits.{last_clock}
-use Rattle.street_base.specs.State.{Traffic}
-use Rattle.street_base.specs.Step.{changed, driven}
-use Rattle.street_tile.specs.Tiles.{Part, Each, AllStand, AreTiles, IsIdle, IsPrepared, ShowsOwn, nobody, Shows}
-use Rattle.street_tile.specs.Phases.{LanePhase, MotionPhase, ReleasePhase, EnterPhase, MeterPhase, Then}
-use Rattle.street_tile.specs.Halves.{let_go}
-use Rattle.street_tile.specs.HandOvers.{all_handed, received}
-use Rattle.street_tile.specs.Steps.{Steps}
-use Rattle.street_tile.proofs.Rows.{in-row, roads-of}
-use Rattle.street_tile.proofs.BetweenPhases.{tiles-lanes, tiles-motion, shown-motion, stand-motion, idle-handed, idle-coming, prepared-motion, whole-step}
+use Rattle.street_base.specs.Prelude.{last_clock, Traffic, changed, driven}
+use Rattle.street_lanes.specs.Prelude.{IsLane}
+use Rattle.street_tile.specs.Prelude.{Transfer, Part, Each, AllStand, AreTiles, IsIdle, IsPrepared, ShowsOwn, nobody, Shows, LanePhase, MotionPhase, ReleasePhase, EnterPhase, MeterPhase, Then, let_go, all_handed, received, MayStep, Steps}
+use Rattle.street_tile.proofs.BetweenPhases.{tiles-lanes, tiles-motion, tiles-release, tiles-move, shown-motion, stand-motion, idle-handed, idle-coming, prepared-motion, release-nobody, release-lanes, prepared-release, prepared-move, whole-step}
 
 each-cons : (R : Part → Part → Type 0) (x y : Part) (xs ys : List Part) → R x y → Each R xs ys → Each R (x ∷ xs) (y ∷ ys)
 each-cons R x y xs ys r rs zero d h = r
 each-cons R x y xs ys r rs (suc i) d h = rs i d (omega arith)
 
--- of all tiles there are those between the two phases
-each-between : (P Q : Part → Part → Type 0) (xs zs : List Part) → length zs ≡ length xs → Each (Then P Q) xs zs → (ys : List Part) × (length ys ≡ length xs) × Each P xs ys × Each Q ys zs
-each-between P Q [] [] e each = ([], refl, λ i d h. absurd (omega arith), λ i d h. absurd (omega arith))
+-- the tiles between two phases
+record AreBetween (P Q : Part → Part → Type 0) (xs zs : List Part) : Type 0 where
+  tiles : List Part
+  long : length tiles ≡ length xs
+  first : Each P xs tiles
+  second : Each Q tiles zs
+
+each-between : (P Q : Part → Part → Type 0) (xs zs : List Part) → length zs ≡ length xs → Each (Then P Q) xs zs → AreBetween P Q xs zs
+each-between P Q [] [] e each = record { tiles = []; long = refl; first = λ i d h. absurd (omega arith); second = λ i d h. absurd (omega arith) }
 each-between P Q [] (z ∷ zs) e each = absurd (omega arith)
 each-between P Q (x ∷ xs) [] e each = absurd (omega arith)
 each-between P Q (x ∷ xs) (z ∷ zs) e each =
     let first : Then P Q x z = each 0 x (omega arith) in
     let rest = each-between P Q xs zs (omega arith) (λ i d h. each (suc i) d (omega arith)) in
-    let long = rest.1 in
-    (first.between ∷ rest.0, omega arith, each-cons P x first.between xs rest.0 first.first rest.2, each-cons Q first.between z rest.0 zs first.second rest.3)
-
--- lane changes and motion
-module _ (net : NetSpec) (xs zs : List Part) (e : length zs ≡ length xs) (drives : Each (Then (LanePhase net) (MotionPhase net)) xs zs) where
-  abbrev changed-tiles : List Part
-  changed-tiles = (each-between (LanePhase net) (MotionPhase net) xs zs e drives).0
-
-  changed-long : length changed-tiles ≡ length xs
-  changed-long = (each-between (LanePhase net) (MotionPhase net) xs zs e drives).1
-
-  changed-lanes : Each (LanePhase net) xs changed-tiles
-  changed-lanes = (each-between (LanePhase net) (MotionPhase net) xs zs e drives).2
-
-  changed-motion : Each (MotionPhase net) changed-tiles zs
-  changed-motion = (each-between (LanePhase net) (MotionPhase net) xs zs e drives).3
-
-  pub tiles-drive : AreTiles net xs → AreTiles net zs
-  tiles-drive tiles = let long = changed-long in tiles-motion net changed-tiles zs (omega arith) changed-motion (tiles-lanes net xs changed-tiles long changed-lanes tiles)
-
-  pub shown-drive : All ShowsOwn zs
-  shown-drive = let long = changed-long in shown-motion net changed-tiles zs (omega arith) changed-motion
-
-  pub stand-drive : (m : Traffic) → AllStand net xs m → AllStand net zs (driven (changed m))
-  stand-drive = stand-motion net xs changed-tiles zs changed-long e changed-lanes changed-motion
-
-  pub handed-drive : All IsIdle xs → All (λ x. x.handed ≡ []) zs
-  handed-drive = idle-handed net xs changed-tiles zs changed-long e changed-lanes changed-motion
-
-  pub coming-drive : All IsIdle xs → (i : ℕ) (d : Part) → i < length xs → (get_or zs i d).coming ≡ nobody (get_or zs i d)
-  coming-drive = idle-coming net xs changed-tiles zs changed-long e changed-lanes changed-motion
-
-  pub prepared-drive : All IsPrepared xs → All IsPrepared zs
-  prepared-drive = prepared-motion net xs changed-tiles zs changed-long e changed-lanes changed-motion
-
--- entries, departures and detectors
-module _ (net : NetSpec) (xs zs : List Part) (e : length zs ≡ length xs) (settles : Each (Then (EnterPhase net) (MeterPhase net)) xs zs) where
-  abbrev entered-tiles : List Part
-  entered-tiles = (each-between (EnterPhase net) (MeterPhase net) xs zs e settles).0
-
-  entered-long : length entered-tiles ≡ length xs
-  entered-long = (each-between (EnterPhase net) (MeterPhase net) xs zs e settles).1
-
-  entered-enter : Each (EnterPhase net) xs entered-tiles
-  entered-enter = (each-between (EnterPhase net) (MeterPhase net) xs zs e settles).2
-
-  entered-meter : Each (MeterPhase net) entered-tiles zs
-  entered-meter = (each-between (EnterPhase net) (MeterPhase net) xs zs e settles).3
+    let long = rest.long in
+    record {
+      tiles = first.between ∷ rest.tiles;
+      long = omega arith;
+      first = each-cons P x first.between xs rest.tiles first.first rest.first;
+      second = each-cons Q first.between z rest.tiles zs first.second rest.second;
+    }
 
 -- releases and hand-overs keep the clock
 through-clock : (m : Traffic) → (let_go (driven (changed m))).clock ≡ m.clock
 unfolding let_go driven changed
 through-clock m = refl
 
-pub in-time-moved : (net : NetSpec) (view : List Bool) (x2 x3 x4 : List Part) → length x3 ≡ length x2 → length x4 ≡ length x2 → Each (ReleasePhase net view) x2 x3 → Each (λ y z. z ≡ received (all_handed x3) y) x3 x4
-    → (m : Traffic) → Shows net view (driven (changed m)) → AllStand net x2 (driven (changed m)) → m.clock < last_clock → All (λ x. x.clock < last_clock) x4
-in-time-moved net view x2 x3 x4 e3 e4 releases moves m shows s h i d l =
-    let before = s.each i d (omega arith) in
-    let let_go_clock = ((releases i d (omega arith)).stands (driven (changed m)) s.on shows before).clock ∙ through-clock m in
-    let moved = ap (λ (t : Part). t.clock) (moves i d (omega arith)) in
-    omega arith
+-- lane changes and motion
+module _ (net : NetSpec) (xs zs : List Part) (e : length zs ≡ length xs) (drives : Each (Then (LanePhase net) (MotionPhase net)) xs zs) where
+  between : AreBetween (LanePhase net) (MotionPhase net) xs zs
+  between = each-between (LanePhase net) (MotionPhase net) xs zs e drives
 
--- a step whose phases are three parts
-pub lent-step : (net : NetSpec) (view : List Bool) (x0 x2 x3 x4 x6 : List Part) (e2 : length x2 ≡ length x0) (e3 : length x3 ≡ length x2) (e4 : length x4 ≡ length x3) (e6 : length x6 ≡ length x4)
-    → Each (Then (LanePhase net) (MotionPhase net)) x0 x2 → ((m : Traffic) → AllStand net x2 m → Shows net view m) → Each (ReleasePhase net view) x2 x3
-    → Each (λ y z. z ≡ received (all_handed x3) y) x3 x4 → Each (Then (EnterPhase net) (MeterPhase net)) x4 x6 → AreTiles net x0 → Steps net x0 x6
-lent-step net view x0 x2 x3 x4 x6 e2 e3 e4 e6 drives shows releases moves settles tiles =
-    let first = changed-long net x0 x2 e2 drives in
-    let last = entered-long net x4 x6 e6 settles in
-    whole-step net (roads-of net x0 tiles) view x0 (changed-tiles net x0 x2 e2 drives) x2 x3 x4 (entered-tiles net x4 x6 e6 settles)
-    first e2 (omega arith) (omega arith) (omega arith) (in-row net x0 tiles) (changed-lanes net x0 x2 e2 drives) (changed-motion net x0 x2 e2 drives) shows releases moves
-    (entered-enter net x4 x6 e6 settles) x6 (omega arith) (entered-meter net x4 x6 e6 settles) tiles
+  pub tiles-drive : AreTiles net xs → AreTiles net zs
+  tiles-drive tiles = let long = between.long in tiles-motion net between.tiles zs (omega arith) between.second (tiles-lanes net xs between.tiles long between.first tiles)
+
+  pub shown-drive : All ShowsOwn zs
+  shown-drive = let long = between.long in shown-motion net between.tiles zs (omega arith) between.second
+
+  stand-drive : (m : Traffic) → AllStand net xs m → AllStand net zs (driven (changed m))
+  stand-drive = stand-motion net xs between.tiles zs between.long e between.first between.second
+
+  pub handed-drive : All IsIdle xs → All (λ x. x.handed ≡ []) zs
+  handed-drive = idle-handed net xs between.tiles zs between.long e between.first between.second
+
+  coming-drive : All IsIdle xs → (i : ℕ) (d : Part) → i < length xs → (get_or zs i d).coming ≡ nobody (get_or zs i d)
+  coming-drive = idle-coming net xs between.tiles zs between.long e between.first between.second
+
+  prepared-drive : All IsPrepared xs → All IsPrepared zs
+  prepared-drive = prepared-motion net xs between.tiles zs between.long e between.first between.second
+
+  -- and releases
+  module _ (ready : MayStep net xs) (view : List Bool) (ys : List Part) (e3 : length ys ≡ length zs) (shows : (m : Traffic) → AllStand net zs m → Shows net view m) (releases : Each (ReleasePhase net view) zs ys) where
+    pub tiles-released : AreTiles net ys
+    tiles-released = tiles-release net view zs ys e3 releases (tiles-drive ready.tiles)
+
+    pub nobody-released : All (λ y. y.coming ≡ nobody y) ys
+    nobody-released = release-nobody net view zs ys e3 releases (λ i d h. coming-drive ready.idle i d (omega arith))
+
+    pub lanes-released : All (λ y. All (λ (h : Transfer). IsLane net h.to) y.handed) ys
+    lanes-released = let two = stand-drive ready.stand.0 ready.stand.1 in release-lanes net view zs ys e3 releases _ two (shows _ two)
+
+    -- and hand-overs
+    module _ (ws : List Part) (e4 : length ws ≡ length ys) (moves : Each (λ y w. w ≡ received (all_handed ys) y) ys ws) where
+      pub tiles-moved : AreTiles net ws
+      tiles-moved = tiles-move net ys ws e4 moves tiles-released
+
+      pub prepared-moved : All IsPrepared ws
+      prepared-moved = prepared-move net ys ws ws e4 e4 moves (prepared-release net view zs ys e3 releases (prepared-drive ready.prepared))
+
+      pub in-time-moved : All (λ w. w.clock < last_clock) ws
+      in-time-moved i d l =
+          let m = ready.stand.0 in
+          let two = stand-drive m ready.stand.1 in
+          let h = ready.stand.2 in
+          let let_go_clock = ((releases i d (omega arith)).stands (driven (changed m)) two.on (shows _ two) (two.each i d (omega arith))).clock ∙ through-clock m in
+          let moved = ap (λ (t : Part). t.clock) (moves i d (omega arith)) in
+          omega arith
+
+      -- a step whose phases are three parts
+      pub lent-step : (us : List Part) → length us ≡ length ws → Each (Then (EnterPhase net) (MeterPhase net)) ws us → Steps net xs us
+      lent-step us e6 settles =
+          let last = each-between (EnterPhase net) (MeterPhase net) ws us e6 settles in
+          let long = last.long in
+          whole-step net view xs between.tiles zs ys ws last.tiles
+          between.long e (omega arith) (omega arith) (omega arith) ready.tiles between.first between.second shows releases moves
+          last.first us (omega arith) last.second

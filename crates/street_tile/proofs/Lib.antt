@@ -19,7 +19,6 @@ pub mod DoesIf
 pub mod MetersStand
 mod Phases
 pub mod PlacesMeter
-mod NotedStep
 mod EmptyTile
 mod MadeTiles
 mod WrittenList
@@ -28,12 +27,9 @@ pub mod BetweenPhases
 pub mod Lent
 mod KeepsHints
 pub mod Together
-mod LaneUpdate
-mod SignalPlans
 pub mod Sums
 pub mod Ones
-mod TakenOut
-mod PlacedDetector
+mod TileCommands
 mod Seen
 mod LaneCounts
 mod NextArrival

@@ -1,29 +1,17 @@
 -- The detectors of a tile, lane after lane and phase after phase.
-use Rattle.std.proofs.Common.{◌≡◌, ℕ, zero, suc, ◌+◌, ◌<◌, ◌≤◌, Bool, true, false, List, [], ◌∷◌, ◌++◌, length, map, set, get_or, refl, sym, ◌∙◌, ap, subst, arith, inl, inr}
-use Rattle.std.specs.Prelude.{Option, Some, slice_get, if◌then◌else◌}
-use Rattle.std.specs.List.{All}
+use Rattle.std.proofs.Common.{◌≡◌, ℕ, zero, suc, ◌+◌, ◌<◌, ◌≤◌, Bool, true, false, List, [], ◌∷◌, ◌++◌, length, map, set, get_or, refl, sym, ◌∙◌, ap, subst, arith, inl, inr, Some, slice_get, if◌then◌else◌, All}
 use Rattle.std.proofs.lemmas.Bool.{cases_eq}
 use Rattle.std.proofs.lemmas.List.{ext_get_or, get_or_default, get_or-map, get_or-set_same, get_or-set_other, length-map, length-set, nil_from_length}
-use Rattle.std.proofs.lemmas.Option.{slice_get-get_or}
+use Rattle.std.proofs.lemmas.Option.{slice_get-get_or, same_Some}
 use Rattle.street_base.specs.declared.net.NetSpec.{NetSpec}
-use Rattle.street_base.specs.Detector.{triple}
-use Rattle.street_base.specs.Lane.{Cells, Track}
-use Rattle.street_base.specs.Limits.{last_clock}
-use Rattle.street_base.specs.Machine.{loaded}
-use Rattle.street_base.specs.Motion.{Drive}
+use Rattle.street_base.specs.Prelude.{triple, Cells, Track, last_clock, loaded, Drive, is_place, Traffic, LaneState, Triple, Detector, lane_at, drive_on, noted}
 use Rattle.street_base.specs.declared.names.Place.{Place}
-use Rattle.street_base.specs.Network.{is_place}
-use Rattle.street_base.specs.State.{Traffic, LaneState, Triple, Detector, lane_at}
-use Rattle.street_base.specs.Step.{drive_on, noted}
 use Rattle.street_base.proofs.ReleaseLemmas.{is_place-same}
-use Rattle.street_lanes.specs.Views.{LaneStands}
-use Rattle.street_lanes.specs.Lanes.{Lanes, IsOf, lane_of, place_at, no_place, size_of, size_on}
-use Rattle.street_lanes.specs.Motion.{cells_on}
+use Rattle.street_lanes.specs.Prelude.{LaneStands, Lanes, lane_of, place_at, no_place, size_of, size_on, cells_on, Detectors, cleared, watch_of, triple_of, GoesOn, Notes, AllGoOn, AllNote, MeterStands, MetersStandFor}
+use Rattle.street_lanes.specs.Lanes.{IsOf}
 use Rattle.street_meter.specs.Meter.{Meter, Stands, detector_of, next_step}
 use Rattle.street_rule.specs.declared.watch.Watch.{Watch}
-use Rattle.street_lanes.specs.Detectors.{Detectors, cleared, watch_of, triple_of, GoesOn, Notes, AllGoOn, AllNote, MeterStands, MetersStandFor}
-use Rattle.street_tile.specs.Tiles.{Part, IsBare, AreBare, AreDue, sizes_of}
-use Rattle.street_tile.specs.TileDetectors.{no_detectors, detectors_at, bare, KeepMeters, HaveNoted, detectors_on, MetersStand}
+use Rattle.street_tile.specs.Prelude.{Part, IsBare, AreBare, AreDue, sizes_of, no_detectors, detectors_at, bare, KeepMeters, HaveNoted, detectors_on, MetersStand}
 use Rattle.street_tile.proofs.SameLanes.{even-of}
 use Rattle.street_node.proofs.LaneWalk.{filter-holds}
 
@@ -99,9 +87,6 @@ noted-bare own olds news noted bare k d h =
 
 -- ---- motion, lane after lane
 
-pub keep-start : (olds : List Detectors) → KeepMeters olds olds
-keep-start olds = record { even = refl; each = λ k. refl }
-
 module _ (olds now : List Detectors) (keep : KeepMeters olds now) (n : ℕ) (h : n < length olds) (after d : Detectors) (is : after ≡ record (get_or now n d) { watches = after.watches }) where
   within : n < length now
   within = let e = keep.even in omega arith
@@ -130,13 +115,10 @@ module _ (olds now : List Detectors) (keep : KeepMeters olds now) (n : ℕ) (h :
       → (k : ℕ) (p : Place) → k < n + 1 → slice_get ps k ≡ Some p → (detectors_at (set now n after) k).watches ≡ map (watch_of m p) (detectors_at (set now n after) k).meters
   watched-next m ps before q at_q seen k p below at_p = elim (cases_eq k n) as (λ _. (detectors_at (set now n after) k).watches ≡ map (watch_of m p) (detectors_at (set now n after) k).meters) [
     | inl e ↦ (
-        let same : q ≡ p = by q p (sym at_q ∙ ap (slice_get ps) (sym e) ∙ at_p) in
+        let same = same_Some q p (sym at_q ∙ ap (slice_get ps) (sym e) ∙ at_p) in
         rw (e, here) (seen ∙ ap (λ (r : Place). map (watch_of m r) (get_or now n d).meters) same ∙ ap (λ (g : Detectors). map (watch_of m p) g.meters) (sym is)))
     | inr ne ↦ rw (get_or-set_other now n k after no_detectors ne) (before k p (omega arith) at_p)
   ]
-    where
-      by : (a b : Place) → ◌≡◌ {A = Option Place} (Some a) (Some b) → a ≡ b
-      by a b e = cc
 
 -- who was due at a step still is
 pub keep-due : (clock : ℕ) (olds news : List Detectors) → KeepMeters olds news → AreDue clock olds → AreDue clock news

@@ -1,21 +1,16 @@
 -- Hand-overs moved to the tiles that own their lanes.
-use Rattle.std.proofs.Common.{◌≡◌, ℕ, zero, suc, ◌+◌, ◌<◌, ◌≤◌, true, false, List, [], ◌∷◌, ◌++◌, length, map, set, take, drop, get_or, refl, sym, ◌∙◌, ap, subst, arith, inl, inr}
-use Rattle.std.specs.Prelude.{Option, Some, None, All, slice_get, ◌&&◌, ◌==◌, nat_le, nat_lt, if◌then◌else◌}
+use Rattle.std.proofs.Common.{◌≡◌, ℕ, zero, suc, ◌+◌, ◌<◌, ◌≤◌, Bool, true, false, List, [], ◌∷◌, ◌++◌, length, map, set, take, drop, get_or, refl, sym, ◌∙◌, ap, subst, arith, inl, inr, Option, Some, None, All, slice_get, ◌&&◌, ◌==◌, nat_le, nat_lt, if◌then◌else◌}
 use Rattle.std.specs.Option.{option_map_or}
 use Rattle.std.specs.List.{list_any}
 use Rattle.std.proofs.lemmas.Bool.{cases_Bool, cases_eq, cases_lt, both_ways, cond-true, cond-false, and_parts, lt-leb, lt-ltb, le-ltb, ltb-true, eq-eqb, ne_eqb, false_from_ne_true, true_from_ne_false}
 use Rattle.std.proofs.lemmas.List.{get_or-set_same, get_or-set_other, get_or_default, length_push, get_or_push, take_more, take_all, drop_more}
 use Rattle.street_base.specs.declared.net.NetSpec.{NetSpec}
 use Rattle.street_base.specs.declared.names.Place.{Place}
-use Rattle.street_base.specs.Network.{is_place, link_at, node_of, places}
-use Rattle.street_base.specs.Vehicle.{Vehicle}
-use Rattle.street_base.specs.Census.{one_if}
+use Rattle.street_base.specs.Prelude.{is_place, link_at, node_of, places, Vehicle, one_if}
 use Rattle.street_base.proofs.ReleaseLemmas.{is_place-refl, is_place-swap}
-use Rattle.street_lanes.specs.Lanes.{IsLane}
-use Rattle.street_tile.specs.Halves.{Transfer, entry_in}
-use Rattle.street_tile.specs.Tiles.{Part, SameTile, Each, is_own, own_places, nobody}
-use Rattle.street_node.specs.Walks.{times, AtMostOnce}
-use Rattle.street_tile.specs.HandOvers.{all_handed, received, Awaits, moved_at, IsMoved}
+use Rattle.street_lanes.specs.Prelude.{IsLane}
+use Rattle.street_tile.specs.Prelude.{Transfer, entry_in, Part, SameTile, Each, is_own, own_places, nobody, all_handed, received, Awaits, moved_at, IsMoved}
+use Rattle.street_node.specs.Prelude.{times, AtMostOnce}
 use Rattle.street_tile.proofs.Rows.{InRow, AreInRow}
 use Rattle.street_node.proofs.BufferWalk.{times-cons, once-rest, none-times, at-any}
 use Rattle.street_node.proofs.LaneWalk.{times-filter}
@@ -181,13 +176,14 @@ moved-awaits xs ys i left es a moved k d h = let is = moved k d (omega arith) in
 pub moved-same : (xs ys : List Part) (i : ℕ) (left es : List Transfer) → IsMoved i left es xs ys → Each SameTile xs ys
 moved-same xs ys i left es moved k d h = same-moved (get_or xs k d) (get_or ys k d) _ _ (moved k d h)
 
+lanes-either : (net : NetSpec) (b : Bool) (es fs : List Transfer) → All (λ (e : Transfer). IsLane net e.to) es → All (λ (e : Transfer). IsLane net e.to) fs → All (λ (e : Transfer). IsLane net e.to) (if b then es else fs)
+lanes-either net true es fs first second = first
+lanes-either net false es fs first second = second
+
 pub moved-lanes : (net : NetSpec) (xs ys : List Part) (i : ℕ) (left es : List Transfer) → length ys ≡ length xs → IsMoved i left es xs ys → All (λ (e : Transfer). IsLane net e.to) left → All (λ x. All (λ (e : Transfer). IsLane net e.to) x.handed) xs → All (λ x. All (λ (e : Transfer). IsLane net e.to) x.handed) ys
 moved-lanes net xs ys i left es a moved of_left of_xs k d h =
     let is : (get_or ys k d).handed ≡ (if k == i then left else (get_or xs k d).handed) = ap (λ (t : Part). t.handed) (moved k d (omega arith)) in
-    subst (All (λ (e : Transfer). IsLane net e.to)) (sym is) (elim (cases_Bool (k == i)) as (λ _. All (λ (e : Transfer). IsLane net e.to) (if k == i then left else (get_or xs k d).handed)) [
-      | inl here ↦ rw here of_left
-      | inr other ↦ rw other (of_xs k d (omega arith))
-    ])
+    subst (All (λ (e : Transfer). IsLane net e.to)) (sym is) (lanes-either net (k == i) left (get_or xs k d).handed of_left (of_xs k d (omega arith)))
 
 no_entry : Transfer
 no_entry = record { to = record { link = 0; lane = 0 }; vehicle = record { number = 0; size = 1; speed = 0; plan = []; position = 0 } }
@@ -231,10 +227,7 @@ pub up-to-lanes : (net : NetSpec) (xs ys : List Part) (i : ℕ) → IsMovedUpTo 
 up-to-lanes net xs ys i m of_xs k d h =
     let l = m.long in
     let is : (get_or ys k d).handed ≡ (if nat_lt k i then [] else (get_or xs k d).handed) = ap (λ (t : Part). t.handed) (m.each k d (omega arith)) in
-    subst (All (λ (e : Transfer). IsLane net e.to)) (sym is) (elim (cases_Bool (nat_lt k i)) as (λ _. All (λ (e : Transfer). IsLane net e.to) (if nat_lt k i then [] else (get_or xs k d).handed)) [
-      | inl before ↦ rw before (λ n e g. absurd (omega arith))
-      | inr after ↦ rw after (of_xs k d (omega arith))
-    ])
+    subst (All (λ (e : Transfer). IsLane net e.to)) (sym is) (lanes-either net (nat_lt k i) [] (get_or xs k d).handed (λ n e g. absurd (omega arith)) (of_xs k d (omega arith)))
 
 pub up-to-next : (xs ys zs : List Part) (i : ℕ) → i < length xs → IsMovedUpTo xs i ys → length zs ≡ length ys → ((d : Part) → IsMoved i [] ((get_or ys i d).handed ++ all_handed (take i xs)) ys zs) → IsMovedUpTo xs (i + 1) zs
 up-to-next xs ys zs i h m a moved = record {

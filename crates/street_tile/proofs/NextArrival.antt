@@ -1,11 +1,10 @@
 -- A number of those who arrived, taken from the first tile that holds one.
-use Rattle.std.proofs.Common.{◌≡◌, ℕ, zero, suc, ◌<◌, List, [], ◌∷◌, ◌++◌, length, set, get_or, refl, sym, ◌∙◌, ap, subst, arith, inl, inr}
-use Rattle.std.specs.Prelude.{Option, Some, None, IfSome, option_to_list}
+use Rattle.std.proofs.Common.{◌≡◌, ℕ, zero, suc, ◌<◌, List, [], ◌∷◌, ◌++◌, length, set, get_or, refl, sym, ◌∙◌, ap, subst, arith, inl, inr, Option, Some, None, IfSome, option_to_list}
 use Rattle.std.proofs.lemmas.Bool.{cases_eq}
 use Rattle.std.proofs.lemmas.List.{append_assoc, append-nil, get_or-set_same, get_or-set_other, get_or_default, set-get_or, length-set}
 use Rattle.street_base.specs.declared.net.NetSpec.{NetSpec}
-use Rattle.street_tile.specs.Tiles.{Part, Each}
-use Rattle.street_tile.specs.Together.{TilesView, tiles_of, all_arrived, SameButArrived, TakesArrival, TakesArrivalOf}
+use Rattle.street_tile.specs.Prelude.{Part, Each, TilesView, tiles_of, all_arrived, SameButArrived, TakesArrival, TakesArrivalOf}
+use Rattle.street_tile.proofs.Together.{IsTileAt}
 
 arrived-popped : (xs : List Part) (i : ℕ) (y : Part) (n : ℕ) → i < length xs → ((k : ℕ) (d : Part) → k < i → (get_or xs k d).arrived ≡ []) → ((d : Part) → (get_or xs i d).arrived ≡ y.arrived ++ n ∷ []) → all_arrived xs ≡ all_arrived (set xs i y) ++ n ∷ []
 arrived-popped [] i y n h none rest = absurd (omega arith)
@@ -33,14 +32,14 @@ takes-arrival x y i n h none takes =
       rest = arrived-popped x.tiles i z n h none (λ d. ap (λ (t : Part). t.arrived) (takes.at d) ∙ takes.rest) ∙ ap (λ (ts : List Part). all_arrived ts ++ n ∷ []) (sym takes.tiles);
     }
 
-module _ (net : NetSpec) (xs : List Part) (i : ℕ) (x y : Part) (v : TilesView) (seen : tiles_of net xs ≡ v) (h : i < length xs) (is : x ≡ get_or xs i x) (only : SameButArrived x y) where
+module _ {net here : NetSpec} {xs : List Part} {v : TilesView} {i : ℕ} {x : Part} (t : IsTileAt net here xs v i x) (y : Part) (only : SameButArrived x y) where
   pub popped-of : (o : Option ℕ) → x.arrived ≡ y.arrived ++ option_to_list o → IfSome o (λ n. TakesArrivalOf i n v (tiles_of net (set xs i y)))
   popped-of None rest = tt
-  popped-of (Some n) rest = subst (λ (u : TilesView). TakesArrivalOf i n u (tiles_of net (set xs i y))) seen (record {
+  popped-of (Some n) rest = subst (λ (u : TilesView). TakesArrivalOf i n u (tiles_of net (set xs i y))) t.seen (record {
     network = refl;
     old = x;
     new = y;
-    at = λ d. get_or_default xs i d x h ∙ sym is;
+    at = λ d. get_or_default xs i d x t.within ∙ sym t.is;
     tiles = refl;
     same = only;
     rest = rest;
@@ -50,4 +49,4 @@ module _ (net : NetSpec) (xs : List Part) (i : ℕ) (x y : Part) (v : TilesView)
   popped-none o none rest =
       let arrived : y.arrived ≡ x.arrived = sym (append-nil y.arrived) ∙ ap (λ (p : Option ℕ). y.arrived ++ option_to_list p) (sym none) ∙ sym rest in
       let same : y ≡ x = only ∙ ap (λ (ns : List ℕ). record x { arrived = ns }) arrived in
-      ap (λ (ts : List Part). tiles_of net ts) (ap (λ (t : Part). set xs i t) (same ∙ is) ∙ set-get_or xs i x) ∙ seen
+      ap (λ (ts : List Part). tiles_of net ts) (ap (set xs i) (same ∙ t.is) ∙ set-get_or xs i x) ∙ t.seen

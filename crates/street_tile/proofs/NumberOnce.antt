@@ -1,38 +1,18 @@
 -- A number that stands on the own lanes at most once: where it is, and the lanes without it.
-use Rattle.std.proofs.Common.{◌≡◌, ℕ, zero, suc, ◌+◌, ◌-◌, ◌<◌, ◌≤◌, List, [], ◌∷◌, length, get_or, refl, sym, ◌∙◌, ap, subst, arith, inl, inr, true, Option, Some, None}
-use Rattle.std.specs.Prelude.{slice_get, IfSome}
-use Rattle.std.specs.Option.{option_to_list}
-use Rattle.std.specs.List.{sum_by, list_any}
+use Rattle.std.proofs.Common.{◌≡◌, ℕ, zero, suc, ◌+◌, ◌-◌, ◌<◌, ◌≤◌, List, [], ◌∷◌, length, get_or, refl, sym, ◌∙◌, ap, subst, arith, inl, inr, Option, Some, None, slice_get, IfSome, option_to_list, sum_by}
 use Rattle.std.proofs.lemmas.Bool.{cases_eq}
 use Rattle.std.proofs.lemmas.List.Sums.{sum_by-cons}
-use Rattle.std.proofs.lemmas.Option.{slice_get_within, get_or_from_slice_get}
+use Rattle.std.proofs.lemmas.Option.{get_or_from_slice_get}
 use Rattle.street_base.specs.declared.car.Car.{Car}
 use Rattle.street_base.specs.declared.net.NetSpec.{NetSpec}
 use Rattle.street_base.specs.declared.names.Place.{Place}
-use Rattle.street_base.specs.Network.{is_place}
-use Rattle.street_base.specs.Signal.{SignalPlan}
-use Rattle.street_base.specs.State.{Traffic, LaneState, Queued, Waiting, no_lane, lane_at}
-use Rattle.street_base.specs.Census.{in_lane}
-use Rattle.street_base.specs.Effects.{lane_without}
-use Rattle.street_base.proofs.PlaceLemmas.{places-listed}
-use Rattle.street_base.proofs.PlaceOnceLemmas.{places-once}
-use Rattle.street_lanes.specs.Views.{LaneView, LaneStands}
-use Rattle.street_lanes.specs.Lanes.{Lanes, IsLane, AllLanes, GoesIf, lane_of, place_at, no_place}
-use Rattle.street_lanes.specs.Whole.{IsOn}
-use Rattle.street_lanes.specs.Motion.{PlanStands}
+use Rattle.street_base.specs.Prelude.{SignalPlan, Traffic, LaneState, Queued, Waiting, lane_at, in_lane, lane_without}
+use Rattle.street_lanes.specs.Prelude.{LaneView, LaneStands, Lanes, IsLane, AllLanes, GoesIf, lane_of, place_at, no_place, IsOn, PlanStands}
 use Rattle.street_lanes.proofs.Without.{all-stay, cells-stay}
-use Rattle.street_tile.specs.Tiles.{Part, IsTileOf, StandsFor, is_own}
-use Rattle.street_tile.specs.Commands.{without, DoesIf, HaveAtMostOne}
+use Rattle.street_tile.specs.Prelude.{Part, IsTileOf, StandsFor, without, DoesIf, HaveAtMostOne}
 use Rattle.street_tile.proofs.Each.{lane_at-each}
-use Rattle.street_tile.proofs.SameLanes.{place-is, stands-at, even-of}
+use Rattle.street_tile.proofs.SameLanes.{place-is, stands-at, stand-all, even-of}
 use Rattle.street_tile.proofs.OwnLanes.{own-lanes}
-use Rattle.street_tile.proofs.PublishedView.{any-at}
-use Rattle.street_tile.proofs.MovedHandOvers.{own-listed}
-
--- ---- an own lane has a number
-
-pub own-number : (net : NetSpec) (x : Part) (p : Place) → IsTileOf net x → IsLane net p → is_own net x.low x.high p ≡ true → (k : ℕ) × (slice_get x.own.places k ≡ Some p)
-own-number net x p tile there own = any-at p x.own.places (subst (λ (ps : List Place). list_any (is_place p) ps ≡ true) (sym tile.places) (own-listed net x.low x.high p (places-once net p (places-listed net p there.1)) own))
 
 -- ---- a sum over places
 
@@ -47,6 +27,20 @@ sum-both f (r ∷ ps) zero zero p q ne a b = absurd (ne refl)
 sum-both f (r ∷ ps) zero (suc k) p q ne a b = let same : r ≡ p = cc in let e : f r ≡ f p = ap f same in let le = sum-at f ps k q b in let cons = sum_by-cons f r ps in omega arith
 sum-both f (r ∷ ps) (suc j) zero p q ne a b = let same : r ≡ q = cc in let e : f r ≡ f q = ap f same in let le = sum-at f ps j p a in let cons = sum_by-cons f r ps in omega arith
 sum-both f (r ∷ ps) (suc j) (suc k) p q ne a b = let le = sum-both f ps j k p q (λ e. ne (ap (λ (n : ℕ). suc n) e)) a b in let cons = sum_by-cons f r ps in omega arith
+
+-- ---- a lane of a tile, as its view shows it
+
+pub lane-seen : {net : NetSpec} {x v : Part} (n : ℕ) → x ≡ v → IsTileOf net v → n < length v.own.places → IsTileOf net x × (n < length x.own.places)
+lane-seen {net} n is tile within = subst (λ (u : Part). IsTileOf net u × (n < length u.own.places)) (sym is) (tile, within)
+
+-- ---- a number that is not there
+
+-- one lane more on which it is not
+pub not-more : (number : ℕ) (x : Lanes) (m : Traffic) (n : ℕ) → in_lane number (lane_at m (place_at x n)) ≡ 0 → ((k : ℕ) (p : Place) → k < n → slice_get x.places k ≡ Some p → in_lane number (lane_at m p) ≡ 0) → (k : ℕ) (p : Place) → k < n + 1 → slice_get x.places k ≡ Some p → in_lane number (lane_at m p) ≡ 0
+not-more number x m n none before k p below at = elim (cases_eq k n) as (λ _. in_lane number (lane_at m p) ≡ 0) [
+  | inl here ↦ subst (λ (q : Place). in_lane number (lane_at m q) ≡ 0) (ap (place_at x) (sym here) ∙ get_or_from_slice_get x.places k p no_place at) none
+  | inr other ↦ before k p (omega arith) at
+]
 
 -- ---- a number taken out
 
@@ -114,12 +108,10 @@ module _ (number : ℕ) where
           clock = s.clock ∙ sym (clock-without m);
           none_loose = goes.same.loose ∙ s.none_loose;
           lanes = λ k p l at is.
-              let at_old : slice_get x.own.places k ≡ Some p = sym (ap (λ (ps : List Place). slice_get ps k) goes.same.places) ∙ at in
-              let hk = slice_get_within x.own.places k p at_old in
-              let same_place : place_at x.own k ≡ p = get_or_from_slice_get x.own.places k p no_place at_old in
-              let same_lane : lane_of y k ≡ l = get_or_from_slice_get y.lanes k l no_lane is in
-              let after = lane-after some y goes m s few k hk in
-              subst (LaneStands l) (sym (lane_at-without net m on p (there k p at_old))) (subst (λ (v : LaneView). LaneStands v (lane_without number (lane_at m p))) same_lane (subst (λ (q : Place). LaneStands (lane_of y k) (lane_without number (lane_at m q))) same_place after));
+              let places = goes.same.places in
+              let at_old : slice_get x.own.places k ≡ Some p = rw places at at in
+              let after = stand-all (λ q. lane_without number) m y (λ j h. let within : j < length x.own.places = rw places at h in rw places (lane-after some y goes m s few j within)) in
+              subst (LaneStands l) (sym (lane_at-without net m on p (there k p at_old))) (after k p l at is);
           signals = λ node a b. subst (λ (sigs : List (Option SignalPlan)). PlanStands (get_or x.signals (node - x.low) None) (get_or sigs node None)) (sym (signals-without m)) (s.signals node a b);
         };
       }

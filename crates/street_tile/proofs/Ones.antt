@@ -1,52 +1,32 @@
 -- A number stands on one lane of traffic that is whole, so on a tile's lanes at most once.
-use Rattle.std.proofs.Common.{◌≡◌, ℕ, ◌+◌, ◌<◌, ◌≤◌, Bool, true, false, List, [], ◌∷◌, length, sym, ◌∙◌, ap, arith, inl, inr}
-use Rattle.std.specs.Prelude.{filter, nat_lt}
-use Rattle.std.specs.List.{sum_by, list_any}
-use Rattle.std.proofs.lemmas.Bool.{cases_Bool, both_ways, false_from_ne_true}
+use Rattle.std.proofs.Common.{◌≡◌, ℕ, ◌+◌, ◌<◌, ◌≤◌, Bool, true, false, List, [], ◌∷◌, length, sym, ◌∙◌, ap, arith, inl, inr, filter, nat_lt, slice_get, sum_by}
+use Rattle.std.specs.List.{list_any}
+use Rattle.std.proofs.lemmas.Bool.{cases_Bool, both_ways}
 use Rattle.std.proofs.lemmas.List.Sums.{sum_by-cons}
+use Rattle.std.proofs.lemmas.Option.{same_Some}
 use Rattle.street_base.specs.declared.net.NetSpec.{NetSpec}
 use Rattle.street_base.specs.declared.names.Place.{Place}
-use Rattle.street_base.specs.Network.{is_place, places}
-use Rattle.street_base.specs.State.{Traffic, lane_at}
-use Rattle.street_base.specs.Census.{in_lane, IsFormed, IsWhole}
-use Rattle.street_base.proofs.ReleaseLemmas.{is_place-same, is_place-refl}
+use Rattle.street_base.specs.Prelude.{is_place, places, Traffic, lane_at, in_lane, IsFormed, IsWhole}
+use Rattle.street_base.proofs.ReleaseLemmas.{is_place-refl}
 use Rattle.street_base.proofs.ReleaseCountLemmas.{in_lanes-places}
 use Rattle.street_base.proofs.FormLemmas.{shape-of}
-use Rattle.street_lanes.specs.Whole.{IsOn}
-use Rattle.street_tile.specs.Tiles.{Part, IsTileOf, is_own, own_places}
-use Rattle.street_tile.specs.Commands.{HaveAtMostOne}
+use Rattle.street_lanes.specs.Prelude.{IsOn}
+use Rattle.street_tile.specs.Prelude.{Part, IsTileOf, is_own, own_places, HaveAtMostOne}
 use Rattle.street_base.proofs.PlaceOnceLemmas.{one_if-le}
+use Rattle.street_tile.proofs.PublishedView.{any-at}
+use Rattle.street_tile.proofs.NumberOnce.{sum-at, sum-both}
 
 -- ---- two lanes of a list
 
 pub sum-one : (f : Place → ℕ) (ps : List Place) (p : Place) → list_any (is_place p) ps ≡ true → f p ≤ sum_by f ps
-sum-one f [] p e = cc
-sum-one f (r ∷ ps) p e =
-    let cons = sum_by-cons f r ps in
-    elim (cases_Bool (is_place p r)) as (λ _. f p ≤ sum_by f (r ∷ ps)) [
-      | inl here ↦ (let same : f p ≡ f r = ap f (is_place-same p r here) in omega arith)
-      | inr on ↦ (let rest : list_any (is_place p) ps ≡ true = rw on at e in let le = sum-one f ps p rest in omega arith)
-    ]
+sum-one f ps p e = let at = any-at p ps e in sum-at f ps at.0 p at.1
 
-pub sum-two : (f : Place → ℕ) (ps : List Place) (p q : Place) → is_place p q ≡ false → list_any (is_place p) ps ≡ true → list_any (is_place q) ps ≡ true → f p + f q ≤ sum_by f ps
-sum-two f [] p q ne a b = cc
-sum-two f (r ∷ ps) p q ne a b =
-    let cons = sum_by-cons f r ps in
-    elim (cases_Bool (is_place p r)) as (λ _. f p + f q ≤ sum_by f (r ∷ ps)) [
-      | inl here ↦ (
-          let same : p ≡ r = is_place-same p r here in
-          let fp : f p ≡ f r = ap f same in
-          let away : is_place q r ≡ false = false_from_ne_true (is_place q r) (λ t. both_ways (is_place p q) ne (ap (is_place p) (is_place-same q r t ∙ sym same) ∙ is_place-refl p)) in
-          let rest : list_any (is_place q) ps ≡ true = rw away at b in
-          let le = sum-one f ps q rest in
-          omega arith)
-      | inr on ↦ (
-          let more : list_any (is_place p) ps ≡ true = rw on at a in
-          elim (cases_Bool (is_place q r)) as (λ _. f p + f q ≤ sum_by f (r ∷ ps)) [
-            | inl there ↦ (let fq : f q ≡ f r = ap f (is_place-same q r there) in let le = sum-one f ps p more in omega arith)
-            | inr off ↦ (let rest : list_any (is_place q) ps ≡ true = rw off at b in let le = sum-two f ps p q ne more rest in omega arith)
-          ])
-    ]
+sum-two : (f : Place → ℕ) (ps : List Place) (p q : Place) → is_place p q ≡ false → list_any (is_place p) ps ≡ true → list_any (is_place q) ps ≡ true → f p + f q ≤ sum_by f ps
+sum-two f ps p q ne a b =
+    let first = any-at p ps a in
+    let second = any-at q ps b in
+    let apart : first.0 ≡ second.0 → ⊥ = λ e. both_ways (is_place p q) ne (ap (is_place p) (same_Some q p (sym second.1 ∙ ap (slice_get ps) (sym e) ∙ first.1)) ∙ is_place-refl p) in
+    sum-both f ps first.0 second.0 p q apart first.1 second.1
 
 -- where it is on one lane it is on no other
 pub on-one : (m : Traffic) → IsFormed m → IsWhole m → (number : ℕ) (p q : Place) → is_place p q ≡ false → list_any (is_place p) (places m.network) ≡ true → list_any (is_place q) (places m.network) ≡ true → 0 < in_lane number (lane_at m p) → in_lane number (lane_at m q) ≡ 0

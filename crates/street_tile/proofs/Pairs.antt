@@ -1,12 +1,11 @@
 -- The lanes of a tile come link by link, lane 0 and then lane 1.
-use Rattle.std.proofs.Common.{◌≡◌, ℕ, zero, suc, ◌+◌, ◌<◌, ◌≤◌, List, [], ◌∷◌, ◌++◌, map, length, refl, sym, ◌∙◌, arith, inl, inr}
-use Rattle.std.specs.Prelude.{filter, flat_map}
+use Rattle.std.proofs.Common.{◌≡◌, ℕ, zero, suc, ◌+◌, ◌<◌, ◌≤◌, List, [], ◌∷◌, ◌++◌, map, length, refl, sym, ◌∙◌, arith, inl, inr, filter, flat_map}
 use Rattle.std.specs.List.{range_with_len}
 use Rattle.std.proofs.lemmas.Bool.{cases_Bool}
 use Rattle.street_base.specs.declared.net.NetSpec.{NetSpec}
 use Rattle.street_base.specs.declared.names.Place.{Place}
-use Rattle.street_base.specs.Network.{link_at}
-use Rattle.street_tile.specs.Tiles.{ArePairs, nth, beside, lanes_beside, is_own, own_places}
+use Rattle.street_base.specs.Prelude.{link_at}
+use Rattle.street_tile.specs.Prelude.{ArePairs, nth, beside, lanes_beside, is_own, own_places}
 
 -- the lanes of a link
 abbrev row_of : NetSpec → ℕ → List Place

@@ -1,24 +1,12 @@
 -- The phases of a tile, from what was done to its lanes.
-use Rattle.std.proofs.Common.{◌≡◌, ℕ, ◌<◌, ◌≤◌, Bool, true, List, [], ◌∷◌, length, map, refl, sym, ◌∙◌, ap, subst, arith}
-use Rattle.std.specs.Prelude.{Option, None, Some, filter_map, slice_get}
+use Rattle.std.proofs.Common.{◌≡◌, ℕ, ◌<◌, ◌≤◌, Bool, true, List, [], ◌∷◌, length, map, refl, sym, ◌∙◌, ap, subst, arith, Option, None, Some, filter_map, slice_get}
 use Rattle.street_base.specs.declared.net.NetSpec.{NetSpec}
 use Rattle.street_base.specs.declared.names.Place.{Place}
-use Rattle.street_base.specs.Vehicle.{Vehicle}
-use Rattle.street_base.specs.Lane.{is_free}
-use Rattle.street_base.specs.State.{Traffic, lane_at}
-use Rattle.street_base.specs.Departure.{departed, departed_lane}
-use Rattle.street_base.specs.Step.{changed, driven, arrival, leaver_of}
-use Rattle.street_lanes.specs.Views.{LaneStands}
-use Rattle.street_lanes.specs.Lanes.{Lanes, AllLanes, Same, place_at}
-use Rattle.street_lanes.specs.Whole.{IsOn, LanesStand, LanesGo, AllFree}
-use Rattle.street_lanes.specs.Detectors.{Detectors}
-use Rattle.street_tile.specs.Halves.{Transfer, vehicle_in, crossing, let_go, placed, placed_lane}
-use Rattle.street_net.specs.Slots.{mouth}
-use Rattle.street_tile.specs.Tiles.{Part, IsTileOf, StandsFor, Shows, ShowSignals, ArePairs, nobody, is_own}
-use Rattle.street_tile.specs.TileDetectors.{KeepMeters, HaveWatched}
-use Rattle.street_tile.specs.Phases.{LanePhase, MotionPhase, ReleasePhase, EnterPhase}
-use Rattle.street_node.specs.Walks.{IsWalk}
-use Rattle.street_tile.specs.Walks.{IsReleasing}
+use Rattle.street_base.specs.Prelude.{Vehicle, is_free, Traffic, lane_at, departed, departed_lane, changed, driven, arrival, leaver_of}
+use Rattle.street_lanes.specs.Prelude.{LaneStands, Lanes, AllLanes, Same, place_at, IsOn, LanesStand, LanesGo, AllFree, Detectors}
+use Rattle.street_tile.specs.Prelude.{Transfer, vehicle_in, crossing, let_go, placed, placed_lane, Part, IsTileOf, StandsFor, Shows, ShowSignals, ArePairs, nobody, is_own, KeepMeters, HaveWatched, LanePhase, MotionPhase, ReleasePhase, EnterPhase, IsReleasing}
+use Rattle.street_net.specs.Prelude.{mouth}
+use Rattle.street_node.specs.Prelude.{IsWalk}
 use Rattle.street_tile.proofs.SameLanes.{place-is}
 use Rattle.street_tile.proofs.Each.{lane_at-entered}
 use Rattle.street_node.proofs.LaneWalk.{filter-holds}

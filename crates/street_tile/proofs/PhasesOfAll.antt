@@ -1,25 +1,14 @@
 -- Phases of all tiles, one after another.
-use Rattle.std.proofs.Common.{◌≡◌, ℕ, zero, suc, Bool, true, false, inl, inr, List, [], ◌∷◌, length, map, get_or, refl, sym, ◌∙◌, ap, subst, arith}
-use Rattle.std.specs.Prelude.{Option, IsSome, All, filter_map}
+use Rattle.std.proofs.Common.{◌≡◌, ℕ, zero, suc, Bool, true, false, inl, inr, List, [], ◌∷◌, length, map, get_or, refl, sym, ◌∙◌, ap, subst, arith, Option, IsSome, All, filter_map}
 use Rattle.street_base.specs.declared.net.NetSpec.{NetSpec}
 use Rattle.street_base.specs.declared.names.Place.{Place}
-use Rattle.street_base.specs.Vehicle.{Vehicle}
-use Rattle.street_base.specs.State.{Traffic, LaneState, lane_at}
-use Rattle.street_base.specs.Release.{giver, entering, released}
-use Rattle.street_base.specs.Departure.{departed}
-use Rattle.street_base.specs.Step.{changed, driven, step}
+use Rattle.street_base.specs.Prelude.{Vehicle, Traffic, LaneState, lane_at, giver, entering, released, departed, changed, driven, step, is_free}
 use Rattle.street_base.proofs.FormLemmas.{each_lane-sizes, changed-formed, driven-formed, released-formed, departed-formed}
-use Rattle.street_lanes.specs.Lanes.{AllLanes}
-use Rattle.street_lanes.specs.Whole.{AllFree, IsOn}
-use Rattle.street_tile.specs.Halves.{Transfer, crossing, entry_in, let_go, let_go_lane}
-use Rattle.street_tile.specs.Tiles.{Part, own_places, IsRoads, IsTileOf, StandsFor, SameTile, Each, AllStand, Shows}
-use Rattle.street_tile.specs.Phases.{GoesBy, ReleasePhase, EnterPhase, ticked}
-use Rattle.street_tile.specs.HandOvers.{all_handed, all_places, received}
+use Rattle.street_lanes.specs.Prelude.{AllLanes, AllFree, IsOn}
+use Rattle.street_tile.specs.Prelude.{Transfer, crossing, entry_in, let_go, let_go_lane, Part, own_places, IsRoads, IsTileOf, StandsFor, Each, AllStand, Shows, GoesBy, ReleasePhase, EnterPhase, ticked, all_handed, all_places, received}
 use Rattle.street_tile.proofs.Rows.{InRow, AreInRow}
-use Rattle.street_base.specs.Lane.{is_free}
 use Rattle.std.proofs.lemmas.Bool.{cases_Bool}
 use Rattle.street_tile.proofs.OwnLanes.{own-lanes}
-use Rattle.street_tile.proofs.SameTile.{tile-of-same}
 use Rattle.street_tile.proofs.Each.{released-halves, lane_at-each}
 use Rattle.street_tile.proofs.LaneOwners.{handed-crossing, entries-are}
 
@@ -50,16 +39,6 @@ on-ticked net m on = record { network = on.network; formed = record { lanes = on
 
 -- ---- tiles stay the tiles that they were
 
-pub row-same : (net : NetSpec) (low high : ℕ) (xs ys : List Part) → length ys ≡ length xs → Each SameTile xs ys → InRow net low high xs → InRow net low high ys
-row-same net low high [] [] e same r = r
-row-same net low high [] (y ∷ ys) e same r = absurd (omega arith)
-row-same net low high (x ∷ xs) [] e same r = absurd (omega arith)
-row-same net low high (x ∷ xs) (y ∷ ys) e same r =
-    let s : SameTile x y = same 0 x (omega arith) in
-    let tile : IsTileOf net y = tile-of-same net x y s r.0 in
-    let rest : InRow net x.high high ys = row-same net x.high high xs ys (omega arith) (λ i d l. same (suc i) d (omega arith)) r.3 in
-    (tile, s.low ∙ r.1, (let h = s.high in let le = r.2 in omega arith), subst (λ n. InRow net n high ys) (sym s.high) rest)
-
 pub tiles-of : (net : NetSpec) (low high : ℕ) (xs : List Part) → InRow net low high xs → All (IsTileOf net) xs
 tiles-of net low high [] r k d l = absurd (omega arith)
 tiles-of net low high (x ∷ xs) r zero d l = r.0
@@ -70,15 +49,11 @@ tiles-of net low high (x ∷ xs) r (suc k) d l = tiles-of net x.high high xs r.3
 pub goes-all : (net : NetSpec) (f : Traffic → Traffic) (xs ys : List Part) → length ys ≡ length xs → Each (GoesBy net f) xs ys → (m : Traffic) → IsOn net (f m) → AllStand net xs m → AllStand net ys (f m)
 goes-all net f xs ys e each m on s = record { on = on; each = λ i d l. (each i d (omega arith)).stands m s.on (s.each i d (omega arith)) }
 
-map-same : {A B : Type 0} (f g : A → B) (xs : List A) → ((x : A) → f x ≡ g x) → map f xs ≡ map g xs
-map-same f g [] h = refl
-map-same {A} {B} f g (x ∷ xs) h = ap (λ (y : B). y ∷ map f xs) (h x) ∙ ap (λ (ys : List B). g x ∷ ys) (map-same f g xs h)
-
 received-stands : (es : List Transfer) (y z : Part) (m : Traffic) → z ≡ received es y → StandsFor y m → StandsFor z m
 received-stands es y z m e s = subst (λ (t : Part). StandsFor t m) (sym e) (record { clock = s.clock; lanes = s.lanes; none_loose = s.none_loose; signals = s.signals })
 
 received-coming : (es : List Transfer) (entry : Place → Option Vehicle) (y z : Part) → ((p : Place) → entry_in es p ≡ entry p) → z ≡ received es y → z.coming ≡ map entry z.own.places
-received-coming es entry y z same e = subst (λ (t : Part). t.coming ≡ map entry t.own.places) (sym e) (map-same (entry_in es) entry y.own.places same)
+received-coming es entry y z same e = subst (λ (t : Part). t.coming ≡ map entry t.own.places) (sym e) (λ i. map (λ p. same p i) y.own.places)
 
 -- who enters a lane finds its cell 0 free, and so it is when the fronts were let go
 free-entering : (m : Traffic) (p : Place) → IsSome (entering m p) → is_free (lane_at m p).track 0 ≡ true

@@ -1,23 +1,19 @@
 -- A detector more on a tile.
-use Rattle.std.proofs.Common.{◌≡◌, ℕ, ◌+◌, ◌<◌, true, false, List, [], ◌∷◌, ◌++◌, length, set, get_or, refl, sym, ◌∙◌, ap, subst, arith, inl, inr}
-use Rattle.std.specs.Prelude.{Some, Result, Ok, Err, OnOk, OnErr, slice_get}
+use Rattle.std.proofs.Common.{◌≡◌, ℕ, ◌+◌, ◌<◌, true, false, List, [], ◌∷◌, ◌++◌, length, set, get_or, refl, sym, ◌∙◌, ap, subst, arith, inl, inr, Some, Result, Ok, Err, OnOk, OnErr, slice_get}
 use Rattle.std.proofs.lemmas.Bool.{cases_eq, false_from_ne_true}
 use Rattle.std.proofs.lemmas.List.{append-nil, length-append, get_or_append_left, get_or_push, get_or_default, get_or-set_same, get_or-set_other, set-get_or, length-set}
 use Rattle.std.proofs.lemmas.List.Elements.{filter-append}
-use Rattle.std.proofs.lemmas.Option.{slice_get_within}
+use Rattle.std.proofs.lemmas.Option.{slice_get_within, same_Some}
 use Rattle.street_base.specs.declared.net.NetSpec.{NetSpec}
-use Rattle.street_base.specs.Effects.{metered}
+use Rattle.street_base.specs.Prelude.{metered, is_place, link_at, Traffic, Detector}
 use Rattle.street_base.specs.declared.names.Place.{Place}
-use Rattle.street_base.specs.Network.{is_place, link_at}
-use Rattle.street_base.specs.State.{Traffic, Detector}
 use Rattle.street_base.proofs.ReleaseLemmas.{is_place-same, is_place-refl}
 use Rattle.street_meter.specs.Meter.{Meter, next_step}
-use Rattle.street_lanes.specs.Detectors.{Detectors, MeterStands, MetersStandFor, Placed}
-use Rattle.street_tile.specs.Tiles.{Part, IsTileOf, StandsFor, AreDue, sizes_of}
-use Rattle.street_tile.specs.TileDetectors.{detectors_at, no_detectors, detectors_on, MetersStand, PlacesMeter}
+use Rattle.street_lanes.specs.Prelude.{Detectors, MeterStands, MetersStandFor, Placed}
+use Rattle.street_tile.specs.Prelude.{Part, IsTileOf, StandsFor, AreDue, sizes_of, detectors_at, no_detectors, detectors_on, MetersStand, PlacesMeter}
 use Rattle.street_tile.proofs.SameLanes.{same-none}
-use Rattle.street_tile.proofs.SameTile.{at-view}
-use Rattle.street_tile.proofs.Numbers.{alone-at}
+use Rattle.street_tile.proofs.SameTile.{tile-seen, place-seen, at-view}
+use Rattle.street_tile.proofs.Numbers.{apart-at}
 use Rattle.street_tile.proofs.DoesIf.{once-in, lane-sized}
 use Rattle.street_tile.proofs.MetersStand.{same-sizes, detectors-even, size-at}
 
@@ -117,17 +113,14 @@ module _ (net : NetSpec) (x : Part) (tile : IsTileOf net x) (n : ℕ) (p : Place
       stands = λ m s. record { clock = s.clock; lanes = s.lanes; none_loose = s.none_loose; signals = s.signals };
       meters = λ m s stand k q at_q. elim (cases_eq k n) as (λ _. MetersStandFor (detectors_at (set x.detectors n after) k).meters (detectors_on q (m.detectors ++ one_more m ∷ []))) [
         | inl here ↦ (
-            let both : Some p ≡ Some q = sym at ∙ ap (slice_get x.own.places) (sym here) ∙ at_q in
-            let same : p ≡ q = cc in
+            let same = same_Some p q (sym at ∙ ap (slice_get x.own.places) (sym here) ∙ at_q) in
             let test : is_place q p ≡ true = ap (is_place q) same ∙ is_place-refl q in
             let meters : (detectors_at (set x.detectors n after) k).meters ≡ (detectors_at x.detectors k).meters ++ placed.meter ∷ [] = rw here (ap (λ (g : Detectors). g.meters) is-there ∙ placed.meters ∙ ap (λ (g : Detectors). g.meters ++ placed.meter ∷ []) was) in
             subst (λ xs. MetersStandFor xs (detectors_on q (m.detectors ++ one_more m ∷ []))) (sym meters)
             (subst (MetersStandFor ((detectors_at x.detectors k).meters ++ placed.meter ∷ [])) (sym (more-there q m.detectors (one_more m) test))
             (stand-more (detectors_at x.detectors k).meters (detectors_on q m.detectors) placed.meter (one_more m) (stand k q at_q) (new_stands m s))))
         | inr other ↦ (
-            let away : is_place q p ≡ false = false_from_ne_true (is_place q p) (λ h.
-            let same : q ≡ p = is_place-same q p h in
-            absurd (other (alone-at x.own.places (once-in net x tile) k n p (at_q ∙ ap (λ (r : Place). Some r) same) at))) in
+            let away = apart-at x.own.places (once-in net x tile) k n q p at_q at other in
             let meters : (detectors_at (set x.detectors n after) k).meters ≡ (detectors_at x.detectors k).meters = ap (λ (g : Detectors). g.meters) (get_or-set_other x.detectors n k after no_detectors other) in
             subst (λ xs. MetersStandFor xs (detectors_on q (m.detectors ++ one_more m ∷ []))) (sym meters)
             (subst (MetersStandFor (detectors_at x.detectors k).meters) (sym (more-away q m.detectors (one_more m) away)) (stand k q at_q)))
@@ -136,17 +129,11 @@ module _ (net : NetSpec) (x : Part) (tile : IsTileOf net x) (n : ℕ) (p : Place
 
 -- of what the fields of a tile show
 module _ (net : NetSpec) {x v : Part} (is : x ≡ v) (tile : IsTileOf net v) (n : ℕ) (p : Place) (at : slice_get v.own.places n ≡ Some p) where
-  tile-seen : IsTileOf net x
-  tile-seen = subst (IsTileOf net) (sym is) tile
-
-  place-seen : slice_get x.own.places n ≡ Some p
-  place-seen = subst (λ (t : Part). slice_get t.own.places n ≡ Some p) (sym is) at
-
   pub seen-there : n < length x.detectors
-  seen-there = there net x tile-seen n p place-seen
+  seen-there = there net x (tile-seen is tile) n p (place-seen n p is at)
 
   pub seen-sized : (d : Detectors) → (get_or x.detectors n d).size ≡ (link_at net p.link).length
-  seen-sized d = detectors-sized net x tile-seen n p place-seen d
+  seen-sized d = detectors-sized net x (tile-seen is tile) n p (place-seen n p is at) d
 
   pub seen-meters : (d : Detectors) (m : Traffic) → MetersStand v m → MetersStandFor (get_or x.detectors n d).meters (detectors_on p m.detectors)
   seen-meters d m stand =
@@ -154,7 +141,7 @@ module _ (net : NetSpec) {x v : Part} (is : x ≡ v) (tile : IsTileOf net v) (n 
       subst (λ (g : Detectors). MetersStandFor g.meters (detectors_on p m.detectors)) same (stand n p at)
 
   pub seen-placed : (cell period : ℕ) (d after : Detectors) → Placed p cell period x.clock (get_or x.detectors n d) after → PlacesMeter p cell period v (record x { detectors = set x.detectors n after })
-  seen-placed cell period d after placed = at-view (PlacesMeter p cell period) is (places-meter net x tile-seen n p place-seen cell period d after placed)
+  seen-placed cell period d after placed = at-view (PlacesMeter p cell period) is (places-meter net x (tile-seen is tile) n p (place-seen n p is at) cell period d after placed)
 
   -- nothing was written
   pub seen-same : (d after : Detectors) → after ≡ get_or x.detectors n d → record x { detectors = set x.detectors n after } ≡ v

@@ -1,22 +1,17 @@
 -- The view, tile after tile.
-use Rattle.std.proofs.Common.{◌≡◌, ℕ, zero, suc, ◌+◌, ◌*◌, ◌<◌, ◌≤◌, Bool, true, false, List, [], ◌∷◌, ◌++◌, length, take, get_or, sym, ◌∙◌, ap, arith, inl, inr}
-use Rattle.std.specs.Prelude.{Some, slice_get, ◌||◌}
+use Rattle.std.proofs.Common.{◌≡◌, ℕ, zero, suc, ◌+◌, ◌*◌, ◌<◌, ◌≤◌, Bool, true, false, List, [], ◌∷◌, ◌++◌, length, take, get_or, sym, ◌∙◌, ap, arith, inl, inr, Some, slice_get, ◌||◌}
 use Rattle.std.specs.List.{list_any}
 use Rattle.std.proofs.lemmas.Bool.{cases_Bool, or_cases, true_from_ne_false}
 use Rattle.std.proofs.lemmas.List.{take_more, take_all, append_assoc, append-nil}
 use Rattle.std.proofs.lemmas.List.Folds.{list_any-append}
 use Rattle.street_base.specs.declared.net.NetSpec.{NetSpec}
 use Rattle.street_base.specs.declared.names.Place.{Place}
-use Rattle.street_base.specs.Network.{is_place}
-use Rattle.street_base.specs.Lane.{is_free}
-use Rattle.street_base.specs.State.{Traffic, lane_at}
+use Rattle.street_base.specs.Prelude.{is_place, is_free, Traffic, lane_at}
 use Rattle.street_base.proofs.ReleaseLemmas.{is_place-same}
 use Rattle.street_base.proofs.PlaceLemmas.{places-listed}
-use Rattle.street_lanes.specs.Lanes.{IsLane}
-use Rattle.street_tile.specs.Halves.{Transfer}
-use Rattle.street_net.specs.Slots.{mouth}
-use Rattle.street_tile.specs.Tiles.{Part, IsRoads, StandsFor, AllStand, Shows}
-use Rattle.street_tile.specs.HandOvers.{all_places, all_handed}
+use Rattle.street_lanes.specs.Prelude.{IsLane}
+use Rattle.street_tile.specs.Prelude.{Transfer, Part, IsRoads, StandsFor, AllStand, Shows, all_places, all_handed}
+use Rattle.street_net.specs.Prelude.{mouth}
 use Rattle.street_tile.proofs.Rows.{AreInRow}
 use Rattle.street_node.proofs.BufferWalk.{none-times}
 use Rattle.street_tile.proofs.LaneOwners.{tiles-once}

@@ -1,9 +1,9 @@
 -- Tiles in a row.
 use Rattle.std.proofs.Common.{◌≡◌, ℕ, suc, ◌+◌, ◌-◌, ◌*◌, ◌/◌, ◌<◌, ◌≤◌, List, [], ◌∷◌, length, get_or, sym, ◌∙◌, ap, subst, arith}
-use Rattle.std.proofs.Math.Nat.{div-mul-le_self, lt-div-mul-add, div-lt_iff_lt-mul, zero-div, mul-div_cancel_left, mul-le-mul_right}
+use Rattle.std.proofs.Math.Nat.{div-mul-le_self, lt-div-mul-add, div-lt_iff_lt-mul, zero-div, mul-div_cancel_left, mul-le-mul_right, mul_comm, zero-mul, zero-add}
 use Rattle.std.proofs.lemmas.Nat.{le-div}
 use Rattle.street_base.specs.declared.net.NetSpec.{NetSpec}
-use Rattle.street_tile.specs.Tiles.{Part, IsRoads, IsTileOf, IsShare, AreTiles}
+use Rattle.street_tile.specs.Prelude.{Part, IsRoads, IsTileOf, IsShare, AreTiles}
 
 -- tiles in a row, of all nodes from one up to another
 abbrev pub InRow : NetSpec → ℕ → ℕ → List Part → Type 0
@@ -32,24 +32,18 @@ row-from net k i (x ∷ xs) some e shares =
     shift : (i j : ℕ) → i + suc j ≡ i + 1 + j
     shift i j = omega arith
 
-zero-times : (n : ℕ) → 0 * n ≡ 0
-zero-times n = omega arith
-
 pub in-row : (net : NetSpec) (xs : List Part) → AreTiles net xs → AreInRow net xs
 in-row net xs t =
-    let row = row-from net (length xs) 0 xs t.some (zero-plus (length xs)) (λ j d h. subst (λ (i : ℕ). IsShare net (length xs) i (get_or xs j d)) (sym (zero-plus j)) (t.shares j d h)) in
-    let low : 0 * length net.nodes / length xs ≡ 0 = ap (λ (n : ℕ). n / length xs) (zero-times (length net.nodes)) ∙ zero-div (length xs) in
+    let row = row-from net (length xs) 0 xs t.some (zero-add (length xs)) (λ j d h. subst (λ (i : ℕ). IsShare net (length xs) i (get_or xs j d)) (sym (zero-add j)) (t.shares j d h)) in
+    let low : 0 * length net.nodes / length xs ≡ 0 = ap (λ (n : ℕ). n / length xs) (zero-mul (length net.nodes)) ∙ zero-div (length xs) in
     let high : length xs * length net.nodes / length xs ≡ length net.nodes = mul-div_cancel_left (length net.nodes) t.some in
     subst (λ (h : ℕ). InRow net 0 h xs) high (subst (λ (l : ℕ). InRow net l (length xs * length net.nodes / length xs) xs) low row)
-  where
-    zero-plus : (n : ℕ) → 0 + n ≡ n
-    zero-plus n = omega arith
 
 -- one tile has all nodes
 pub one-tile : (net : NetSpec) (xs : List Part) → AreTiles net xs → length xs ≡ 1 → (d : Part) → ((get_or xs 0 d).low ≡ 0) × ((get_or xs 0 d).high ≡ length net.nodes)
 one-tile net xs tiles one d =
     let is = tiles.shares 0 d tiles.some in
-    let low : 0 * length net.nodes / length xs ≡ 0 = ap (λ (n : ℕ). n / length xs) (zero-times (length net.nodes)) ∙ zero-div (length xs) in
+    let low : 0 * length net.nodes / length xs ≡ 0 = ap (λ (n : ℕ). n / length xs) (zero-mul (length net.nodes)) ∙ zero-div (length xs) in
     let count : 0 + 1 ≡ length xs = omega arith in
     let high : (0 + 1) * length net.nodes / length xs ≡ length net.nodes = ap (λ (k : ℕ). k * length net.nodes / length xs) count ∙ mul-div_cancel_left (length net.nodes) tiles.some in
     (is.low ∙ low, is.high ∙ high)
@@ -70,13 +64,10 @@ share-of n k node some_node some_tile h =
     let below : j * n ≤ (node + 1) * k - 1 = div-mul-le_self ((node + 1) * k - 1) n in
     let above : (node + 1) * k - 1 < j * n + n = lt-div-mul-add some_node in
     let last : (node + 1) * k ≤ n * k = mul-le-mul_right k (omega arith) in
-    let swap : n * k ≡ k * n = times-swap n k in
+    let swap : n * k ≡ k * n = mul_comm n k in
     let inside : j < k = (div-lt_iff_lt-mul some_node).1 (omega arith) in
     let next : (j + 1) * n ≡ j * n + n = plus-times j n in
     (inside, div-le node (j * n) k some_tile (omega arith), (let le = le-div (node + 1) ((j + 1) * n) k some_tile (omega arith) in omega arith))
-  where
-    times-swap : (a b : ℕ) → a * b ≡ b * a
-    times-swap a b = omega arith
 
 pub roads-of : (net : NetSpec) (xs : List Part) → AreTiles net xs → IsRoads net
 roads-of net [] t = absurd (let some = t.some in omega arith)

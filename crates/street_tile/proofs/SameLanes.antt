@@ -1,15 +1,13 @@
 -- Lanes that are changed one after another.
-use Rattle.std.proofs.Common.{◌≡◌, ℕ, ◌+◌, ◌<◌, ◌≤◌, map, length, refl, sym, ◌∙◌, ap, subst, arith, inl, inr}
-use Rattle.std.specs.Prelude.{Some, slice_get}
+use Rattle.std.proofs.Common.{◌≡◌, ℕ, ◌+◌, ◌<◌, ◌≤◌, map, length, refl, sym, ◌∙◌, ap, subst, arith, inl, inr, Some, slice_get}
 use Rattle.std.proofs.lemmas.Bool.{cases_eq}
 use Rattle.std.proofs.lemmas.List.{length-map}
 use Rattle.std.proofs.lemmas.Option.{slice_get_within, slice_get-get_or, get_or_from_slice_get}
 use Rattle.street_base.specs.declared.net.NetSpec.{NetSpec}
 use Rattle.street_base.specs.declared.names.Place.{Place}
-use Rattle.street_base.specs.State.{Traffic, LaneState, no_lane, lane_at}
-use Rattle.street_lanes.specs.Views.{LaneView, LaneStands}
-use Rattle.street_lanes.specs.Lanes.{Lanes, IsLane, AllLanes, IsOf, Same, Others, lane_of, place_at, no_place, size_of, size_on}
-use Rattle.street_lanes.specs.Whole.{LanesStand, LanesGo}
+use Rattle.street_base.specs.Prelude.{Traffic, LaneState, no_lane, lane_at}
+use Rattle.street_lanes.specs.Prelude.{LaneView, LaneStands, Lanes, IsLane, AllLanes, Same, Others, lane_of, place_at, no_place, size_of, size_on, LanesStand, LanesGo}
+use Rattle.street_lanes.specs.Lanes.{IsOf}
 
 pub same-none : (x : Lanes) → Same x x
 same-none x = record { places = refl; sizes = refl; loose = refl; odds = refl }

@@ -1,12 +1,11 @@
 -- A tile that stays the tile that it was.
-use Rattle.std.proofs.Common.{◌≡◌, List, map, refl, sym, ◌∙◌, ap, subst}
-use Rattle.std.specs.Prelude.{Option}
+use Rattle.std.proofs.Common.{◌≡◌, ℕ, List, map, refl, sym, ◌∙◌, ap, subst, Option, Some, slice_get}
 use Rattle.street_base.specs.declared.net.NetSpec.{NetSpec}
-use Rattle.street_base.specs.Vehicle.{Vehicle}
-use Rattle.street_lanes.specs.Motion.{cells_on}
-use Rattle.street_tile.specs.Halves.{Transfer}
-use Rattle.street_tile.specs.Tiles.{Part, IsTileOf, SameTile}
-use Rattle.street_tile.proofs.SameLanes.{same-none, same-then, of-same}
+use Rattle.street_base.specs.declared.names.Place.{Place}
+use Rattle.street_base.specs.Prelude.{Vehicle}
+use Rattle.street_lanes.specs.Prelude.{cells_on}
+use Rattle.street_tile.specs.Prelude.{Transfer, Part, IsTileOf, SameTile}
+use Rattle.street_tile.proofs.SameLanes.{same-none, of-same}
 
 pub tile-none : (x : Part) → SameTile x x
 tile-none x = record { low = refl; high = refl; links = refl; own = same-none x.own; sized = refl }
@@ -15,8 +14,11 @@ tile-none x = record { low = refl; high = refl; links = refl; own = same-none x.
 pub at-view : (R : Part → Part → Type 0) {x v y : Part} → x ≡ v → R x y → R v y
 at-view R {x} {v} {y} is r = subst (λ (t : Part). R t y) is r
 
-pub tile-then : (x y z : Part) → SameTile x y → SameTile y z → SameTile x z
-tile-then x y z a b = record { low = b.low ∙ a.low; high = b.high ∙ a.high; links = b.links ∙ a.links; own = same-then x.own y.own z.own a.own b.own; sized = b.sized ∙ a.sized }
+pub tile-seen : {net : NetSpec} {x v : Part} → x ≡ v → IsTileOf net v → IsTileOf net x
+tile-seen {net} is tile = subst (IsTileOf net) (sym is) tile
+
+pub place-seen : {x v : Part} (n : ℕ) (p : Place) → x ≡ v → slice_get v.own.places n ≡ Some p → slice_get x.own.places n ≡ Some p
+place-seen n p is at = subst (λ (t : Part). slice_get t.own.places n ≡ Some p) (sym is) at
 
 -- whoever is on the way to it
 pub same-moved : (x y : Part) (handed : List Transfer) (coming : List (Option Vehicle)) → y ≡ record x { handed = handed; coming = coming } → SameTile x y

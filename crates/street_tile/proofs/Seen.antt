@@ -1,33 +1,24 @@
 -- Where a number is, in whatever order the tiles are asked.
-use Rattle.std.proofs.Common.{◌≡◌, ℕ, suc, ◌+◌, ◌<◌, Bool, true, false, List, [], ◌∷◌, length, get_or, refl, sym, ◌∙◌, ap, subst, arith, inl, inr}
-use Rattle.std.specs.Prelude.{Option, Some, None, find, position, filter_map, slice_get, ◌==◌}
-use Rattle.std.specs.List.{sum_by, list_any, position_or_len}
+use Rattle.std.proofs.Common.{◌≡◌, ℕ, suc, ◌+◌, ◌<◌, Bool, true, false, List, [], ◌∷◌, length, get_or, refl, sym, ◌∙◌, ap, subst, arith, inl, inr, Option, Some, None, find, position, filter_map, slice_get, ◌==◌, sum_by}
+use Rattle.std.specs.List.{list_any, position_or_len}
 use Rattle.std.proofs.lemmas.Bool.{cases_Bool, cases_lt, cond-true, cond-false, or_cases, or_left, or_right, lt-leb}
 use Rattle.std.proofs.lemmas.List.Folds.{list_any-append}
 use Rattle.std.proofs.lemmas.List.Sums.{sum_by-cons, sum_by-set, passes_at_first}
 use Rattle.street_base.specs.declared.net.NetSpec.{NetSpec}
 use Rattle.street_base.specs.declared.reply.Whereabouts.{Whereabouts}
 use Rattle.street_base.specs.declared.names.Place.{Place}
-use Rattle.street_base.specs.Network.{is_place, places}
-use Rattle.street_base.specs.Vehicle.{Vehicle}
-use Rattle.street_base.specs.State.{Traffic, LaneState, Queued, Waiting, lane_at}
-use Rattle.street_base.specs.Apart.{weight}
-use Rattle.street_base.specs.Census.{in_lane, IsWhole, IsSound}
-use Rattle.street_base.specs.Machine.{is_number, seen_in, seen}
+use Rattle.street_base.specs.Prelude.{is_place, places, Vehicle, Traffic, LaneState, Queued, Waiting, lane_at, weight, in_lane, IsSound, is_number, seen_in, seen}
 use Rattle.street_base.proofs.ReleaseLemmas.{is_place-same, is_place-refl}
-use Rattle.street_lanes.specs.Lanes.{IsLane}
-use Rattle.street_lanes.specs.Whole.{IsOn}
-use Rattle.street_tile.specs.Tiles.{Part, IsTileOf, AreTiles, AllStand, StandsFor, is_own}
-use Rattle.street_tile.specs.Commands.{HaveNot, HaveAtMostOne, Finds}
-use Rattle.street_tile.specs.HandOvers.{all_places}
-use Rattle.street_tile.specs.Together.{tiles_of, TilesStandFor}
+use Rattle.street_lanes.specs.Prelude.{IsLane}
+use Rattle.street_tile.specs.Prelude.{Part, IsTileOf, AreTiles, AllStand, HaveNot, HaveAtMostOne, Finds, WhereOnce, all_places, TilesView, TilesStandFor, OwnsLink, TileHasNot}
 use Rattle.street_tile.proofs.OwnLanes.{lane-of}
 use Rattle.street_tile.proofs.Rows.{in-row, roads-of}
 use Rattle.street_tile.proofs.PublishedView.{any-at, some-tile}
 use Rattle.street_tile.proofs.PhasesOfAll.{tiles-of}
-use Rattle.street_tile.proofs.NumberOnce.{own-number}
+use Rattle.street_tile.proofs.Numbers.{own-number}
 use Rattle.street_tile.proofs.Ones.{on-one, have-one}
-use Rattle.street_tile.proofs.TakenOut.{own-at, not-at}
+use Rattle.street_tile.proofs.TileCommands.{own-at, not-at}
+use Rattle.street_tile.proofs.Together.{IsTileAt, stands-seen, at-list, at-call, owns-any}
 
 -- ---- where a lane has it not, nothing is seen of it there
 
@@ -102,40 +93,45 @@ tile-with p (x ∷ xs) e = elim (or_cases (list_any (is_place p) (all_places xs)
 ]
 
 module _ (net : NetSpec) (xs : List Part) (tiles : AreTiles net xs) (number : ℕ) where
-  -- a tile's lanes have it at most once
-  pub one-at : (m : Traffic) → IsSound m → AllStand net xs m → (i : ℕ) (x : Part) → i < length xs → x ≡ get_or xs i x → HaveAtMostOne x.own.places m number
-  one-at m sound s i x h is = have-one net x number m (subst (IsTileOf net) (sym is) (tiles-of net 0 (length net.nodes) xs (in-row net xs tiles) i x h)) s.on sound.whole
+  module _ {here : NetSpec} {v : TilesView} {i : ℕ} {x : Part} (t : IsTileAt net here xs v i x) where
+    tile : IsTileOf net (get_or xs i x)
+    tile = tiles-of net 0 (length net.nodes) xs (in-row net xs tiles) i x t.within
 
-  -- one tile has found it
-  pub found-seen : (m : Traffic) → IsSound m → AllStand net xs m → (i : ℕ) (d : Part) (w : Whereabouts) → i < length xs → Finds net (get_or xs i d).own.places m number (Some w) → seen m number ≡ Some w
-  unfolding seen
-  found-seen m sound s i d w h found =
-      let p = found.1 in
-      let of_p = own-at net (get_or xs i d) (tiles-of net 0 (length net.nodes) xs (in-row net xs tiles) i d h) found.0 p found.2 in
-      let net_is = s.on.network in
-      let among : list_any (is_place p) (places m.network) ≡ true = subst (λ (n : NetSpec). list_any (is_place p) (places n) ≡ true) (sym net_is) of_p.0 in
-      let is : seen_in m.network p number (lane_at m p) ≡ Some w = subst (λ (n : NetSpec). seen_in n p number (lane_at m p) ≡ Some w) (sym net_is) found.3 in
-      let some = seen-some net p number (lane_at m p) w found.3 in
-      first-only (λ q. seen_in m.network q number (lane_at m q)) (places m.network) p w among is (λ q a ne. zero-unseen m.network q number (lane_at m q) (on-one m sound.formed sound.whole number p q ne among a some))
+    -- a tile's lanes have it at most once
+    pub one-at : (m : Traffic) → IsSound m → TilesStandFor v m → HaveAtMostOne x.own.places m number
+    one-at m sound s = have-one net x number m (subst (IsTileOf net) (sym t.is) tile) (stands-seen net xs v m t.seen s).lanes.on sound.whole
 
-  -- a lane of one tile has it
-  pub found-on-seen : (m : Traffic) → IsSound m → AllStand net xs m → (i : ℕ) (d : Part) (p : Place) (w : Whereabouts) → i < length xs → IsLane net p → is_own net (get_or xs i d).low (get_or xs i d).high p ≡ true → ◌≡◌ {A = Option Whereabouts} (Some w) (seen_in net p number (lane_at m p)) → ◌≡◌ {A = Option Whereabouts} (Some w) (seen m number)
-  found-on-seen m sound s i d p w h there own is =
-      let at = own-number net (get_or xs i d) p (tiles-of net 0 (length net.nodes) xs (in-row net xs tiles) i d h) there own in
-      sym (found-seen m sound s i d w h (at.0, p, at.1, sym is))
+    -- one tile has found it
+    pub found-seen : (m : Traffic) → IsSound m → TilesStandFor v m → (w : Whereabouts) → Finds here x.own.places m number (Some w) → seen m number ≡ Some w
+    unfolding seen
+    found-seen m sound s w finds =
+        let found = at-list t (λ n u. Finds n u.own.places m number (Some w)) finds in
+        let p = found.1 in
+        let of_p = own-at net (get_or xs i x) tile found.0 p found.2 in
+        let net_is = (stands-seen net xs v m t.seen s).lanes.on.network in
+        let among : list_any (is_place p) (places m.network) ≡ true = subst (λ (n : NetSpec). list_any (is_place p) (places n) ≡ true) (sym net_is) of_p.0 in
+        let is : seen_in m.network p number (lane_at m p) ≡ Some w = subst (λ (n : NetSpec). seen_in n p number (lane_at m p) ≡ Some w) (sym net_is) found.3 in
+        let some = seen-some net p number (lane_at m p) w found.3 in
+        first-only (λ q. seen_in m.network q number (lane_at m q)) (places m.network) p w among is (λ q a ne. zero-unseen m.network q number (lane_at m q) (on-one m sound.formed sound.whole number p q ne among a some))
 
-  -- one more tile has it not
-  pub not-next : (i : ℕ) (x : Part) → i < length xs → x ≡ get_or xs i x → ((k : ℕ) (d : Part) → k < i → (m : Traffic) → IsWhole m → TilesStandFor (tiles_of net xs) m → HaveNot (get_or xs k d).own.places m number)
-      → ((m : Traffic) → IsOn net m → StandsFor x m → HaveAtMostOne x.own.places m number → HaveNot x.own.places m number)
-      → (k : ℕ) (d : Part) → k < i + 1 → (m : Traffic) → IsWhole m → TilesStandFor (tiles_of net xs) m → HaveNot (get_or xs k d).own.places m number
-  not-next i x h is before here k d l m whole s =
-      let none : (m : Traffic) → IsOn net m → StandsFor (get_or xs i x) m → HaveAtMostOne (get_or xs i x).own.places m number → HaveNot (get_or xs i x).own.places m number = subst (λ (t : Part). (m : Traffic) → IsOn net m → StandsFor t m → HaveAtMostOne t.own.places m number → HaveNot t.own.places m number) is here in
-      elim (cases_lt k i) as (λ _. HaveNot (get_or xs k d).own.places m number) [
-        | inl earlier ↦ before k d earlier m whole s
-        | inr last ↦ (
-            let same : k ≡ i = omega arith in
-            subst (λ (j : ℕ). HaveNot (get_or xs j d).own.places m number) (sym same) (not-at net number xs i x tiles h none m whole s d))
-      ]
+    -- a lane of one tile has it
+    pub found-on-seen : (m : Traffic) → IsSound m → TilesStandFor v m → (p : Place) (w : Whereabouts) → IsLane v.network p → OwnsLink v i p.link → ◌≡◌ {A = Option Whereabouts} (Some w) (seen_in here p number (lane_at m p)) → ◌≡◌ {A = Option Whereabouts} (Some w) (seen m number)
+    found-on-seen m sound s p w lane own is =
+        let there : IsLane net p = subst (λ (u : TilesView). IsLane u.network p) (sym t.seen) lane in
+        let at = own-number net (get_or xs i x) p tile there (owns-any t p.link p own refl x) in
+        let listed = at-call t (λ n u. slice_get u.own.places at.0 ≡ Some p) at.1 in
+        sym (found-seen m sound s w (at.0, p, listed, sym is))
+
+    -- one more tile has it not
+    pub not-next : ((k : ℕ) → k < i → TileHasNot v k number) → WhereOnce here x number (λ m. HaveNot x.own.places m number) → (k : ℕ) → k < i + 1 → TileHasNot v k number
+    not-next before none k l =
+        let none_listed = at-list t (λ n u. WhereOnce n u number (λ m. HaveNot u.own.places m number)) none in
+        subst (λ (u : TilesView). TileHasNot u k number) t.seen (λ m whole s d. elim (cases_lt k i) as (λ _. HaveNot (get_or xs k d).own.places m number) [
+          | inl earlier ↦ subst (λ (u : TilesView). TileHasNot u k number) (sym t.seen) (before k earlier) m whole s d
+          | inr last ↦ (
+              let same : k ≡ i = omega arith in
+              subst (λ (j : ℕ). HaveNot (get_or xs j d).own.places m number) (sym same) (not-at net number xs i x tiles t.within none_listed m whole s d))
+        ])
 
   -- no tile has it
   pub nowhere-seen : (m : Traffic) → AllStand net xs m → ((k : ℕ) (d : Part) → k < length xs → HaveNot (get_or xs k d).own.places m number) → seen m number ≡ None

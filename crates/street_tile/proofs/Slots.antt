@@ -1,8 +1,7 @@
 -- Slots, and of each whether it holds somebody.
-use Rattle.std.proofs.Common.{◌≡◌, ℕ, zero, suc, ◌<◌, Bool, false, List, ◌∷◌, length, map, set, get_or, replicate, refl, sym, ◌∙◌, ap}
-use Rattle.std.specs.Prelude.{Option, Some, None, is_some}
+use Rattle.std.proofs.Common.{◌≡◌, ℕ, zero, suc, ◌<◌, Bool, false, List, ◌∷◌, length, map, set, get_or, replicate, refl, sym, ◌∙◌, ap, Option, Some, None, is_some}
 use Rattle.std.proofs.lemmas.List.{map-set, get_or-map, set-get_or}
-use Rattle.street_tile.specs.Halves.{Transfer}
+use Rattle.street_tile.specs.Prelude.{Transfer}
 
 -- at first no slot holds anybody
 pub marked-none : (n : ℕ) → replicate n false ≡ map (is_some {T = Transfer}) (replicate n None)

@@ -3,14 +3,10 @@ use Rattle.std.proofs.Common.{◌≡◌, ℕ, suc, ◌+◌, ◌<◌, ◌≤◌, 
 use Rattle.std.proofs.lemmas.Bool.{cases_eq}
 use Rattle.street_base.specs.declared.net.NetSpec.{NetSpec}
 use Rattle.street_base.specs.declared.names.Place.{Place}
-use Rattle.street_base.specs.Network.{link_at}
-use Rattle.street_base.specs.State.{Traffic, LaneState, no_lane, lane_at}
-use Rattle.street_base.specs.LaneChange.{Changing, changed_cells}
-use Rattle.street_base.specs.Step.{changed, changing_on, changed_lanes, with_cells}
-use Rattle.street_lanes.specs.Views.{LaneView, LaneStands}
-use Rattle.street_lanes.specs.Lanes.{Lanes, IsLane, IsOf, Same, lane_of, place_at}
-use Rattle.street_lanes.specs.Whole.{IsOn, LanesStand}
-use Rattle.street_tile.specs.Tiles.{IsRoads, ArePairs}
+use Rattle.street_base.specs.Prelude.{link_at, Traffic, LaneState, no_lane, lane_at, Changing, changed_cells, changed, changing_on, changed_lanes, with_cells}
+use Rattle.street_lanes.specs.Prelude.{LaneView, LaneStands, Lanes, IsLane, Same, lane_of, place_at, IsOn, LanesStand}
+use Rattle.street_lanes.specs.Lanes.{IsOf}
+use Rattle.street_tile.specs.Prelude.{IsRoads, ArePairs}
 use Rattle.street_tile.proofs.SameLanes.{same-none, same-then, stands-at, stand-all, there-at}
 use Rattle.street_tile.proofs.Each.{shape, links-long, enumerated-at}
 

@@ -1,6 +1,5 @@
 -- Motion of a tile, lane after lane.
-use Rattle.std.proofs.Common.{◌≡◌, ℕ, ◌+◌, ◌-◌, ◌<◌, ◌≤◌, true, List, [], ◌∷◌, ◌++◌, length, take, get_or, refl, sym, ◌∙◌, ap, arith}
-use Rattle.std.specs.Prelude.{Option, Some, None, nat_le, nat_lt, filter_map, option_to_list, slice_get}
+use Rattle.std.proofs.Common.{◌≡◌, ℕ, ◌+◌, ◌-◌, ◌<◌, ◌≤◌, true, List, [], ◌∷◌, ◌++◌, length, take, get_or, refl, sym, ◌∙◌, ap, arith, Option, Some, None, nat_le, nat_lt, filter_map, option_to_list, slice_get}
 use Rattle.std.specs.List.{cons_option}
 use Rattle.std.proofs.lemmas.Bool.{and_parts, leb-true, ltb-true}
 use Rattle.std.proofs.lemmas.List.{take_more, take_all, append_assoc, get_or_default}
@@ -8,17 +7,10 @@ use Rattle.std.proofs.lemmas.List.Elements.{filter_map-append}
 use Rattle.std.proofs.lemmas.Option.{slice_get_within, get_or_from_slice_get}
 use Rattle.street_base.specs.declared.net.NetSpec.{NetSpec}
 use Rattle.street_base.specs.declared.names.Place.{Place}
-use Rattle.street_base.specs.Network.{node_of, link_at}
-use Rattle.street_base.specs.Signal.{SignalPlan}
-use Rattle.street_base.specs.State.{Traffic, lane_at}
-use Rattle.street_base.specs.Step.{driven, driven_lane, arrival, leaver_of, plan_at}
-use Rattle.street_lanes.specs.Lanes.{IsLane}
-use Rattle.street_lanes.specs.Whole.{IsOn}
-use Rattle.street_base.specs.Limits.{last_clock}
-use Rattle.street_lanes.specs.Motion.{PlanStands, IsStepOf}
+use Rattle.street_base.specs.Prelude.{node_of, link_at, SignalPlan, Traffic, lane_at, driven, driven_lane, arrival, leaver_of, plan_at, last_clock}
+use Rattle.street_lanes.specs.Prelude.{IsLane, IsOn, PlanStands, IsStepOf}
 use Rattle.street_tile.specs.declared.motion.MotionStep.{MotionStep}
-use Rattle.street_tile.specs.Motion.{IsOfStep, HasPlanFor}
-use Rattle.street_tile.specs.Tiles.{ShowSignals, is_own}
+use Rattle.street_tile.specs.Prelude.{IsOfStep, HasPlanFor, ShowSignals, is_own}
 use Rattle.street_tile.proofs.Each.{lane_at-each}
 
 pub lane_at-driven : (net : NetSpec) (m : Traffic) → IsOn net m → (p : Place) → IsLane net p → lane_at (driven m) p ≡ driven_lane m p (lane_at m p)

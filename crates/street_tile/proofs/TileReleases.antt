@@ -1,23 +1,16 @@
 -- A tile's releases, buffer after buffer.
-use Rattle.std.proofs.Common.{◌≡◌, ℕ, ◌+◌, ◌*◌, ◌<◌, ◌≤◌, Bool, true, false, List, [], ◌∷◌, ◌++◌, length, take, refl, sym, ◌∙◌, ap, subst, arith}
-use Rattle.std.specs.Prelude.{Some, None, option_map, slice_get, slice_set, filter_map}
+use Rattle.std.proofs.Common.{◌≡◌, ℕ, ◌+◌, ◌*◌, ◌<◌, ◌≤◌, Bool, true, false, List, [], ◌∷◌, ◌++◌, length, take, refl, sym, ◌∙◌, ap, subst, arith, Some, None, option_map, slice_get, slice_set, filter_map}
 use Rattle.std.proofs.lemmas.List.{take_all, append_assoc, append-nil}
 use Rattle.street_base.specs.declared.net.NetSpec.{NetSpec}
 use Rattle.street_base.specs.declared.names.Place.{Place}
-use Rattle.street_base.specs.State.{Traffic, Queued, lane_at}
-use Rattle.street_base.specs.Release.{target, gives}
-use Rattle.street_net.specs.Slots.{mouth, slot_of}
-use Rattle.street_lanes.specs.Views.{LaneStands, without_front}
-use Rattle.street_lanes.specs.Lanes.{Lanes, IsLane, AllLanes, GoesAt, lane_of, place_at}
-use Rattle.street_lanes.specs.Whole.{LanesStand}
-use Rattle.street_node.specs.Walks.{AreShut}
-use Rattle.street_node.specs.Releases.{Crossing}
+use Rattle.street_base.specs.Prelude.{Traffic, Queued, lane_at, target, gives}
+use Rattle.street_net.specs.Prelude.{mouth, slot_of}
+use Rattle.street_lanes.specs.Prelude.{LaneStands, without_front, Lanes, IsLane, AllLanes, GoesAt, lane_of, place_at, LanesStand}
+use Rattle.street_node.specs.Prelude.{AreShut, Crossing}
 use Rattle.street_node.proofs.BufferWalk.{stays}
 use Rattle.street_node.proofs.Mouths.{shut-start, shut-none, shut-before, shut-behind, gives-by}
 use Rattle.street_node.proofs.Crossings.{Leads, leads-of, crossing-goes as crosses-goes, crossing-stays, crossings-more}
-use Rattle.street_tile.specs.Halves.{Transfer, entry_on, crossing, let_go_lane, let_go}
-use Rattle.street_tile.specs.Tiles.{IsRoads}
-use Rattle.street_tile.specs.Walks.{IsReleasing}
+use Rattle.street_tile.specs.Prelude.{Transfer, entry_on, crossing, let_go_lane, let_go, IsRoads, IsReleasing}
 use Rattle.street_tile.proofs.SameLanes.{place-is, LanesDone, lanes-start, lanes-here, lanes-next, lanes-kept, lanes-all}
 use Rattle.street_tile.proofs.Each.{lane_at-each}
 

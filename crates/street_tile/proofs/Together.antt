@@ -1,17 +1,12 @@
 -- One tile changes, the others stand as they did.
-use Rattle.std.proofs.Common.{◌≡◌, ℕ, ◌*◌, ◌<◌, true, List, [], length, set, get_or, refl, sym, ◌∙◌, ap, subst, arith, inl, inr}
-use Rattle.std.specs.Prelude.{All, Result, Ok, Err, OnOk, OnErr, slice_get}
+use Rattle.std.proofs.Common.{◌≡◌, ℕ, ◌*◌, ◌<◌, true, List, [], length, set, get_or, refl, sym, ◌∙◌, ap, subst, arith, inl, inr, All, Result, Ok, Err, OnOk, OnErr, slice_get}
 use Rattle.std.proofs.lemmas.Bool.{cases_eq}
 use Rattle.std.proofs.lemmas.List.{get_or-set_same, get_or-set_other, get_or_default, length-set}
 use Rattle.street_base.specs.declared.net.NetSpec.{NetSpec}
 use Rattle.street_base.specs.declared.names.Place.{Place}
-use Rattle.street_base.specs.State.{Traffic}
-use Rattle.street_lanes.specs.Detectors.{MetersStandFor}
-use Rattle.street_lanes.specs.Whole.{IsOn}
-use Rattle.street_tile.specs.Tiles.{Part, AreTiles, AllStand, StandsFor, SameTile, Each, IsStill, is_own}
-use Rattle.street_tile.specs.Commands.{DoesIf, KeepsAll}
-use Rattle.street_tile.specs.TileDetectors.{MetersStand, AllMetersStand, detectors_at, detectors_on}
-use Rattle.street_tile.specs.Together.{TilesView, tiles_of, AreKept, TilesStandFor, TilesGo, TilesKeep, OwnsLink}
+use Rattle.street_base.specs.Prelude.{Traffic}
+use Rattle.street_lanes.specs.Prelude.{MetersStandFor, IsOn}
+use Rattle.street_tile.specs.Prelude.{Part, AreTiles, AllStand, StandsFor, SameTile, Each, IsStill, is_own, DoesIf, KeepsAll, MetersStand, AllMetersStand, detectors_at, detectors_on, TilesView, tiles_of, AreKept, TilesStandFor, TilesGo, TilesKeep, OwnsLink}
 use Rattle.street_tile.proofs.SameTile.{tile-none}
 use Rattle.street_tile.proofs.BetweenPhases.{tiles-same}
 
@@ -21,23 +16,19 @@ same-meters x y m n places kept detectors stand k p at =
     subst (λ gs. MetersStandFor (detectors_at gs k).meters (detectors_on p n.detectors)) (sym kept)
     (subst (λ ds. MetersStandFor (detectors_at x.detectors k).meters (detectors_on p ds)) (sym detectors) (stand k p (ap (λ (ps : List Place). slice_get ps k) (sym places) ∙ at)))
 
-set-same : (xs : List Part) (i : ℕ) (y d : Part) → i < length xs → SameTile (get_or xs i d) y → Each SameTile xs (set xs i y)
-set-same xs i y d h same k e l = elim (cases_eq k i) as (λ _. SameTile (get_or xs k e) (get_or (set xs i y) k e)) [
-  | inl here ↦ (
-      let is : get_or (set xs i y) k e ≡ y = rw here (get_or-set_same xs i y e h) in
-      let was : get_or xs k e ≡ get_or xs i d = ap (λ (j : ℕ). get_or xs j e) here ∙ get_or_default xs i e d h in
-      subst (SameTile (get_or xs k e)) (sym is) (subst (λ (t : Part). SameTile t y) (sym was) same))
-  | inr other ↦ subst (SameTile (get_or xs k e)) (sym (get_or-set_other xs i k y e other)) (tile-none (get_or xs k e))
-]
-
 -- what holds of the new tile at i, and of the others as they are, holds of each
-at-set : (R : Part → Type 0) (xs : List Part) (i : ℕ) (y e : Part) (k : ℕ) → i < length xs → R y → ((k ≡ i → ⊥) → R (get_or xs k e)) → R (get_or (set xs i y) k e)
+at-set : (R : Part → Type 0) (xs : List Part) (i : ℕ) (y e : Part) (k : ℕ) → i < length xs → (k ≡ i → R y) → ((k ≡ i → ⊥) → R (get_or xs k e)) → R (get_or (set xs i y) k e)
 at-set R xs i y e k h here there = elim (cases_eq k i) as (λ _. R (get_or (set xs i y) k e)) [
   | inl same ↦ (
       let is : get_or (set xs i y) k e ≡ y = rw same (get_or-set_same xs i y e h) in
-      subst R (sym is) here)
+      subst R (sym is) (here same))
   | inr other ↦ subst R (sym (get_or-set_other xs i k y e other)) (there other)
 ]
+
+set-same : (xs : List Part) (i : ℕ) (y d : Part) → i < length xs → SameTile (get_or xs i d) y → Each SameTile xs (set xs i y)
+set-same xs i y d h same k e l = at-set (SameTile (get_or xs k e)) xs i y e k h
+    (λ here. subst (λ (t : Part). SameTile t y) (sym (ap (λ (j : ℕ). get_or xs j e) here ∙ get_or_default xs i e d h)) same)
+    (λ other. tile-none (get_or xs k e))
 
 still-after : (x y : Part) → SameTile x y → y.handed ≡ x.handed → y.coming ≡ x.coming → IsStill x → IsStill y
 still-after x y same handed coming still = (handed ∙ still.0, coming ∙ still.1 ∙ rw same.own.places refl)
@@ -50,12 +41,9 @@ kept-set net xs i y d mouths kept h same handed coming =
     record {
       tiles = tiles-same net xs (set xs i y) long (set-same xs i y d h same) kept.tiles;
       few = omega (arith, long, few);
-      still = λ k e l. at-set IsStill xs i y e k h (still-after (get_or xs i d) y same handed coming (kept.still i d h)) (λ other. kept.still k e (omega (arith, l, long)));
+      still = λ k e l. at-set IsStill xs i y e k h (λ here. still-after (get_or xs i d) y same handed coming (kept.still i d h)) (λ other. kept.still k e (omega (arith, l, long)));
       wide = kept.wide;
     }
-
-pub kept-does : (net : NetSpec) (P : Traffic → Type 0) (f : Traffic → Traffic) (xs : List Part) (i : ℕ) (y d : Part) (mouths : ℕ) → AreKept net xs mouths → i < length xs → DoesIf net P f (get_or xs i d) y → AreKept net (set xs i y) mouths
-kept-does net P f xs i y d mouths kept h does = kept-set net xs i y d mouths kept h does.same does.handed does.coming
 
 module _ (net : NetSpec) (P : Traffic → Type 0) (f : Traffic → Traffic) (xs : List Part) (i : ℕ) (y d : Part) (h : i < length xs)
     (on : (m : Traffic) → P m → IsOn net m → IsOn net (f m))
@@ -71,13 +59,13 @@ module _ (net : NetSpec) (P : Traffic → Type 0) (f : Traffic → Traffic) (xs 
       record {
         network = refl;
         long = long;
-        nobody = λ none k e l. at-set (λ t. t.arrived ≡ []) xs i y e k h (arrived ∙ none i d h) (λ other. none k e (omega (arith, l, long)));
+        nobody = λ none k e l. at-set (λ t. t.arrived ≡ []) xs i y e k h (λ here. arrived ∙ none i d h) (λ other. none k e (omega (arith, l, long)));
         goes = λ m holds s. record {
           lanes = record {
             on = on m holds s.lanes.on;
-            each = λ k e l. at-set (λ t. StandsFor t (f m)) xs i y e k h (stands m holds s.lanes) (λ other. elsewhere k e m other (omega (arith, l, long)) holds s.lanes);
+            each = λ k e l. at-set (λ t. StandsFor t (f m)) xs i y e k h (λ here. stands m holds s.lanes) (λ other. elsewhere k e m other (omega (arith, l, long)) holds s.lanes);
           };
-          meters = λ k e l. at-set (λ t. MetersStand t (f m)) xs i y e k h (meters m holds s.lanes (s.meters i d h))
+          meters = λ k e l. at-set (λ t. MetersStand t (f m)) xs i y e k h (λ here. meters m holds s.lanes (s.meters i d h))
               (λ other. let within : k < length xs = omega (arith, l, long) in apart k e m other within (s.meters k e within));
         };
       }
@@ -104,37 +92,10 @@ pub one-keeps : (net : NetSpec) (xs : List Part) (i : ℕ) (y d : Part) → i < 
 one-keeps net xs i y d h e =
     one-does net (λ m. Unit {0}) (λ m. m) xs i y d h (λ m holds on. on) (λ k t m other l holds s. s.each k t l) (λ m. refl) (keeps-does net (get_or xs i d) y e)
 
-pub keeps-none : (x : TilesView) → TilesKeep x x
-keeps-none x = record { network = refl; long = refl; nobody = λ none. none; goes = λ m holds s. s }
-
-pub keep-then : (x y z : TilesView) → TilesKeep x y → TilesKeep y z → TilesKeep x z
-keep-then x y z a b = record {
-  network = b.network ∙ a.network;
-  long = b.long ∙ a.long;
-  nobody = λ none. b.nobody (a.nobody none);
-  goes = λ m holds s. b.goes m holds (a.goes m holds s);
-}
-
 -- ---- of what is seen of all tiles
 
 pub goes-seen : (P : Traffic → Type 0) (f : Traffic → Traffic) (x v y : TilesView) → x ≡ v → TilesGo P f x y → TilesGo P f v y
 goes-seen P f x v y is goes = subst (λ (u : TilesView). TilesGo P f u y) is goes
-
-module _ (net here : NetSpec) (xs : List Part) (i : ℕ) (x : Part) (same : here ≡ net) (is : x ≡ get_or xs i x) where
-  -- the tile at i is that of the list
-  pub does-here : (P : Traffic → Type 0) (f : Traffic → Traffic) (y : Part) → DoesIf here P f x y → DoesIf net P f (get_or xs i x) y
-  does-here P f y does = subst (λ (t : Part). DoesIf net P f t y) is (subst (λ (n : NetSpec). DoesIf n P f x y) same does)
-
-  -- it owns the lanes of a link
-  pub owns-here : (v : TilesView) (link : ℕ) (p : Place) → tiles_of net xs ≡ v → OwnsLink v i link → p.link ≡ link → is_own here x.low x.high p ≡ true
-  owns-here v link p seen own at =
-      subst (λ (n : NetSpec). is_own n x.low x.high p ≡ true) (sym same)
-      (subst (λ (t : Part). is_own net t.low t.high p ≡ true) (sym is)
-      (subst (λ (u : TilesView). is_own u.network (get_or u.tiles i x).low (get_or u.tiles i x).high p ≡ true) (sym seen) (own x p at)))
-
-  -- also in the network's own words, whichever tile stands for none
-  pub owns-any : (v : TilesView) (link : ℕ) (p : Place) → tiles_of net xs ≡ v → OwnsLink v i link → p.link ≡ link → (e : Part) → is_own net (get_or xs i e).low (get_or xs i e).high p ≡ true
-  owns-any v link p seen own at e = subst (λ (u : TilesView). is_own u.network (get_or u.tiles i e).low (get_or u.tiles i e).high p ≡ true) (sym seen) (own e p at)
 
 pub inside-seen : (net : NetSpec) (xs : List Part) (v : TilesView) (i : ℕ) → tiles_of net xs ≡ v → i < length v.tiles → i < length xs
 inside-seen net xs v i seen h = subst (λ (u : TilesView). i < length u.tiles) (sym seen) h
@@ -142,26 +103,67 @@ inside-seen net xs v i seen h = subst (λ (u : TilesView). i < length u.tiles) (
 pub stands-seen : (net : NetSpec) (xs : List Part) (v : TilesView) (m : Traffic) → tiles_of net xs ≡ v → TilesStandFor v m → TilesStandFor (tiles_of net xs) m
 stands-seen net xs v m seen s = subst (λ (u : TilesView). TilesStandFor u m) (sym seen) s
 
--- ---- the tile at i is as it was, room apart, or has one number of those who arrived less
+-- ---- one tile, as a call is passed it
 
-module _ (net : NetSpec) (xs : List Part) (i : ℕ) (x y : Part) (mouths : ℕ) (kept : AreKept net xs mouths) (h : i < length xs) (is : x ≡ get_or xs i x) where
-  pub kept-room : KeepsAll x y → AreKept net (set xs i y) mouths
-  kept-room e = kept-does net (λ m. Unit {0}) (λ m. m) xs i y x mouths kept h (keeps-does net (get_or xs i x) y (subst (λ (t : Part). KeepsAll t y) is e))
+-- the tile at i of those that are seen, beside the network
+pub record IsTileAt (net here : NetSpec) (xs : List Part) (v : TilesView) (i : ℕ) (x : Part) : Type 0 where
+  pub seen : tiles_of net xs ≡ v
+  pub within : i < length xs
+  pub same : here ≡ net
+  pub is : x ≡ get_or xs i x
 
-  pub kept-same : y ≡ x → AreKept net (set xs i y) mouths
-  kept-same e = kept-room (subst (KeepsAll x) (sym e) refl)
+pub tile-in : {net here : NetSpec} {xs : List Part} {v : TilesView} {i : ℕ} {x : Part} → tiles_of net xs ≡ v → i < length xs → here ≡ net → x ≡ get_or xs i x → IsTileAt net here xs v i x
+tile-in seen h same is = record { seen = seen; within = h; same = same; is = is }
 
-  pub kept-arrivals : y ≡ record x { arrived = y.arrived } → AreKept net (set xs i y) mouths
-  kept-arrivals e =
-      let same : SameTile x y = subst (SameTile x) (sym e) (record { low = refl; high = refl; links = refl; own = record { places = refl; sizes = refl; loose = refl; odds = refl }; sized = refl }) in
-      kept-set net xs i y x mouths kept h (subst (λ (t : Part). SameTile t y) is same) (ap (λ (t : Part). t.handed) e ∙ ap (λ (t : Part). t.handed) is) (ap (λ (t : Part). t.coming) e ∙ ap (λ (t : Part). t.coming) is)
+pub tile-at : {net here : NetSpec} {xs : List Part} {v : TilesView} {i : ℕ} {x : Part} → tiles_of net xs ≡ v → i < length v.tiles → here ≡ net → x ≡ get_or xs i x → IsTileAt net here xs v i x
+tile-at {net} {here} {xs} {v} {i} {x} seen h same is = tile-in seen (inside-seen net xs v i seen h) same is
 
-module _ (net : NetSpec) (xs : List Part) (i : ℕ) (x y : Part) (v : TilesView) (seen : tiles_of net xs ≡ v) (h : i < length xs) (is : x ≡ get_or xs i x) where
-  pub room-goes : KeepsAll x y → TilesKeep v (tiles_of net (set xs i y))
-  room-goes e = goes-seen (λ m. Unit {0}) (λ m. m) (tiles_of net xs) v (tiles_of net (set xs i y)) seen (one-keeps net xs i y x h (subst (λ (t : Part). KeepsAll t y) is e))
+module _ {net here : NetSpec} {xs : List Part} {v : TilesView} {i : ℕ} {x : Part} (t : IsTileAt net here xs v i x) where
+  -- what is true of it is true of the list's, and the other way round
+  pub at-list : (R : NetSpec → Part → Type 0) → R here x → R net (get_or xs i x)
+  at-list R r = subst (R net) t.is (subst (λ (n : NetSpec). R n x) t.same r)
 
-  pub same-goes : y ≡ x → TilesKeep v (tiles_of net (set xs i y))
-  same-goes e = room-goes (subst (KeepsAll x) (sym e) refl)
+  pub at-call : (R : NetSpec → Part → Type 0) → R net (get_or xs i x) → R here x
+  at-call R r = subst (λ (n : NetSpec). R n x) (sym t.same) (subst (R net) (sym t.is) r)
+
+  -- it owns the lanes of a link, whichever tile stands for none
+  pub owns-any : (link : ℕ) (p : Place) → OwnsLink v i link → p.link ≡ link → (e : Part) → is_own net (get_or xs i e).low (get_or xs i e).high p ≡ true
+  owns-any link p own at e = subst (λ (u : TilesView). is_own u.network (get_or u.tiles i e).low (get_or u.tiles i e).high p ≡ true) (sym t.seen) (own e p at)
+
+  pub owns-here : (link : ℕ) (p : Place) → OwnsLink v i link → p.link ≡ link → is_own here x.low x.high p ≡ true
+  owns-here link p own at = at-call (λ n u. is_own n u.low u.high p ≡ true) (owns-any link p own at x)
+
+  -- it stands for what all stand for
+  pub stands-here : (m : Traffic) → TilesStandFor v m → IsOn here m × StandsFor x m × MetersStand x m
+  stands-here m s =
+      let all = stands-seen net xs v m t.seen s in
+      at-call (λ n u. IsOn n m × StandsFor u m × MetersStand u m) (all.lanes.on, all.lanes.each i x t.within, all.meters i x t.within)
+
+  pub does-there : {P : Traffic → Type 0} {f : Traffic → Traffic} {y : Part} → DoesIf here P f x y → DoesIf net P f (get_or xs i x) y
+  does-there {P} {f} {y} does = at-list (λ n u. DoesIf n P f u y) does
+
+  module _ {mouths : ℕ} (kept : AreKept net xs mouths) (y : Part) where
+    pub kept-does : {P : Traffic → Type 0} {f : Traffic → Traffic} → DoesIf here P f x y → AreKept net (set xs i y) mouths
+    kept-does does = (let there = does-there does in kept-set net xs i y x mouths kept t.within there.same there.handed there.coming)
+
+    -- it is as it was, room apart, or has one number of those who arrived less
+    pub kept-room : KeepsAll x y → AreKept net (set xs i y) mouths
+    kept-room e = kept-does (keeps-does here x y e)
+
+    pub kept-same : y ≡ x → AreKept net (set xs i y) mouths
+    kept-same e = kept-room (subst (KeepsAll x) (sym e) refl)
+
+    pub kept-arrivals : y ≡ record x { arrived = y.arrived } → AreKept net (set xs i y) mouths
+    kept-arrivals e =
+        let same : SameTile x y = subst (SameTile x) (sym e) (record { low = refl; high = refl; links = refl; own = record { places = refl; sizes = refl; loose = refl; odds = refl }; sized = refl }) in
+        let there = at-list (λ n u. SameTile u y × (y.handed ≡ u.handed) × (y.coming ≡ u.coming)) (same, ap (λ (u : Part). u.handed) e, ap (λ (u : Part). u.coming) e) in
+        kept-set net xs i y x mouths kept t.within there.0 there.1 there.2
+
+  pub room-goes : (y : Part) → KeepsAll x y → TilesKeep v (tiles_of net (set xs i y))
+  room-goes y e = goes-seen (λ m. Unit {0}) (λ m. m) (tiles_of net xs) v (tiles_of net (set xs i y)) t.seen (one-keeps net xs i y x t.within (at-list (λ n u. KeepsAll u y) e))
+
+  pub same-goes : (y : Part) → y ≡ x → TilesKeep v (tiles_of net (set xs i y))
+  same-goes y e = room-goes y (subst (KeepsAll x) (sym e) refl)
 
 pub either-way : {T E : Type 0} (P : Type 0) (r : Result T E) → OnOk r P → OnErr r P → P
 either-way P (Ok t) ok err = ok

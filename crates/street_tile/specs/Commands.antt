@@ -3,17 +3,9 @@
 use Rattle.std.specs.Prelude.{◌≡◌, ◌<◌, ◌≤◌, ℕ, List, sum_by, Option, Some, None, slice_get, slice_set, if◌then◌else◌}
 use Rattle.street_base.specs.declared.net.NetSpec.{NetSpec}
 use Rattle.street_base.specs.declared.reply.Whereabouts.{Whereabouts}
-use Rattle.street_base.specs.Vehicle.{Vehicle}
+use Rattle.street_base.specs.Prelude.{Vehicle, is_place, SignalPlan, Traffic, LaneState, lane_at, each_lane, in_lane, lane_without, seen_in}
 use Rattle.street_base.specs.declared.names.Place.{Place}
-use Rattle.street_base.specs.Network.{is_place}
-use Rattle.street_base.specs.Signal.{SignalPlan}
-use Rattle.street_base.specs.State.{Traffic, LaneState, lane_at, each_lane}
-use Rattle.street_base.specs.Census.{in_lane}
-use Rattle.street_base.specs.Effects.{lane_without}
-use Rattle.street_base.specs.Machine.{seen_in}
-use Rattle.street_lanes.specs.Whereabouts.{vehicle_on}
-use Rattle.street_lanes.specs.Lanes.{place_at}
-use Rattle.street_lanes.specs.Whole.{IsOn}
+use Rattle.street_lanes.specs.Prelude.{vehicle_on, place_at, IsOn}
 use Rattle.street_tile.specs.Tiles.{Part, StandsFor, SameTile}
 
 -- ---- what is done

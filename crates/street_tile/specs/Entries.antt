@@ -2,14 +2,8 @@
 -- Source: this profile.
 use Rattle.std.specs.Prelude.{◌≡◌, ℕ, List, map, true, Option, IsSome}
 use Rattle.street_base.specs.declared.names.Place.{Place}
-use Rattle.street_base.specs.Vehicle.{Vehicle}
-use Rattle.street_base.specs.Lane.{is_free}
-use Rattle.street_base.specs.State.{Traffic, LaneState}
-use Rattle.street_base.specs.Release.{with_entry}
-use Rattle.street_base.specs.Departure.{departed_lane}
-use Rattle.street_lanes.specs.Views.{LaneStands}
-use Rattle.street_lanes.specs.Lanes.{Lanes, lane_of}
-use Rattle.street_lanes.specs.Whole.{LanesStand, LanesGo, AllFree}
+use Rattle.street_base.specs.Prelude.{Vehicle, is_free, Traffic, LaneState, with_entry, departed_lane}
+use Rattle.street_lanes.specs.Prelude.{LaneStands, Lanes, lane_of, LanesStand, LanesGo, AllFree}
 use Rattle.street_tile.specs.Halves.{Transfer, vehicle_in, placed_lane}
 
 -- whatever lane n stood for, with cell 0 free for who comes, it then stands for that with them in it and after departures

@@ -3,12 +3,9 @@
 -- Source: releases are this profile.
 use Rattle.std.specs.Prelude.{List, map, filter, drop, Option, option_map, slice_get, if◌then◌else◌}
 use Rattle.street_base.specs.declared.net.NetSpec.{NetSpec}
-use Rattle.street_base.specs.Vehicle.{Vehicle}
+use Rattle.street_base.specs.Prelude.{Vehicle, is_place, link_at, Traffic, LaneState, each_lane, gives, on_next_link, with_entry}
 use Rattle.street_base.specs.declared.names.Place.{Place}
-use Rattle.street_base.specs.Network.{is_place, link_at}
-use Rattle.street_base.specs.State.{Traffic, LaneState, each_lane}
-use Rattle.street_base.specs.Release.{gives, on_next_link, with_entry}
-use Rattle.street_node.specs.Releases.{crossing as crosses}
+use Rattle.street_node.specs.Prelude.{crossing as crosses}
 
 -- a vehicle on its way into a lane
 pub record Transfer : Type 0 where

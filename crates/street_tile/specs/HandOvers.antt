@@ -1,6 +1,5 @@
 -- Hand-overs on their way from the tiles that let them go to the tiles that own their lanes.
-use Rattle.std.specs.Prelude.{◌≡◌, ℕ, ◌<◌, ◌==◌, List, [], ◌∷◌, ◌++◌, map, length, slice_index_or, if◌then◌else◌}
-use Rattle.std.specs.List.{All}
+use Rattle.std.specs.Prelude.{◌≡◌, ℕ, ◌<◌, ◌==◌, List, [], ◌∷◌, ◌++◌, map, length, slice_index_or, if◌then◌else◌, All}
 use Rattle.street_base.specs.declared.names.Place.{Place}
 use Rattle.street_tile.specs.Halves.{Transfer, entry_in}
 use Rattle.street_tile.specs.Tiles.{Part}

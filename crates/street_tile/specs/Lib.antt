@@ -12,3 +12,4 @@ pub mod Commands
 pub mod Hinted
 pub mod Steps
 pub mod Together
+pub mod Prelude

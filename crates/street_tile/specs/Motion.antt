@@ -1,16 +1,10 @@
 -- What motion on a tile's lanes reads of the step, and what it does.
 use Rattle.std.specs.Prelude.{◌≡◌, ℕ, ◌+◌, ◌<◌, ◌≤◌, List, ◌++◌, length, map, filter_map, slice_get, Bool, true, false, Option, Some}
-use Rattle.street_base.specs.Limits.{last_clock}
+use Rattle.street_base.specs.Prelude.{last_clock, is_free, Traffic, lane_at, driven, driven_lane, arrival, leaver_of}
 use Rattle.street_base.specs.declared.names.Place.{Place}
-use Rattle.street_base.specs.Lane.{is_free}
-use Rattle.street_base.specs.State.{Traffic, lane_at}
-use Rattle.street_base.specs.Step.{driven, driven_lane, arrival, leaver_of}
-use Rattle.street_net.specs.Slots.{mouth}
-use Rattle.street_lanes.specs.Views.{LaneStands}
-use Rattle.street_lanes.specs.Lanes.{Lanes, Same, Others, IsOf, lane_of, place_at}
-use Rattle.street_lanes.specs.Whole.{IsOn, LanesStand}
-use Rattle.street_lanes.specs.Motion.{cells_on}
-use Rattle.street_lanes.specs.Detectors.{Detectors, watch_of}
+use Rattle.street_net.specs.Prelude.{mouth}
+use Rattle.street_lanes.specs.Prelude.{LaneStands, Lanes, Same, Others, lane_of, place_at, IsOn, LanesStand, cells_on, Detectors, watch_of}
+use Rattle.street_lanes.specs.Lanes.{IsOf}
 use Rattle.street_tile.specs.declared.motion.MotionStep.{MotionStep}
 use Rattle.street_tile.specs.Tiles.{IsRoads, ShowSignals, AreBare, is_own, sizes_of}
 use Rattle.street_tile.specs.TileDetectors.{KeepMeters, HaveWatched}

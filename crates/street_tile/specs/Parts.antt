@@ -3,7 +3,7 @@
 use Rattle.std.specs.Prelude.{ℕ, ◌≡◌, ◌*◌, ◌<◌, List, Bool, [], length}
 use Rattle.std.proofs.Common.{zero, suc}
 use Rattle.street_base.specs.declared.net.NetSpec.{NetSpec}
-use Rattle.street_base.specs.Limits.{last_clock}
+use Rattle.street_base.specs.Prelude.{last_clock}
 use Rattle.street_tile.specs.Tiles.{Part, IsTileOf, IsPrepared}
 use Rattle.street_tile.specs.Phases.{LanePhase, MotionPhase, ReleasePhase, EnterPhase, MeterPhase, Then}
 

@@ -2,13 +2,9 @@
 -- Source: the phases and their order are this profile.
 use Rattle.std.specs.Prelude.{◌≡◌, ℕ, ◌+◌, ◌≤◌, List, map, filter_map, Bool, Option}
 use Rattle.street_base.specs.declared.net.NetSpec.{NetSpec}
-use Rattle.street_base.specs.Vehicle.{Vehicle}
+use Rattle.street_base.specs.Prelude.{Vehicle, Traffic, departed, arrival, leaver_of, changed, driven}
 use Rattle.street_base.specs.declared.names.Place.{Place}
-use Rattle.street_base.specs.State.{Traffic}
-use Rattle.street_base.specs.Departure.{departed}
-use Rattle.street_base.specs.Step.{arrival, leaver_of, changed, driven}
-use Rattle.street_lanes.specs.Lanes.{Lanes}
-use Rattle.street_lanes.specs.Whole.{AllFree, IsOn, LanesStand}
+use Rattle.street_lanes.specs.Prelude.{Lanes, AllFree, IsOn, LanesStand}
 use Rattle.street_tile.specs.Halves.{crossing, let_go, placed}
 use Rattle.street_tile.specs.Tiles.{Part, StandsFor, SameTile, Shows, ShowsOwn, nobody}
 use Rattle.street_tile.specs.TileDetectors.{KeepMeters, HaveWatched, MetersStand, noted_by}

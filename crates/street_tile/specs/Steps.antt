@@ -1,11 +1,8 @@
 -- One step of all tiles: what it needs, and what it does.
 -- Source: this profile.
-use Rattle.std.specs.Prelude.{◌≡◌, ◌<◌, ◌≤◌, List, [], length, filter_map}
-use Rattle.std.specs.List.{All}
+use Rattle.std.specs.Prelude.{◌≡◌, ◌<◌, ◌≤◌, List, [], length, filter_map, All}
 use Rattle.street_base.specs.declared.net.NetSpec.{NetSpec}
-use Rattle.street_base.specs.Limits.{last_clock}
-use Rattle.street_base.specs.State.{Traffic}
-use Rattle.street_base.specs.Step.{changed, step, arrival, leaver_of}
+use Rattle.street_base.specs.Prelude.{last_clock, Traffic, changed, step, arrival, leaver_of}
 use Rattle.street_tile.specs.Tiles.{Part, IsIdle, IsPrepared, Each, AreTiles, AllStand, nobody}
 use Rattle.street_tile.specs.TileDetectors.{AllMetersStand}
 

@@ -1,16 +1,10 @@
 -- The detectors of a tile, and what they note of a step.
 -- Source: this profile.
-use Rattle.std.specs.Prelude.{◌≡◌, ℕ, ◌+◌, ◌<◌, List, [], map, length, filter, Some, slice_get, slice_index_or}
-use Rattle.std.specs.List.{All}
+use Rattle.std.specs.Prelude.{◌≡◌, ℕ, ◌+◌, ◌<◌, List, [], map, length, filter, Some, slice_get, slice_index_or, All}
 use Rattle.street_base.specs.declared.net.NetSpec.{NetSpec}
 use Rattle.street_base.specs.declared.names.Place.{Place}
-use Rattle.street_base.specs.Effects.{metered}
-use Rattle.street_base.specs.Network.{is_place, link_at}
-use Rattle.street_base.specs.State.{Traffic, LaneState, Detector}
-use Rattle.street_base.specs.Step.{noted}
-use Rattle.street_lanes.specs.Views.{LaneStands}
-use Rattle.street_lanes.specs.Lanes.{Lanes, lane_of}
-use Rattle.street_lanes.specs.Detectors.{Detectors, watch_of, AllGoOn, AllNote, MetersStandFor}
+use Rattle.street_base.specs.Prelude.{metered, is_place, link_at, Traffic, LaneState, Detector, noted}
+use Rattle.street_lanes.specs.Prelude.{LaneStands, Lanes, lane_of, Detectors, watch_of, AllGoOn, AllNote, MetersStandFor}
 use Rattle.street_tile.specs.Tiles.{Part, StandsFor, SameTile}
 
 -- what stands for a lane's detectors where there are none

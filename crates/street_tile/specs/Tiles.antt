@@ -1,23 +1,16 @@
 -- A tile, and what it stands for of the machine.
 -- Source: blocks of nodes with the links that run to them are this profile.
-use Rattle.std.specs.Prelude.{◌≡◌, ℕ, ◌+◌, ◌-◌, ◌*◌, ◌/◌, ◌<◌, ◌≤◌, nat_le, nat_lt, List, [], map, length, filter, Bool, false, ◌&&◌, Option, Some, None, IsSome, slice_get, slice_index_or}
+use Rattle.std.specs.Prelude.{◌≡◌, ℕ, ◌+◌, ◌-◌, ◌*◌, ◌/◌, ◌<◌, ◌≤◌, nat_le, nat_lt, List, [], map, length, filter, Bool, false, ◌&&◌, Option, Some, None, IsSome, slice_get, slice_index_or, All}
 use Rattle.std.proofs.Common.{suc}
 use Rattle.std.specs.Option.{option_map_or}
-use Rattle.std.specs.List.{All}
 use Rattle.street_base.specs.declared.net.NetSpec.{NetSpec}
 use Rattle.street_base.specs.declared.net.TurnSpec.{TurnSpec}
-use Rattle.street_base.specs.Vehicle.{Vehicle}
-use Rattle.street_base.specs.Lane.{is_free}
+use Rattle.street_base.specs.Prelude.{Vehicle, is_free, link_at, node_of, turn, places, SignalPlan, Traffic, lane_at}
 use Rattle.street_base.specs.declared.names.Place.{Place}
-use Rattle.street_base.specs.Network.{link_at, node_of, turn, places}
-use Rattle.street_base.specs.Signal.{SignalPlan}
-use Rattle.street_base.specs.State.{Traffic, lane_at}
-use Rattle.street_net.specs.Slots.{slot_of, mouth}
-use Rattle.street_lanes.specs.Lanes.{Lanes, IsOf, Same, no_place}
-use Rattle.street_lanes.specs.Whole.{IsOn, LanesStand}
-use Rattle.street_lanes.specs.Motion.{PlanStands, cells_on}
+use Rattle.street_net.specs.Prelude.{slot_of, mouth}
+use Rattle.street_lanes.specs.Prelude.{Lanes, Same, no_place, IsOn, LanesStand, PlanStands, cells_on, Detectors}
+use Rattle.street_lanes.specs.Lanes.{IsOf}
 use Rattle.street_meter.specs.Meter.{next_step}
-use Rattle.street_lanes.specs.Detectors.{Detectors}
 use Rattle.street_tile.specs.Halves.{Transfer}
 
 -- ---- the network

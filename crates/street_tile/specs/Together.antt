@@ -1,11 +1,9 @@
 -- All tiles of a network together, between two steps, and what a call does to them.
 -- Source: this profile.
-use Rattle.std.specs.Prelude.{◌≡◌, ◌*◌, ◌<◌, ◌≤◌, ◌++◌, ◌∷◌, ℕ, List, [], length, true, slice_index_or, slice_set}
-use Rattle.std.specs.List.{All}
+use Rattle.std.specs.Prelude.{◌≡◌, ◌*◌, ◌<◌, ◌≤◌, ◌++◌, ◌∷◌, ℕ, List, [], length, true, slice_index_or, slice_set, All}
 use Rattle.street_base.specs.declared.net.NetSpec.{NetSpec}
 use Rattle.street_base.specs.declared.names.Place.{Place}
-use Rattle.street_base.specs.State.{Traffic}
-use Rattle.street_base.specs.Census.{IsWhole}
+use Rattle.street_base.specs.Prelude.{Traffic, IsWhole}
 use Rattle.street_tile.specs.Commands.{HaveNot}
 use Rattle.street_tile.specs.Tiles.{Part, IsStill, IsPrepared, Each, AreTiles, AllStand, is_own}
 use Rattle.street_tile.specs.TileDetectors.{AllMetersStand}

@@ -3,14 +3,10 @@
 use Rattle.std.specs.Prelude.{◌≡◌, ℕ, ◌≤◌, List, [], ◌∷◌, ◌++◌, Bool, true, false, Option, Some, IsSome, filter_map, slice_get, slice_set}
 use Rattle.street_base.specs.declared.net.NetSpec.{NetSpec}
 use Rattle.street_base.specs.declared.names.Place.{Place}
-use Rattle.street_base.specs.Vehicle.{next_link}
-use Rattle.street_base.specs.State.{Traffic, LaneState, Queued, lane_at}
-use Rattle.street_base.specs.Release.{target}
-use Rattle.street_net.specs.Slots.{slot_of, mouth}
-use Rattle.street_node.specs.Walks.{IsWalk}
-use Rattle.street_lanes.specs.Views.{LaneStands, without_front}
-use Rattle.street_lanes.specs.Lanes.{Lanes, GoesAt, lane_of, place_at}
-use Rattle.street_lanes.specs.Whole.{LanesStand, IsOn}
+use Rattle.street_base.specs.Prelude.{next_link, Traffic, LaneState, Queued, lane_at, target}
+use Rattle.street_net.specs.Prelude.{slot_of, mouth}
+use Rattle.street_node.specs.Prelude.{IsWalk}
+use Rattle.street_lanes.specs.Prelude.{LaneStands, without_front, Lanes, GoesAt, lane_of, place_at, LanesStand, IsOn}
 use Rattle.street_tile.specs.Halves.{Transfer, crossing, entry_on}
 use Rattle.street_tile.specs.Tiles.{Shows}
 

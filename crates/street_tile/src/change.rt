@@ -2,23 +2,21 @@
 //!
 //! Source: the order of the phases is this profile.
 ghost use Rattle.std.specs.Prelude.{◌≡◌, ◌+◌, ◌<◌, ◌≤◌, length, IsTrue, ◌↔◌};
-ghost use Rattle.street_base.specs.Network.{link_at};
-ghost use Rattle.street_lanes.specs.Lanes.{Same, IsOf, place_at};
-ghost use Rattle.street_tile.specs.Tiles.{IsTileOf, IsRoads, ArePairs};
-ghost use Rattle.street_tile.specs.Phases.{ChangeLanes, LanePhase};
+ghost use Rattle.street_base.specs.Prelude.{link_at};
+ghost use Rattle.street_lanes.specs.Prelude.{Same};
+ghost use Rattle.street_lanes.specs.Lanes.{IsOf};
+ghost use Rattle.street_tile.specs.Prelude.{IsTileOf, IsRoads, ArePairs, ChangeLanes, LanePhase};
 
 use crate::tile::Tile;
-use street_base::Step;
+use street_base::{Place, Step};
 use street_lanes::Lanes;
 use street_net::Network;
 
-/// Whether lane `n` of these is lane 0 of a link of two lanes; lane `n + 1` is then the link's other lane.
-fn begins_pair(own: &Lanes, net: &Network, n: usize) -> bool
-    requires lane { n < length own.now.lanes }
-    requires of { IsOf net.now own.now }
-    ensures { IsTrue result ↔ ((place_at own.now n).lane ≡ 0) × ((link_at net.now (place_at own.now n).link).lanes ≡ 2) }
+/// Whether a lane is lane 0 of a link of two lanes. Among a tile's own lanes the next is then the link's other lane.
+fn begins_pair(net: &Network, at: Place) -> bool
+    requires { at.link < length net.now.links }
+    ensures { IsTrue result ↔ (at.lane ≡ 0) × ((link_at net.now at.link).lanes ≡ 2) }
 {
-    let at = own.at(n);
     at.lane == 0 && net.lanes_of(at.link) == 2
 }
 
@@ -32,7 +30,8 @@ fn change_lanes(own: &mut Lanes, net: &Network, clock: Step)
     ensures stand { ChangeLanes net.now clock own.old own.new }
 {
     for n in 0..own.len() {
-        if begins_pair(own, net, n) {
+        let at = own.at(n);
+        if begins_pair(net, at) {
             own.change(net, n, clock);
         }
     }

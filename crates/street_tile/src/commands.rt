@@ -3,20 +3,10 @@
 //! Source: this profile.
 ghost use Rattle.std.specs.Prelude.{◌≡◌, ◌<◌, ◌≤◌, length, Some, true, false, slice_get, IfOk, OnOk, OnErr};
 ghost use Rattle.street_base.specs.declared.net.NetSpec.{NetSpec};
-ghost use Rattle.street_base.specs.Network.{link_at};
-ghost use Rattle.street_base.specs.Signal.{SignalPlan as PlanSeen};
-ghost use Rattle.street_base.specs.State.{Traffic, lane_at};
-ghost use Rattle.street_base.specs.Census.{in_lane};
-ghost use Rattle.street_base.specs.Closing.{with_marks};
-ghost use Rattle.street_base.specs.Machine.{with_waiting, closed_after};
-ghost use Rattle.street_base.specs.Shown.{shown_lane};
-ghost use Rattle.street_node.specs.Greens.{ShowsAs};
-ghost use Rattle.street_lanes.specs.Views.{waiting_of};
-ghost use Rattle.street_lanes.specs.Lanes.{IsLane};
-ghost use Rattle.street_lanes.specs.Lists.{HasShortPlan};
-ghost use Rattle.street_lanes.specs.Whole.{IsOn};
-ghost use Rattle.street_tile.specs.Tiles.{IsTileOf, StandsFor, is_own};
-ghost use Rattle.street_tile.specs.Commands.{at_place, planned, DoesIf, Does, KeepsAll};
+ghost use Rattle.street_base.specs.Prelude.{link_at, SignalPlan as PlanSeen, Traffic, lane_at, in_lane, with_marks, with_waiting, closed_after, shown_lane};
+ghost use Rattle.street_node.specs.Prelude.{ShowsAs};
+ghost use Rattle.street_lanes.specs.Prelude.{waiting_of, IsLane, HasShortPlan, IsOn};
+ghost use Rattle.street_tile.specs.Prelude.{IsTileOf, StandsFor, is_own, at_place, planned, DoesIf, Does, KeepsAll};
 
 use crate::tile::Tile;
 use std::alloc::Global;
@@ -65,7 +55,8 @@ impl Tile {
         self.signals[at] = Some(plan);
     }
 
-    /// As [`set_closed`](Self::set_closed), to close: for a caller of a single tile.
+    /// Closes cells of an own lane, and tells how many of its cells are closed then: [`set_closed`](Self::set_closed) to close, for a
+    /// caller of a single tile.
     ///
     /// # Errors
     /// Memory was refused; the tile is as it was.
@@ -89,7 +80,8 @@ impl Tile {
         self.set_closed(net, at, first, last, true)
     }
 
-    /// As [`set_closed`](Self::set_closed), to open again: for a caller of a single tile.
+    /// Opens cells of an own lane again, and tells how many of its cells are closed then: [`set_closed`](Self::set_closed) to open, for
+    /// a caller of a single tile.
     ///
     /// # Errors
     /// Memory was refused; the tile is as it was.

@@ -1,17 +1,15 @@
 //! Tiles of a network, with nobody on them.
 //!
 //! Source: this profile.
-ghost use Rattle.std.specs.Prelude.{◌≡◌, ◌+◌, ◌*◌, ◌/◌, ◌<◌, ◌≤◌, ◌++◌, [], length, map, replicate, min, vec_capacity, None, IfOk, OnOk};
-ghost use Rattle.std.specs.List.{All, range_with_len};
-ghost use Rattle.street_base.specs.Limits.{most_links};
-ghost use Rattle.street_base.specs.Machine.{loaded};
-ghost use Rattle.street_lanes.specs.Lanes.{AllLanes, IsOf, fresh};
-ghost use Rattle.street_tile.specs.Tiles.{IsTileOf, IsIdle, StandsFor, AreTiles, AreNumbers, own_places};
-ghost use Rattle.street_tile.specs.TileDetectors.{bare, MetersStand, AllMetersStand};
-ghost use Rattle.street_node.specs.Walks.{AtMostOnce};
+ghost use Rattle.std.specs.Prelude.{◌≡◌, ◌+◌, ◌*◌, ◌/◌, ◌<◌, ◌≤◌, ◌++◌, [], length, map, replicate, min, vec_capacity, None, IfOk, OnOk, All};
+ghost use Rattle.std.specs.List.{range_with_len};
+ghost use Rattle.street_base.specs.Prelude.{most_links, loaded};
+ghost use Rattle.street_lanes.specs.Prelude.{AllLanes, fresh};
+ghost use Rattle.street_lanes.specs.Lanes.{IsOf};
+ghost use Rattle.street_tile.specs.Prelude.{IsTileOf, IsIdle, StandsFor, AreTiles, AreNumbers, own_places, bare, MetersStand, AllMetersStand};
+ghost use Rattle.street_node.specs.Prelude.{AtMostOnce};
 
-use crate::comers::Comers;
-use crate::hand_over::HandOver;
+use crate::hand_over::{Comers, HandOver};
 use crate::tile::Tile;
 use std::alloc::{AllocError, Global};
 use street_base::{CarNo, CellNo, LaneNo, LinkIx, NodeIx, Place, Starved, Step};

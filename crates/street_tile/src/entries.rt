@@ -2,13 +2,10 @@
 //!
 //! Source: this profile.
 ghost use Rattle.std.specs.Prelude.{◌≡◌, ◌+◌, ◌<◌, ◌≤◌, length, None, Option, map};
-ghost use Rattle.street_lanes.specs.Lanes.{Same, Others};
-ghost use Rattle.street_tile.specs.Entries.{EntersAt, EnterAll};
-ghost use Rattle.street_tile.specs.Phases.{EnterPhase};
-ghost use Rattle.street_tile.specs.Tiles.{IsTileOf, IsPrepared};
+ghost use Rattle.street_lanes.specs.Prelude.{Same, Others};
+ghost use Rattle.street_tile.specs.Prelude.{EntersAt, EnterAll, EnterPhase, IsTileOf, IsPrepared};
 
-use crate::comers::Comers;
-use crate::hand_over::HandOver;
+use crate::hand_over::{Comers, HandOver};
 use crate::tile::Tile;
 use street_base::Step;
 use street_lanes::Lanes;
@@ -30,7 +27,7 @@ fn enter_lane(own: &mut Lanes, n: usize, coming: Option<HandOver>, clock: Step)
     own.depart(n, clock);
 }
 
-/// The same on all lanes.
+/// On each of these lanes who comes to it stands in cell 0, and then who waits first may depart. Nobody is coming any more then.
 fn enter_lanes(own: &mut Lanes, coming: &mut Comers, clock: Step)
     requires even { length coming.old ≡ length own.old.places }
     requires room { length own.old.places ≤ own.old.room }

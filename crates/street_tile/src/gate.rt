@@ -2,6 +2,21 @@
 
 use crate::tile::Tile;
 
+/// The phase with lane changes, as a gate is told of it.
+pub(crate) const LANE_CHANGES: u32 = 0;
+
+/// The phase with motion.
+pub(crate) const MOTION: u32 = 1;
+
+/// The phase with releases.
+pub(crate) const RELEASES: u32 = 2;
+
+/// The phase with entries and departures.
+pub(crate) const ENTRIES: u32 = 3;
+
+/// The phase with detectors.
+pub(crate) const DETECTORS: u32 = 4;
+
 /// What the caller of steps observes of them, and what it says of their threads.
 pub trait Gate {
     /// Called by each worker before its part of each phase, with its number, the phase's (0 lane changes, 1 motion, 2 releases,

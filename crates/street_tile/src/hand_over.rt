@@ -1,13 +1,15 @@
-//! A vehicle between two lanes.
-ghost use Rattle.std.specs.Prelude.{◌≡◌, ◌≤◌, length, List, [], ◌∷◌, ◌++◌, None, option_to_list, map, true};
-ghost use Rattle.street_base.specs.Vehicle.{vehicle_of};
-ghost use Rattle.street_base.specs.Limits.{most_plan};
-ghost use Rattle.street_lanes.specs.Lanes.{IsLane};
-ghost use Rattle.street_tile.specs.Halves.{Transfer, entry_in};
-ghost use Rattle.street_tile.specs.HandOvers.{Awaits};
-ghost use Rattle.street_tile.specs.Tiles.{IsTileOf, is_own};
+//! Hand-overs: vehicles between two lanes, and how each is moved to the tile that owns the lane that it enters.
+//!
+//! Releases leave hand-overs with the tile of the lane that the vehicle left. The thread that calls for the step moves each to the
+//! tile of the lane that it enters ([`move_all`]), where it is among those who come ([`Comers`]) until the entries.
+ghost use Rattle.std.specs.Prelude.{◌≡◌, ◌<◌, ◌≤◌, length, List, [], ◌∷◌, ◌++◌, Some, None, IfOk, option_to_list, map, replicate, true, slice_index_or, slice_set, All};
+ghost use Rattle.street_base.specs.Prelude.{vehicle_of, most_plan};
+ghost use Rattle.street_lanes.specs.Prelude.{IsLane};
+ghost use Rattle.street_tile.specs.Prelude.{Transfer, entry_in, Awaits, IsMoved, MovesLast, all_handed, received, KeepsHints, Part, IsTileOf, Each, AreTiles, is_own, nobody};
 
-use crate::tile::Tile;
+use crate::cut::{nones, owner};
+use crate::{Hints, Tile};
+use std::alloc::{AllocError, Global};
 use std::marker::Model;
 use street_base::{Car, CarNo, Place};
 use street_net::{Network, slot};
@@ -21,9 +23,8 @@ pub struct HandOver {
 
 impl Model for HandOver {
     ghost use Rattle.std.specs.Prelude.{◌≤◌, length};
-    ghost use Rattle.street_base.specs.Limits.{most_plan};
-    ghost use Rattle.street_base.specs.Vehicle.{vehicle_of};
-    ghost use Rattle.street_tile.specs.Halves.{Transfer};
+    ghost use Rattle.street_base.specs.Prelude.{most_plan, vehicle_of};
+    ghost use Rattle.street_tile.specs.Prelude.{Transfer};
 
     ghost Value = { Transfer };
 
@@ -64,6 +65,62 @@ impl HandOver {
     }
 }
 
+/// For each lane of a tile who comes to it, or nobody. Mostly nobody does, and a slot is wide: so `full` tells of each slot
+/// whether it holds somebody, and an empty slot is not looked at. Contracts see the list of slots.
+#[derive(Drop)]
+pub(crate) struct Comers {
+    slots: Vec<Option<HandOver>>,
+    full: Vec<bool>,
+}
+
+impl Model for Comers {
+    ghost use Rattle.std.specs.Prelude.{◌≡◌, List, Option, map, is_some};
+    ghost use Rattle.street_tile.specs.Prelude.{Transfer};
+
+    ghost Value = { List (Option Transfer) };
+
+    ghost view = { λ c. c.slots.items };
+
+    ghost invariant = { λ c. c.full.items ≡ map is_some c.slots.items };
+}
+
+impl Comers {
+    /// Nobody comes to any of so many lanes.
+    ///
+    /// # Errors
+    /// Memory was refused.
+    pub(crate) fn new(alloc: Global, lanes: usize) -> Result<Comers, AllocError>
+        ensures { IfOk result (λ coming. coming ≡ replicate lanes None) }
+    {
+        Ok(Comers {
+            slots: nones(alloc, lanes)?,
+            full: vec![in alloc; false; lanes]?,
+        })
+    }
+
+    /// Somebody comes to lane `n`.
+    pub(crate) fn put(&mut self, n: usize, hand_over: HandOver)
+        requires { n < length self.old }
+        ensures { self.new ≡ slice_set self.old n (Some hand_over) }
+    {
+        self.slots[n] = Some(hand_over);
+        self.full[n] = true;
+    }
+
+    /// Takes who comes to lane `n`. Where nobody does, nothing is written.
+    pub(crate) fn take(&mut self, n: usize) -> Option<HandOver>
+        requires { n < length self.old }
+        ensures taken { result ≡ slice_index_or self.old n None }
+        ensures nobody { self.new ≡ slice_set self.old n None }
+    {
+        if !self.full[n] {
+            return None;
+        }
+        self.full[n] = false;
+        self.slots[n].take()
+    }
+}
+
 impl Tile {
     /// How many hand-overs wait to be moved.
     pub fn hand_overs(&self) -> usize
@@ -93,5 +150,65 @@ impl Tile {
         let to = hand_over.to();
         let n = self.numbers[slot(to.link, to.lane)];
         self.coming.put(n, hand_over);
+    }
+}
+
+/// Which of the tiles owns a lane: that of the node to which its link runs. Of one tile, without a look at the network.
+fn tile_of(net: &Network, tiles: &[Tile], to: Place) -> usize
+    requires tiles { AreTiles net.now tiles.now }
+    requires lane { IsLane net.now to }
+    ensures inside { result < length tiles.now }
+    ensures own { (d : Part) → is_own net.now (slice_index_or tiles.now result d).low
+        (slice_index_or tiles.now result d).high to ≡ true }
+{
+    if tiles.len() == 1 {
+        return 0;
+    }
+    owner(net, tiles.len(), net.end_of(to.link))
+}
+
+/// The last hand-over of a tile is moved to the tile that owns its lane.
+fn move_one(net: &Network, tiles: &mut [Tile], hints: &mut Hints, i: usize)
+    requires inside { i < length tiles.old }
+    requires tiles { AreTiles net.now tiles.old }
+    requires lanes { All (λ x. All (λ e. IsLane net.now e.to) x.handed) tiles.old }
+    requires awaits { (es : List Transfer) × All (Awaits es) tiles.old }
+    ensures moved { MovesLast i tiles.old tiles.new }
+    ensures hints { KeepsHints hints.old hints.new }
+{
+    if let Some(hand_over) = tiles[i].next_hand_over() {
+        let to = hand_over.to();
+        let j = tile_of(net, tiles, to);
+        hints.follow(&hand_over);
+        tiles[j].bring(net, hand_over);
+    }
+}
+
+/// The hand-overs of a tile are moved to the tiles that own their lanes.
+fn move_from(net: &Network, tiles: &mut [Tile], hints: &mut Hints, i: usize)
+    requires inside { i < length tiles.old }
+    requires tiles { AreTiles net.now tiles.old }
+    requires lanes { All (λ x. All (λ e. IsLane net.now e.to) x.handed) tiles.old }
+    requires awaits { (es : List Transfer) × All (Awaits es) tiles.old }
+    ensures moved { (es : List Transfer) → (d : Part) → All (Awaits es) tiles.old
+        → IsMoved i [] ((slice_index_or tiles.old i d).handed ++ es) tiles.old tiles.new }
+    ensures hints { KeepsHints hints.old hints.new }
+{
+    let count = tiles[i].hand_overs();
+    for k in 0..count {
+        move_one(net, tiles, hints, i);
+    }
+}
+
+/// Each hand-over is moved to the tile that owns its lane.
+pub(crate) fn move_all(net: &Network, tiles: &mut [Tile], hints: &mut Hints)
+    requires tiles { AreTiles net.now tiles.old }
+    requires nobody { All (λ x. x.coming ≡ nobody x) tiles.old }
+    requires lanes { All (λ x. All (λ e. IsLane net.now e.to) x.handed) tiles.old }
+    ensures moved { Each (λ x y. y ≡ received (all_handed tiles.old) x) tiles.old tiles.new }
+    ensures hints { KeepsHints hints.old hints.new }
+{
+    for i in 0..tiles.len() {
+        move_from(net, tiles, hints, i);
     }
 }

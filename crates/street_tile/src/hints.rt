@@ -20,7 +20,7 @@ impl Drop for Hints {
 
 impl Model for Hints {
     ghost use Rattle.std.specs.Prelude.{◌-◌, vec_len, vec_capacity};
-    ghost use Rattle.street_tile.specs.Hinted.{Hinted};
+    ghost use Rattle.street_tile.specs.Prelude.{Hinted};
 
     ghost Value = { Hinted };
 

@@ -11,17 +11,16 @@
 #![tactic(auto)]
 
 mod change;
-mod comers;
 mod commands;
 mod cut;
 mod entries;
 mod gate;
 mod hand_over;
 mod hints;
-mod lendings;
 mod meters;
 mod motion;
 mod mouths;
+mod phase_by_phase;
 mod release;
 mod step;
 mod tile;
@@ -35,8 +34,8 @@ mod view;
 pub use gate::Gate;
 pub use hand_over::HandOver;
 pub use hints::Hints;
-pub use lendings::step_by;
-pub use step::step_all;
+pub use phase_by_phase::step_all;
+pub use step::step_by;
 pub use tile::Tile;
 pub use tile_work::{TeamNetwork, TileWork};
 pub use tiles::Tiles;

@@ -2,14 +2,9 @@
 //!
 //! Source: this profile.
 ghost use Rattle.std.specs.Prelude.{◌≡◌, ℕ, ◌<◌, ◌≤◌, length, true, false, option_map, slice_get, IfOk, OnOk, OnErr};
-ghost use Rattle.street_base.specs.Limits.{last_clock, most_period};
-ghost use Rattle.street_base.specs.Network.{link_at};
-ghost use Rattle.street_base.specs.Shown.{shown_rows};
-ghost use Rattle.street_base.specs.State.{Traffic};
-ghost use Rattle.street_lanes.specs.Lanes.{IsLane};
-ghost use Rattle.street_tile.specs.Phases.{MeterPhase};
-ghost use Rattle.street_tile.specs.Tiles.{IsTileOf, AreBare, AreDue, is_own};
-ghost use Rattle.street_tile.specs.TileDetectors.{HaveNoted, MetersStand, PlacesMeter, detectors_on};
+ghost use Rattle.street_base.specs.Prelude.{last_clock, most_period, link_at, shown_rows, Traffic};
+ghost use Rattle.street_lanes.specs.Prelude.{IsLane};
+ghost use Rattle.street_tile.specs.Prelude.{MeterPhase, IsTileOf, AreBare, AreDue, is_own, HaveNoted, MetersStand, PlacesMeter, detectors_on};
 
 use crate::tile::Tile;
 use std::alloc::Global;

@@ -2,11 +2,10 @@
 //!
 //! Source: the order of the phases is this profile.
 ghost use Rattle.std.specs.Prelude.{◌≡◌, [], ◌+◌, ◌*◌, ◌<◌, ◌≤◌, length, false, vec_len, vec_capacity, Some};
-ghost use Rattle.street_base.specs.Limits.{last_clock};
-ghost use Rattle.street_lanes.specs.Lanes.{IsOf, lane_of, place_at};
-ghost use Rattle.street_tile.specs.Tiles.{IsTileOf, IsBare};
-ghost use Rattle.street_tile.specs.Phases.{MotionPhase};
-ghost use Rattle.street_tile.specs.Motion.{HasPlanFor, DrivesLane, WatchesLane, MayDrive, DrivesLanes, WatchLanes, ShowLanes};
+ghost use Rattle.street_base.specs.Prelude.{last_clock};
+ghost use Rattle.street_lanes.specs.Lanes.{IsOf};
+ghost use Rattle.street_lanes.specs.Prelude.{lane_of, place_at};
+ghost use Rattle.street_tile.specs.Prelude.{IsTileOf, IsBare, MotionPhase, HasPlanFor, DrivesLane, WatchesLane, MayDrive, DrivesLanes, WatchLanes, ShowLanes};
 
 use crate::tile::Tile;
 use street_base::{CarNo, Step};

@@ -1,13 +1,13 @@
-//! What a tile found of its own lanes' mouths, as the view shows it.
+//! Which lanes are open: what each tile found of its own lanes' mouths is copied into the view, which all tiles see.
 //!
 //! Source: this profile.
-ghost use Rattle.std.specs.Prelude.{◌≡◌, ℕ, ◌*◌, length, false, slice_get, Some, IsTrue, ◌↔◌};
+ghost use Rattle.std.specs.Prelude.{◌≡◌, ℕ, ◌*◌, length, false, slice_get, Some, IsTrue, ◌↔◌, All};
 ghost use Rattle.std.specs.List.{list_any};
 ghost use Rattle.street_base.specs.declared.names.Place.{Place};
-ghost use Rattle.street_base.specs.Network.{is_place};
-ghost use Rattle.street_lanes.specs.Lanes.{IsLane, AllLanes};
-ghost use Rattle.street_net.specs.Slots.{mouth};
-ghost use Rattle.street_tile.specs.Tiles.{IsTileOf, IsRoads};
+ghost use Rattle.street_base.specs.Prelude.{is_place, Traffic};
+ghost use Rattle.street_lanes.specs.Prelude.{IsLane, AllLanes};
+ghost use Rattle.street_net.specs.Prelude.{mouth};
+ghost use Rattle.street_tile.specs.Prelude.{IsTileOf, IsRoads, AreTiles, AllStand, Shows, ShowsOwn};
 
 use crate::tile::Tile;
 use crate::view::View;
@@ -56,5 +56,18 @@ impl Tile {
         } else {
             copy_lanes(&self.own, net, &self.mouths, view);
         }
+    }
+}
+
+/// Each tile shows its mouths, which it found itself: the calling thread only copies.
+pub(crate) fn publish(net: &Network, tiles: &[Tile], view: &mut View)
+    requires tiles { AreTiles net.now tiles.now }
+    requires shown { All ShowsOwn tiles.now }
+    requires view { length view.old ≡ 2 * length net.now.links }
+    ensures shows { (m : Traffic) → AllStand net.now tiles.now m → Shows net.now view.new m }
+    ensures wide { length view.new ≡ length view.old }
+{
+    for i in 0..tiles.len() {
+        tiles[i].mouths(net, view);
     }
 }

@@ -2,15 +2,9 @@
 //!
 //! Source: this profile.
 ghost use Rattle.std.specs.Prelude.{◌≡◌, [], ◌+◌, ◌*◌, ◌<◌, ◌≤◌, length, false, Some, vec_len, vec_capacity, IsSome, IfSome};
-ghost use Rattle.street_base.specs.State.{Traffic, Queued};
-ghost use Rattle.street_base.specs.Vehicle.{next_link};
-ghost use Rattle.street_lanes.specs.Views.{without_front};
-ghost use Rattle.street_lanes.specs.Lanes.{IsLane, AllLanes, Same, GoesAt};
-ghost use Rattle.street_lanes.specs.Whole.{LanesStand};
-ghost use Rattle.street_tile.specs.Halves.{let_go, entry_on};
-ghost use Rattle.street_tile.specs.Phases.{ReleasePhase};
-ghost use Rattle.street_tile.specs.Tiles.{IsTileOf, IsRoads};
-ghost use Rattle.street_tile.specs.Walks.{IsReleasing, HandsOver, Targets, HasFront, ReleasesFront};
+ghost use Rattle.street_base.specs.Prelude.{Traffic, Queued, next_link};
+ghost use Rattle.street_lanes.specs.Prelude.{without_front, IsLane, AllLanes, Same, GoesAt, LanesStand};
+ghost use Rattle.street_tile.specs.Prelude.{let_go, entry_on, ReleasePhase, IsTileOf, IsRoads, IsReleasing, HandsOver, Targets, HasFront, ReleasesFront};
 
 use crate::hand_over::HandOver;
 use crate::tile::Tile;
@@ -19,8 +13,8 @@ use street_base::{Place, Step};
 use street_lanes::Lanes;
 use street_net::{Network, slot};
 
-/// The lane that the front of a buffer would enter now, if it is ready and has a turn.
-fn candidate(own: &Lanes, net: &Network, n: usize, clock: Step) -> Option<Place>
+/// The lane that the front of buffer `n` would enter now, if it is ready to leave and there is a turn to its next link.
+fn lane_for_front(own: &Lanes, net: &Network, n: usize, clock: Step) -> Option<Place>
     requires lane { n < length own.now.lanes }
     requires roads { IsRoads net.now }
     ensures goes { Targets net.now clock own.now n result }
@@ -100,7 +94,7 @@ fn release_lanes(
     ensures kept { vec_capacity handed.old ≤ vec_capacity handed.new }
 {
     for n in 0..own.len() {
-        if let Some(to) = candidate(own, net, n, clock) {
+        if let Some(to) = lane_for_front(own, net, n, clock) {
             release_front(own, net, n, to, mouths, handed);
         }
     }

@@ -1,55 +1,71 @@
-//! One step of all tiles, phase by phase, each phase by a worker for each tile.
+//! One step of all tiles in three parts that workers share: between them alone a tile needs another's.
+//!
+//! A tile's lane changes and its motion speak of its own lanes, and so do entries, departures and detectors. Before the releases
+//! the tiles show each other their mouths, and after them they hand over who goes.
 //!
 //! Source: this profile, whose five phases a step has in this order.
-ghost use Rattle.std.specs.Prelude.{◌≡◌, ◌+◌, ◌*◌, ◌<◌, ◌≤◌, length, List, [], ◌++◌, slice_index_or, true};
-ghost use Rattle.std.specs.List.{All};
-ghost use Rattle.street_base.specs.Limits.{last_clock};
-ghost use Rattle.street_base.specs.State.{Traffic};
-ghost use Rattle.street_lanes.specs.Lanes.{IsLane};
-ghost use Rattle.street_tile.specs.Halves.{Transfer};
-ghost use Rattle.street_tile.specs.Tiles.{Part, IsTileOf, IsPrepared, Each, AreTiles, AllStand, Shows, ShowsOwn, is_own, nobody};
-ghost use Rattle.street_tile.specs.Phases.{LanePhase, MotionPhase, ReleasePhase, EnterPhase, MeterPhase};
-ghost use Rattle.street_tile.specs.HandOvers.{Awaits, IsMoved, MovesLast, all_handed, received};
-ghost use Rattle.street_tile.specs.Hinted.{KeepsHints};
-ghost use Rattle.street_tile.specs.Steps.{MayStep, Steps};
+ghost use Rattle.std.specs.Prelude.{◌≡◌, ◌*◌, ◌<◌, ◌≤◌, length, [], All};
+ghost use Rattle.street_base.specs.Prelude.{last_clock};
+ghost use Rattle.street_tile.specs.Prelude.{IsTileOf, IsPrepared, Each, LanePhase, MotionPhase, ReleasePhase, EnterPhase, MeterPhase, Then, KeepsHints, MayStep, Steps};
 
-use crate::cut::owner;
+use crate::gate::{DETECTORS, ENTRIES, LANE_CHANGES, MOTION, RELEASES};
+use crate::hand_over::move_all;
+use crate::mouths::publish;
 use crate::{Gate, Hints, Tile, View};
 use std::thread;
 use std::thread::Threads;
-use street_base::Place;
 use street_net::Network;
 
-/// Lane changes of all tiles, each by a worker of its own.
-fn all_changes<R: Threads + Sync, G: Gate + Sync>(
-    rt: &R,
-    net: &Network,
-    tiles: &mut [Tile],
-    gate: &G,
-    threads: usize,
-)
-    requires some { 0 < threads }
-    requires few { length tiles.old ≤ 64 }
-    requires tiles { All (IsTileOf net.now) tiles.old }
-    ensures { Each (LanePhase net.now) tiles.old tiles.new }
+/// Lane changes and motion of a tile.
+pub(crate) fn drive<G: Gate>(net: &Network, worker: u32, tile: &mut Tile, gate: &G)
+    requires tile { IsTileOf net.now tile.old }
+    requires none { tile.old.arrived ≡ [] }
+    requires in_time { tile.old.clock < last_clock }
+    ensures { Then (LanePhase net.now) (MotionPhase net.now) tile.old tile.new }
 {
-    thread::for_each_mut(
-        rt,
-        tiles,
-        threads,
-        &|i, tile: &mut Tile|
-            requires { (i < 64) × IsTileOf net.now tile.now }
-            ensures { LanePhase net.entry.now tile.entry.now tile.exit.now }
-        {
-            gate.arrive(i as u32, 0, tile);
-            tile.phase_lanes(net);
-            gate.leave(i as u32, 0, tile);
-        },
-    );
+    gate.arrive(worker, LANE_CHANGES, tile);
+    tile.phase_lanes(net);
+    gate.leave(worker, LANE_CHANGES, tile);
+    gate.arrive(worker, MOTION, tile);
+    tile.phase_motion(net);
+    gate.leave(worker, MOTION, tile);
 }
 
-/// Motion of all tiles, each by a worker of its own.
-fn all_motion<R: Threads + Sync, G: Gate + Sync>(
+/// Releases of a tile, by these mouths.
+pub(crate) fn release<G: Gate>(
+    net: &Network,
+    worker: u32,
+    mouths: &[bool],
+    tile: &mut Tile,
+    gate: &G,
+)
+    requires tile { IsTileOf net.now tile.old }
+    requires empty { tile.old.handed ≡ [] }
+    requires wide { length mouths.now ≡ 2 * length net.now.links }
+    ensures { ReleasePhase net.now mouths.now tile.old tile.new }
+{
+    gate.arrive(worker, RELEASES, tile);
+    tile.release_by(net, mouths);
+    gate.leave(worker, RELEASES, tile);
+}
+
+/// Entries, departures and detectors of a tile.
+pub(crate) fn settle<G: Gate>(net: &Network, worker: u32, tile: &mut Tile, gate: &G)
+    requires tile { IsTileOf net.now tile.old }
+    requires prepared { IsPrepared tile.old }
+    requires in_time { tile.old.clock < last_clock }
+    ensures { Then (EnterPhase net.now) (MeterPhase net.now) tile.old tile.new }
+{
+    gate.arrive(worker, ENTRIES, tile);
+    tile.phase_enter(net);
+    gate.leave(worker, ENTRIES, tile);
+    gate.arrive(worker, DETECTORS, tile);
+    tile.phase_meter(net);
+    gate.leave(worker, DETECTORS, tile);
+}
+
+/// Lane changes and motion of all tiles, by so many threads at most.
+fn all_drive<R: Threads + Sync, G: Gate + Sync>(
     rt: &R,
     net: &Network,
     tiles: &mut [Tile],
@@ -61,7 +77,7 @@ fn all_motion<R: Threads + Sync, G: Gate + Sync>(
     requires tiles { All (IsTileOf net.now) tiles.old }
     requires none { All (λ x. x.arrived ≡ []) tiles.old }
     requires in_time { All (λ x. x.clock < last_clock) tiles.old }
-    ensures { Each (MotionPhase net.now) tiles.old tiles.new }
+    ensures { Each (Then (LanePhase net.now) (MotionPhase net.now)) tiles.old tiles.new }
 {
     thread::for_each_mut(
         rt,
@@ -69,16 +85,14 @@ fn all_motion<R: Threads + Sync, G: Gate + Sync>(
         threads,
         &|i, tile: &mut Tile|
             requires { (i < 64) × IsTileOf net.now tile.now × (tile.now.arrived ≡ []) × (tile.now.clock < last_clock) }
-            ensures { MotionPhase net.entry.now tile.entry.now tile.exit.now }
+            ensures { Then (LanePhase net.entry.now) (MotionPhase net.entry.now) tile.entry.now tile.exit.now }
         {
-            gate.arrive(i as u32, 1, tile);
-            tile.phase_motion(net);
-            gate.leave(i as u32, 1, tile);
+            drive(net, i as u32, tile, gate);
         },
     );
 }
 
-/// Releases of all tiles, each by a worker of its own.
+/// Releases of all tiles, by so many threads at most.
 pub(crate) fn all_release<R: Threads + Sync, G: Gate + Sync>(
     rt: &R,
     net: &Network,
@@ -102,15 +116,15 @@ pub(crate) fn all_release<R: Threads + Sync, G: Gate + Sync>(
             requires { (i < 64) × IsTileOf net.now tile.now × (tile.now.handed ≡ []) × (length view.now ≡ 2 * length net.now.links) }
             ensures { ReleasePhase net.entry.now view.entry.now tile.entry.now tile.exit.now }
         {
-            gate.arrive(i as u32, 2, tile);
+            gate.arrive(i as u32, RELEASES, tile);
             tile.phase_release(net, view);
-            gate.leave(i as u32, 2, tile);
+            gate.leave(i as u32, RELEASES, tile);
         },
     );
 }
 
-/// Entries and departures of all tiles, each by a worker of its own.
-fn all_enter<R: Threads + Sync, G: Gate + Sync>(
+/// Entries, departures and detectors of all tiles, by so many threads at most.
+fn all_settle<R: Threads + Sync, G: Gate + Sync>(
     rt: &R,
     net: &Network,
     tiles: &mut [Tile],
@@ -121,146 +135,43 @@ fn all_enter<R: Threads + Sync, G: Gate + Sync>(
     requires few { length tiles.old ≤ 64 }
     requires tiles { All (IsTileOf net.now) tiles.old }
     requires prepared { All IsPrepared tiles.old }
-    ensures { Each (EnterPhase net.now) tiles.old tiles.new }
-{
-    thread::for_each_mut(
-        rt,
-        tiles,
-        threads,
-        &|i, tile: &mut Tile|
-            requires { (i < 64) × IsTileOf net.now tile.now × IsPrepared tile.now }
-            ensures { EnterPhase net.entry.now tile.entry.now tile.exit.now }
-        {
-            gate.arrive(i as u32, 3, tile);
-            tile.phase_enter(net);
-            gate.leave(i as u32, 3, tile);
-        },
-    );
-}
-
-/// The detectors and the clock of all tiles, each by a worker of its own.
-fn all_meter<R: Threads + Sync, G: Gate + Sync>(
-    rt: &R,
-    net: &Network,
-    tiles: &mut [Tile],
-    gate: &G,
-    threads: usize,
-)
-    requires some { 0 < threads }
-    requires few { length tiles.old ≤ 64 }
-    requires tiles { All (IsTileOf net.now) tiles.old }
     requires in_time { All (λ x. x.clock < last_clock) tiles.old }
-    ensures { Each (MeterPhase net.now) tiles.old tiles.new }
+    ensures { Each (Then (EnterPhase net.now) (MeterPhase net.now)) tiles.old tiles.new }
 {
     thread::for_each_mut(
         rt,
         tiles,
         threads,
         &|i, tile: &mut Tile|
-            requires { (i < 64) × IsTileOf net.now tile.now × (tile.now.clock < last_clock) }
-            ensures { MeterPhase net.entry.now tile.entry.now tile.exit.now }
+            requires { (i < 64) × IsTileOf net.now tile.now × IsPrepared tile.now × (tile.now.clock < last_clock) }
+            ensures { Then (EnterPhase net.entry.now) (MeterPhase net.entry.now) tile.entry.now tile.exit.now }
         {
-            gate.arrive(i as u32, 4, tile);
-            tile.phase_meter(net);
-            gate.leave(i as u32, 4, tile);
+            settle(net, i as u32, tile, gate);
         },
     );
 }
 
-/// Each tile shows its mouths, which it found itself: the calling thread only copies.
-pub(crate) fn publish(net: &Network, tiles: &[Tile], view: &mut View)
-    requires tiles { AreTiles net.now tiles.now }
-    requires shown { All ShowsOwn tiles.now }
-    requires view { length view.old ≡ 2 * length net.now.links }
-    ensures shows { (m : Traffic) → AllStand net.now tiles.now m → Shows net.now view.new m }
-    ensures wide { length view.new ≡ length view.old }
-{
-    for i in 0..tiles.len() {
-        tiles[i].mouths(net, view);
-    }
-}
-
-/// Which of the tiles owns a lane: that of the node to which its link runs. Of one tile, without a look at the network.
-fn tile_of(net: &Network, tiles: &[Tile], to: Place) -> usize
-    requires tiles { AreTiles net.now tiles.now }
-    requires lane { IsLane net.now to }
-    ensures inside { result < length tiles.now }
-    ensures own { (d : Part) → is_own net.now (slice_index_or tiles.now result d).low
-        (slice_index_or tiles.now result d).high to ≡ true }
-{
-    if tiles.len() == 1 {
-        return 0;
-    }
-    owner(net, tiles.len(), net.end_of(to.link))
-}
-
-/// The last hand-over of a tile is moved to the tile that owns its lane.
-fn move_one(net: &Network, tiles: &mut [Tile], hints: &mut Hints, i: usize)
-    requires inside { i < length tiles.old }
-    requires tiles { AreTiles net.now tiles.old }
-    requires lanes { All (λ x. All (λ e. IsLane net.now e.to) x.handed) tiles.old }
-    requires awaits { (es : List Transfer) × All (Awaits es) tiles.old }
-    ensures moved { MovesLast i tiles.old tiles.new }
-    ensures hints { KeepsHints hints.old hints.new }
-{
-    if let Some(hand_over) = tiles[i].next_hand_over() {
-        hints.follow(&hand_over);
-        let j = tile_of(net, tiles, hand_over.to());
-        tiles[j].bring(net, hand_over);
-    }
-}
-
-/// The hand-overs of a tile are moved to the tiles that own their lanes.
-fn move_from(net: &Network, tiles: &mut [Tile], hints: &mut Hints, i: usize)
-    requires inside { i < length tiles.old }
-    requires tiles { AreTiles net.now tiles.old }
-    requires lanes { All (λ x. All (λ e. IsLane net.now e.to) x.handed) tiles.old }
-    requires awaits { (es : List Transfer) × All (Awaits es) tiles.old }
-    ensures moved { (es : List Transfer) → (d : Part) → All (Awaits es) tiles.old
-        → IsMoved i [] ((slice_index_or tiles.old i d).handed ++ es) tiles.old tiles.new }
-    ensures hints { KeepsHints hints.old hints.new }
-{
-    let count = tiles[i].hand_overs();
-    for k in 0..count {
-        move_one(net, tiles, hints, i);
-    }
-}
-
-/// Each hand-over is moved to the tile that owns its lane.
-pub(crate) fn move_all(net: &Network, tiles: &mut [Tile], hints: &mut Hints)
-    requires tiles { AreTiles net.now tiles.old }
-    requires nobody { All (λ x. x.coming ≡ nobody x) tiles.old }
-    requires lanes { All (λ x. All (λ e. IsLane net.now e.to) x.handed) tiles.old }
-    ensures moved { Each (λ x y. y ≡ received (all_handed tiles.old) x) tiles.old tiles.new }
-    ensures hints { KeepsHints hints.old hints.new }
-{
-    for i in 0..tiles.len() {
-        move_from(net, tiles, hints, i);
-    }
-}
-
-/// One step, each phase by a thread for each tile: whatever state the tiles stood for, they then stand for the next one, and hold
-/// the numbers of those who arrived. The hints follow who enters another link. Takes no memory.
-pub fn step_all<R: Threads + Sync, G: Gate + Sync>(
+/// One step by so many threads at most, of the same meaning as [`step_all`](crate::step_all)'s. With one thread the caller's runs
+/// all tiles in turn and starts none. The hints follow who enters another link. Takes no memory.
+pub fn step_by<R: Threads + Sync, G: Gate + Sync>(
     rt: &R,
     net: &Network,
     tiles: &mut [Tile],
     view: &mut View,
     hints: &mut Hints,
     gate: &G,
+    threads: usize,
 )
+    requires some { 0 < threads }
     requires ready { MayStep net.now tiles.old }
     requires view { length view.old ≡ 2 * length net.now.links }
     ensures steps { Steps net.now tiles.old tiles.new }
     ensures view { length view.new ≡ length view.old }
     ensures hints { KeepsHints hints.old hints.new }
 {
-    let threads = tiles.len().max(1);
-    all_changes(rt, net, tiles, gate, threads);
-    all_motion(rt, net, tiles, gate, threads);
+    all_drive(rt, net, tiles, gate, threads);
     publish(net, tiles, view);
     all_release(rt, net, tiles, view, gate, threads);
     move_all(net, tiles, hints);
-    all_enter(rt, net, tiles, gate, threads);
-    all_meter(rt, net, tiles, gate, threads);
+    all_settle(rt, net, tiles, gate, threads);
 }

@@ -1,10 +1,9 @@
 //! A tile: its fields, the numbers that arrived, and the memory for a step. Each phase has a file; commands are in `commands`,
 //! `vehicles` and `meters`.
 ghost use Rattle.std.specs.Prelude.{◌≡◌, ◌+◌, ◌<◌, ◌≤◌, [], ◌++◌, None, option_to_list, OnOk};
-ghost use Rattle.street_tile.specs.Tiles.{IsPrepared};
+ghost use Rattle.street_tile.specs.Prelude.{IsPrepared};
 
-use crate::comers::Comers;
-use crate::hand_over::HandOver;
+use crate::hand_over::{Comers, HandOver};
 use std::marker::Model;
 use street_base::{CarNo, Starved, Step};
 use street_lanes::{Detectors, Lanes};
@@ -49,7 +48,7 @@ impl Drop for Tile {
 }
 
 impl Model for Tile {
-    ghost use Rattle.street_tile.specs.Tiles.{Part};
+    ghost use Rattle.street_tile.specs.Prelude.{Part};
 
     ghost Value = { Part };
 

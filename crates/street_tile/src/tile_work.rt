@@ -1,21 +1,15 @@
 //! Steps by a team: workers that stay, to which the tiles are lent by value.
 //!
 //! Source: this profile, whose five phases a step has in this order.
-ghost use Rattle.std.specs.Prelude.{◌≡◌, ℕ, ◌*◌, ◌<◌, ◌≤◌, length, []};
-ghost use Rattle.std.specs.List.{All};
+ghost use Rattle.std.specs.Prelude.{◌≡◌, ℕ, ◌*◌, ◌<◌, ◌≤◌, length, [], All};
 ghost use Rattle.street_base.specs.declared.net.NetSpec.{NetSpec};
-ghost use Rattle.street_base.specs.Limits.{last_clock};
-ghost use Rattle.street_base.specs.State.{Traffic};
-ghost use Rattle.street_lanes.specs.Lanes.{IsLane};
-ghost use Rattle.street_tile.specs.HandOvers.{all_handed, received};
-ghost use Rattle.street_tile.specs.Hinted.{KeepsHints};
-ghost use Rattle.street_tile.specs.Parts.{MayWork, DoesWork};
-ghost use Rattle.street_tile.specs.Phases.{LanePhase, MotionPhase, ReleasePhase, EnterPhase, MeterPhase, Then};
-ghost use Rattle.street_tile.specs.Steps.{MayStep, Steps};
-ghost use Rattle.street_tile.specs.Tiles.{IsTileOf, IsPrepared, Each, AreTiles, AllStand, Shows, ShowsOwn, nobody};
+ghost use Rattle.street_base.specs.Prelude.{last_clock, Traffic};
+ghost use Rattle.street_lanes.specs.Prelude.{IsLane};
+ghost use Rattle.street_tile.specs.Prelude.{all_handed, received, KeepsHints, MayWork, DoesWork, LanePhase, MotionPhase, ReleasePhase, EnterPhase, MeterPhase, Then, MayStep, Steps, IsTileOf, IsPrepared, Each, AreTiles, AllStand, Shows, ShowsOwn, nobody};
 
-use crate::lendings::{drive, release, settle};
-use crate::step::{move_all, publish};
+use crate::hand_over::move_all;
+use crate::mouths::publish;
+use crate::step::{drive, release, settle};
 use crate::{Gate, Hints, Tile, View};
 use std::marker::{Brand, PhantomData};
 use std::sync::Wait;

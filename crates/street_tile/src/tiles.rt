@@ -5,22 +5,10 @@
 //!
 //! Source: this profile.
 ghost use Rattle.std.specs.Prelude.{◌≡◌, ◌+◌, ◌<◌, ◌≤◌, length, min, option_map, slice_get, IfOk, OnOk, OnErr};
-ghost use Rattle.street_base.specs.Census.{in_lane, IsSound};
-ghost use Rattle.street_base.specs.Closing.{with_marks};
-ghost use Rattle.street_base.specs.Effects.{metered};
-ghost use Rattle.street_base.specs.Limits.{last_clock, most_period, most_vehicles};
-ghost use Rattle.street_base.specs.Machine.{loaded, with_waiting, closed_after};
-ghost use Rattle.street_base.specs.Network.{link_at};
-ghost use Rattle.street_base.specs.Shown.{shown_lane, shown_rows, in_cells, in_buffers, in_wait};
-ghost use Rattle.street_base.specs.Signal.{SignalPlan as PlanSeen};
-ghost use Rattle.street_base.specs.State.{Traffic, lane_at};
-ghost use Rattle.street_node.specs.Greens.{ShowsAs};
-ghost use Rattle.street_lanes.specs.Lanes.{IsLane};
-ghost use Rattle.street_lanes.specs.Lists.{HasShortPlan};
-ghost use Rattle.street_lanes.specs.Views.{waiting_of};
-ghost use Rattle.street_tile.specs.Commands.{at_place, planned};
-ghost use Rattle.street_tile.specs.TileDetectors.{detectors_on};
-ghost use Rattle.street_tile.specs.Together.{TilesStandFor, TilesGo, TilesKeep, NobodyArrived, OwnsLink};
+ghost use Rattle.street_base.specs.Prelude.{in_lane, IsSound, with_marks, metered, last_clock, most_period, most_vehicles, loaded, with_waiting, closed_after, link_at, shown_lane, shown_rows, in_cells, in_buffers, in_wait, SignalPlan as PlanSeen, Traffic, lane_at};
+ghost use Rattle.street_node.specs.Prelude.{ShowsAs};
+ghost use Rattle.street_lanes.specs.Prelude.{IsLane, HasShortPlan, waiting_of};
+ghost use Rattle.street_tile.specs.Prelude.{at_place, planned, detectors_on, TilesStandFor, TilesGo, TilesKeep, NobodyArrived, OwnsLink};
 
 use crate::cut::owner;
 use crate::{Hints, Tile, View};
@@ -54,7 +42,7 @@ impl Drop for Tiles {
 
 impl Model for Tiles {
     ghost use Rattle.std.specs.Prelude.{length};
-    ghost use Rattle.street_tile.specs.Together.{TilesView, AreKept};
+    ghost use Rattle.street_tile.specs.Prelude.{TilesView, AreKept};
 
     ghost Value = { TilesView };
 

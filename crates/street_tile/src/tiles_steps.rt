@@ -1,13 +1,9 @@
 //! Steps of all tiles, the memory for them, and those who arrived.
-ghost use Rattle.std.specs.Prelude.{◌≡◌, ◌<◌, length, [], None, slice_index_or, IfSome, OnOk};
-ghost use Rattle.std.specs.List.{All};
-ghost use Rattle.street_base.specs.Limits.{last_clock};
-ghost use Rattle.street_base.specs.State.{Traffic};
-ghost use Rattle.street_tile.specs.Steps.{Steps};
-ghost use Rattle.street_tile.specs.Tiles.{Part, IsPrepared, AreTiles};
-ghost use Rattle.street_tile.specs.Together.{TilesStandFor, TilesKeep, NobodyArrived, PreparesOne, TakesArrival, TakesArrivalOf};
+ghost use Rattle.std.specs.Prelude.{◌≡◌, ◌<◌, length, [], None, slice_index_or, IfSome, OnOk, All};
+ghost use Rattle.street_base.specs.Prelude.{last_clock, Traffic};
+ghost use Rattle.street_tile.specs.Prelude.{Steps, Part, IsPrepared, AreTiles, TilesStandFor, TilesKeep, NobodyArrived, PreparesOne, TakesArrival, TakesArrivalOf};
 
-use crate::lendings::step_by;
+use crate::step::step_by;
 use crate::tile_work::{TeamNetwork, TileWork, step_with};
 use crate::tiles::Tiles;
 use crate::{Gate, Tile};

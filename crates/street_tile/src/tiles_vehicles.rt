@@ -2,12 +2,9 @@
 //!
 //! Source: this profile.
 ghost use Rattle.std.specs.Prelude.{◌≡◌, ℕ, ◌<◌, length, true, false, IsSome, IfOk};
-ghost use Rattle.street_base.specs.Census.{IsSound, IsWhole};
-ghost use Rattle.street_base.specs.Machine.{seen};
-ghost use Rattle.street_base.specs.State.{Traffic};
-ghost use Rattle.street_lanes.specs.Lanes.{IsLane};
-ghost use Rattle.street_tile.specs.Commands.{without};
-ghost use Rattle.street_tile.specs.Together.{TilesStandFor, TilesGo, TileHasNot};
+ghost use Rattle.street_base.specs.Prelude.{IsSound, IsWhole, seen, Traffic};
+ghost use Rattle.street_lanes.specs.Prelude.{IsLane};
+ghost use Rattle.street_tile.specs.Prelude.{without, TilesStandFor, TilesGo, TileHasNot};
 
 use crate::tiles::Tiles;
 use std::alloc::Global;

@@ -2,14 +2,9 @@
 //!
 //! Source: this profile.
 ghost use Rattle.std.specs.Prelude.{◌≡◌, ◌<◌, length, count_by, is_some, option_map, None, true, IfOk, IfSome};
-ghost use Rattle.street_base.specs.Vehicle.{vehicle_of};
-ghost use Rattle.street_base.specs.State.{Traffic, lane_at};
-ghost use Rattle.street_base.specs.Census.{in_lane};
-ghost use Rattle.street_base.specs.Machine.{seen_in};
-ghost use Rattle.street_lanes.specs.Lanes.{IsLane, place_at};
-ghost use Rattle.street_lanes.specs.Whereabouts.{vehicle_on};
-ghost use Rattle.street_tile.specs.Tiles.{IsTileOf, StandsFor, is_own};
-ghost use Rattle.street_tile.specs.Commands.{without, DoesIf, HaveNot, Have, Hold, HaveAtMostOne, WhereOnce, Finds, FindsAt, over};
+ghost use Rattle.street_base.specs.Prelude.{vehicle_of, Traffic, lane_at, in_lane, seen_in};
+ghost use Rattle.street_lanes.specs.Prelude.{IsLane, place_at, vehicle_on};
+ghost use Rattle.street_tile.specs.Prelude.{IsTileOf, StandsFor, is_own, without, DoesIf, HaveNot, Have, Hold, HaveAtMostOne, WhereOnce, Finds, FindsAt, over};
 
 use crate::tile::Tile;
 use std::alloc::Global;
@@ -66,7 +61,10 @@ impl Tile {
         None
     }
 
-    /// Where a vehicle is on own lane `n`. Takes memory for the plan that it answers.
+    /// Where a vehicle is on own lane `n`, if it is there. Takes memory for the plan that it answers.
+    ///
+    /// # Errors
+    /// Memory for the plan was refused.
     fn find_at(
         &self,
         alloc: Global,

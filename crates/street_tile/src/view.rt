@@ -1,6 +1,6 @@
 //! Which lanes are open, as all tiles see it.
 ghost use Rattle.std.specs.Prelude.{◌≡◌, ◌*◌, ◌<◌, length, slice_set, IfOk};
-ghost use Rattle.street_net.specs.Slots.{slot_of};
+ghost use Rattle.street_net.specs.Prelude.{slot_of};
 
 use std::alloc::Global;
 use std::marker::Model;

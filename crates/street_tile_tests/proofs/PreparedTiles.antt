@@ -1,15 +1,10 @@
 -- Tiles with nobody on them, after they took the memory for a step.
-use Rattle.std.proofs.Common.{◌≡◌, ◌<◌, List, length, get_or, refl, sym, subst, arith}
-use Rattle.std.specs.Prelude.{All, None}
+use Rattle.std.proofs.Common.{◌≡◌, ◌<◌, List, length, get_or, refl, sym, subst, arith, All, None}
 use Rattle.street_base.specs.declared.net.NetSpec.{NetSpec}
-use Rattle.street_base.specs.Faults.{network_fault}
-use Rattle.street_base.specs.Limits.{last_clock}
-use Rattle.street_base.specs.State.{Traffic}
-use Rattle.street_base.specs.Machine.{loaded}
+use Rattle.street_base.specs.Prelude.{network_fault, last_clock, Traffic, loaded}
 use Rattle.street_base.proofs.LoadLemmas.{loaded-sound}
-use Rattle.street_lanes.specs.Whole.{IsOn}
-use Rattle.street_tile.specs.Commands.{KeepsAll}
-use Rattle.street_tile.specs.Tiles.{Part, AreTiles, AllStand, StandsFor, SameTile, Each, IsIdle, IsPrepared}
+use Rattle.street_lanes.specs.Prelude.{IsOn}
+use Rattle.street_tile.specs.Prelude.{KeepsAll, Part, AreTiles, AllStand, StandsFor, SameTile, Each, IsIdle, IsPrepared}
 use Rattle.street_tile.proofs.SameTile.{tile-none}
 use Rattle.street_tile.proofs.BetweenPhases.{tiles-same}
 

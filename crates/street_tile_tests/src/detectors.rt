@@ -1,7 +1,6 @@
 //! What the detectors of a lane note, with values known beforehand: a vehicle stands in cell 0.
-ghost use Rattle.std.specs.Prelude.{◌<◌, IfOk};
-ghost use Rattle.std.specs.List.{All};
-ghost use Rattle.street_base.specs.Limits.{last_clock};
+ghost use Rattle.std.specs.Prelude.{◌<◌, IfOk, All};
+ghost use Rattle.street_base.specs.Prelude.{last_clock};
 ghost use Rattle.street_meter.specs.Meter.{next_step};
 
 use crate::lanes::{one_lane, place};

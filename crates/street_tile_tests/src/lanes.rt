@@ -1,6 +1,6 @@
 //! Calls of the lanes of a tile; the expected values are reckoned by hand.
 ghost use Rattle.std.specs.Prelude.{◌≡◌, ◌<◌, ◌+◌, ◌∷◌, [], length, IfOk};
-ghost use Rattle.street_lanes.specs.Lists.{HasShortPlan};
+ghost use Rattle.street_lanes.specs.Prelude.{HasShortPlan};
 
 use std::alloc::{AllocError, Global};
 use std::process::Abort;

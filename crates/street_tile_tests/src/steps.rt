@@ -1,10 +1,7 @@
 //! A step of all tiles phase by phase, called as a caller of its own would.
-ghost use Rattle.std.specs.Prelude.{◌≤◌, ◌<◌, length, OnOk};
-ghost use Rattle.std.specs.List.{All};
-ghost use Rattle.street_base.specs.Limits.{last_clock};
-ghost use Rattle.street_base.specs.Machine.{loaded};
-ghost use Rattle.street_tile.specs.Commands.{KeepsAll};
-ghost use Rattle.street_tile.specs.Tiles.{AreTiles, StandsFor, IsIdle, IsPrepared, Each};
+ghost use Rattle.std.specs.Prelude.{◌≤◌, ◌<◌, length, OnOk, All};
+ghost use Rattle.street_base.specs.Prelude.{last_clock, loaded};
+ghost use Rattle.street_tile.specs.Prelude.{KeepsAll, AreTiles, StandsFor, IsIdle, IsPrepared, Each};
 
 use crate::meeting::{Calls, Meeting, Watched};
 use crate::scenes::two_ways;

@@ -1,5 +1,5 @@
 //! Calls of a whole tile, with values known beforehand.
-ghost use Rattle.street_tile.specs.Tiles.{IsTileOf};
+ghost use Rattle.street_tile.specs.Prelude.{IsTileOf};
 
 use crate::lanes::network;
 use std::alloc::Global;

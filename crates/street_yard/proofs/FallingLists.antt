@@ -1,18 +1,13 @@
 -- Where the keys of a falling list are.
-use Rattle.std.proofs.Common.{◌≡◌, ◌≢◌, ℕ, ◌-◌, ◌<◌, ◌≤◌, true, false, cond, List, [], ◌∷◌, ◌++◌, length, Option, Some, None, refl, sym, ap, subst, ◌∙◌, inl, inr, arith}
-use Rattle.std.specs.Prelude.{◌==◌, replicate}
-use Rattle.std.specs.Option.{option_map, option_and_then, unwrap_or}
+use Rattle.std.proofs.Common.{◌≡◌, ◌≢◌, ℕ, ◌-◌, ◌<◌, ◌≤◌, true, false, cond, List, [], ◌∷◌, ◌++◌, length, Option, Some, None, refl, sym, ap, subst, ◌∙◌, inl, inr, arith, ◌==◌, replicate, option_map, option_and_then, unwrap_or}
 use Rattle.std.proofs.lemmas.Bool.{cases_Bool, cases_eq, cases_lt, cond-true, cond-false, eq-eqb, ne_eqb}
 use Rattle.std.proofs.lemmas.List.{get_or_past, get_or-replicate, length-replicate}
 use Rattle.std.proofs.lemmas.List.FromFn.{get_or-map-range_with_len, length-map-range_with_len, fill_by_all}
 use Rattle.street_base.specs.declared.car.Car.{Car}
-use Rattle.street_yard.specs.Yard.{Yard, list_at, entry_at, car_of, Has, IsWhole}
-use Rattle.street_base.specs.Vehicle.{Vehicle, vehicle_of}
-use Rattle.street_base.specs.Lane.{vehicle_at, rear, is_covered}
-use Rattle.street_base.specs.Apart.{AreDisjoint}
+use Rattle.street_yard.specs.Prelude.{Yard, list_at, entry_at, car_of, Has, IsWhole, cell_at, rear_at, vehicle_with, key_at, seen_at, cells_at, IsFalling, IsLane, AllAbove}
+use Rattle.street_base.specs.Prelude.{Vehicle, vehicle_of, vehicle_at, rear, is_covered, AreDisjoint}
 use Rattle.street_base.proofs.ApartLemmas.{nobody-apart}
 use Rattle.street_base.proofs.CoverLemmas.{rear-le, covered-run, covered-by}
-use Rattle.street_yard.specs.Listed.{cell_at, rear_at, vehicle_with, key_at, seen_at, cells_at, IsFalling, IsLane, AllAbove}
 use Rattle.street_yard.proofs.Keys.{has-later}
 use Rattle.street_yard.proofs.YardLemmas.{some_car, on_has_entry}
 

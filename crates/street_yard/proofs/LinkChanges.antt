@@ -1,20 +1,18 @@
 -- What taking a key out of a list and putting it into one leave, and what the lists are that the links stand for.
-use Rattle.std.proofs.Common.{◌≡◌, ◌≢◌, ℕ, ◌<◌, ◌≤◌, true, false, eqb, List, [], ◌∷◌, ◌++◌, length, get_or, set, Option, Some, None, IsSome, refl, sym, ap, ◌∙◌, inl, inr, arith}
-use Rattle.std.specs.Option.{option_map}
+use Rattle.std.proofs.Common.{◌≡◌, ◌≢◌, ℕ, ◌<◌, ◌≤◌, true, false, eqb, List, [], ◌∷◌, ◌++◌, length, get_or, set, Option, Some, None, IsSome, refl, sym, ap, ◌∙◌, inl, inr, arith, option_map}
 use Rattle.std.specs.List.{IsDistinct, list_any, AllByRecursion}
 use Rattle.std.proofs.lemmas.Bool.{cases_eq}
 use Rattle.std.proofs.lemmas.Bool.Decides.{eqb_tells}
 use Rattle.std.proofs.lemmas.List.{append_assoc, length-map, ext_get_or, get_or-map}
 use Rattle.std.proofs.lemmas.Map.Steps.{length-le_from_distinct_below}
-use Rattle.street_yard.specs.declared.sides.Sides.{Sides}
+use Rattle.street_yard.specs.declared.list_table.ListRow.{ListRow}
 use Rattle.street_yard.specs.declared.hot.Hot.{Hot}
 use Rattle.street_yard.specs.declared.yard.Slot.{Slot}
-use Rattle.street_yard.specs.Yard.{first_or, last_or, Has, Away, IsApart}
-use Rattle.street_yard.specs.Thread.{Links, LinksAt, linked, list_of, IsList, no_sides, StandsFor, walk, rejoined, unlinked_at, sides_joined, inserted_at}
+use Rattle.street_yard.specs.Prelude.{first_or, last_or, Has, Away, IsApart, Links, LinksAt, linked, list_of, IsList, no_row, StandsFor, walk, rejoined, unlinked_at, row_joined, inserted_at}
 use Rattle.street_yard.specs.Inside.{links_at, lists_of, slot_in, hot_at}
 use Rattle.street_yard.proofs.Keys.{Away-append, IsApart-split, IsApart-join, last_or-append}
 use Rattle.street_yard.proofs.Threads.{modify-same, modify-other, modify-was, IsThread-split, IsThread-join, IsThread-Away, IsThread-modify, walk-thread}
-use Rattle.street_yard.proofs.Rejoined.{IsThread-has, StandsFor-changed, rejoined-other, list_of-rejoined, rejoined-parts, sides-front, sides-back, sides-count, IsOn-first, IsOn-last}
+use Rattle.street_yard.proofs.Rejoined.{IsThread-has, StandsFor-changed, rejoined-other, list_of-rejoined, rejoined-parts, row-front, row-back, row-count, IsOn-first, IsOn-last}
 
 pub Has-other : (us : List ℕ) (key : ℕ) (vs : List ℕ) (k : ℕ) → k ≢ key → Has (us ++ key ∷ vs) k → Has (us ++ vs) k
 Has-other [] key vs k ne ([], bs, e) = absurd (let f : k ≡ key = cc in ne f)
@@ -38,9 +36,9 @@ list_of-const l None e = refl
 list_of-const l (Some _) e = e
 
 -- the key has left its list
-pub StandsFor-unlink : (at : LinksAt) (sides : List Sides) (lists : List (List ℕ)) (n key : ℕ) (us vs : List ℕ) (count : ℕ) → count ≡ length (us ++ vs) → n < length sides → StandsFor at sides lists → get_or lists n [] ≡ us ++ key ∷ vs → StandsFor (unlinked_at at key us vs) (set sides n (sides_joined (get_or sides n no_sides) count (last_or us None) (first_or vs None) (first_or vs None) (last_or us None))) (set lists n (us ++ vs))
-StandsFor-unlink at sides lists n key us vs count counts within y is =
-    let e = get_or sides n no_sides in
+pub StandsFor-unlink : (at : LinksAt) (rows : List ListRow) (lists : List (List ℕ)) (n key : ℕ) (us vs : List ℕ) (count : ℕ) → count ≡ length (us ++ vs) → n < length rows → StandsFor at rows lists → get_or lists n [] ≡ us ++ key ∷ vs → StandsFor (unlinked_at at key us vs) (set rows n (row_joined (get_or rows n no_row) count (last_or us None) (first_or vs None) (first_or vs None) (last_or us None))) (set lists n (us ++ vs))
+StandsFor-unlink at rows lists n key us vs count counts within y is =
+    let e = get_or rows n no_row in
     let p = last_or us None in
     let q = first_or vs None in
     let was : IsList at n (us ++ key ∷ vs) e = rw is at (y.each n within) in
@@ -54,12 +52,12 @@ StandsFor-unlink at sides lists n key us vs count counts within y is =
     let key_on : list_of (at key) ≡ Some n = ap list_of parts.1.0 in
     let gone : list_of (now key) ≡ None = ap list_of (modify-same joined key (λ _. linked None None None)) ∙ list_of-const _ (joined key) refl in
     let lists_stay : (k : ℕ) → k ≢ key → list_of (now k) ≡ list_of (at k) = λ k ne. ap list_of (modify-other joined key _ k ne) ∙ list_of-rejoined at p q q p k in
-    StandsFor-changed at now sides lists n (us ++ vs) (sides_joined e count p q q p) within y
+    StandsFor-changed at now rows lists n (us ++ vs) (row_joined e count p q q p) within y
     (record {
       thread = IsThread-join now n None us vs None (IsThread-modify joined n key _ None us q apart.0 both.0) (IsThread-modify joined n key _ p vs None apart.1 both.1);
-      front = sides-front (record e { count = count }) us vs (key ∷ vs) q q p was.front refl;
-      back = sides-back (record e { count = count }) vs us (us ++ key ∷ []) p q p (was.back ∙ ap (λ l. last_or l None) (sym (append_assoc us (key ∷ []) vs))) refl;
-      counted = sides-count (record e { count = count }) p q q p ∙ counts;
+      front = row-front (record e { count = count }) us vs (key ∷ vs) q q p was.front refl;
+      back = row-back (record e { count = count }) vs us (us ++ key ∷ []) p q p (was.back ∙ ap (λ l. last_or l None) (sym (append_assoc us (key ∷ []) vs))) refl;
+      counted = row-count (record e { count = count }) p q q p ∙ counts;
       distinct = apart.2;
     })
     (λ k m ne h.
@@ -77,9 +75,9 @@ StandsFor-unlink at sides lists n key us vs count counts within y is =
           Has-other us key vs k differs old
     ])
 
-pub StandsFor-insert : (at : LinksAt) (sides : List Sides) (lists : List (List ℕ)) (n key : ℕ) (us vs : List ℕ) (count : ℕ) (l : Links) → count ≡ length (us ++ key ∷ vs) → n < length sides → StandsFor at sides lists → get_or lists n [] ≡ us ++ vs → at key ≡ Some l → l.list ≡ None → StandsFor (inserted_at at n key us vs) (set sides n (sides_joined (get_or sides n no_sides) count (last_or us None) (first_or vs None) (Some key) (Some key))) (set lists n (us ++ key ∷ vs))
-StandsFor-insert at sides lists n key us vs count l counts within y is here loose =
-    let e = get_or sides n no_sides in
+pub StandsFor-insert : (at : LinksAt) (rows : List ListRow) (lists : List (List ℕ)) (n key : ℕ) (us vs : List ℕ) (count : ℕ) (l : Links) → count ≡ length (us ++ key ∷ vs) → n < length rows → StandsFor at rows lists → get_or lists n [] ≡ us ++ vs → at key ≡ Some l → l.list ≡ None → StandsFor (inserted_at at n key us vs) (set rows n (row_joined (get_or rows n no_row) count (last_or us None) (first_or vs None) (Some key) (Some key))) (set lists n (us ++ key ∷ vs))
+StandsFor-insert at rows lists n key us vs count l counts within y is here loose =
+    let e = get_or rows n no_row in
     let p = last_or us None in
     let q = first_or vs None in
     let was : IsList at n (us ++ vs) e = rw is at (y.each n within) in
@@ -95,12 +93,12 @@ StandsFor-insert at sides lists n key us vs count l counts within y is here loos
     let stays : joined key ≡ Some l = rejoined-other at n p q (Some key) (Some key) key on_p on_q key_off ∙ here in
     let new : now key ≡ Some (linked p q (Some n)) = modify-was joined key _ l stays in
     let lists_stay : (k : ℕ) → k ≢ key → list_of (now k) ≡ list_of (at k) = λ k ne. ap list_of (modify-other joined key _ k ne) ∙ list_of-rejoined at p q (Some key) (Some key) k in
-    StandsFor-changed at now sides lists n (us ++ key ∷ vs) (sides_joined e count p q (Some key) (Some key)) within y
+    StandsFor-changed at now rows lists n (us ++ key ∷ vs) (row_joined e count p q (Some key) (Some key)) within y
     (record {
       thread = IsThread-join now n None us (key ∷ vs) None (IsThread-modify joined n key _ None us (Some key) away.0 both.0) (new, IsThread-modify joined n key _ (Some key) vs None away.1 both.1);
-      front = sides-front (record e { count = count }) us (key ∷ vs) vs (Some key) q (Some key) was.front refl;
-      back = sides-back (record e { count = count }) vs (us ++ key ∷ []) us p (Some key) (Some key) was.back (sym (last_or-append us (key ∷ []) None)) ∙ ap (λ l. last_or l None) (append_assoc us (key ∷ []) vs);
-      counted = sides-count (record e { count = count }) p q (Some key) (Some key) ∙ counts;
+      front = row-front (record e { count = count }) us (key ∷ vs) vs (Some key) q (Some key) was.front refl;
+      back = row-back (record e { count = count }) vs (us ++ key ∷ []) us p (Some key) (Some key) was.back (sym (last_or-append us (key ∷ []) None)) ∙ ap (λ l. last_or l None) (append_assoc us (key ∷ []) vs);
+      counted = row-count (record e { count = count }) p q (Some key) (Some key) ∙ counts;
       distinct = IsApart-join us key vs away.0 away.1 was.distinct;
     })
     (λ k m ne h.
@@ -155,12 +153,12 @@ module _ (hots : List Hot) (slots : List (Option Slot)) (within : (k : ℕ) → 
   pub keys-few : (xs : List ℕ) → IsApart xs → ((k : ℕ) → Has xs k → k < length hots) → length xs ≤ length hots
   keys-few xs apart below = length-le_from_distinct_below xs (length hots) (IsDistinct-from_apart xs apart) (λ k h. below k (Has-from_list_any xs k h))
 
-  pub lists_of-stands : (sides : List Sides) (lists : List (List ℕ)) → StandsFor (links_at hots slots) sides lists → lists_of hots slots sides ≡ lists
-  lists_of-stands sides lists y =
-      let find : Sides → List ℕ = λ e. walk (links_at hots slots) (length hots) e.front in
-      ext_get_or [] (lists_of hots slots sides) lists (length-map sides find ∙ sym y.count) (λ i lt.
-      let lt' : i < length sides = omega (arith, length-map sides find) in
+  pub lists_of-stands : (rows : List ListRow) (lists : List (List ℕ)) → StandsFor (links_at hots slots) rows lists → lists_of hots slots rows ≡ lists
+  lists_of-stands rows lists y =
+      let find : ListRow → List ℕ = λ e. walk (links_at hots slots) (length hots) e.front in
+      ext_get_or [] (lists_of hots slots rows) lists (length-map rows find ∙ sym y.count) (λ i lt.
+      let lt' : i < length rows = omega (arith, length-map rows find) in
       let l = y.each i lt' in
       let xs = get_or lists i [] in
       let small : length xs ≤ length hots = keys-few xs l.distinct (λ k h. on_below k i (IsThread-has (links_at hots slots) i None xs None k h l.thread)) in
-      get_or-map find sides i no_sides [] lt' ∙ ap (walk (links_at hots slots) (length hots)) l.front ∙ walk-thread (links_at hots slots) i (length hots) None xs small l.thread)
+      get_or-map find rows i no_row [] lt' ∙ ap (walk (links_at hots slots) (length hots)) l.front ∙ walk-thread (links_at hots slots) i (length hots) None xs small l.thread)

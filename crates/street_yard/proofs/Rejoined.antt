@@ -1,11 +1,9 @@
 -- What a relinked key leaves of the lists.
-use Rattle.std.proofs.Common.{◌≡◌, ◌≢◌, ℕ, ◌<◌, List, [], ◌∷◌, ◌++◌, length, set, Option, Some, None, refl, sym, ap, ◌∙◌, inl, inr, arith}
-use Rattle.std.specs.Option.{option_map}
+use Rattle.std.proofs.Common.{◌≡◌, ◌≢◌, ℕ, ◌<◌, List, [], ◌∷◌, ◌++◌, length, set, Option, Some, None, refl, sym, ap, ◌∙◌, inl, inr, arith, option_map}
 use Rattle.std.proofs.lemmas.Bool.{cases_eq}
 use Rattle.std.proofs.lemmas.List.{append_assoc, get_or-set_same, get_or-set_other, length-set}
-use Rattle.street_yard.specs.declared.sides.Sides.{Sides}
-use Rattle.street_yard.specs.Yard.{first_or, last_or, Has, IsApart}
-use Rattle.street_yard.specs.Thread.{Links, LinksAt, list_of, IsThread, IsList, no_sides, StandsFor, modify, set_behind, set_ahead, AwayFrom, rejoined, sides_behind, sides_ahead}
+use Rattle.street_yard.specs.declared.list_table.ListRow.{ListRow}
+use Rattle.street_yard.specs.Prelude.{first_or, last_or, Has, IsApart, Links, LinksAt, list_of, IsThread, IsList, no_row, StandsFor, modify, set_behind, set_ahead, AwayFrom, rejoined, row_behind, row_ahead}
 use Rattle.street_yard.proofs.Keys.{Away-append, IsApart-split, snoc_cases, last_or-push, last_or-append}
 use Rattle.street_yard.proofs.Threads.{modify-same, modify-other, IsThread-at, IsThread-same, IsThread-set_behind, IsThread-set_ahead, IsThread-behind, IsThread-ahead}
 
@@ -14,24 +12,24 @@ IsThread-has at n p xs q k h t =
     let t' : IsThread at n p (h.0 ++ k ∷ h.1) q = rw h.2 at t in
     ap list_of (IsThread-at at n p h.0 k h.1 q t')
 
-pub IsList-same : (at now : LinksAt) (n : ℕ) (xs : List ℕ) (e : Sides) → ((k : ℕ) → Has xs k → now k ≡ at k) → IsList at n xs e → IsList now n xs e
+pub IsList-same : (at now : LinksAt) (n : ℕ) (xs : List ℕ) (e : ListRow) → ((k : ℕ) → Has xs k → now k ≡ at k) → IsList at n xs e → IsList now n xs e
 IsList-same at now n xs e same l =
     record { thread = IsThread-same at now n None xs None same l.thread; front = l.front; back = l.back; counted = l.counted; distinct = l.distinct }
 
 -- one list is another, and the keys of the other lists keep their links
-pub StandsFor-changed : (at now : LinksAt) (sides : List Sides) (lists : List (List ℕ)) (n : ℕ) (xs : List ℕ) (e : Sides) → n < length sides → StandsFor at sides lists → IsList now n xs e → ((k m : ℕ) → m ≢ n → list_of (at k) ≡ Some m → now k ≡ at k) → ((k m : ℕ) → m ≢ n → list_of (now k) ≡ Some m → list_of (at k) ≡ Some m) → ((k : ℕ) → list_of (now k) ≡ Some n → Has xs k) → StandsFor now (set sides n e) (set lists n xs)
-StandsFor-changed at now sides lists n xs e within y list others back here =
+pub StandsFor-changed : (at now : LinksAt) (rows : List ListRow) (lists : List (List ℕ)) (n : ℕ) (xs : List ℕ) (e : ListRow) → n < length rows → StandsFor at rows lists → IsList now n xs e → ((k m : ℕ) → m ≢ n → list_of (at k) ≡ Some m → now k ≡ at k) → ((k m : ℕ) → m ≢ n → list_of (now k) ≡ Some m → list_of (at k) ≡ Some m) → ((k : ℕ) → list_of (now k) ≡ Some n → Has xs k) → StandsFor now (set rows n e) (set lists n xs)
+StandsFor-changed at now rows lists n xs e within y list others back here =
     let within' : n < length lists = omega (arith, y.count) in
     record {
-      count = length-set lists n xs ∙ y.count ∙ sym (length-set sides n e);
+      count = length-set lists n xs ∙ y.count ∙ sym (length-set rows n e);
       each = λ m lt.
-          let lt' : m < length sides = omega (arith, length-set sides n e) in
+          let lt' : m < length rows = omega (arith, length-set rows n e) in
           elim (cases_eq m n) [
-            | inl same ↦ rw (same, get_or-set_same lists n xs [] within', get_or-set_same sides n e no_sides within) list
+            | inl same ↦ rw (same, get_or-set_same lists n xs [] within', get_or-set_same rows n e no_row within) list
             | inr ne ↦
                 let old = y.each m lt' in
                 rw
-                (get_or-set_other lists n m xs [] ne, get_or-set_other sides n m e no_sides ne)
+                (get_or-set_other lists n m xs [] ne, get_or-set_other rows n m e no_row ne)
                 (IsList-same at now m _ _ (λ k h. others k m ne (IsThread-has at m None _ None k h old.thread)) old)
           ];
       placed = λ k m h.
@@ -131,31 +129,31 @@ IsOn-last at n us r t =
           rw (s.2, last_or-push s.0 s.1 None) (ap list_of (IsThread-at at n None s.0 s.1 [] r t'))
     ]
 
-sides_ahead-front : (e : Sides) (q y : Option ℕ) → (sides_ahead e q y).front ≡ e.front
-sides_ahead-front e None y = refl
-sides_ahead-front e (Some _) y = refl
+row_ahead-front : (e : ListRow) (q y : Option ℕ) → (row_ahead e q y).front ≡ e.front
+row_ahead-front e None y = refl
+row_ahead-front e (Some _) y = refl
 
-sides_behind-back : (e : Sides) (q y : Option ℕ) → (sides_behind e q y).back ≡ e.back
-sides_behind-back e None y = refl
-sides_behind-back e (Some _) y = refl
+row_behind-back : (e : ListRow) (q y : Option ℕ) → (row_behind e q y).back ≡ e.back
+row_behind-back e None y = refl
+row_behind-back e (Some _) y = refl
 
-pub sides-count : (e : Sides) (p q x y : Option ℕ) → (sides_ahead (sides_behind e p x) q y).count ≡ e.count
-sides-count e None None x y = refl
-sides-count e None (Some _) x y = refl
-sides-count e (Some _) None x y = refl
-sides-count e (Some _) (Some _) x y = refl
+pub row-count : (e : ListRow) (p q x y : Option ℕ) → (row_ahead (row_behind e p x) q y).count ≡ e.count
+row-count e None None x y = refl
+row-count e None (Some _) x y = refl
+row-count e (Some _) None x y = refl
+row-count e (Some _) (Some _) x y = refl
 
 last_or-some : (us : List ℕ) (u : ℕ) → (a : ℕ) × (last_or us (Some u) ≡ Some a)
 last_or-some [] u = (u, refl)
 last_or-some (x ∷ us) u = last_or-some us x
 
-pub sides-front : (e : Sides) (us zs ws : List ℕ) (x q y : Option ℕ) → e.front ≡ first_or (us ++ ws) None → x ≡ first_or zs None → (sides_ahead (sides_behind e (last_or us None) x) q y).front ≡ first_or (us ++ zs) None
-sides-front e [] zs ws x q y was is = sides_ahead-front _ q y ∙ is
-sides-front e (u ∷ us) zs ws x q y was is =
+pub row-front : (e : ListRow) (us zs ws : List ℕ) (x q y : Option ℕ) → e.front ≡ first_or (us ++ ws) None → x ≡ first_or zs None → (row_ahead (row_behind e (last_or us None) x) q y).front ≡ first_or (us ++ zs) None
+row-front e [] zs ws x q y was is = row_ahead-front _ q y ∙ is
+row-front e (u ∷ us) zs ws x q y was is =
     let s = last_or-some us u in
-    sides_ahead-front _ q y ∙ ap (λ o. (sides_behind e o x).front) s.1 ∙ was
+    row_ahead-front _ q y ∙ ap (λ o. (row_behind e o x).front) s.1 ∙ was
 
-pub sides-back : (e : Sides) (vs zs ws : List ℕ) (p x y : Option ℕ) → e.back ≡ last_or (ws ++ vs) None → y ≡ last_or zs None → (sides_ahead (sides_behind e p x) (first_or vs None) y).back ≡ last_or (zs ++ vs) None
-sides-back e [] zs ws p x y was is = is ∙ sym (last_or-append zs [] None)
-sides-back e (v ∷ vs) zs ws p x y was is =
-    sides_behind-back e p x ∙ was ∙ last_or-append ws (v ∷ vs) None ∙ sym (last_or-append zs (v ∷ vs) None)
+pub row-back : (e : ListRow) (vs zs ws : List ℕ) (p x y : Option ℕ) → e.back ≡ last_or (ws ++ vs) None → y ≡ last_or zs None → (row_ahead (row_behind e p x) (first_or vs None) y).back ≡ last_or (zs ++ vs) None
+row-back e [] zs ws p x y was is = is ∙ sym (last_or-append zs [] None)
+row-back e (v ∷ vs) zs ws p x y was is =
+    row_behind-back e p x ∙ was ∙ last_or-append ws (v ∷ vs) None ∙ sym (last_or-append zs (v ∷ vs) None)

@@ -1,9 +1,8 @@
 -- A car takes another key.
-use Rattle.std.proofs.Common.{◌≡◌, ◌≢◌, ℕ, zero, suc, ◌+◌, ◌<◌, false, List, [], ◌∷◌, ◌++◌, length, get_or, set, IsSomeAnd, Option, Some, None, refl, sym, ap, subst, ◌∙◌, inl, inr, arith}
-use Rattle.std.specs.Option.{option_map, option_and_then}
+use Rattle.std.proofs.Common.{◌≡◌, ◌≢◌, ℕ, zero, suc, ◌+◌, ◌<◌, false, List, [], ◌∷◌, ◌++◌, length, get_or, set, IsSomeAnd, Option, Some, None, refl, sym, ap, subst, ◌∙◌, inl, inr, arith, option_map, option_and_then}
 use Rattle.std.proofs.lemmas.List.{append_assoc, get_or-set_other, length-set}
 use Rattle.street_base.specs.declared.car.Car.{Car}
-use Rattle.street_yard.specs.Yard.{YardEntry, Yard, list_at, entry_at, car_of, list_on, list_set, without, put_behind, last_or, Has, Away, IsApart, IsLoose, IsOnList, IsAhead, IsWhole, Updates, Renews}
+use Rattle.street_yard.specs.Prelude.{YardEntry, Yard, list_at, entry_at, car_of, list_on, list_set, without, put_behind, last_or, Has, Away, IsApart, IsLoose, IsOnList, IsAhead, IsWhole, Updates, Renews}
 use Rattle.street_yard.proofs.Keys.{has-away, snoc_cases, last_or-push, put_behind-last}
 use Rattle.street_yard.proofs.YardLemmas.{entry-gone, entry-kept_set, entry-kept_set_other, car_of-list_set, parts_apart, split-within, without-is, list-written}
 

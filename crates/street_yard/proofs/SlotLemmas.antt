@@ -1,18 +1,14 @@
 -- A slot is made, gets a car, or loses it.
-use Rattle.std.proofs.Common.{◌≡◌, ◌≢◌, ℕ, ◌+◌, ◌<◌, ◌≤◌, Bool, true, false, List, [], ◌∷◌, ◌++◌, length, set, replicate, IsSome, IsSomeAnd, Option, Some, None, refl, sym, ap, subst, ◌∙◌, inl, inr, arith}
-use Rattle.std.specs.Option.{option_map, option_and_then}
-use Rattle.std.specs.Prelude.{is_some, is_ok, not, Result, Ok, Err, vec_capacity, if◌then◌else◌}
-use Rattle.std.specs.Result.{is_err}
+use Rattle.std.proofs.Common.{◌≡◌, ◌≢◌, ℕ, ◌+◌, ◌<◌, ◌≤◌, Bool, true, false, List, [], ◌∷◌, ◌++◌, length, set, replicate, IsSome, IsSomeAnd, Option, Some, None, refl, sym, ap, subst, ◌∙◌, inl, inr, arith, option_map, option_and_then, is_some, is_ok, not, Result, Ok, Err, vec_capacity, if◌then◌else◌, is_err}
 use Rattle.std.proofs.lemmas.Bool.{cases_eq, cases_lt}
 use Rattle.std.proofs.lemmas.List.{append-nil, append_assoc, length-append, length-set, length-replicate, get_or_past, get_or_append_left}
 use Rattle.street_base.specs.declared.car.Car.{Car}
 use Rattle.street_yard.specs.declared.hot.Hot.{Hot}
 use Rattle.street_yard.specs.declared.hot.Cold.{Cold}
-use Rattle.street_yard.specs.declared.sides.Sides.{Sides}
+use Rattle.street_yard.specs.declared.list_table.ListRow.{ListRow}
 use Rattle.street_yard.specs.declared.yard.Slot.{Slot}
 use Rattle.street_yard.specs.declared.yard.Yard.TheInside.{Inside}
-use Rattle.street_yard.specs.Yard.{YardEntry, Yard, entry_at, list_on, Has, Away, IsApart, IsLoose, Updates}
-use Rattle.street_yard.specs.Thread.{linked, list_of, no_sides, StandsFor}
+use Rattle.street_yard.specs.Prelude.{YardEntry, Yard, entry_at, list_on, Has, Away, IsApart, IsLoose, Updates, linked, list_of, no_row, StandsFor}
 use Rattle.street_yard.specs.Inside.{no_hot, hot_at, slot_in, links_at, Core, core, kept_of, kept_with, kept_at, kept_in, lists_of, seen, link_after, FitsSlot, vacant, IsLaidOut, IsSound}
 use Rattle.street_yard.proofs.Keys.{has_or_away, has-away, IsApart-split, IsApart-join}
 use Rattle.street_yard.proofs.LinkChanges.{Has-other, keys-few, lists_of-stands}
@@ -84,17 +80,17 @@ module _ (y : Inside) (v : Yard) (key : ℕ) (s : IsSound y) (is_v : seen y ≡ 
     kept_stays : (j : ℕ) → j ≢ key → kept_at y.hots taken_slots j ≡ kept_at y.hots y.slots.slots j
     kept_stays j ne = ap (kept_with (core (hot_at y.hots j))) (taken_other j ne)
 
-    taken_stands : StandsFor (links_at y.hots taken_slots) y.sides (lists_of y.hots y.slots.slots y.sides)
+    taken_stands : StandsFor (links_at y.hots taken_slots) y.rows (lists_of y.hots y.slots.slots y.rows)
     taken_stands =
-        StandsFor-loose (links_at y.hots y.slots.slots) (links_at y.hots taken_slots) y.sides _ key s.stands
+        StandsFor-loose (links_at y.hots y.slots.slots) (links_at y.hots taken_slots) y.rows _ key s.stands
         (ap list_of (links_of-seen y key taken_key.0 taken_key.2) ∙ taken_key.4)
         (ap (λ o. list_of (option_map (λ (p : Slot). linked (hot_at y.hots key).ahead (hot_at y.hots key).behind p.list) o)) taken_here)
         (λ k ne. ap (option_map (λ (p : Slot). linked (hot_at y.hots k).ahead (hot_at y.hots k).behind p.list)) (taken_other k ne))
 
-    taken_lists : lists_of y.hots taken_slots y.sides ≡ lists_of y.hots y.slots.slots y.sides
-    taken_lists = lists_of-stands y.hots taken_slots taken_within y.sides _ taken_stands
+    taken_lists : lists_of y.hots taken_slots y.rows ≡ lists_of y.hots y.slots.slots y.rows
+    taken_lists = lists_of-stands y.hots taken_slots taken_within y.rows _ taken_stands
 
-    pub taken-sound : IsLaidOut y.hots taken_slots spare' y.reached capacity' y.sides
+    pub taken-sound : IsLaidOut y.hots taken_slots spare' y.reached capacity' y.rows
     taken-sound = record {
       stands = rw taken_lists taken_stands;
       within = taken_within;
@@ -116,9 +112,9 @@ module _ (y : Inside) (v : Yard) (key : ℕ) (s : IsSound y) (is_v : seen y ≡ 
       holds_all = holds;
     }
 
-    pub taken-seen : ◌≡◌ {A = Yard} (record { lists = lists_of y.hots taken_slots y.sides; kept = kept_in y.hots taken_slots y.reached; room = length spare' }) (record v { kept = set v.kept key None; room = v.room + 1 })
+    pub taken-seen : ◌≡◌ {A = Yard} (record { lists = lists_of y.hots taken_slots y.rows; kept = kept_in y.hots taken_slots y.reached; room = length spare' }) (record v { kept = set v.kept key None; room = v.room + 1 })
     taken-seen =
-        subst (λ w. ◌≡◌ {A = Yard} (record { lists = lists_of y.hots taken_slots y.sides; kept = kept_in y.hots taken_slots y.reached; room = length spare' }) (record w { kept = set w.kept key None; room = w.room + 1 })) is_v
+        subst (λ w. ◌≡◌ {A = Yard} (record { lists = lists_of y.hots taken_slots y.rows; kept = kept_in y.hots taken_slots y.reached; room = length spare' }) (record w { kept = set w.kept key None; room = w.room + 1 })) is_v
         (yard-same _ _ _ _ _ _ taken_lists (kept_in-set y.hots y.hots y.slots.slots taken_slots y.reached key None kept_stays (λ _. kept_gone)) (ap length spare_is ∙ length-append y.spare.items (key ∷ [])))
 
 -- the rest of a car
@@ -182,20 +178,20 @@ module _ (y : Inside) (v : Yard) (key : ℕ) (s : IsSound y) (is_v : seen y ≡ 
       | inr ne ↦ (let b = s.below k (subst IsSome (kept_rest k ne) h) in omega arith)
     ]
 
-    new_stands : StandsFor (links_at new_hots new_slots) y.sides (lists_of y.hots y.slots.slots y.sides)
+    new_stands : StandsFor (links_at new_hots new_slots) y.rows (lists_of y.hots y.slots.slots y.rows)
     new_stands =
-        StandsFor-loose (links_at y.hots y.slots.slots) (links_at new_hots new_slots) y.sides _ key s.stands
+        StandsFor-loose (links_at y.hots y.slots.slots) (links_at new_hots new_slots) y.rows _ key s.stands
         (ap list_of (links_of-seen y key vacant spare_slot))
         (ap (λ o. list_of (option_map (λ (p : Slot). linked (hot_at new_hots key).ahead (hot_at new_hots key).behind p.list) o)) new_here)
         (λ k ne. ap (λ (h : Hot). option_map (λ (p : Slot). linked h.ahead h.behind p.list) (slot_in new_slots k)) (hot-other y.hots key new_hot k ne) ∙ ap (option_map (λ (p : Slot). linked (hot_at y.hots k).ahead (hot_at y.hots k).behind p.list)) (new_other k ne))
 
-    lists_stay : lists_of new_hots new_slots y.sides ≡ lists_of y.hots y.slots.slots y.sides
-    lists_stay = lists_of-stands new_hots new_slots new_within y.sides _ new_stands
+    lists_stay : lists_of new_hots new_slots y.rows ≡ lists_of y.hots y.slots.slots y.rows
+    lists_stay = lists_of-stands new_hots new_slots new_within y.rows _ new_stands
 
-    set_lists : lists_of new_hots new_slots y.sides ≡ v.lists
+    set_lists : lists_of new_hots new_slots y.rows ≡ v.lists
     set_lists = lists_stay ∙ ap (λ (w : Yard). w.lists) is_v
 
-    set_sound : IsLaidOut new_hots new_slots rest reached' capacity' y.sides
+    set_sound : IsLaidOut new_hots new_slots rest reached' capacity' y.rows
     set_sound = record {
       stands = rw lists_stay new_stands;
       within = new_within;
@@ -211,7 +207,7 @@ module _ (y : Inside) (v : Yard) (key : ℕ) (s : IsSound y) (is_v : seen y ≡ 
       holds_all = omega (arith, new_length);
     }
 
-    set_updates : (room : ℕ) → Updates v (record { lists = lists_of new_hots new_slots y.sides; kept = kept_in new_hots new_slots reached'; room = room }) key (Some (record { car = car; mark = false; list = None }))
+    set_updates : (room : ℕ) → Updates v (record { lists = lists_of new_hots new_slots y.rows; kept = kept_in new_hots new_slots reached'; room = room }) key (Some (record { car = car; mark = false; list = None }))
     set_updates room = record {
       changed = kept-read new_hots new_slots reached' key (new_below key) ∙ kept_new;
       others = λ k ne. kept-read new_hots new_slots reached' k (new_below k) ∙ kept_rest k ne ∙ sym (entry_at-seen y s k) ∙ ap (λ w. entry_at w k) is_v;
@@ -219,14 +215,14 @@ module _ (y : Inside) (v : Yard) (key : ℕ) (s : IsSound y) (is_v : seen y ≡ 
 
     -- the same of a list that is that one
     module _ (now : List Hot) (is_now : now ≡ new_hots) where
-      pub admitted-lists : lists_of now new_slots y.sides ≡ v.lists
-      admitted-lists = subst (λ hots. lists_of hots new_slots y.sides ≡ v.lists) (sym is_now) set_lists
+      pub admitted-lists : lists_of now new_slots y.rows ≡ v.lists
+      admitted-lists = subst (λ hots. lists_of hots new_slots y.rows ≡ v.lists) (sym is_now) set_lists
 
-      pub admitted-sound : IsLaidOut now new_slots rest reached' capacity' y.sides
-      admitted-sound = subst (λ hots. IsLaidOut hots new_slots rest reached' capacity' y.sides) (sym is_now) set_sound
+      pub admitted-sound : IsLaidOut now new_slots rest reached' capacity' y.rows
+      admitted-sound = subst (λ hots. IsLaidOut hots new_slots rest reached' capacity' y.rows) (sym is_now) set_sound
 
-      pub admitted-updates : (room : ℕ) → Updates v (record { lists = lists_of now new_slots y.sides; kept = kept_in now new_slots reached'; room = room }) key (Some (record { car = car; mark = false; list = None }))
-      admitted-updates room = subst (λ hots. Updates v (record { lists = lists_of hots new_slots y.sides; kept = kept_in hots new_slots reached'; room = room }) key (Some (record { car = car; mark = false; list = None }))) (sym is_now) (set_updates room)
+      pub admitted-updates : (room : ℕ) → Updates v (record { lists = lists_of now new_slots y.rows; kept = kept_in now new_slots reached'; room = room }) key (Some (record { car = car; mark = false; list = None }))
+      admitted-updates room = subst (λ hots. Updates v (record { lists = lists_of hots new_slots y.rows; kept = kept_in hots new_slots reached'; room = room }) key (Some (record { car = car; mark = false; list = None }))) (sym is_now) (set_updates room)
 
 not_slot : (o : Option Slot) → (IsSome o → ⊥) → o ≡ None
 not_slot None h = refl
@@ -234,7 +230,7 @@ not_slot (Some p) h = absurd (h refl)
 
 -- more memory about the same slots
 module _ (y : Inside) (v : Yard) (s : IsSound y) (is_v : seen y ≡ v) (hots : List Hot) (hots_are : hots ≡ y.hots) (slots : List (Option Slot)) (slots_are : slots ≡ y.slots.slots) (spare : List ℕ) (spare_is : spare ≡ y.spare.items) where
-  pub roomier-sound : (capacity : ℕ) → vec_capacity y.spare ≤ capacity → IsLaidOut hots slots spare y.reached capacity y.sides
+  pub roomier-sound : (capacity : ℕ) → vec_capacity y.spare ≤ capacity → IsLaidOut hots slots spare y.reached capacity y.rows
   roomier-sound capacity holds =
       rw (hots_are, slots_are, spare_is) (record {
         stands = s.stands;
@@ -248,7 +244,7 @@ module _ (y : Inside) (v : Yard) (s : IsSound y) (is_v : seen y ≡ v) (hots : L
         holds_all = (let a = s.holds_all in omega arith);
       })
 
-  pub roomier-seen : ◌≡◌ {A = Yard} (record { lists = lists_of hots slots y.sides; kept = kept_in hots slots y.reached; room = length spare }) (record v { room = length spare })
+  pub roomier-seen : ◌≡◌ {A = Yard} (record { lists = lists_of hots slots y.rows; kept = kept_in hots slots y.reached; room = length spare }) (record v { room = length spare })
   roomier-seen = rw (hots_are, slots_are, ← is_v) refl
 
 -- and as many spare ones
@@ -282,15 +278,15 @@ module _ (y : Inside) (v : Yard) (s : IsSound y) (is_v : seen y ≡ v) (index : 
     | inr ne ↦ ap (λ (h : Hot). kept_with (core h) (slot_in later j)) (hot_stays j ne) ∙ ap (kept_with (core (hot_at y.hots j))) (others j ne)
   ]
 
-  more_stands : StandsFor (links_at more later) y.sides (lists_of y.hots y.slots.slots y.sides)
+  more_stands : StandsFor (links_at more later) y.rows (lists_of y.hots y.slots.slots y.rows)
   more_stands =
-      StandsFor-loose (links_at y.hots y.slots.slots) (links_at more later) y.sides _ index s.stands
+      StandsFor-loose (links_at y.hots y.slots.slots) (links_at more later) y.rows _ index s.stands
       (ap (λ o. list_of (option_map (λ (p : Slot). linked (hot_at y.hots index).ahead (hot_at y.hots index).behind p.list) o)) was_none)
       (ap (λ o. list_of (option_map (λ (p : Slot). linked (hot_at more index).ahead (hot_at more index).behind p.list) o)) here)
       (λ k ne. ap (λ (h : Hot). option_map (λ (p : Slot). linked h.ahead h.behind p.list) (slot_in later k)) (hot_stays k ne) ∙ ap (option_map (λ (p : Slot). linked (hot_at y.hots k).ahead (hot_at y.hots k).behind p.list)) (others k ne))
 
-  more_lists : lists_of more later y.sides ≡ lists_of y.hots y.slots.slots y.sides
-  more_lists = lists_of-stands more later more_within y.sides _ more_stands
+  more_lists : lists_of more later y.rows ≡ lists_of y.hots y.slots.slots y.rows
+  more_lists = lists_of-stands more later more_within y.rows _ more_stands
 
   index_away : Away index y.spare.items
   index_away = elim (has_or_away index y.spare.items) as (λ _. Away index y.spare.items) [
@@ -298,7 +294,7 @@ module _ (y : Inside) (v : Yard) (s : IsSound y) (is_v : seen y ≡ v) (index : 
     | inr a ↦ a
   ]
 
-  pub grown-sound : IsLaidOut more later spare' y.reached capacity' y.sides
+  pub grown-sound : IsLaidOut more later spare' y.reached capacity' y.rows
   grown-sound = record {
     stands = rw more_lists more_stands;
     within = more_within;
@@ -317,26 +313,26 @@ module _ (y : Inside) (v : Yard) (s : IsSound y) (is_v : seen y ≡ v) (index : 
     holds_all = omega (arith, more_length);
   }
 
-  pub grown-seen : ◌≡◌ {A = Yard} (record { lists = lists_of more later y.sides; kept = kept_in more later y.reached; room = length spare' }) (record v { room = length spare' })
+  pub grown-seen : ◌≡◌ {A = Yard} (record { lists = lists_of more later y.rows; kept = kept_in more later y.reached; room = length spare' }) (record v { room = length spare' })
   grown-seen =
-      subst (λ w. ◌≡◌ {A = Yard} (record { lists = lists_of more later y.sides; kept = kept_in more later y.reached; room = length spare' }) (record w { room = length spare' })) is_v
+      subst (λ w. ◌≡◌ {A = Yard} (record { lists = lists_of more later y.rows; kept = kept_in more later y.reached; room = length spare' }) (record w { room = length spare' })) is_v
       (yard-same _ _ _ _ _ _ more_lists (kept_in-same y.hots more y.slots.slots later y.reached kept_all) refl)
 
 -- a yard without cars
 
-pub lists_empty : (hots : List Hot) (slots : List (Option Slot)) (sides : List Sides) (n : ℕ) → hots ≡ [] → slots ≡ [] → sides ≡ replicate n no_sides → lists_of hots slots sides ≡ replicate n []
-lists_empty hots slots sides n a b e =
-    (λ i. lists_of (a i) (b i) (e i)) ∙ lists_of-stands [] [] (λ k h. absurd (let bad : IsSome {T = Slot} None = h in cc)) (replicate n no_sides) (replicate n []) (StandsFor-empty n)
+pub lists_empty : (hots : List Hot) (slots : List (Option Slot)) (rows : List ListRow) (n : ℕ) → hots ≡ [] → slots ≡ [] → rows ≡ replicate n no_row → lists_of hots slots rows ≡ replicate n []
+lists_empty hots slots rows n a b e =
+    (λ i. lists_of (a i) (b i) (e i)) ∙ lists_of-stands [] [] (λ k h. absurd (let bad : IsSome {T = Slot} None = h in cc)) (replicate n no_row) (replicate n []) (StandsFor-empty n)
 
-pub laid_out_empty : (hots : List Hot) (slots : List (Option Slot)) (spare : List ℕ) (capacity : ℕ) (sides : List Sides) (n : ℕ) → hots ≡ [] → slots ≡ [] → spare ≡ [] → sides ≡ replicate n no_sides → n ≤ 4294967295 → IsLaidOut hots slots spare 0 capacity sides
-laid_out_empty hots slots spare capacity sides n a b c e few =
+pub laid_out_empty : (hots : List Hot) (slots : List (Option Slot)) (spare : List ℕ) (capacity : ℕ) (rows : List ListRow) (n : ℕ) → hots ≡ [] → slots ≡ [] → spare ≡ [] → rows ≡ replicate n no_row → n ≤ 4294967295 → IsLaidOut hots slots spare 0 capacity rows
+laid_out_empty hots slots spare capacity rows n a b c e few =
     rw (a, b, c, e) (record {
-      stands = rw (lists_empty [] [] (replicate n no_sides) n refl refl refl) (StandsFor-empty n);
+      stands = rw (lists_empty [] [] (replicate n no_row) n refl refl refl) (StandsFor-empty n);
       within = λ k h. absurd (let bad : IsSome {T = Slot} None = h in cc);
       placed = λ k. tt;
       below = λ k h. absurd (let bad : IsSome {T = YardEntry} None = h in cc);
       few = omega arith;
-      few_lists = omega (arith, length-replicate n no_sides);
+      few_lists = omega (arith, length-replicate n no_row);
       spared = λ k h. absurd (nobody_among k h);
       apart = tt;
       holds_all = omega arith;

@@ -1,18 +1,16 @@
 -- The spare keys in another order.
-use Rattle.std.proofs.Common.{◌≡◌, ℕ, ◌≤◌, false, eqb, List, [], ◌∷◌, ◌++◌, length, Some, refl, sym, subst, ◌∙◌, inl, inr, arith, eq-eqb}
-use Rattle.std.specs.Prelude.{vec_capacity}
-use Rattle.std.specs.List.{All, IsDistinct, AllByRecursion}
+use Rattle.std.proofs.Common.{◌≡◌, ℕ, ◌≤◌, false, eqb, List, [], ◌∷◌, ◌++◌, Some, refl, sym, subst, ◌∙◌, inl, inr, arith, eq-eqb, vec_capacity, All}
+use Rattle.std.specs.List.{IsDistinct, AllByRecursion}
 use Rattle.std.specs.List.Sorted.{IsPermutation}
 use Rattle.std.proofs.lemmas.Bool.{cases_eq, ne_eqb, false≢true}
 use Rattle.std.proofs.lemmas.List.Elements.{All-cons, All-head, All-tail}
-use Rattle.std.proofs.lemmas.List.Sorted.{All-permutation, length_permutation}
+use Rattle.std.proofs.lemmas.List.Sorted.{All-permutation}
 use Rattle.std.proofs.lemmas.Map.Keys.{IsDistinct-IsPermutation}
 use Rattle.street_yard.specs.declared.yard.Yard.TheInside.{Inside}
-use Rattle.street_yard.specs.Yard.{Yard, Has, Away, IsApart}
-use Rattle.street_yard.specs.Inside.{slot_in, kept_in, lists_of, seen, vacant, IsLaidOut, IsSound}
+use Rattle.street_yard.specs.Prelude.{Has, Away, IsApart}
+use Rattle.street_yard.specs.Inside.{slot_in, vacant, IsLaidOut, IsSound}
 use Rattle.street_yard.proofs.Keys.{has-later}
 use Rattle.street_yard.proofs.LinkChanges.{IsDistinct-from_apart}
-use Rattle.street_yard.proofs.Fields.{yard-same}
 
 -- what holds of each of these keys
 
@@ -46,7 +44,7 @@ apart-permuted xs ys moved h = apart-from_distinct ys (IsDistinct-IsPermutation 
 
 -- nothing is seen of their order
 module _ (y : Inside) (s : IsSound y) (spare : List ℕ) (moved : IsPermutation y.spare.items spare) where
-  pub reordered-sound : (capacity : ℕ) → vec_capacity y.spare ≤ capacity → IsLaidOut y.hots y.slots.slots spare y.reached capacity y.sides
+  pub reordered-sound : (capacity : ℕ) → vec_capacity y.spare ≤ capacity → IsLaidOut y.hots y.slots.slots spare y.reached capacity y.rows
   reordered-sound capacity holds =
       let IsVacant : ℕ → Type 0 = λ k. slot_in y.slots.slots k ≡ Some vacant in
       let each = All-permutation IsVacant y.spare.items spare moved (all-had IsVacant y.spare.items s.spared) in
@@ -61,6 +59,3 @@ module _ (y : Inside) (s : IsSound y) (spare : List ℕ) (moved : IsPermutation 
         apart = apart-permuted y.spare.items spare moved s.apart;
         holds_all = (let a = s.holds_all in omega arith);
       }
-
-  pub reordered-seen : (v : Yard) → seen y ≡ v → ◌≡◌ {A = Yard} (record { lists = lists_of y.hots y.slots.slots y.sides; kept = kept_in y.hots y.slots.slots y.reached; room = length spare }) v
-  reordered-seen v is = yard-same _ _ _ _ _ _ refl refl (length_permutation y.spare.items spare moved) ∙ is

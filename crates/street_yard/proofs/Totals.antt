@@ -1,14 +1,11 @@
--- The totals of a `Listed`.
-use Rattle.std.proofs.Common.{◌≡◌, ℕ, zero, suc, ◌+◌, ◌-◌, ◌%◌, ◌^◌, ◌<◌, ◌≤◌, List, [], ◌∷◌, length, get_or, set, map, replicate, Option, None, refl, sym, ap, ◌∙◌, subst, arith}
-use Rattle.std.specs.List.{All}
+-- The totals of a `ListTable`.
+use Rattle.std.proofs.Common.{◌≡◌, ℕ, zero, suc, ◌+◌, ◌-◌, ◌%◌, ◌^◌, ◌<◌, ◌≤◌, List, [], ◌∷◌, length, get_or, set, map, replicate, Option, None, refl, sym, ap, ◌∙◌, subst, arith, All}
 use Rattle.std.proofs.lemmas.List.{length-map, length-set, length-replicate, map-set, get_or-map, ext_get_or}
 use Rattle.std.proofs.lemmas.List.Elements.{All-nil, All-cons, All-set}
-use Rattle.street_yard.specs.declared.sides.Sides.{Sides}
-use Rattle.street_yard.specs.declared.sides.Rest.{Rest}
+use Rattle.street_yard.specs.declared.list_table.ListRow.{ListRow}
+use Rattle.street_yard.specs.declared.list_table.BackAndCount.{BackAndCount}
 use Rattle.street_yard.specs.declared.yard.Yard.TheInside.{Inside}
-use Rattle.street_yard.specs.Yard.{Yard, every_third, thirds, totals_of}
-use Rattle.street_yard.specs.Thread.{no_sides}
-use Rattle.street_yard.specs.Tables.{joined, counts, AreListed}
+use Rattle.street_yard.specs.Prelude.{Yard, every_third, thirds, totals_of, no_row, joined, counts, AreListed}
 use Rattle.street_yard.specs.Inside.{seen, IsSound}
 use Rattle.street_yard.proofs.Thirds.{third-le, third-few, third-here, thirds-set}
 use Rattle.street_yard.proofs.Joined.{no_rest}
@@ -24,7 +21,7 @@ none-counted zero k = refl
 none-counted (suc n) zero = let rest = none-counted n 2 in omega arith
 none-counted (suc n) (suc k) = none-counted n k
 
-pub listed-empty : (n : ℕ) (fronts : List (Option ℕ)) (rests : List Rest) → n < 2 ^ 32 → fronts ≡ replicate n None → rests ≡ replicate n no_rest → AreListed fronts rests (0 ∷ 0 ∷ 0 ∷ [])
+pub listed-empty : (n : ℕ) (fronts : List (Option ℕ)) (rests : List BackAndCount) → n < 2 ^ 32 → fronts ≡ replicate n None → rests ≡ replicate n no_rest → AreListed fronts rests (0 ∷ 0 ∷ 0 ∷ [])
 listed-empty n fronts rests few fronts_are rests_are = record {
   even = ap length fronts_are ∙ length-replicate n None ∙ sym (ap length rests_are ∙ length-replicate n no_rest);
   few = (let long = ap length rests_are ∙ length-replicate n no_rest in omega arith);
@@ -34,12 +31,12 @@ listed-empty n fronts rests few fronts_are rests_are = record {
 
 -- ---- the count of a list is written
 
-module _ (fronts : List (Option ℕ)) (rests : List Rest) (totals : List ℕ) (are : AreListed fronts rests totals) (k : ℕ) (within : k < length rests) where
+module _ (fronts : List (Option ℕ)) (rests : List BackAndCount) (totals : List ℕ) (are : AreListed fronts rests totals) (k : ℕ) (within : k < length rests) where
   counts-long : length (counts rests) ≡ length rests
-  counts-long = length-map rests (λ (r : Rest). r.count)
+  counts-long = length-map rests (λ (r : BackAndCount). r.count)
 
-  counted-at : (r : Rest) → r ≡ get_or rests k r → get_or (counts rests) k 0 ≡ r.count
-  counted-at r r_is = get_or-map (λ (r : Rest). r.count) rests k r 0 within ∙ ap (λ (x : Rest). x.count) (sym r_is)
+  counted-at : (r : BackAndCount) → r ≡ get_or rests k r → get_or (counts rests) k 0 ≡ r.count
+  counted-at r r_is = get_or-map (λ (r : BackAndCount). r.count) rests k r 0 within ∙ ap (λ (x : BackAndCount). x.count) (sym r_is)
 
   total-at : get_or totals (k % 3) 0 ≡ every_third (k % 3) (counts rests)
   total-at = ap (λ l. get_or l (k % 3) 0) are.summed ∙ by (k % 3) (omega arith)
@@ -50,16 +47,16 @@ module _ (fronts : List (Option ℕ)) (rests : List Rest) (totals : List ℕ) (a
       by (suc (suc zero)) h = refl
       by (suc (suc (suc c))) h = absurd (omega arith)
 
-  module _ (r : Rest) (r_is : r ≡ get_or rests k r) (total : ℕ) (total_is : total ≡ get_or totals (k % 3) 0) where
+  module _ (r : BackAndCount) (r_is : r ≡ get_or rests k r) (total : ℕ) (total_is : total ≡ get_or totals (k % 3) 0) where
     -- the old count is part of its total
     pub count-part : r.count ≤ total
     count-part =
         let le = third-le (counts rests) k (k % 3) refl (omega (arith, counts-long)) in
         omega (arith, le, counted-at r r_is, total-at, total_is)
 
-    module _ (f : Option ℕ) (r' : Rest) (fits : r'.count < 2 ^ 32) where
+    module _ (f : Option ℕ) (r' : BackAndCount) (fits : r'.count < 2 ^ 32) where
       counts-set : counts (set rests k r') ≡ set (counts rests) k r'.count
-      counts-set = map-set (λ (x : Rest). x.count) rests k r'
+      counts-set = map-set (λ (x : BackAndCount). x.count) rests k r'
 
       small-set : All (λ c. c < 2 ^ 32) (set (counts rests) k r'.count)
       small-set = All-set (λ c. c < 2 ^ 32) (counts rests) k r'.count fits are.small
@@ -84,27 +81,27 @@ module _ (fronts : List (Option ℕ)) (rests : List Rest) (totals : List ℕ) (a
 
 -- ---- what a contract sees
 
-counts-joined : (fronts : List (Option ℕ)) (rests : List Rest) → length fronts ≡ length rests → map (λ (e : Sides). e.count) (joined fronts rests) ≡ counts rests
+counts-joined : (fronts : List (Option ℕ)) (rests : List BackAndCount) → length fronts ≡ length rests → map (λ (e : ListRow). e.count) (joined fronts rests) ≡ counts rests
 counts-joined [] [] same = refl
 counts-joined [] (r ∷ rests) same = absurd (omega arith)
 counts-joined (f ∷ fronts) [] same = absurd (omega arith)
 counts-joined (f ∷ fronts) (r ∷ rests) same = ap (λ l. r.count ∷ l) (counts-joined fronts rests (omega arith))
 
-pub totals-are : (fronts : List (Option ℕ)) (rests : List Rest) (totals : List ℕ) (v : List Sides) → AreListed fronts rests totals → joined fronts rests ≡ v → totals ≡ thirds (map (λ e. e.count) v)
-totals-are fronts rests totals v are is_v = are.summed ∙ ap thirds (sym (counts-joined fronts rests are.even) ∙ ap (map (λ (e : Sides). e.count)) is_v)
+pub totals-are : (fronts : List (Option ℕ)) (rests : List BackAndCount) (totals : List ℕ) (v : List ListRow) → AreListed fronts rests totals → joined fronts rests ≡ v → totals ≡ thirds (map (λ e. e.count) v)
+totals-are fronts rests totals v are is_v = are.summed ∙ ap thirds (sym (counts-joined fronts rests are.even) ∙ ap (map (λ (e : ListRow). e.count)) is_v)
 
 -- the counts are the lengths of the lists
-lengths-are : (y : Inside) → IsSound y → map (λ (e : Sides). e.count) y.sides ≡ map (λ (xs : List ℕ). length xs) (seen y).lists
+lengths-are : (y : Inside) → IsSound y → map (λ (e : ListRow). e.count) y.rows ≡ map (λ (xs : List ℕ). length xs) (seen y).lists
 lengths-are y s =
     let lists = (seen y).lists in
-    let long = length-map y.sides (λ (e : Sides). e.count) in
+    let long = length-map y.rows (λ (e : ListRow). e.count) in
     let long' = length-map lists (λ (xs : List ℕ). length xs) in
     ext_get_or 0 _ _ (long ∙ sym s.stands.count ∙ sym long') (λ i h.
-    let within : i < length y.sides = omega (arith, long) in
+    let within : i < length y.rows = omega (arith, long) in
     let within' : i < length lists = omega (arith, within, s.stands.count) in
-    get_or-map (λ (e : Sides). e.count) y.sides i no_sides 0 within
+    get_or-map (λ (e : ListRow). e.count) y.rows i no_row 0 within
     ∙ (s.stands.each i within).counted
     ∙ sym (get_or-map (λ (xs : List ℕ). length xs) lists i [] 0 within'))
 
-pub totals-seen : (y : Inside) (v : Yard) → IsSound y → seen y ≡ v → (totals : List ℕ) → totals ≡ thirds (map (λ e. e.count) y.sides) → totals ≡ totals_of v
+pub totals-seen : (y : Inside) (v : Yard) → IsSound y → seen y ≡ v → (totals : List ℕ) → totals ≡ thirds (map (λ e. e.count) y.rows) → totals ≡ totals_of v
 totals-seen y v s is_v totals are = are ∙ ap thirds (lengths-are y s) ∙ ap totals_of is_v

@@ -1,17 +1,14 @@
 -- What the fields are after a write at one key.
-use Rattle.std.proofs.Common.{◌≡◌, ◌≢◌, ℕ, ◌<◌, ◌≤◌, List, length, set, IsSome, Option, Some, None, refl, sym, ap, subst, ◌∙◌, inl, inr, arith}
-use Rattle.std.specs.Option.{option_map, option_and_then}
-use Rattle.std.specs.Prelude.{vec_capacity}
+use Rattle.std.proofs.Common.{◌≡◌, ◌≢◌, ℕ, ◌<◌, ◌≤◌, List, length, set, IsSome, Option, Some, None, refl, sym, ap, subst, ◌∙◌, inl, inr, arith, option_map, option_and_then, vec_capacity}
 use Rattle.std.proofs.lemmas.Bool.{cases_eq}
 use Rattle.std.proofs.lemmas.List.{length-set}
 use Rattle.street_base.specs.declared.car.Car.{Car}
 use Rattle.street_yard.specs.declared.hot.Hot.{Hot}
 use Rattle.street_yard.specs.declared.hot.Cold.{Cold}
-use Rattle.street_yard.specs.declared.sides.Sides.{Sides}
+use Rattle.street_yard.specs.declared.list_table.ListRow.{ListRow}
 use Rattle.street_yard.specs.declared.yard.Slot.{Slot}
 use Rattle.street_yard.specs.declared.yard.Yard.TheInside.{Inside}
-use Rattle.street_yard.specs.Yard.{YardEntry, Yard, entry_at, kept_set, car_set, list_set, Has}
-use Rattle.street_yard.specs.Thread.{Links, linked, StandsFor}
+use Rattle.street_yard.specs.Prelude.{YardEntry, Yard, entry_at, kept_set, car_set, list_set, Has, Links, linked, StandsFor}
 use Rattle.street_yard.specs.Inside.{hot_at, slot_in, links_at, Core, core, car_with, kept_of, kept_with, kept_at, kept_in, lists_of, inner, link_after, IsFit, FitsSlot, vacant, seen, with_cold, IsLaidOut, IsSound}
 use Rattle.street_yard.proofs.LinkChanges.{lists_of-stands}
 use Rattle.street_yard.proofs.Hots.{kept_in-change, hot-same, hot-other, slot-same, slot-other}
@@ -22,13 +19,13 @@ some_mapped None f h = absurd (cc)
 some_mapped (Some e) f h = refl
 
 -- one slot and what lies beside it are written, and the lists follow
-module _ (hots now : List Hot) (slots later : List (Option Slot)) (spare : List ℕ) (reached capacity : ℕ) (sides sides' : List Sides) (lists' : List (List ℕ)) (key : ℕ) (slot new : Slot) (car : Cold) (f : YardEntry → YardEntry)
-    (s : IsLaidOut hots slots spare reached capacity sides) (is : slot_in slots key ≡ Some slot) (filled : slot.car ≡ Some car)
+module _ (hots now : List Hot) (slots later : List (Option Slot)) (spare : List ℕ) (reached capacity : ℕ) (rows rows' : List ListRow) (lists' : List (List ℕ)) (key : ℕ) (slot new : Slot) (car : Cold) (f : YardEntry → YardEntry)
+    (s : IsLaidOut hots slots spare reached capacity rows) (is : slot_in slots key ≡ Some slot) (filled : slot.car ≡ Some car)
     (here : slot_in later key ≡ Some new) (others : (j : ℕ) → j ≢ key → slot_in later j ≡ slot_in slots j)
     (len : length now ≡ length hots) (inners : (j : ℕ) → j ≢ key → inner (hot_at now j) ≡ inner (hot_at hots j))
     (fit : IsFit (hot_at now key).next new.list new.car)
     (keeps : kept_with (core (hot_at now key)) (Some new) ≡ option_map f (kept_with (core (hot_at hots key)) (Some slot)))
-    (len_sides : length sides' ≡ length sides) (stands : StandsFor (links_at now later) sides' lists') where
+    (len_rows : length rows' ≡ length rows) (stands : StandsFor (links_at now later) rows' lists') where
   within' : (k : ℕ) → IsSome (slot_in later k) → k < length now
   within' k h = elim (cases_eq k key) as (λ _. k < length now) [
     | inl e ↦ (let lt : key < length hots = s.within key (subst IsSome (sym is) refl) in omega (arith, len))
@@ -64,20 +61,20 @@ module _ (hots now : List Hot) (slots later : List (Option Slot)) (spare : List 
     | inr ne ↦ others k ne ∙ s.spared k h
   ]
 
-  pub written-lists : lists_of now later sides' ≡ lists'
-  written-lists = lists_of-stands now later within' sides' lists' stands
+  pub written-lists : lists_of now later rows' ≡ lists'
+  written-lists = lists_of-stands now later within' rows' lists' stands
 
   pub written-kept : kept_in now later reached ≡ kept_set (kept_in hots slots reached) key f
   written-kept = kept_in-change hots now slots later reached key f kept_other kept_here
 
-  pub written : IsLaidOut now later spare reached capacity sides'
+  pub written : IsLaidOut now later spare reached capacity rows'
   written = record {
     stands = rw written-lists stands;
     within = within';
     placed = placed';
     below = below';
     few = (let a = s.few in subst (λ n. n ≤ 4294967295) (sym len) a);
-    few_lists = (let a = s.few_lists in subst (λ n. n ≤ 4294967295) (sym len_sides) a);
+    few_lists = (let a = s.few_lists in subst (λ n. n ≤ 4294967295) (sym len_rows) a);
     spared = spared';
     apart = s.apart;
     holds_all = (let a = s.holds_all in omega (arith, len));
@@ -135,8 +132,8 @@ module _ (y : Inside) (v : Yard) (key : ℕ) (slot new : Slot) (g : Cold → Col
   links_same : links_at now slots' ≡ links_at y.hots y.slots.slots
   links_same = λ i j. links_each j i
 
-  stands : StandsFor (links_at now slots') y.sides (lists_of y.hots y.slots.slots y.sides)
-  stands = subst (λ at. StandsFor at y.sides (lists_of y.hots y.slots.slots y.sides)) (sym links_same) s.stands
+  stands : StandsFor (links_at now slots') y.rows (lists_of y.hots y.slots.slots y.rows)
+  stands = subst (λ at. StandsFor at y.rows (lists_of y.hots y.slots.slots y.rows)) (sym links_same) s.stands
 
   new_fit : IsFit (hot_at now key).next new.list new.car
   new_fit = fit-filled (hot_at now key).next new (g car_is.0) new_car (next car_is.0 (next-is y v key s is_v slot is car_is.0 car_is.1) car_is.1)
@@ -149,15 +146,15 @@ module _ (y : Inside) (v : Yard) (key : ℕ) (slot new : Slot) (g : Cold → Col
       ∙ ap (λ (d : Car). Some (record { car = d; mark = (hot_at y.hots key).mark; list = slot.list })) (agree (core (hot_at y.hots key)) car_is.0)
       ∙ sym (ap (option_map change) (kept-filled (core (hot_at y.hots key)) slot car_is.0 car_is.1))
 
-  driven : IsLaidOut now slots' y.spare.items y.reached (vec_capacity y.spare) y.sides
-  driven = written y.hots now y.slots.slots slots' y.spare.items y.reached (vec_capacity y.spare) y.sides y.sides _ key slot new car_is.0 change s is car_is.1 here others_slot len (λ j ne. ap inner (others j ne)) new_fit keeps refl stands
+  driven : IsLaidOut now slots' y.spare.items y.reached (vec_capacity y.spare) y.rows
+  driven = written y.hots now y.slots.slots slots' y.spare.items y.reached (vec_capacity y.spare) y.rows y.rows _ key slot new car_is.0 change s is car_is.1 here others_slot len (λ j ne. ap inner (others j ne)) new_fit keeps refl stands
 
-  driven-seen : ◌≡◌ {A = Yard} (record { lists = lists_of now slots' y.sides; kept = kept_in now slots' y.reached; room = length y.spare.items }) (record v { kept = car_set v.kept key f })
+  driven-seen : ◌≡◌ {A = Yard} (record { lists = lists_of now slots' y.rows; kept = kept_in now slots' y.reached; room = length y.spare.items }) (record v { kept = car_set v.kept key f })
   driven-seen =
-      subst (λ w. ◌≡◌ {A = Yard} (record { lists = lists_of now slots' y.sides; kept = kept_in now slots' y.reached; room = length y.spare.items }) (record w { kept = car_set w.kept key f })) is_v
+      subst (λ w. ◌≡◌ {A = Yard} (record { lists = lists_of now slots' y.rows; kept = kept_in now slots' y.reached; room = length y.spare.items }) (record w { kept = car_set w.kept key f })) is_v
       (yard-same _ _ _ _ _ _
-      (written-lists y.hots now y.slots.slots slots' y.spare.items y.reached (vec_capacity y.spare) y.sides y.sides _ key slot new car_is.0 change s is car_is.1 here others_slot len (λ j ne. ap inner (others j ne)) new_fit keeps refl stands)
-      (written-kept y.hots now y.slots.slots slots' y.spare.items y.reached (vec_capacity y.spare) y.sides y.sides _ key slot new car_is.0 change s is car_is.1 here others_slot len (λ j ne. ap inner (others j ne)) new_fit keeps refl stands)
+      (written-lists y.hots now y.slots.slots slots' y.spare.items y.reached (vec_capacity y.spare) y.rows y.rows _ key slot new car_is.0 change s is car_is.1 here others_slot len (λ j ne. ap inner (others j ne)) new_fit keeps refl stands)
+      (written-kept y.hots now y.slots.slots slots' y.spare.items y.reached (vec_capacity y.spare) y.rows y.rows _ key slot new car_is.0 change s is car_is.1 here others_slot len (λ j ne. ap inner (others j ne)) new_fit keeps refl stands)
       refl)
 
 -- the same, where the next link is written
@@ -175,21 +172,21 @@ module _ (y : Inside) (v : Yard) (key : ℕ) (slot new : Slot) (g : Cold → Col
   at_next : (c : Cold) → (hot_at y.hots key).next ≡ link_after c → slot.car ≡ Some c → (hot_at (set y.hots key with_next) key).next ≡ link_after (g c)
   at_next c was has = ap (λ (h : Hot). h.next) at_now ∙ next_is ∙ ap (λ (p : Slot). option_and_then link_after p.car) new_is ∙ ap (λ o. option_and_then link_after (option_map g o)) has
 
-  next_sound : IsLaidOut (set y.hots key with_next) (set y.slots.slots key (Some new)) y.spare.items y.reached (vec_capacity y.spare) y.sides
+  next_sound : IsLaidOut (set y.hots key with_next) (set y.slots.slots key (Some new)) y.spare.items y.reached (vec_capacity y.spare) y.rows
   next_sound = driven y v key slot new g f s is_v named is new_is (set y.hots key with_next) (length-set y.hots key with_next) (λ j ne. hot-other y.hots key with_next j ne) (ap (λ (h : Hot). h.ahead) at_now) (ap (λ (h : Hot). h.behind) at_now) (ap core at_now) at_next agree
 
-  next_seen : ◌≡◌ {A = Yard} (record { lists = lists_of (set y.hots key with_next) (set y.slots.slots key (Some new)) y.sides; kept = kept_in (set y.hots key with_next) (set y.slots.slots key (Some new)) y.reached; room = length y.spare.items }) (record v { kept = car_set v.kept key f })
+  next_seen : ◌≡◌ {A = Yard} (record { lists = lists_of (set y.hots key with_next) (set y.slots.slots key (Some new)) y.rows; kept = kept_in (set y.hots key with_next) (set y.slots.slots key (Some new)) y.reached; room = length y.spare.items }) (record v { kept = car_set v.kept key f })
   next_seen = driven-seen y v key slot new g f s is_v named is new_is (set y.hots key with_next) (length-set y.hots key with_next) (λ j ne. hot-other y.hots key with_next j ne) (ap (λ (h : Hot). h.ahead) at_now) (ap (λ (h : Hot). h.behind) at_now) (ap core at_now) at_next agree
 
-  pub moved_on : (now : List Hot) → now ≡ set y.hots key with_next → IsLaidOut now (set y.slots.slots key (Some new)) y.spare.items y.reached (vec_capacity y.spare) y.sides
-  moved_on now is_now = subst (λ hots. IsLaidOut hots (set y.slots.slots key (Some new)) y.spare.items y.reached (vec_capacity y.spare) y.sides) (sym is_now) next_sound
+  pub moved_on : (now : List Hot) → now ≡ set y.hots key with_next → IsLaidOut now (set y.slots.slots key (Some new)) y.spare.items y.reached (vec_capacity y.spare) y.rows
+  moved_on now is_now = subst (λ hots. IsLaidOut hots (set y.slots.slots key (Some new)) y.spare.items y.reached (vec_capacity y.spare) y.rows) (sym is_now) next_sound
 
-  pub moved_on-seen : (now : List Hot) → now ≡ set y.hots key with_next → ◌≡◌ {A = Yard} (record { lists = lists_of now (set y.slots.slots key (Some new)) y.sides; kept = kept_in now (set y.slots.slots key (Some new)) y.reached; room = length y.spare.items }) (record v { kept = car_set v.kept key f })
-  moved_on-seen now is_now = subst (λ hots. ◌≡◌ {A = Yard} (record { lists = lists_of hots (set y.slots.slots key (Some new)) y.sides; kept = kept_in hots (set y.slots.slots key (Some new)) y.reached; room = length y.spare.items }) (record v { kept = car_set v.kept key f })) (sym is_now) next_seen
+  pub moved_on-seen : (now : List Hot) → now ≡ set y.hots key with_next → ◌≡◌ {A = Yard} (record { lists = lists_of now (set y.slots.slots key (Some new)) y.rows; kept = kept_in now (set y.slots.slots key (Some new)) y.reached; room = length y.spare.items }) (record v { kept = car_set v.kept key f })
+  moved_on-seen now is_now = subst (λ hots. ◌≡◌ {A = Yard} (record { lists = lists_of hots (set y.slots.slots key (Some new)) y.rows; kept = kept_in hots (set y.slots.slots key (Some new)) y.reached; room = length y.spare.items }) (record v { kept = car_set v.kept key f })) (sym is_now) next_seen
 
 -- a change of one key's list and of the neighbours
-module _ (y : Inside) (v : Yard) (key : ℕ) (slot new : Slot) (car : Cold) (n : Option ℕ) (s : IsSound y) (is_v : seen y ≡ v) (is : slot_in y.slots.slots key ≡ Some slot) (filled : slot.car ≡ Some car) (new_is : new ≡ record slot { list = n }) (now : List Hot) (len : length now ≡ length y.hots) (inners : (j : ℕ) → inner (hot_at now j) ≡ inner (hot_at y.hots j)) (sides' : List Sides) (len_sides : length sides' ≡ length y.sides)
-    (lists_v : Yard → List (List ℕ)) (stands : StandsFor (links_at now (set y.slots.slots key (Some new))) sides' (lists_v (seen y))) where
+module _ (y : Inside) (v : Yard) (key : ℕ) (slot new : Slot) (car : Cold) (n : Option ℕ) (s : IsSound y) (is_v : seen y ≡ v) (is : slot_in y.slots.slots key ≡ Some slot) (filled : slot.car ≡ Some car) (new_is : new ≡ record slot { list = n }) (now : List Hot) (len : length now ≡ length y.hots) (inners : (j : ℕ) → inner (hot_at now j) ≡ inner (hot_at y.hots j)) (rows' : List ListRow) (len_rows : length rows' ≡ length y.rows)
+    (lists_v : Yard → List (List ℕ)) (stands : StandsFor (links_at now (set y.slots.slots key (Some new))) rows' (lists_v (seen y))) where
   abbrev pub moved : YardEntry → YardEntry
   moved e = record e { list = n }
 
@@ -206,15 +203,15 @@ module _ (y : Inside) (v : Yard) (key : ℕ) (slot new : Slot) (car : Cold) (n :
       ∙ ap (λ (t : Core × Option ℕ). Some (kept_of t.0 n car)) (inners key)
       ∙ sym (ap (option_map moved) (kept-filled (core (hot_at y.hots key)) slot car filled))
 
-  pub relinked : IsLaidOut now (set y.slots.slots key (Some new)) y.spare.items y.reached (vec_capacity y.spare) sides'
-  relinked = written y.hots now y.slots.slots _ y.spare.items y.reached (vec_capacity y.spare) y.sides sides' _ key slot new car moved s is filled (slot-same y.slots.slots key slot new is) (λ j ne. slot-other y.slots.slots key (Some new) j ne) len (λ j ne. inners j) move_fit move_keeps len_sides stands
+  pub relinked : IsLaidOut now (set y.slots.slots key (Some new)) y.spare.items y.reached (vec_capacity y.spare) rows'
+  relinked = written y.hots now y.slots.slots _ y.spare.items y.reached (vec_capacity y.spare) y.rows rows' _ key slot new car moved s is filled (slot-same y.slots.slots key slot new is) (λ j ne. slot-other y.slots.slots key (Some new) j ne) len (λ j ne. inners j) move_fit move_keeps len_rows stands
 
-  pub relinked-seen : ◌≡◌ {A = Yard} (record { lists = lists_of now (set y.slots.slots key (Some new)) sides'; kept = kept_in now (set y.slots.slots key (Some new)) y.reached; room = length y.spare.items }) (record v { lists = lists_v v; kept = list_set v.kept key n })
+  pub relinked-seen : ◌≡◌ {A = Yard} (record { lists = lists_of now (set y.slots.slots key (Some new)) rows'; kept = kept_in now (set y.slots.slots key (Some new)) y.reached; room = length y.spare.items }) (record v { lists = lists_v v; kept = list_set v.kept key n })
   relinked-seen =
-      subst (λ w. ◌≡◌ {A = Yard} (record { lists = lists_of now (set y.slots.slots key (Some new)) sides'; kept = kept_in now (set y.slots.slots key (Some new)) y.reached; room = length y.spare.items }) (record w { lists = lists_v w; kept = list_set w.kept key n })) is_v
+      subst (λ w. ◌≡◌ {A = Yard} (record { lists = lists_of now (set y.slots.slots key (Some new)) rows'; kept = kept_in now (set y.slots.slots key (Some new)) y.reached; room = length y.spare.items }) (record w { lists = lists_v w; kept = list_set w.kept key n })) is_v
       (yard-same _ _ _ _ _ _
-      (written-lists y.hots now y.slots.slots _ y.spare.items y.reached (vec_capacity y.spare) y.sides sides' _ key slot new car moved s is filled (slot-same y.slots.slots key slot new is) (λ j ne. slot-other y.slots.slots key (Some new) j ne) len (λ j ne. inners j) move_fit move_keeps len_sides stands)
-      (written-kept y.hots now y.slots.slots _ y.spare.items y.reached (vec_capacity y.spare) y.sides sides' _ key slot new car moved s is filled (slot-same y.slots.slots key slot new is) (λ j ne. slot-other y.slots.slots key (Some new) j ne) len (λ j ne. inners j) move_fit move_keeps len_sides stands)
+      (written-lists y.hots now y.slots.slots _ y.spare.items y.reached (vec_capacity y.spare) y.rows rows' _ key slot new car moved s is filled (slot-same y.slots.slots key slot new is) (λ j ne. slot-other y.slots.slots key (Some new) j ne) len (λ j ne. inners j) move_fit move_keeps len_rows stands)
+      (written-kept y.hots now y.slots.slots _ y.spare.items y.reached (vec_capacity y.spare) y.rows rows' _ key slot new car moved s is filled (slot-same y.slots.slots key slot new is) (λ j ne. slot-other y.slots.slots key (Some new) j ne) len (λ j ne. inners j) move_fit move_keeps len_rows stands)
       refl)
 
 -- a write to the hot part that keeps the neighbours
@@ -246,8 +243,8 @@ module _ (y : Inside) (v : Yard) (key : ℕ) (s : IsSound y) (is_v : seen y ≡ 
   links_all : links_at hots' y.slots.slots ≡ links_at y.hots y.slots.slots
   links_all = λ i j. hot_links j i
 
-  hot_stands : StandsFor (links_at hots' y.slots.slots) y.sides (lists_of y.hots y.slots.slots y.sides)
-  hot_stands = subst (λ at. StandsFor at y.sides (lists_of y.hots y.slots.slots y.sides)) (sym links_all) s.stands
+  hot_stands : StandsFor (links_at hots' y.slots.slots) y.rows (lists_of y.hots y.slots.slots y.rows)
+  hot_stands = subst (λ at. StandsFor at y.rows (lists_of y.hots y.slots.slots y.rows)) (sym links_all) s.stands
 
   hot_keeps : kept_with (core (hot_at hots' key)) (Some there.0) ≡ option_map f (kept_with (core (hot_at y.hots key)) (Some there.0))
   hot_keeps =
@@ -259,19 +256,19 @@ module _ (y : Inside) (v : Yard) (key : ℕ) (s : IsSound y) (is_v : seen y ≡ 
   hot_fit : IsFit (hot_at hots' key).next there.0.list there.0.car
   hot_fit = fit-filled (hot_at hots' key).next there.0 there.1 there.3 (ap (λ (h : Hot). h.next) now_is ∙ next-is y v key s is_v there.0 there.2 there.1 there.3)
 
-  set_sound : IsLaidOut hots' y.slots.slots y.spare.items y.reached (vec_capacity y.spare) y.sides
-  set_sound = written y.hots hots' y.slots.slots y.slots.slots y.spare.items y.reached (vec_capacity y.spare) y.sides y.sides _ key there.0 there.0 there.1 f s there.2 there.3 there.2 (λ j ne. refl) (length-set y.hots key rewritten) (λ j ne. ap inner (hot-other y.hots key rewritten j ne)) hot_fit hot_keeps refl hot_stands
+  set_sound : IsLaidOut hots' y.slots.slots y.spare.items y.reached (vec_capacity y.spare) y.rows
+  set_sound = written y.hots hots' y.slots.slots y.slots.slots y.spare.items y.reached (vec_capacity y.spare) y.rows y.rows _ key there.0 there.0 there.1 f s there.2 there.3 there.2 (λ j ne. refl) (length-set y.hots key rewritten) (λ j ne. ap inner (hot-other y.hots key rewritten j ne)) hot_fit hot_keeps refl hot_stands
 
-  set_seen : ◌≡◌ {A = Yard} (record { lists = lists_of hots' y.slots.slots y.sides; kept = kept_in hots' y.slots.slots y.reached; room = length y.spare.items }) (record v { kept = kept_set v.kept key f })
+  set_seen : ◌≡◌ {A = Yard} (record { lists = lists_of hots' y.slots.slots y.rows; kept = kept_in hots' y.slots.slots y.reached; room = length y.spare.items }) (record v { kept = kept_set v.kept key f })
   set_seen =
-      subst (λ w. ◌≡◌ {A = Yard} (record { lists = lists_of hots' y.slots.slots y.sides; kept = kept_in hots' y.slots.slots y.reached; room = length y.spare.items }) (record w { kept = kept_set w.kept key f })) is_v
+      subst (λ w. ◌≡◌ {A = Yard} (record { lists = lists_of hots' y.slots.slots y.rows; kept = kept_in hots' y.slots.slots y.reached; room = length y.spare.items }) (record w { kept = kept_set w.kept key f })) is_v
       (yard-same _ _ _ _ _ _
-      (written-lists y.hots hots' y.slots.slots y.slots.slots y.spare.items y.reached (vec_capacity y.spare) y.sides y.sides _ key there.0 there.0 there.1 f s there.2 there.3 there.2 (λ j ne. refl) (length-set y.hots key rewritten) (λ j ne. ap inner (hot-other y.hots key rewritten j ne)) hot_fit hot_keeps refl hot_stands)
-      (written-kept y.hots hots' y.slots.slots y.slots.slots y.spare.items y.reached (vec_capacity y.spare) y.sides y.sides _ key there.0 there.0 there.1 f s there.2 there.3 there.2 (λ j ne. refl) (length-set y.hots key rewritten) (λ j ne. ap inner (hot-other y.hots key rewritten j ne)) hot_fit hot_keeps refl hot_stands)
+      (written-lists y.hots hots' y.slots.slots y.slots.slots y.spare.items y.reached (vec_capacity y.spare) y.rows y.rows _ key there.0 there.0 there.1 f s there.2 there.3 there.2 (λ j ne. refl) (length-set y.hots key rewritten) (λ j ne. ap inner (hot-other y.hots key rewritten j ne)) hot_fit hot_keeps refl hot_stands)
+      (written-kept y.hots hots' y.slots.slots y.slots.slots y.spare.items y.reached (vec_capacity y.spare) y.rows y.rows _ key there.0 there.0 there.1 f s there.2 there.3 there.2 (λ j ne. refl) (length-set y.hots key rewritten) (λ j ne. ap inner (hot-other y.hots key rewritten j ne)) hot_fit hot_keeps refl hot_stands)
       refl)
 
-  pub rewritten-sound : (now : List Hot) → now ≡ hots' → IsLaidOut now y.slots.slots y.spare.items y.reached (vec_capacity y.spare) y.sides
-  rewritten-sound now is_now = subst (λ hots. IsLaidOut hots y.slots.slots y.spare.items y.reached (vec_capacity y.spare) y.sides) (sym is_now) set_sound
+  pub rewritten-sound : (now : List Hot) → now ≡ hots' → IsLaidOut now y.slots.slots y.spare.items y.reached (vec_capacity y.spare) y.rows
+  rewritten-sound now is_now = subst (λ hots. IsLaidOut hots y.slots.slots y.spare.items y.reached (vec_capacity y.spare) y.rows) (sym is_now) set_sound
 
-  pub rewritten-seen : (now : List Hot) → now ≡ hots' → ◌≡◌ {A = Yard} (record { lists = lists_of now y.slots.slots y.sides; kept = kept_in now y.slots.slots y.reached; room = length y.spare.items }) (record v { kept = kept_set v.kept key f })
-  rewritten-seen now is_now = subst (λ hots. ◌≡◌ {A = Yard} (record { lists = lists_of hots y.slots.slots y.sides; kept = kept_in hots y.slots.slots y.reached; room = length y.spare.items }) (record v { kept = kept_set v.kept key f })) (sym is_now) set_seen
+  pub rewritten-seen : (now : List Hot) → now ≡ hots' → ◌≡◌ {A = Yard} (record { lists = lists_of now y.slots.slots y.rows; kept = kept_in now y.slots.slots y.reached; room = length y.spare.items }) (record v { kept = kept_set v.kept key f })
+  rewritten-seen now is_now = subst (λ hots. ◌≡◌ {A = Yard} (record { lists = lists_of hots y.slots.slots y.rows; kept = kept_in hots y.slots.slots y.reached; room = length y.spare.items }) (record v { kept = kept_set v.kept key f })) (sym is_now) set_seen

@@ -1,12 +1,9 @@
 -- What every caller of a yard needs, over what contracts see.
-use Rattle.std.proofs.Common.{◌≡◌, ◌≢◌, ℕ, zero, suc, ◌<◌, ◌≤◌, Bool, false, cond, eqb, List, [], ◌∷◌, ◌++◌, length, get_or, set, IsSome, IsSomeAnd, Option, Some, None, refl, sym, ap, subst, ◌∙◌, inl, inr, arith, eq-eqb}
-use Rattle.std.specs.Prelude.{filter_map}
-use Rattle.std.specs.Option.{option_map, option_and_then, unwrap_or}
+use Rattle.std.proofs.Common.{◌≡◌, ◌≢◌, ℕ, zero, suc, ◌<◌, ◌≤◌, Bool, false, cond, eqb, List, [], ◌∷◌, ◌++◌, length, get_or, set, IsSome, IsSomeAnd, Option, Some, None, refl, sym, ap, subst, ◌∙◌, inl, inr, arith, eq-eqb, filter_map, option_map, option_and_then, unwrap_or}
 use Rattle.std.proofs.lemmas.Bool.{cases_eq}
 use Rattle.std.proofs.lemmas.List.{get_or-set_same, get_or-set_other}
 use Rattle.street_base.specs.declared.car.Car.{Car}
-use Rattle.street_yard.specs.Yard.{YardEntry, Yard, list_at, entry_at, car_of, mark_of, list_on, kept_set, list_set, car_set, mark_set, without, first_or, Has, Away, IsApart, IsLoose, IsWhole}
-use Rattle.street_yard.specs.Listed.{cell_at, AllAbove}
+use Rattle.street_yard.specs.Prelude.{YardEntry, Yard, list_at, entry_at, car_of, mark_of, list_on, kept_set, list_set, car_set, mark_set, without, first_or, Has, Away, IsApart, IsLoose, IsWhole, cell_at, AllAbove}
 use Rattle.street_yard.proofs.Keys.{has-later, Away-append, IsApart-split, listed_within, without-split}
 
 -- a change of one key's entry

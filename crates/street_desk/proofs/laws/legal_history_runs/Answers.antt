@@ -1,7 +1,5 @@
 use Rattle.std.proofs.Common.{List, [], ◌∷◌, map, refl}
-use Rattle.street_base.specs.State.{State}
-use Rattle.street_base.specs.Run.{Runs}
-use Rattle.street_base.specs.Outcomes.{state_after}
+use Rattle.street_base.specs.Prelude.{State, Runs, state_after}
 use Rattle.street_desk.specs.declared.journal.Entry.{Entry}
 use Rattle.street_desk.specs.History.{answers_from, state_from, IsLegalFrom}
 use Rattle.street_desk.proofs.laws.legal_history_runs.Goals as goal

@@ -2,7 +2,7 @@ use Rattle.std.proofs.Common.{sym, subst}
 use Rattle.street_base.specs.declared.refusal.Refusal.TheVariants.{NotLoaded}
 use Rattle.street_base.specs.declared.reply.Reply.TheVariants.{Refused}
 use Rattle.street_base.specs.declared.reply.Outcome.TheVariants.{Whole}
-use Rattle.street_engine.specs.Refines.{EngineView, Serves}
+use Rattle.street_engine.specs.Prelude.{EngineView, Serves}
 use Rattle.street_engine.proofs.LoadCommand.{not-loaded}
 use Rattle.street_engine.proofs.commands.apply.Goals as goal
 

@@ -1,7 +1,6 @@
-use Rattle.std.proofs.Common.{ap, subst}
-use Rattle.std.specs.Prelude.{length}
-use Rattle.street_base.specs.Faults.{network_fault}
-use Rattle.street_net.specs.Refused.{TellsFault}
+use Rattle.std.proofs.Common.{ap, subst, length}
+use Rattle.street_base.specs.Prelude.{network_fault}
+use Rattle.street_net.specs.Prelude.{TellsFault}
 use Rattle.street_engine.proofs.LoadCommand.{load-done, load-refused, load-starved}
 use Rattle.street_engine.proofs.commands.load.Goals as goal
 

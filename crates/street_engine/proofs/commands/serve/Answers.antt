@@ -1,11 +1,10 @@
-use Rattle.std.proofs.Common.{refl, sym, subst}
-use Rattle.std.specs.Prelude.{Some}
+use Rattle.std.proofs.Common.{refl, sym, subst, Some}
 use Rattle.street_base.specs.declared.command.Command.{Command}
 use Rattle.street_base.specs.declared.command.Command.TheVariants.{Load}
 use Rattle.street_base.specs.declared.refusal.Refusal.TheVariants.{AlreadyLoaded}
 use Rattle.street_base.specs.declared.reply.Reply.TheVariants.{Refused}
 use Rattle.street_base.specs.declared.reply.Outcome.TheVariants.{Whole}
-use Rattle.street_engine.specs.Refines.{Serves}
+use Rattle.street_engine.specs.Prelude.{Serves}
 use Rattle.street_engine.proofs.Serves.{streets-refused}
 use Rattle.street_engine.proofs.commands.serve.Goals as goal
 

@@ -1,6 +1,6 @@
 use Rattle.std.proofs.Common.{refl, ap, sym, ◌∙◌, arith}
 use Rattle.street_base.specs.declared.net.NetSpec.{NetSpec}
-use Rattle.street_base.specs.Effects.{named_lane}
+use Rattle.street_base.specs.Prelude.{named_lane}
 use Rattle.street_engine.proofs.DetectorCommands.{meter-refused, bad-period, too-many-meters, meter-starved, meter-done, good-period, no-period, long-period}
 use Rattle.street_engine.proofs.detector_commands.place_meter.Goals as goal
 use Rattle.street_engine.proofs.detector_commands.place_meter.Goals.{then-period-eq0-via-then-period-eq0, then-period-eq0-via-else-period-eq0+then-period-gt-MOST_PERIOD}

@@ -1,13 +1,11 @@
-use Rattle.std.proofs.Common.{◌≡◌, ◌<◌, ℕ, suc, List, [], ◌∷◌, ◌++◌, length, set, get_or, refl, sym, ◌∙◌, ap, subst, arith}
-use Rattle.std.specs.Prelude.{Option, Some}
+use Rattle.std.proofs.Common.{◌≡◌, ◌<◌, ℕ, suc, List, [], ◌∷◌, ◌++◌, length, set, get_or, refl, sym, ◌∙◌, ap, subst, arith, Option, Some}
 use Rattle.std.proofs.lemmas.List.{length-append}
 use Rattle.street_base.specs.declared.reply.End.{End}
 use Rattle.street_base.specs.declared.reply.End.TheVariants.{Arrived}
-use Rattle.street_base.specs.Step.{with_arrivals}
-use Rattle.street_tile.specs.Tiles.{Part}
-use Rattle.street_tile.specs.Together.{TilesView, all_arrived}
-use Rattle.street_engine.specs.Ends.{AreComing}
-use Rattle.street_engine.proofs.Arrivals.{with_arrivals-append, with_arrivals-none, with_arrivals-one}
+use Rattle.street_base.specs.Prelude.{with_arrivals}
+use Rattle.street_tile.specs.Prelude.{Part, TilesView, all_arrived}
+use Rattle.street_engine.specs.Prelude.{AreComing}
+use Rattle.street_engine.proofs.Arrivals.{with_arrivals-none, last-arrives}
 use Rattle.street_engine.proofs.AreComing.{last-going, rest-coming}
 use Rattle.street_engine.proofs.ends.note_arrivals.Goals as goal
 
@@ -16,8 +14,8 @@ none-held : (xs : List Part) → ((k : ℕ) (d : Part) → k < length xs → (ge
 none-held [] none = refl
 none-held (x ∷ xs) none = ap (λ (ns : List ℕ). all_arrived xs ++ ns) (none 0 x (omega arith)) ∙ ap (λ (ns : List ℕ). ns ++ []) (none-held xs (λ k d h. none (suc k) d (omega arith)))
 
-pub arrive-requires : goal.arrive-requires
-arrive-requires c = last-going c.in-Some.number (all_arrived c.next_arrival.new.self.tiles) c.loop-number.ends.ends (subst (λ (ns : List ℕ). AreComing ns c.loop-number.ends.ends) c.in-Some.ensures.some.rest c.loop-number.invariant.coming)
+pub note_arrived-requires : goal.note_arrived-requires
+note_arrived-requires c = last-going c.in-Some.number (all_arrived c.next_arrival.new.self.tiles) c.loop-number.ends.ends (subst (λ (ns : List ℕ). AreComing ns c.loop-number.ends.ends) c.in-Some.ensures.some.rest c.loop-number.invariant.coming)
 
 pub loop-number-preserved : goal.loop-number-preserved
 loop-number-preserved c =
@@ -26,7 +24,7 @@ loop-number-preserved c =
     let number = c.in-Some.number in
     let ends : List (Option End) = c.loop-number.ends.ends in
     let e : all_arrived c.loop-number.tiles.tiles ≡ rest ++ number ∷ [] = took.rest in
-    let now : c.arrive.new.self.ends ≡ set ends number (Some (Arrived c.args.clock)) = c.arrive.ensures in
+    let now : c.note_arrived.new.self.ends ≡ set ends number (Some (Arrived c.args.clock)) = c.note_arrived.ensures in
     record {
       network = took.network ∙ c.loop-number.invariant.network;
       long = took.long ∙ c.loop-number.invariant.long;
@@ -36,7 +34,7 @@ loop-number-preserved c =
           let after = took.tiles k d (omega arith) in
           after ∙ ap (λ (t : Part). record t { arrived = (get_or c.next_arrival.new.self.tiles k d).arrived }) before;
       coming = subst (AreComing rest) (sym now) (rest-coming number rest ends (subst (λ (ns : List ℕ). AreComing ns ends) e c.loop-number.invariant.coming) (Arrived c.args.clock));
-      ends = ap (with_arrivals c.args.clock rest) (now ∙ sym (with_arrivals-one c.args.clock number ends)) ∙ sym (with_arrivals-append c.args.clock rest (number ∷ []) ends) ∙ ap (λ (ns : List ℕ). with_arrivals c.args.clock ns ends) (sym e) ∙ c.loop-number.invariant.ends;
+      ends = ap (with_arrivals c.args.clock rest) now ∙ sym (last-arrives c.args.clock rest number ends) ∙ ap (λ (ns : List ℕ). with_arrivals c.args.clock ns ends) (sym e) ∙ c.loop-number.invariant.ends;
     }
 
 pub loop-number-smaller : goal.loop-number-smaller

@@ -1,8 +1,7 @@
 use Rattle.std.proofs.Common.{◌≡◌, length}
-use Rattle.street_base.specs.Step.{with_arrivals}
-use Rattle.street_tile.specs.Tiles.{Each}
-use Rattle.street_tile.specs.Together.{all_arrived, SameButArrived}
-use Rattle.street_engine.specs.Ends.{AreComing}
+use Rattle.street_base.specs.Prelude.{with_arrivals}
+use Rattle.street_tile.specs.Prelude.{Each, all_arrived, SameButArrived}
+use Rattle.street_engine.specs.Prelude.{AreComing}
 use Rattle.street_engine.proofs.ends.note_arrivals.Given as goal
 
 abbrev pub invariant-loop-number : goal.invariant-loop-number

@@ -1,6 +1,6 @@
 use Rattle.std.proofs.Common.{ap, sym, ◌∙◌}
 use Rattle.street_base.specs.declared.net.NetSpec.{NetSpec}
-use Rattle.street_base.specs.Effects.{named_lane}
+use Rattle.street_base.specs.Prelude.{named_lane}
 use Rattle.street_engine.proofs.LaneCommands.{lane-refused, lane-starved, lane-shown}
 use Rattle.street_engine.proofs.lane_commands.lane.Goals as goal
 

@@ -1,6 +1,6 @@
 use Rattle.std.proofs.Common.{ap, sym, ◌∙◌}
 use Rattle.street_base.specs.declared.net.NetSpec.{NetSpec}
-use Rattle.street_base.specs.Effects.{named_lane}
+use Rattle.street_base.specs.Prelude.{named_lane}
 use Rattle.street_engine.proofs.LaneCommands.{closing-refused, closing-starved, closing-done}
 use Rattle.street_engine.proofs.lane_commands.set_closed.Goals as goal
 

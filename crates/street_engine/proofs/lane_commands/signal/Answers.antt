@@ -1,10 +1,7 @@
-use Rattle.std.proofs.Common.{subst, ap, sym, ◌∙◌}
-use Rattle.std.specs.Prelude.{Some}
+use Rattle.std.proofs.Common.{subst, ap, sym, ◌∙◌, Some}
 use Rattle.street_base.specs.declared.net.NetSpec.{NetSpec}
-use Rattle.street_base.specs.Network.{node_of}
-use Rattle.street_base.specs.Faults.{signal_fault}
-use Rattle.street_base.specs.Effects.{plan_of}
-use Rattle.street_node.specs.Greens.{ShowsAs, TellsSignalFault, node_id}
+use Rattle.street_base.specs.Prelude.{node_of, signal_fault, plan_of}
+use Rattle.street_node.specs.Prelude.{ShowsAs, TellsSignalFault, node_id}
 use Rattle.street_engine.proofs.SignalCommand.{no-node, bad-signal, signal-starved, signal-done}
 use Rattle.street_engine.proofs.lane_commands.signal.Goals as goal
 

@@ -1,36 +1,29 @@
-use Rattle.std.proofs.Common.{◌≡◌, subst, ap, sym, ◌∙◌, arith}
-use Rattle.std.specs.Prelude.{None}
+use Rattle.std.proofs.Common.{◌≡◌, subst, ap, sym, ◌∙◌, None}
 use Rattle.std.proofs.lemmas.Option.{cond_some}
 use Rattle.street_base.specs.declared.net.NetSpec.{NetSpec}
-use Rattle.street_base.specs.Machine.{plan_links, entered}
-use Rattle.street_net.specs.Refused.{plan_refusal}
+use Rattle.street_base.specs.Prelude.{plan_links, entered}
+use Rattle.street_net.specs.Prelude.{plan_refusal}
 use Rattle.street_net.proofs.PlanRefusal.{taken}
-use Rattle.street_engine.specs.Streets.{StreetsStandFor}
-use Rattle.street_engine.proofs.EnterCommand.{too-many, enter-refused, enter-starving, enter-starved, enter-done}
+use Rattle.street_engine.specs.Prelude.{StreetsStandFor}
+use Rattle.street_engine.proofs.EnterCommand.{enter-refused, enter-starved, enter-done}
 use Rattle.street_engine.proofs.vehicle_commands.enter.Goals as goal
 
-pub returns-then-car-ge-MOST_VEHICLES-clause-serves : goal.returns-then-car-ge-MOST_VEHICLES-clause-serves
-returns-then-car-ge-MOST_VEHICLES-clause-serves c = too-many c.args.streets.now c.args.plan.now c.args.lane c.args.depart c.args.size (omega (arith, c.admitted-car.ensures.count, c.if-car-ge-MOST_VEHICLES.true))
-
 pub returns-in-Some-clause-serves : goal.returns-in-Some-clause-serves
-returns-in-Some-clause-serves c = enter-refused c.args.streets.now c.args.plan.now c.args.lane c.args.depart c.args.size (omega (arith, c.admitted-car.ensures.count, c.if-car-ge-MOST_VEHICLES.false))
-    c.entry_refusal.result (λ m same few. c.entry_refusal.ensures.refusal m (same ∙ sym c.network.ensures) few) c.in-Some.refusal c.in-Some.is
+returns-in-Some-clause-serves c = enter-refused c.args.streets.now c.args.plan.now c.args.lane c.args.depart c.args.size c.entry_refusal.result c.entry_refusal.ensures.refusal c.in-Some.refusal c.in-Some.is
 
 pub returns-in_default-links_of-clause-serves : goal.returns-in_default-links_of-clause-serves
-returns-in_default-links_of-clause-serves c = enter-starving c.args.streets.now c.args.plan.now c.args.lane c.args.depart c.args.size (omega (arith, c.admitted-car.ensures.count, c.if-car-ge-MOST_VEHICLES.false))
-    c.entry_refusal.result (λ m same few. c.entry_refusal.ensures.refusal m (same ∙ sym c.network.ensures) few) c.in_default.is
+returns-in_default-links_of-clause-serves c = enter-starved c.args.streets.now c.args.plan.now c.args.lane c.args.depart c.args.size c.entry_refusal.result c.entry_refusal.ensures.refusal c.in_default.is _ (λ m stands. stands)
 
 pub links_of-requires : goal.links_of-requires
-links_of-requires c = (taken c.network-2.result.now c.args.plan.now c.args.lane
-    (subst (λ (net : NetSpec). plan_refusal net c.args.plan.now c.args.lane ≡ None) (c.network.ensures ∙ sym c.network-2.ensures) (c.entry_refusal.ensures.planned c.in_default.is))).0
+links_of-requires c = (taken c.network.result.now c.args.plan.now c.args.lane
+    (subst (λ (net : NetSpec). plan_refusal net c.args.plan.now c.args.lane ≡ None) (sym c.network.ensures) (c.entry_refusal.ensures.planned c.in_default.is))).0
 
 pub returns-in-Ok-admit-clause-serves : goal.returns-in-Ok-admit-clause-serves
-returns-in-Ok-admit-clause-serves c = enter-done c.args.streets.now c.args.plan.now c.args.lane c.args.depart c.args.size (omega (arith, c.admitted-car.ensures.count, c.if-car-ge-MOST_VEHICLES.false))
-    c.entry_refusal.result (λ m same few. c.entry_refusal.ensures.refusal m (same ∙ sym c.network.ensures) few) c.in_default.is _ _ (c.from-car.ensures ∙ c.admitted-car.ensures.count)
+returns-in-Ok-admit-clause-serves c = enter-done c.args.streets.now c.args.plan.now c.args.lane c.args.depart c.args.size
+    c.entry_refusal.result c.entry_refusal.ensures.refusal c.in_default.is _ _ (c.from-car.ensures ∙ c.admitted-car.ensures.count)
     (λ m stands. subst (λ size. StreetsStandFor c.admit.new.self (entered m c.args.plan.now c.args.lane c.args.depart size)) (sym (cond_some _ c.args.size c.in-Some-new.size (sym c.new.ensures ∙ c.in-Some-new.is)).1)
     (subst (λ lane. StreetsStandFor c.admit.new.self (entered m c.args.plan.now lane c.args.depart c.in-Some-new.size)) c.lane_number-lane.ensures
-    (c.in-Ok-admit.ensures.waits c.args.plan.now (c.in-Ok.ensures.links ∙ ap (λ (net : NetSpec). plan_links net c.args.plan.now) c.network-2.ensures) m stands)))
+    (c.in-Ok-admit.ensures.waits c.args.plan.now (c.in-Ok.ensures.links ∙ ap (λ (net : NetSpec). plan_links net c.args.plan.now) c.network.ensures) m stands)))
 
 pub returns-in-Err-clause-serves : goal.returns-in-Err-clause-serves
-returns-in-Err-clause-serves c = enter-starved c.args.streets.now c.args.plan.now c.args.lane c.args.depart c.args.size (omega (arith, c.admitted-car.ensures.count, c.if-car-ge-MOST_VEHICLES.false))
-    c.entry_refusal.result (λ m same few. c.entry_refusal.ensures.refusal m (same ∙ sym c.network.ensures) few) c.in_default.is _ c.in-Err.ensures.starved
+returns-in-Err-clause-serves c = enter-starved c.args.streets.now c.args.plan.now c.args.lane c.args.depart c.args.size c.entry_refusal.result c.entry_refusal.ensures.refusal c.in_default.is _ c.in-Err.ensures.starved

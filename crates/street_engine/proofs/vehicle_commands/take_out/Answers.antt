@@ -1,5 +1,4 @@
-use Rattle.std.proofs.Common.{arith, ap, sym, ◌∙◌}
-use Rattle.std.specs.Prelude.{is_some}
+use Rattle.std.proofs.Common.{arith, ap, sym, ◌∙◌, is_some}
 use Rattle.street_engine.proofs.VehicleCommands.{takeout-unknown, takeout-gone, takeout-done}
 use Rattle.street_engine.proofs.vehicle_commands.take_out.Goals as goal
 

@@ -1,6 +1,5 @@
 -- The search cuts the stretches where its test turns.
-use Rattle.std.proofs.Common.{◌<◌, ◌≤◌, ◌-◌, arith, rules, tests}
-use Rattle.std.specs.Prelude.{nat_le}
+use Rattle.std.proofs.Common.{◌<◌, ◌≤◌, ◌-◌, arith, rules, tests, nat_le}
 use Rattle.std.proofs.lemmas.Bool.Decides.{nat_tests}
 use Rattle.std.proofs.lemmas.List.Sorted.{IsPartitionPoint-from_clause, IsPartitionedBy-leb}
 use Rattle.street_gap.specs.declared.closures.Stretch.{Stretch}

@@ -1,5 +1,5 @@
 use Rattle.std.proofs.Common.{◌≡◌, take}
-use Rattle.street_gap.specs.Closed.{closed_count}
+use Rattle.street_gap.specs.Prelude.{closed_count}
 use Rattle.street_gap.proofs.stretches.cells_on.Given as goal
 
 -- the cells of the stretches so far

@@ -1,5 +1,4 @@
-use Rattle.std.proofs.Common.{◌∙◌, ap, arith}
-use Rattle.std.specs.Prelude.{slice_set}
+use Rattle.std.proofs.Common.{◌∙◌, ap, arith, slice_set}
 use Rattle.street_gap.proofs.Cuts.{set-insert}
 use Rattle.street_gap.proofs.stretches.replace_by_two.Goals as goal
 

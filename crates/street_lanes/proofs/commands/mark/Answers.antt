@@ -1,6 +1,5 @@
-use Rattle.std.proofs.Common.{Bool, sym, subst}
-use Rattle.std.specs.Prelude.{OnOk}
-use Rattle.street_lanes.specs.Marks.{Marks}
+use Rattle.std.proofs.Common.{Bool, sym, subst, OnOk}
+use Rattle.street_lanes.specs.Prelude.{Marks}
 use Rattle.street_lanes.proofs.ClosedMarks.{closing-marks, opening-marks, on-ok}
 use Rattle.street_lanes.proofs.commands.mark.Goals as goal
 

@@ -1,29 +1,29 @@
-use Rattle.std.proofs.Common.{IsSome, refl, sym, ap, subst, arith}
-use Rattle.std.specs.Option.{unwrap_or}
+use Rattle.std.proofs.Common.{IsSome, refl, sym, ap, subst, arith, unwrap_or}
 use Rattle.street_yard.proofs.YardLemmas.{on_has_entry, cell_reads}
-use Rattle.street_lanes.proofs.Down.{down-start, down-on, down-step, down-smaller, down-found, down-none, down-end}
+use Rattle.street_lanes.proofs.ListWalk.{walk-on, walk-smaller}
+use Rattle.street_lanes.proofs.Down.{down-start, down-step, down-found, down-none, down-end}
 use Rattle.street_lanes.proofs.cover.holds.Goals as goal
 
 pub loop-cursor-init : goal.loop-cursor-init
 loop-cursor-init c = down-start c.args.yard.now c.args.cells.0 c.args.cell _ c.list_front-cursor.ensures.front
 
 pub cell-requires : goal.cell-requires
-cell-requires c = on_has_entry c.args.yard.now c.in-Some.key c.args.cells.0 (down-on c.args.yard.now c.args.cells.0 c.args.cell _ c.in-Some.key c.list_front-cursor.ensures.whole c.loop-cursor.invariant c.in-Some.is)
+cell-requires c = on_has_entry c.args.yard.now c.in-Some.key c.args.cells.0 (walk-on c.in-Some.key c.list_front-cursor.ensures.whole c.loop-cursor.invariant.walk c.in-Some.is)
 
 pub rear-requires : goal.rear-requires
-rear-requires c = on_has_entry c.args.yard.now c.in-Some.key c.args.cells.0 (down-on c.args.yard.now c.args.cells.0 c.args.cell _ c.in-Some.key c.list_front-cursor.ensures.whole c.loop-cursor.invariant c.in-Some.is)
+rear-requires c = on_has_entry c.args.yard.now c.in-Some.key c.args.cells.0 (walk-on c.in-Some.key c.list_front-cursor.ensures.whole c.loop-cursor.invariant.walk c.in-Some.is)
 
 pub behind-cursor-requires : goal.behind-cursor-requires
-behind-cursor-requires c = subst IsSome (sym (down-on c.args.yard.now c.args.cells.0 c.args.cell _ c.in-Some.key c.list_front-cursor.ensures.whole c.loop-cursor.invariant c.in-Some.is)) refl
+behind-cursor-requires c = subst IsSome (sym (walk-on c.in-Some.key c.list_front-cursor.ensures.whole c.loop-cursor.invariant.walk c.in-Some.is)) refl
 
 pub loop-cursor-smaller : goal.loop-cursor-smaller
-loop-cursor-smaller c = down-smaller c.args.yard.now c.args.cells.0 c.args.cell _ c.in-Some.key c.list_front-cursor.ensures.whole c.loop-cursor.invariant c.in-Some.is _ c.behind-cursor.ensures
+loop-cursor-smaller c = walk-smaller c.in-Some.key c.list_front-cursor.ensures.whole c.loop-cursor.invariant.walk c.in-Some.is _ c.behind-cursor.ensures.behind
 
 pub loop-cursor-preserved : goal.loop-cursor-preserved
 loop-cursor-preserved c =
     let reads = ap (λ o. unwrap_or o 0) c.rear.ensures in
     let over = c.if-rear-cell.false in
-    down-step c.args.yard.now c.args.cells.0 c.args.cell _ c.in-Some.key c.list_front-cursor.ensures.whole c.loop-cursor.invariant c.in-Some.is _ c.behind-cursor.ensures (omega arith)
+    down-step c.args.yard.now c.args.cells.0 c.args.cell _ c.in-Some.key c.list_front-cursor.ensures.whole c.loop-cursor.invariant c.in-Some.is _ c.behind-cursor.ensures.behind (omega arith)
 
 pub returns-then-cell : goal.returns-then-cell
 returns-then-cell c = λ count lane.

@@ -1,4 +1,4 @@
-use Rattle.street_yard.specs.Yard.{IsOnList}
+use Rattle.street_yard.specs.Prelude.{IsOnList}
 use Rattle.street_lanes.proofs.PlaceFor.{still}
 use Rattle.street_lanes.proofs.departures.not_after.Given as goal
 

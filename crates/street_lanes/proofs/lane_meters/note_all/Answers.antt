@@ -1,6 +1,6 @@
 use Rattle.std.proofs.Common.{get_or, ap, arith}
 use Rattle.std.proofs.lemmas.List.{get_or_default}
-use Rattle.street_lanes.specs.Lanes.{lane_of}
+use Rattle.street_lanes.specs.Prelude.{lane_of}
 use Rattle.street_rule.specs.declared.watch.Watch.{Watch}
 use Rattle.street_lanes.proofs.NotedMeters.{noted-next}
 use Rattle.street_lanes.proofs.lane_meters.note_all.Goals as goal

@@ -1,4 +1,4 @@
-use Rattle.street_lanes.specs.Lanes.{lane_of}
+use Rattle.street_lanes.specs.Prelude.{lane_of}
 use Rattle.street_lanes.proofs.NotedMeters.{IsNoted}
 use Rattle.street_lanes.proofs.lane_meters.note_all.Given as goal
 

@@ -2,14 +2,11 @@ use Rattle.std.proofs.Common.{ℕ, [], ◌∷◌, ◌++◌, map, sym, ap, ◌∙
 use Rattle.std.proofs.lemmas.List.{map_more, take_all}
 use Rattle.std.proofs.lemmas.Result.{IfOk-from_err}
 use Rattle.street_base.specs.declared.reply.Stretch.{Stretch as StretchEntry}
-use Rattle.street_lanes.specs.ShownCars.{shown_stretch}
+use Rattle.street_lanes.specs.Prelude.{shown_stretch}
 use Rattle.street_lanes.proofs.lane_reply.closed_entries.Goals as goal
 
 pub returns-in_err-entries : goal.returns-in_err-entries
 returns-in_err-entries c = IfOk-from_err c.from_residual.result _ c.from_residual.ensures.0
-
-pub loop-stretch-init : goal.loop-stretch-init
-loop-stretch-init c = c.in_ok-entries.ensures.items
 
 pub returns-in_err-push : goal.returns-in_err-push
 returns-in_err-push c = IfOk-from_err c.from_residual-in_err-push.result _ c.from_residual-in_err-push.ensures.0

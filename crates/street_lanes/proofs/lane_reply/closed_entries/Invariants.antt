@@ -1,5 +1,5 @@
 use Rattle.std.proofs.Common.{◌≡◌, map, take}
-use Rattle.street_lanes.specs.ShownCars.{shown_stretch}
+use Rattle.street_lanes.specs.Prelude.{shown_stretch}
 use Rattle.street_lanes.proofs.lane_reply.closed_entries.Given as goal
 
 abbrev pub invariant-loop-stretch : goal.invariant-loop-stretch

@@ -1,7 +1,5 @@
-use Rattle.std.proofs.Common.{◌<◌, length, refl, sym, ap, subst, arith}
-use Rattle.std.specs.List.{All}
-use Rattle.street_rule.specs.Road.{Road, IsRoadLane, length_of, lane_of}
-use Rattle.street_rule.specs.Watch.{IsReady}
+use Rattle.std.proofs.Common.{◌<◌, length, sym, ap, subst, arith, All}
+use Rattle.street_rule.specs.Prelude.{Road, IsRoadLane, length_of, lane_of, IsReady}
 use Rattle.street_lanes.proofs.Cars.{head-held}
 use Rattle.street_lanes.proofs.ListMotion.{MovesLane-nobody, MovesLane-stays, MovesLane-leaves}
 use Rattle.street_lanes.proofs.motion.drive.Goals as goal
@@ -34,29 +32,14 @@ returns-clause-moves c =
     c.in_ok-leaver.leaver c.in_ok-leaver.was c.end_node-end.result c.end_node-end.ensures.node c.saturating_add-ready.result (λ in_time. omega arith)
     c.settle.new.yard c.settle.result c.settle.ensures.settles c.settle.ensures.none_loose
 
-pub cells_list-cells-requires : goal.cells_list-cells-requires
-cells_list-cells-requires c = c.requires.few
-
 pub list_front-requires : goal.list_front-requires
 list_front-requires c = rw c.cells_list-cells.ensures (omega (arith, c.requires.listed))
-
-pub returns-in_err-front-clause-dice : goal.returns-in_err-front-clause-dice
-returns-in_err-front-clause-dice c = refl
-
-pub buffer_list-buffer-requires : goal.buffer_list-buffer-requires
-buffer_list-buffer-requires c = c.requires.few
-
-pub new-road-requires : goal.new-road-requires
-new-road-requires c = c.requires.link
 
 pub exit_for-exit-requires-clause-network : goal.exit_for-exit-requires-clause-network
 exit_for-exit-requires-clause-network c = ap (λ (r : Road). r.network) c.new-road.ensures
 
 pub exit_for-exit-requires-clause-link : goal.exit_for-exit-requires-clause-link
 exit_for-exit-requires-clause-link c = ap (λ (r : Road). r.link) c.new-road.ensures
-
-pub exit_for-exit-requires-clause-there : goal.exit_for-exit-requires-clause-there
-exit_for-exit-requires-clause-there c = c.requires.link
 
 pub exit_for-exit-requires-clause-list : goal.exit_for-exit-requires-clause-list
 exit_for-exit-requires-clause-list c = rw c.buffer_list-buffer.ensures c.requires.listed
@@ -70,14 +53,5 @@ motion_pass-requires-clause-stands c = subst (λ (r : Road). IsRoadLane c.args.y
 pub motion_pass-requires-clause-watches : goal.motion_pass-requires-clause-watches
 motion_pass-requires-clause-watches c = subst (λ (r : Road). All (IsReady (length_of r)) c.args.watches.now) (sym c.new-road.ensures) c.requires.watches
 
-pub returns-in_err-leaver-clause-dice : goal.returns-in_err-leaver-clause-dice
-returns-in_err-leaver-clause-dice c = c.motion_pass.ensures.dice
-
-pub end_node-end-requires : goal.end_node-end-requires
-end_node-end-requires c = c.requires.link
-
 pub settle-requires-clause-list : goal.settle-requires-clause-list
 settle-requires-clause-list c = rw (c.buffer_list-buffer.ensures, c.motion_pass.ensures.rest.count) c.requires.listed
-
-pub returns-clause-dice : goal.returns-clause-dice
-returns-clause-dice c = c.motion_pass.ensures.dice

@@ -1,12 +1,10 @@
-use Rattle.std.proofs.Common.{◌≡◌, ℕ, ◌<◌, length, sym, ap, ◌∙◌, subst, inl, inr, arith}
-use Rattle.std.specs.Prelude.{Option, Some}
-use Rattle.std.specs.Option.{option_map}
+use Rattle.std.proofs.Common.{◌≡◌, ℕ, ◌<◌, length, sym, ap, ◌∙◌, subst, inl, inr, arith, Option, Some, option_map}
 use Rattle.street_base.specs.declared.car.Car.{Car as CarOf}
 use Rattle.street_base.specs.declared.net.NetSpec.{NetSpec}
-use Rattle.street_base.specs.Network.{link_at}
+use Rattle.street_base.specs.Prelude.{link_at}
 use Rattle.street_net.proofs.GoodLinks.{good-link}
-use Rattle.street_yard.specs.Yard.{list_at}
-use Rattle.street_lanes.specs.Motion.{opens_to}
+use Rattle.street_yard.specs.Prelude.{list_at}
+use Rattle.street_lanes.specs.Prelude.{opens_to}
 use Rattle.street_lanes.proofs.Settles.{next-of}
 use Rattle.street_lanes.proofs.motion.exit_for.Goals as goal
 
@@ -27,4 +25,4 @@ returns-then-reach-length c = λ car is.
 pub returns : goal.returns
 returns c = λ car is.
     let leg = c.args.leg.now in
-    inr (c.exit_is_open.ensures ∙ ap (opens_to leg.net.now leg.signal.now leg.clock leg.at (length (list_at c.args.yard.now c.args.buffer.0))) (next-of car c.args.yard.now c.args.front _ is c.next_link.ensures))
+    inr (c.exit_is_open.ensures ∙ ap (opens_to leg.net.now leg.signal.now leg.clock leg.at (length (list_at c.args.yard.now c.args.buffer.0))) (next-of car c.args.yard.now c.args.front _ is c.next_link.ensures.next))

@@ -1,5 +1,5 @@
 use Rattle.std.proofs.Common.{◌≡◌}
-use Rattle.street_lanes.specs.Lists.{Packs}
+use Rattle.street_lanes.specs.Prelude.{Packs}
 use Rattle.street_lanes.proofs.packing.pack_lanes.Given as goal
 
 abbrev pub invariant-loop-lane : goal.invariant-loop-lane

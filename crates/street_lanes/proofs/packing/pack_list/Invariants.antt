@@ -1,6 +1,6 @@
 use Rattle.std.proofs.Common.{◌≡◌}
-use Rattle.street_yard.specs.Yard.{IsOnList}
-use Rattle.street_lanes.specs.Lists.{Packs}
+use Rattle.street_yard.specs.Prelude.{IsOnList}
+use Rattle.street_lanes.specs.Prelude.{Packs}
 use Rattle.street_lanes.proofs.packing.pack_list.Given as goal
 
 abbrev pub invariant-loop-car : goal.invariant-loop-car

@@ -1,14 +1,11 @@
 use Rattle.std.proofs.Common.{◌++◌, ◌∷◌, [], map, sym, ap, ◌∙◌, arith}
 use Rattle.std.proofs.lemmas.List.{map_more, take_all}
 use Rattle.std.proofs.lemmas.Result.{IfOk-from_err}
-use Rattle.street_base.specs.Network.{link_at}
+use Rattle.street_base.specs.Prelude.{link_at}
 use Rattle.street_lanes.proofs.whereabouts.remaining_ids.Goals as goal
 
 pub returns-in_err-ids : goal.returns-in_err-ids
 returns-in_err-ids c = IfOk-from_err c.from_residual.result _ c.from_residual.ensures.0
-
-pub loop-link-init : goal.loop-link-init
-loop-link-init c = c.in_ok-ids.ensures.items
 
 pub returns-in_err-push : goal.returns-in_err-push
 returns-in_err-push c = IfOk-from_err c.from_residual-in_err-push.result _ c.from_residual-in_err-push.ensures.0

@@ -1,5 +1,5 @@
 use Rattle.std.proofs.Common.{◌≡◌, map, take}
-use Rattle.street_base.specs.Network.{link_at}
+use Rattle.street_base.specs.Prelude.{link_at}
 use Rattle.street_lanes.proofs.whereabouts.remaining_ids.Given as goal
 
 abbrev pub invariant-loop-link : goal.invariant-loop-link

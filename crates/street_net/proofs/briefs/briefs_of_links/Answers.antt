@@ -1,11 +1,9 @@
-use Rattle.std.proofs.Common.{◌<◌, ◌≤◌, ◌∷◌, [], length, length-append, get_or, ◌∙◌, sym, ap, subst, arith}
-use Rattle.std.specs.Prelude.{is_some, List, Some}
+use Rattle.std.proofs.Common.{◌<◌, ◌≤◌, ◌∷◌, [], length, length-append, get_or, ◌∙◌, sym, ap, subst, arith, is_some, List, Some}
 use Rattle.street_base.specs.declared.net.LinkSpec.{LinkSpec}
-use Rattle.street_base.specs.Limits.{most_cells, most_lanes, most_limit}
-use Rattle.street_base.specs.Network.{node_of, no_link}
+use Rattle.street_base.specs.Prelude.{most_cells, most_lanes, most_limit, node_of, no_link}
 use Rattle.street_base.proofs.FaultLemmas.{node_of_below, link_keeps_limits}
 use Rattle.street_net.specs.declared.briefs.Brief.{Brief}
-use Rattle.street_net.specs.Tables.{IsBrief}
+use Rattle.street_net.specs.Prelude.{IsBrief}
 use Rattle.street_net.proofs.GoodLinks.{good-link}
 use Rattle.street_net.proofs.BriefLemmas.{told-more}
 use Rattle.street_net.proofs.briefs.briefs_of_links.Goals as goal

@@ -1,6 +1,6 @@
 use Rattle.std.proofs.Common.{◌≡◌, ℕ, ◌<◌, length, get_or}
 use Rattle.street_net.specs.declared.briefs.Brief.{Brief}
-use Rattle.street_net.specs.Tables.{IsBrief}
+use Rattle.street_net.specs.Prelude.{IsBrief}
 use Rattle.street_net.proofs.briefs.briefs_of_links.Given as goal
 
 abbrev pub invariant-loop-link : goal.invariant-loop-link

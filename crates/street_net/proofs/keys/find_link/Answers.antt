@@ -1,5 +1,4 @@
-use Rattle.std.proofs.Common.{◌∙◌, ap, eqb}
-use Rattle.std.specs.Prelude.{position}
+use Rattle.std.proofs.Common.{◌∙◌, ap, eqb, position}
 use Rattle.street_base.specs.declared.net.LinkSpec.{LinkSpec}
 use Rattle.street_net.proofs.KeyLemmas.{eqb-sym, position-keys}
 use Rattle.street_net.proofs.keys.find_link.Goals as goal

@@ -1,7 +1,7 @@
 use Rattle.std.proofs.Common.{◌∙◌, ap, take, refl}
-use Rattle.street_base.specs.Faults.{is_same_turn}
+use Rattle.street_base.specs.Prelude.{is_same_turn}
 use Rattle.std.specs.List.{list_any}
-use Rattle.street_net.specs.Keys.{turn_key}
+use Rattle.street_net.specs.Prelude.{turn_key}
 use Rattle.street_net.proofs.KeyLemmas.{list_any-keys, is_same_key}
 use Rattle.street_net.proofs.keys.is_repeated_turn.Goals as goal
 

@@ -1,6 +1,4 @@
-use Rattle.std.proofs.Common.{◌≡◌, ◌∙◌, sym, ap, eqb}
-use Rattle.std.specs.Prelude.{slice_get, option_copied}
-use Rattle.std.specs.Option.{option_and_then}
+use Rattle.std.proofs.Common.{◌≡◌, ◌∙◌, sym, ap, eqb, slice_get, option_copied, option_and_then}
 use Rattle.street_base.specs.declared.net.LinkSpec.{LinkSpec}
 use Rattle.street_net.proofs.KeyLemmas.{find-position, copied-at}
 use Rattle.street_net.proofs.keys.link_with.Goals as goal

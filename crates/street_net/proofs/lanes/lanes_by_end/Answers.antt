@@ -1,12 +1,11 @@
-use Rattle.std.proofs.Common.{◌≡◌, ◌+◌, ◌<◌, length, get_or, set, Vec, refl, sym, ◌∙◌, ap, arith, inl, inr}
-use Rattle.std.specs.Prelude.{Some, filter}
+use Rattle.std.proofs.Common.{◌≡◌, ◌+◌, ◌<◌, length, get_or, set, Vec, refl, sym, ◌∙◌, ap, arith, inl, inr, Some, filter}
 use Rattle.std.specs.declared.alloc.Global.{Global}
 use Rattle.std.proofs.lemmas.Bool.{cases_eq}
 use Rattle.std.proofs.lemmas.List.{length-set, get_or-set_same, get_or-set_other}
-use Rattle.street_base.specs.Network.{link_at, node_of}
+use Rattle.street_base.specs.Prelude.{link_at, node_of}
 use Rattle.street_base.proofs.FaultLemmas.{link_below}
 use Rattle.street_base.specs.declared.names.Place.{Place}
-use Rattle.street_net.specs.Tables.{ends_at}
+use Rattle.street_net.specs.Prelude.{ends_at}
 use Rattle.street_net.proofs.GoodLinks.{node_of_within}
 use Rattle.street_net.proofs.InLanes.{places_below, landed, landed-elsewhere}
 use Rattle.street_net.proofs.BriefLemmas.{told-at}

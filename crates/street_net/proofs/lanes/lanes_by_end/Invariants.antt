@@ -1,8 +1,7 @@
-use Rattle.std.proofs.Common.{◌≡◌, ℕ, ◌<◌, length, get_or, Vec}
-use Rattle.std.specs.Prelude.{filter}
+use Rattle.std.proofs.Common.{◌≡◌, ℕ, ◌<◌, length, get_or, Vec, filter}
 use Rattle.std.specs.declared.alloc.Global.{Global}
 use Rattle.street_base.specs.declared.names.Place.{Place}
-use Rattle.street_net.specs.Tables.{ends_at}
+use Rattle.street_net.specs.Prelude.{ends_at}
 use Rattle.street_net.proofs.InLanes.{places_below}
 use Rattle.street_net.proofs.lanes.lanes_by_end.Given as goal
 

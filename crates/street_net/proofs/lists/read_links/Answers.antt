@@ -4,8 +4,7 @@ use Rattle.std.proofs.lemmas.Bool.{or_parts}
 use Rattle.street_base.specs.declared.net.LinkSpec.{LinkSpec}
 use Rattle.street_base.specs.declared.net.NetSpec.{NetSpec}
 use Rattle.street_base.specs.declared.refusal.Part.TheVariants.{Links}
-use Rattle.street_base.specs.Faults.{is_bad_link, in_part}
-use Rattle.street_base.specs.Network.{no_link}
+use Rattle.street_base.specs.Prelude.{is_bad_link, in_part, no_link}
 use Rattle.street_net.proofs.KeyLemmas.{keys-more, eqb-sym}
 use Rattle.street_net.proofs.FirstBad.{NoneBad-more, first_bad-here, first_bad-none}
 use Rattle.street_net.proofs.lists.read_links.Goals as goal

@@ -1,6 +1,6 @@
 use Rattle.std.proofs.Common.{◌≡◌, take}
-use Rattle.street_base.specs.Faults.{is_bad_link}
-use Rattle.street_net.specs.Keys.{ids_of_links}
+use Rattle.street_base.specs.Prelude.{is_bad_link}
+use Rattle.street_net.specs.Prelude.{ids_of_links}
 use Rattle.street_net.proofs.FirstBad.{NoneBad}
 use Rattle.street_net.proofs.lists.read_links.Given as goal
 

@@ -4,8 +4,8 @@ use Rattle.std.proofs.lemmas.Bool.{or_parts}
 use Rattle.street_base.specs.declared.net.TurnSpec.{TurnSpec}
 use Rattle.street_base.specs.declared.net.NetSpec.{NetSpec}
 use Rattle.street_base.specs.declared.refusal.Part.TheVariants.{Turns}
-use Rattle.street_base.specs.Faults.{is_bad_turn, in_part, is_same_turn}
-use Rattle.street_net.specs.Keys.{turn_key}
+use Rattle.street_base.specs.Prelude.{is_bad_turn, in_part, is_same_turn}
+use Rattle.street_net.specs.Prelude.{turn_key}
 use Rattle.street_net.proofs.KeyLemmas.{keys-more, is_same_key}
 use Rattle.street_net.proofs.FirstBad.{NoneBad-more, first_bad-here, first_bad-none}
 use Rattle.street_net.proofs.lists.read_turns.Goals as goal

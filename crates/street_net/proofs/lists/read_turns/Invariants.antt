@@ -1,6 +1,6 @@
 use Rattle.std.proofs.Common.{◌≡◌, take}
-use Rattle.street_base.specs.Faults.{is_bad_turn}
-use Rattle.street_net.specs.Keys.{keys_of_turns}
+use Rattle.street_base.specs.Prelude.{is_bad_turn}
+use Rattle.street_net.specs.Prelude.{keys_of_turns}
 use Rattle.street_net.proofs.FirstBad.{NoneBad}
 use Rattle.street_net.proofs.lists.read_turns.Given as goal
 

@@ -1,9 +1,8 @@
-use Rattle.std.proofs.Common.{arith, rules, tests}
-use Rattle.std.specs.Prelude.{nat_lt}
+use Rattle.std.proofs.Common.{arith, rules, tests, nat_lt}
 use Rattle.std.proofs.lemmas.Bool.{ltb-true, ltb-false}
 use Rattle.std.proofs.lemmas.List.Sorted.{IsPartitionPoint-from_clause, IsPartitionedBy-ltb}
 use Rattle.street_base.specs.declared.net.Turn.{Turn}
-use Rattle.street_net.specs.Tables.{list_number}
+use Rattle.street_net.specs.Prelude.{list_number}
 use Rattle.street_net.proofs.turns.start_of.Goals as goal
 
 pub returns : goal.returns

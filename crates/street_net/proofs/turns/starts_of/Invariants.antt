@@ -1,5 +1,5 @@
 use Rattle.std.proofs.Common.{◌≡◌, length}
-use Rattle.street_net.specs.Tables.{AreStarts}
+use Rattle.street_net.specs.Prelude.{AreStarts}
 use Rattle.street_net.proofs.turns.starts_of.Given as goal
 
 abbrev pub invariant-loop-list : goal.invariant-loop-list

@@ -1,10 +1,9 @@
-use Rattle.std.proofs.Common.{◌≡◌, ◌<◌, ◌++◌, ◌∷◌, [], length, get_or, take, map, sym, ◌∙◌, ap}
-use Rattle.std.specs.Prelude.{List}
+use Rattle.std.proofs.Common.{◌≡◌, ◌<◌, ◌++◌, ◌∷◌, [], length, get_or, take, map, sym, ◌∙◌, ap, List}
 use Rattle.std.proofs.lemmas.List.{take_more, map-append}
 use Rattle.street_base.specs.declared.net.TurnSpec.{TurnSpec}
 use Rattle.street_base.specs.declared.net.Turn.{Turn}
-use Rattle.street_base.specs.Faults.{joins}
-use Rattle.street_net.specs.Tables.{seen_turn}
+use Rattle.street_base.specs.Prelude.{joins}
+use Rattle.street_net.specs.Prelude.{seen_turn}
 use Rattle.street_net.proofs.GoodLinks.{good-turn}
 use Rattle.street_net.proofs.TurnTable.{no_turn}
 use Rattle.street_net.proofs.turns.turns_by_position.Goals as goal

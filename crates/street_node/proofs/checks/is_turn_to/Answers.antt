@@ -1,10 +1,8 @@
-use Rattle.std.proofs.Common.{◌≡◌, ◌∙◌, true, false, refl, sym, ap}
-use Rattle.std.specs.Prelude.{Some, None, ◌==◌, ◌&&◌}
+use Rattle.std.proofs.Common.{◌≡◌, ◌∙◌, true, false, refl, sym, ap, Some, None, ◌==◌, ◌&&◌}
 use Rattle.std.specs.List.{list_any}
 use Rattle.std.specs.Option.{option_map_or}
 use Rattle.street_base.specs.declared.net.LinkSpec.{LinkSpec}
-use Rattle.street_base.specs.Network.{link_of, link_at}
-use Rattle.street_base.specs.Faults.{link_with}
+use Rattle.street_base.specs.Prelude.{link_of, link_at, link_with}
 use Rattle.street_node.proofs.GreenTurns.{is_green_turn, served, with-link, without-link, no-next, no-lane, and-false}
 use Rattle.street_node.proofs.checks.is_turn_to.Goals as goal
 

@@ -1,5 +1,5 @@
 use Rattle.std.proofs.Common.{◌∙◌, ap, sym, arith}
-use Rattle.street_base.specs.Faults.{is_bad_phase}
+use Rattle.street_base.specs.Prelude.{is_bad_phase}
 use Rattle.street_net.proofs.FirstBad.{first_bad-here, first_bad-none}
 use Rattle.street_node.proofs.checks.phases_fault.Goals as goal
 

@@ -1,4 +1,4 @@
-use Rattle.street_base.specs.Faults.{is_bad_phase}
+use Rattle.street_base.specs.Prelude.{is_bad_phase}
 use Rattle.street_net.proofs.FirstBad.{NoneBad}
 use Rattle.street_node.proofs.checks.phases_fault.Given as goal
 

@@ -1,6 +1,6 @@
 use Rattle.std.proofs.Common.{◌∙◌, ap, subst, take_all}
 use Rattle.street_node.specs.declared.phase.GreenTurn.{GreenTurn}
-use Rattle.street_node.specs.Greens.{mark_of, HasMarks}
+use Rattle.street_node.specs.Prelude.{mark_of, HasMarks}
 use Rattle.street_node.proofs.LinkMarks.{more}
 use Rattle.street_node.proofs.phase.marks_of.Goals as goal
 

@@ -1,5 +1,5 @@
 use Rattle.std.proofs.Common.{take}
-use Rattle.street_node.specs.Greens.{HasMarks}
+use Rattle.street_node.specs.Prelude.{HasMarks}
 use Rattle.street_node.proofs.phase.marks_of.Given as goal
 
 abbrev pub invariant-loop-green : goal.invariant-loop-green

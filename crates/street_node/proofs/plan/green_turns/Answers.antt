@@ -1,6 +1,6 @@
 use Rattle.std.proofs.Common.{arith}
 use Rattle.street_base.specs.declared.command.GreenSpec.{GreenSpec}
-use Rattle.street_base.specs.Faults.{is_turn_to}
+use Rattle.street_base.specs.Prelude.{is_turn_to}
 use Rattle.street_node.proofs.KeptPlan.{all-at, low-lane}
 use Rattle.street_node.proofs.plan.green_turns.Goals as goal
 

@@ -1,6 +1,6 @@
 use Rattle.std.proofs.Common.{◌≡◌, map, take}
-use Rattle.street_base.specs.Effects.{green_of}
-use Rattle.street_node.specs.Greens.{green_seen}
+use Rattle.street_base.specs.Prelude.{green_of}
+use Rattle.street_node.specs.Prelude.{green_seen}
 use Rattle.street_node.proofs.plan.green_turns.Given as goal
 
 abbrev pub invariant-loop-green : goal.invariant-loop-green

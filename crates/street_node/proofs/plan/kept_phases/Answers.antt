@@ -4,10 +4,9 @@ use Rattle.std.specs.List.{list_all}
 use Rattle.std.specs.List.Sorted.{IsPermutation}
 use Rattle.std.proofs.lemmas.Bool.{cases_eq}
 use Rattle.std.proofs.lemmas.List.{length-append, get_or_push, get_or_append_left, get_or_default}
-use Rattle.street_base.specs.Effects.{green_of, phase_of_spec}
-use Rattle.street_node.specs.Greens.{green_seen, IsSamePhase}
+use Rattle.street_base.specs.Prelude.{green_of, phase_of_spec, is_turn_to}
+use Rattle.street_node.specs.Prelude.{green_seen, IsSamePhase}
 use Rattle.street_base.specs.declared.command.PhaseSpec.{PhaseSpec}
-use Rattle.street_base.specs.Faults.{is_turn_to}
 use Rattle.street_node.proofs.KeptPlan.{good-phase}
 
 pub green_turns-requires-clause-good : goal.green_turns-requires-clause-good

@@ -1,8 +1,7 @@
 use Rattle.std.proofs.Common.{◌≡◌, ℕ, ◌<◌, length, get_or}
 use Rattle.street_base.specs.declared.command.PhaseSpec.{PhaseSpec}
-use Rattle.street_base.specs.Signal.{Phase}
-use Rattle.street_base.specs.Effects.{phase_of_spec}
-use Rattle.street_node.specs.Greens.{IsSamePhase}
+use Rattle.street_base.specs.Prelude.{Phase, phase_of_spec}
+use Rattle.street_node.specs.Prelude.{IsSamePhase}
 use Rattle.street_node.proofs.plan.kept_phases.Given as goal
 
 abbrev pub invariant-loop-phase : goal.invariant-loop-phase

@@ -1,5 +1,5 @@
 use Rattle.std.proofs.Common.{◌≡◌, drop}
-use Rattle.street_node.specs.Greens.{shown}
+use Rattle.street_node.specs.Prelude.{shown}
 use Rattle.street_node.proofs.plan.phase_shows.Given as goal
 
 abbrev pub invariant-loop-phase : goal.invariant-loop-phase

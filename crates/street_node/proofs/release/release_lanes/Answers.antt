@@ -1,12 +1,9 @@
-use Rattle.std.proofs.Common.{◌≡◌, ◌+◌, ◌≤◌, ◌++◌, ◌∷◌, [], ℕ, List, Bool, length, map, get_or, sym, ap, subst, ◌∙◌, arith, inl, inr, Some, None, false}
-use Rattle.std.specs.Prelude.{slice_get}
+use Rattle.std.proofs.Common.{◌≡◌, ◌+◌, ◌≤◌, ◌++◌, ◌∷◌, [], ℕ, List, Bool, length, map, get_or, sym, ap, subst, ◌∙◌, arith, inl, inr, Some, None, false, slice_get}
 use Rattle.std.proofs.lemmas.Bool.{cases_Bool}
 use Rattle.std.proofs.lemmas.List.{append-nil, append_assoc, length-map, length-set, take_all}
-use Rattle.street_base.specs.Network.{link_at}
-use Rattle.street_net.specs.Tables.{in_places}
-use Rattle.street_node.specs.Buffers.{queue_of}
-use Rattle.street_net.specs.Slots.{slot_of, mouth}
-use Rattle.street_node.specs.Releases.{lane_to, way_out, IsFront, SendsOn, Sends}
+use Rattle.street_base.specs.Prelude.{link_at}
+use Rattle.street_net.specs.Prelude.{in_places, slot_of, mouth}
+use Rattle.street_node.specs.Prelude.{queue_of, lane_to, way_out, IsFront, SendsOn, Sends}
 use Rattle.street_node.specs.declared.release.Released.{Released}
 use Rattle.street_base.specs.declared.names.Place.{Place}
 use Rattle.street_node.proofs.Queues.{head-on}

@@ -1,8 +1,7 @@
-use Rattle.std.proofs.Common.{◌≡◌, ◌+◌, ◌-◌, ◌*◌, ◌≤◌, ◌++◌, length, map, List, vec_len, vec_capacity}
-use Rattle.std.specs.Prelude.{None}
-use Rattle.street_base.specs.Faults.{network_fault}
-use Rattle.street_net.specs.Tables.{in_places}
-use Rattle.street_yard.specs.Yard.{IsApart}
+use Rattle.std.proofs.Common.{◌≡◌, ◌+◌, ◌-◌, ◌*◌, ◌≤◌, ◌++◌, length, map, List, vec_len, vec_capacity, None}
+use Rattle.street_base.specs.Prelude.{network_fault}
+use Rattle.street_net.specs.Prelude.{in_places}
+use Rattle.street_yard.specs.Prelude.{IsApart}
 use Rattle.street_node.specs.declared.release.Released.{Released}
 use Rattle.street_node.proofs.Steps.{AreDone}
 use Rattle.street_node.proofs.release.release_lanes.Given as goal

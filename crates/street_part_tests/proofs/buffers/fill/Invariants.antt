@@ -1,4 +1,4 @@
-use Rattle.street_node.specs.Buffers.{AreIn, HaveShortPlans}
+use Rattle.street_node.specs.Prelude.{AreIn, HaveShortPlans}
 use Rattle.street_part_tests.proofs.buffers.fill.Given as goal
 
 -- the yard is as the next vehicle wants it

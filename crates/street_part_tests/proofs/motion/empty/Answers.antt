@@ -1,6 +1,5 @@
-use Rattle.std.proofs.Common.{◌≡◌, ℕ, List, [], ap, subst}
-use Rattle.std.specs.Prelude.{IfOk, replicate, slice_index_or}
-use Rattle.street_yard.specs.Yard.{Yard}
+use Rattle.std.proofs.Common.{◌≡◌, ℕ, List, [], ap, subst, IfOk, replicate, slice_index_or}
+use Rattle.street_yard.specs.Prelude.{Yard}
 use Rattle.street_yard.proofs.FallingLists.{nobody-lane}
 use Rattle.street_part_tests.proofs.motion.empty.Goals as goal
 

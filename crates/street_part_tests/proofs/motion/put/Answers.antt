@@ -1,15 +1,10 @@
-use Rattle.std.proofs.Common.{◌≡◌, ◌≢◌, ℕ, ◌-◌, ◌<◌, List, [], ◌∷◌, ◌++◌, length, Option, Some, None, false, refl, sym, ap, subst, ◌∙◌, inl, inr, arith}
-use Rattle.std.specs.Prelude.{◌⊎◌, slice_set, slice_index_or}
-use Rattle.std.specs.Option.{option_map, option_and_then, unwrap_or}
+use Rattle.std.proofs.Common.{◌≡◌, ◌≢◌, ℕ, ◌-◌, ◌<◌, List, [], ◌∷◌, ◌++◌, length, Option, Some, None, false, refl, sym, ap, subst, ◌∙◌, inl, inr, arith, ◌⊎◌, slice_set, slice_index_or, option_map, option_and_then, unwrap_or}
 use Rattle.std.proofs.lemmas.Bool.{cases_eq}
 use Rattle.std.proofs.lemmas.List.{length-set, append-nil}
 use Rattle.street_base.specs.declared.car.Car.{Car}
-use Rattle.street_base.specs.Vehicle.{Vehicle, vehicle_of}
-use Rattle.street_base.specs.Lane.{vehicle_at, rear}
-use Rattle.street_base.specs.Apart.{AreDisjoint}
+use Rattle.street_base.specs.Prelude.{Vehicle, vehicle_of, vehicle_at, rear, AreDisjoint}
 use Rattle.street_base.proofs.CoverLemmas.{rear-le}
-use Rattle.street_yard.specs.Yard.{YardEntry, Yard, list_at, entry_at, car_of, list_on, list_set, Has, IsWhole, Updates}
-use Rattle.street_yard.specs.Listed.{cell_at, rear_at, vehicle_with, key_at, seen_at, cells_at, AllAbove, IsFalling, IsLane}
+use Rattle.street_yard.specs.Prelude.{YardEntry, Yard, list_at, entry_at, car_of, list_on, list_set, Has, IsWhole, Updates, cell_at, rear_at, vehicle_with, key_at, seen_at, cells_at, AllAbove, IsFalling, IsLane}
 use Rattle.street_yard.proofs.Keys.{has-later}
 use Rattle.street_yard.proofs.YardLemmas.{AllAbove-lower, AllAbove-push, car_of-list_set, cell_is, list-written}
 use Rattle.street_yard.proofs.FallingLists.{falling-push, falling-agree, found-agree, key_at-drop, key_at-is, cells-read, stands-key, rear-under}
@@ -46,6 +41,12 @@ seen-above y n count whole lane cell above x v is = by (key_at (cell_at y) (list
         let same : s.0 ≡ v = cc in
         let over = above-has (rear_at y) cell (list_at y n) k above (key_at-is (cell_at y) (list_at y n) x k e).1 in
         subst (λ (u : Vehicle). cell < rear x u) same (let r = s.2 in omega (arith, over, r))
+
+-- more room changes no list
+was-whole : (old room : Yard) → room ≡ record old { room = room.room } → IsWhole room → IsWhole old
+was-whole old room reserved w =
+    let v : IsWhole (record old { room = room.room }) = subst IsWhole reserved w in
+    record { listed = v.listed; names = v.names; apart = v.apart }
 
 module _ (old room mid new : Yard) (key : ℕ) (car : Car) (some : 0 < length old.lists) (whole : IsWhole old) (reserved : room ≡ record old { room = room.room }) (vacant : entry_at room key ≡ None)
     (admits : Updates room mid key (Some (record { car = car; mark = false; list = None }))) (lists : mid.lists ≡ room.lists)
@@ -137,12 +138,12 @@ module _ (old room mid new : Yard) (key : ℕ) (car : Car) (some : 0 < length ol
 
 pub returns-clause-list : goal.returns-clause-list
 returns-clause-list c =
-    count-same c.args.yard.now c.reserve.new.self c.admit_reserved-key.new.self c.push_back.new.self _ _ c.requires.list c.whole.ensures c.reserve.ensures.rest_kept c.admit_reserved-key.ensures.was_vacant c.admit_reserved-key.ensures.updates c.admit_reserved-key.ensures.lists c.push_back.ensures
+    count-same c.args.yard.now c.reserve.new.self c.admit_reserved-key.new.self c.push_back.new.self _ _ c.requires.list (was-whole _ _ c.reserve.ensures.rest_kept c.admit_reserved-key.ensures.was_whole) c.reserve.ensures.rest_kept c.admit_reserved-key.ensures.was_vacant c.admit_reserved-key.ensures.updates c.admit_reserved-key.ensures.lists c.push_back.ensures.after
 
 pub returns-clause-lane : goal.returns-clause-lane
 returns-clause-lane c =
-    put-lane c.args.yard.now c.reserve.new.self c.admit_reserved-key.new.self c.push_back.new.self _ _ c.requires.list c.whole.ensures c.reserve.ensures.rest_kept c.admit_reserved-key.ensures.was_vacant c.admit_reserved-key.ensures.updates c.admit_reserved-key.ensures.lists c.push_back.ensures 40 c.requires.within c.requires.lane c.requires.below c.whole-2.ensures
+    put-lane c.args.yard.now c.reserve.new.self c.admit_reserved-key.new.self c.push_back.new.self _ _ c.requires.list (was-whole _ _ c.reserve.ensures.rest_kept c.admit_reserved-key.ensures.was_whole) c.reserve.ensures.rest_kept c.admit_reserved-key.ensures.was_vacant c.admit_reserved-key.ensures.updates c.admit_reserved-key.ensures.lists c.push_back.ensures.after 40 c.requires.within c.requires.lane c.requires.below c.push_back.ensures.whole
 
 pub returns-clause-below : goal.returns-clause-below
 returns-clause-below c =
-    λ cell lower. put-above c.args.yard.now c.reserve.new.self c.admit_reserved-key.new.self c.push_back.new.self _ _ c.requires.list c.whole.ensures c.reserve.ensures.rest_kept c.admit_reserved-key.ensures.was_vacant c.admit_reserved-key.ensures.updates c.admit_reserved-key.ensures.lists c.push_back.ensures cell lower c.requires.below
+    λ cell lower. put-above c.args.yard.now c.reserve.new.self c.admit_reserved-key.new.self c.push_back.new.self _ _ c.requires.list (was-whole _ _ c.reserve.ensures.rest_kept c.admit_reserved-key.ensures.was_whole) c.reserve.ensures.rest_kept c.admit_reserved-key.ensures.was_vacant c.admit_reserved-key.ensures.updates c.admit_reserved-key.ensures.lists c.push_back.ensures.after cell lower c.requires.below

@@ -1,6 +1,6 @@
 use Rattle.std.proofs.Common.{◌≡◌, ◌+◌, ◌*◌, refl, ap, subst, arith}
 use Rattle.rand_chacha.specs.ChaCha.{ChaCha}
-use Rattle.street_rule.specs.KeptDraws.{Asked}
+use Rattle.street_rule.specs.Prelude.{Asked}
 use Rattle.street_rule.proofs.DrawLemmas.{at_block, placed, joined-four, lane-asked, slow-asked}
 use Rattle.street_rule.proofs.dice.drawn.Goals as goal
 

@@ -1,5 +1,5 @@
 use Rattle.std.proofs.Common.{subst, arith}
-use Rattle.street_rule.specs.KeptDraws.{Asked}
+use Rattle.street_rule.specs.Prelude.{Asked}
 use Rattle.street_rule.proofs.DrawLemmas.{joined-four, four-below, four-fit}
 use Rattle.street_rule.proofs.dice.sixteen.Goals as goal
 

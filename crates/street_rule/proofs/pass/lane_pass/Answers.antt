@@ -1,6 +1,6 @@
 use Rattle.std.proofs.Common.{◌≡◌, length, sym, ap, ◌∙◌, arith}
 use Rattle.street_base.specs.declared.net.NetSpec.{NetSpec}
-use Rattle.street_rule.specs.Road.{RoadLane}
+use Rattle.street_rule.specs.Prelude.{RoadLane}
 use Rattle.street_rule.proofs.Roads.{one-changes}
 use Rattle.street_rule.proofs.Whole.{never-changes, marked-road, first-fallen, second-fallen, first-stays, second-stays, all-change, all-keep, all-road}
 use Rattle.street_rule.proofs.pass.lane_pass.Goals as goal

@@ -1,13 +1,10 @@
-use Rattle.std.proofs.Common.{◌≡◌, Some, ◌<◌, ◌-◌, refl, arith, ap, sym, ◌∙◌, length, get_or}
-use Rattle.std.specs.Prelude.{◌||◌}
-use Rattle.std.specs.Option.{unwrap_or}
-use Rattle.street_base.specs.LaneChange.{changes}
-use Rattle.street_yard.specs.Yard.{list_on}
+use Rattle.std.proofs.Common.{◌≡◌, Some, ◌<◌, ◌-◌, refl, arith, ap, sym, ◌∙◌, length, get_or, ◌||◌, unwrap_or}
+use Rattle.street_base.specs.Prelude.{changes}
+use Rattle.street_yard.specs.Prelude.{list_on}
 use Rattle.street_yard.proofs.YardLemmas.{left, on_has_entry, list_on-mark_set}
-use Rattle.street_gap.specs.Closed.{closed_marks}
+use Rattle.street_gap.specs.Prelude.{closed_marks}
 use Rattle.street_gap.proofs.Marks.{closed_marks-length}
-use Rattle.street_rule.specs.Road.{no_lane, lane_of, length_of, track_of}
-use Rattle.street_rule.specs.Sight.{changing_of}
+use Rattle.street_rule.specs.Prelude.{no_lane, lane_of, length_of, track_of, changing_of}
 use Rattle.street_rule.proofs.Roads.{IsRoad-by}
 use Rattle.street_rule.proofs.Whole.{IsMarking-road}
 use Rattle.street_rule.proofs.MarkWalk.{IsMarking, IsMarking-lane, IsMarking-on, IsMarking-up_to, IsMarking-vehicle, IsMarking-step, decided}
@@ -55,7 +52,7 @@ step c =
     ∙ decided c.args.yard.now c.loop-cursor.yard (lane_of c.args.road.now c.args.lane).list (lane_of c.args.road.now (1 - c.args.lane)).list c.in-Some.key _ c.loop-cursor.above c.loop-cursor.ahead c.loop-cursor.cursor c.in-Some.is c.loop-cursor.invariant.0
     (changing_of c.args.road.now c.args.step) c.args.lane (length_of c.args.road.now) (closed_marks (lane_of c.args.road.now c.args.lane).closed (length_of c.args.road.now)) (closed_marks (lane_of c.args.road.now (1 - c.args.lane)).closed (length_of c.args.road.now))
     (c.requires.road.lanes c.args.lane no_lane here).stands (closed_marks-length (lane_of c.args.road.now c.args.lane).closed (length_of c.args.road.now)) v.0 v.1)
-    c.set_mark.ensures c.behind-cursor.ensures
+    c.set_mark.ensures c.behind-cursor.ensures.behind
 
 pub loop-cursor-smaller : goal.loop-cursor-smaller
 loop-cursor-smaller c = (step c).1

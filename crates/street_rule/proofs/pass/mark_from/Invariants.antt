@@ -1,7 +1,6 @@
 use Rattle.std.specs.Prelude.{◌≡◌, ◌-◌}
-use Rattle.street_base.specs.LaneChange.{changes}
-use Rattle.street_rule.specs.Road.{lane_of, length_of, track_of}
-use Rattle.street_rule.specs.Sight.{changing_of, odds_of}
+use Rattle.street_base.specs.Prelude.{changes}
+use Rattle.street_rule.specs.Prelude.{lane_of, length_of, track_of, changing_of, odds_of}
 use Rattle.street_yard.proofs.YardLemmas.{left}
 use Rattle.street_rule.proofs.MarkWalk.{IsMarking}
 use Rattle.street_rule.proofs.pass.mark_from.Given as goal

@@ -1,6 +1,6 @@
 use Rattle.std.proofs.Common.{◌≡◌, ◌-◌, Some, None, refl, ap, subst}
-use Rattle.street_yard.specs.Yard.{list_at, first_or}
-use Rattle.street_rule.specs.Road.{lane_of}
+use Rattle.street_yard.specs.Prelude.{list_at, first_or}
+use Rattle.street_rule.specs.Prelude.{lane_of}
 use Rattle.street_rule.proofs.MarkWalk.{IsMarking-end, IsMarking-none}
 use Rattle.street_rule.proofs.Whole.{IsMarking-road}
 use Rattle.street_rule.proofs.pass.mark_pass.Goals as goal

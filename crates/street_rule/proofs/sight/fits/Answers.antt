@@ -1,13 +1,9 @@
-use Rattle.std.proofs.Common.{◌≡◌, ℕ, ◌+◌, Bool, true, false, List, refl, sym, ap, ◌∙◌}
-use Rattle.std.specs.Prelude.{Option, None, ◌&&◌, nat_lt}
-use Rattle.std.specs.Option.{option_map, unwrap_or}
+use Rattle.std.proofs.Common.{◌≡◌, ℕ, ◌+◌, Bool, true, false, List, refl, sym, ap, ◌∙◌, Option, None, ◌&&◌, nat_lt, option_map, unwrap_or}
 use Rattle.std.proofs.lemmas.Bool.{both_ways}
-use Rattle.street_yard.specs.Yard.{first_or}
-use Rattle.street_yard.specs.Listed.{cell_at, rear_at}
-use Rattle.street_gap.specs.Closed.{closed_marks, are_open}
+use Rattle.street_yard.specs.Prelude.{first_or, cell_at, rear_at}
+use Rattle.street_gap.specs.Prelude.{closed_marks, are_open}
 use Rattle.street_gap.proofs.Sights.{last_on}
-use Rattle.street_rule.specs.Road.{lane_seen}
-use Rattle.street_rule.specs.Sight.{has_room_between}
+use Rattle.street_rule.specs.Prelude.{lane_seen, has_room_between}
 use Rattle.street_rule.proofs.Decision.{room-beside}
 use Rattle.street_rule.proofs.sight.fits.Goals as goal
 use Rattle.street_rule.proofs.sight.fits.Goals.{then-is_open, else-is_open}

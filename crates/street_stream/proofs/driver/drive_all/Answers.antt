@@ -1,5 +1,5 @@
 use Rattle.std.proofs.Common.{arith, List, ℕ, [], ◌++◌, take, append-nil}
-use Rattle.std.specs.Bool.{⊤}
+use Rattle.std.specs.Prelude.{⊤}
 use Rattle.std.proofs.lemmas.List.{length-take}
 use Rattle.std.proofs.lemmas.Result.{err_from_is_err_and}
 use Rattle.std.proofs.KnownBytes.{Consumes-nil, Consumes-trans, Consumes-kept}

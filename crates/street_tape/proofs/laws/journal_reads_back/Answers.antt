@@ -5,9 +5,9 @@ use Rattle.street_tape.proofs.laws.journal_reads_back.Goals as goal
 
 pub returns-clause-fits : goal.returns-clause-fits
 returns-clause-fits c = λ lines.
-    tape_fits c.args.journal.now c.count.ensures c.each_call.ensures (legal_parts None c.args.journal.now c.legal.ensures) lines
+    tape_fits c.args.journal.now c.length_fits.ensures c.calls_fit.ensures (legal_parts None c.args.journal.now c.legal.ensures) lines
 
 pub returns-clause-reads : goal.returns-clause-reads
 returns-clause-reads c = λ lines.
     c.tape_reads_back.ensures.now c.args.journal.now
-    (tape_fits c.args.journal.now c.count.ensures c.each_call.ensures (legal_parts None c.args.journal.now c.legal.ensures) lines)
+    (tape_fits c.args.journal.now c.length_fits.ensures c.calls_fit.ensures (legal_parts None c.args.journal.now c.legal.ensures) lines)

@@ -1,8 +1,8 @@
 use Rattle.std.proofs.Common.{◌≡◌, ◌≤◌, length}
-use Rattle.street_base.specs.State.{Traffic}
-use Rattle.street_lanes.specs.Lanes.{Same, IsOf}
-use Rattle.street_lanes.specs.Whole.{IsOn, LanesStand}
-use Rattle.street_tile.specs.Tiles.{IsRoads, ArePairs}
+use Rattle.street_base.specs.Prelude.{Traffic}
+use Rattle.street_lanes.specs.Prelude.{Same, IsOn, LanesStand}
+use Rattle.street_lanes.specs.Lanes.{IsOf}
+use Rattle.street_tile.specs.Prelude.{IsRoads, ArePairs}
 use Rattle.street_tile.proofs.TileChanges.{ChangedTo}
 use Rattle.street_tile.proofs.change.change_lanes.Given as goal
 

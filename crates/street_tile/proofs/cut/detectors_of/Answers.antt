@@ -1,7 +1,6 @@
 use Rattle.std.proofs.Common.{◌≡◌, ◌≤◌, length, get_or, ap, ◌∙◌, arith}
 use Rattle.street_base.specs.declared.net.NetSpec.{NetSpec}
-use Rattle.street_base.specs.Limits.{most_cells}
-use Rattle.street_base.specs.Network.{no_link}
+use Rattle.street_base.specs.Prelude.{most_cells, no_link}
 use Rattle.street_base.proofs.FaultLemmas.{link_below, link_keeps_limits}
 use Rattle.street_lanes.proofs.Fresh.{own-link}
 use Rattle.street_tile.proofs.cut.detectors_of.Goals as goal

@@ -1,5 +1,5 @@
 use Rattle.std.proofs.Common.{◌≡◌, map, take}
-use Rattle.street_tile.specs.TileDetectors.{bare}
+use Rattle.street_tile.specs.Prelude.{bare}
 use Rattle.street_tile.proofs.cut.detectors_of.Given as goal
 
 abbrev pub invariant-loop-at : goal.invariant-loop-at

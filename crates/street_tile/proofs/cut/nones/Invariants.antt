@@ -1,5 +1,4 @@
-use Rattle.std.proofs.Common.{◌≡◌}
-use Rattle.std.specs.Prelude.{None, replicate}
+use Rattle.std.proofs.Common.{◌≡◌, None, replicate}
 use Rattle.street_tile.proofs.cut.nones.Given as goal
 
 abbrev pub invariant-loop-none : goal.invariant-loop-none

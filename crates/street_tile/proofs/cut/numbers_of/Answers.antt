@@ -1,10 +1,8 @@
-use Rattle.std.proofs.Common.{◌≡◌, ℕ, ◌<◌, List, length, map, get_or, sym, ◌∙◌, ap, subst, arith}
-use Rattle.std.specs.Prelude.{Some, slice_get, option_map}
-use Rattle.std.specs.List.{All}
+use Rattle.std.proofs.Common.{◌≡◌, ℕ, ◌<◌, List, length, map, get_or, sym, ◌∙◌, ap, subst, arith, Some, slice_get, option_map, All}
 use Rattle.std.proofs.lemmas.List.{length-map, length-set, get_or_default}
 use Rattle.std.proofs.lemmas.Option.{slice_get-map, slice_get-get_or, slice_get_within, same_Some}
 use Rattle.street_base.specs.declared.names.Place.{Place}
-use Rattle.street_net.specs.Slots.{slot_of}
+use Rattle.street_net.specs.Prelude.{slot_of}
 use Rattle.street_tile.proofs.EmptyTile.{numbered-more}
 use Rattle.street_tile.proofs.cut.numbers_of.Goals as goal
 

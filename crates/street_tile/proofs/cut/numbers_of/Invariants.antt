@@ -1,7 +1,6 @@
-use Rattle.std.proofs.Common.{◌≡◌, ℕ, ◌*◌, ◌<◌, length, map, get_or}
-use Rattle.std.specs.Prelude.{Some, slice_get}
+use Rattle.std.proofs.Common.{◌≡◌, ℕ, ◌*◌, ◌<◌, length, map, get_or, Some, slice_get}
 use Rattle.street_base.specs.declared.names.Place.{Place}
-use Rattle.street_net.specs.Slots.{slot_of}
+use Rattle.street_net.specs.Prelude.{slot_of}
 use Rattle.street_tile.proofs.cut.numbers_of.Given as goal
 
 abbrev pub invariant-loop-n : goal.invariant-loop-n

@@ -1,14 +1,12 @@
-use Rattle.std.proofs.Common.{◌≡◌, ◌≤◌, ◌++◌, List, length, get_or, map, refl, sym, ◌∙◌, ap, subst, arith}
-use Rattle.std.specs.Prelude.{Some, filter}
+use Rattle.std.proofs.Common.{◌≡◌, ◌≤◌, ◌++◌, List, length, get_or, map, refl, sym, ◌∙◌, ap, subst, arith, Some, filter}
 use Rattle.std.specs.List.{range_with_len}
 use Rattle.std.proofs.lemmas.Bool.{le-leb, lt-leb, le-ltb}
 use Rattle.std.proofs.lemmas.List.{map-append}
-use Rattle.street_base.specs.Limits.{most_lanes}
+use Rattle.street_base.specs.Prelude.{most_lanes, link_at, node_of, no_link}
 use Rattle.street_base.specs.declared.names.Place.{Place}
-use Rattle.street_base.specs.Network.{link_at, node_of, no_link}
 use Rattle.street_base.proofs.FaultLemmas.{link_below, link_keeps_limits}
 use Rattle.street_net.proofs.InLanes.{places_below}
-use Rattle.street_tile.specs.Tiles.{is_own}
+use Rattle.street_tile.specs.Prelude.{is_own}
 use Rattle.street_tile.proofs.EmptyTile.{own-more, own-elsewhere}
 use Rattle.street_tile.proofs.cut.own_lanes.Goals as goal
 use Rattle.street_tile.proofs.cut.own_lanes.Goals.{then-low-node+then-node-high+in_ok-add_lanes, else-low-node, else-low-node-via-then-low-node+else-node-high, else-low-node-via-else-low-node}

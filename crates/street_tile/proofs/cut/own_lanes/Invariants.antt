@@ -1,7 +1,6 @@
-use Rattle.std.proofs.Common.{◌≡◌, map}
-use Rattle.std.specs.Prelude.{filter}
+use Rattle.std.proofs.Common.{◌≡◌, map, filter}
 use Rattle.street_net.proofs.InLanes.{places_below}
-use Rattle.street_tile.specs.Tiles.{is_own}
+use Rattle.street_tile.specs.Prelude.{is_own}
 use Rattle.street_tile.proofs.cut.own_lanes.Given as goal
 
 abbrev pub invariant-loop-at : goal.invariant-loop-at

@@ -27,15 +27,7 @@ pub returns-clause-inside : goal.returns-clause-inside
 returns-clause-inside c = rw (nodes c) (share c).0
 
 pub returns-clause-low : goal.returns-clause-low
-returns-clause-low c =
-    let s = share c in
-    let e = c.position.ensures in
-    let b = s.1 in
-    rw (nodes c) (omega arith)
+returns-clause-low c = let within = (share c).1 in rw (nodes c) (omega (arith, within, c.position.ensures))
 
 pub returns-clause-high : goal.returns-clause-high
-returns-clause-high c =
-    let s = share c in
-    let e = c.position.ensures in
-    let b = s.2 in
-    rw (nodes c) (omega arith)
+returns-clause-high c = let within = (share c).2 in rw (nodes c) (omega (arith, within, c.position.ensures))

@@ -1,12 +1,9 @@
-use Rattle.std.proofs.Common.{◌≡◌, List, ◌+◌, ◌<◌, length, map, get_or, ap, ◌∙◌, sym, subst, refl, arith}
-use Rattle.std.specs.Prelude.{Option, None, Some, IsSome}
+use Rattle.std.proofs.Common.{◌≡◌, List, ◌+◌, ◌<◌, length, map, get_or, ap, ◌∙◌, sym, subst, refl, arith, Option, None, Some, IsSome}
 use Rattle.std.proofs.lemmas.List.{length-map, length-set, get_or-map}
 use Rattle.street_base.specs.declared.names.Place.{Place}
-use Rattle.street_base.specs.Vehicle.{Vehicle}
-use Rattle.street_base.specs.State.{Traffic, lane_at}
-use Rattle.street_base.specs.Departure.{departed_lane}
-use Rattle.street_lanes.specs.Lanes.{place_at}
-use Rattle.street_tile.specs.Halves.{Transfer, placed_lane, vehicle_in}
+use Rattle.street_base.specs.Prelude.{Vehicle, Traffic, lane_at, departed_lane}
+use Rattle.street_lanes.specs.Prelude.{place_at}
+use Rattle.street_tile.specs.Prelude.{Transfer, placed_lane, vehicle_in}
 use Rattle.street_tile.proofs.WrittenList.{IsWritten, written-start, written-old, written-next, written-all}
 use Rattle.street_tile.proofs.SameLanes.{same-none, same-then, same-long, place-is, lanes-start, lanes-next, lanes-here, lanes-go}
 use Rattle.street_tile.proofs.entries.enter_lanes.Goals as goal
@@ -22,9 +19,6 @@ loop-n-init c = record {
 
 pub enter_lane-requires-clause-lane : goal.enter_lane-requires-clause-lane
 enter_lane-requires-clause-lane c = let e = same-long c.args.own.now c.loop-n.own c.loop-n.invariant.same in omega arith
-
-pub enter_lane-requires-clause-room : goal.enter_lane-requires-clause-room
-enter_lane-requires-clause-room c = let e = c.loop-n.invariant.room in omega arith
 
 module _ (c : goal.After-enter_lane) where
   abbrev came : Option Transfer
@@ -61,9 +55,6 @@ loop-n-preserved c = record {
   long = ap length c.take.ensures.nobody ∙ length-set c.loop-n.coming c.loop-n.n None ∙ c.loop-n.invariant.long;
   coming = subst (IsWritten (map (λ x. None) c.args.coming.now) c.args.coming.now (c.loop-n.n + 1)) (sym c.take.ensures.nobody) (written-next (map (λ x. None) c.args.coming.now) c.args.coming.now (length-map c.args.coming.now (λ x. None)) c.loop-n.n c.loop-n.coming None (omega (arith, c.requires.even)) c.loop-n.invariant.long (sym (get_or-map (λ x. None) c.args.coming.now c.loop-n.n None None (omega (arith, c.requires.even)))) c.loop-n.invariant.coming);
 }
-
-pub take-requires : goal.take-requires
-take-requires c = omega (arith, c.loop-n.invariant.long, c.requires.even)
 
 pub returns-clause-none : goal.returns-clause-none
 returns-clause-none c = written-all (map (λ x. None) c.args.coming.now) c.args.coming.now (length-map c.args.coming.now (λ x. None)) c.loop-n.coming c.loop-n.invariant.long (subst (λ n. IsWritten (map (λ x. None) c.args.coming.now) c.args.coming.now n c.loop-n.coming) (omega (arith, c.requires.even)) c.loop-n.invariant.coming)

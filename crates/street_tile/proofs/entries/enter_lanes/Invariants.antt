@@ -1,12 +1,8 @@
-use Rattle.std.proofs.Common.{◌≡◌, ◌+◌, ◌≤◌, map, length}
-use Rattle.std.specs.Prelude.{Option, None}
+use Rattle.std.proofs.Common.{◌≡◌, ◌+◌, ◌≤◌, map, length, Option, None}
 use Rattle.street_base.specs.declared.names.Place.{Place}
-use Rattle.street_base.specs.Vehicle.{Vehicle}
-use Rattle.street_base.specs.State.{Traffic}
-use Rattle.street_base.specs.Departure.{departed_lane}
-use Rattle.street_lanes.specs.Lanes.{Same}
-use Rattle.street_lanes.specs.Whole.{LanesStand, AllFree}
-use Rattle.street_tile.specs.Halves.{placed_lane, vehicle_in}
+use Rattle.street_base.specs.Prelude.{Vehicle, Traffic, departed_lane}
+use Rattle.street_lanes.specs.Prelude.{Same, LanesStand, AllFree}
+use Rattle.street_tile.specs.Prelude.{placed_lane, vehicle_in}
 use Rattle.street_tile.proofs.SameLanes.{LanesDone}
 use Rattle.street_tile.proofs.WrittenList.{IsWritten}
 use Rattle.street_tile.proofs.entries.enter_lanes.Given as goal

@@ -1,9 +1,7 @@
 use Rattle.std.proofs.Common.{◌∙◌, map, refl, sym, ap, arith}
-use Rattle.street_lanes.specs.Lanes.{place_at}
-use Rattle.street_base.specs.State.{lane_at}
-use Rattle.street_base.specs.Step.{drive_on}
-use Rattle.street_rule.specs.Watch.{watched}
-use Rattle.street_lanes.specs.Detectors.{cleared, watch_of}
+use Rattle.street_lanes.specs.Prelude.{place_at, cleared, watch_of}
+use Rattle.street_base.specs.Prelude.{lane_at, drive_on}
+use Rattle.street_rule.specs.Prelude.{watched}
 use Rattle.street_tile.proofs.TileMotion.{of-lane}
 use Rattle.std.proofs.lemmas.Simd.{map-map}
 use Rattle.street_tile.proofs.motion.drive_lane.Goals as goal

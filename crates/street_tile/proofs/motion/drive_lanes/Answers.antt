@@ -1,18 +1,11 @@
-use Rattle.std.proofs.Common.{◌≡◌, ◌*◌, ◌<◌, length, map, set, get_or, arith, refl, sym, ap, subst, ◌∙◌}
-use Rattle.std.specs.Prelude.{Some, None}
+use Rattle.std.proofs.Common.{◌≡◌, ◌*◌, ◌<◌, length, map, set, get_or, arith, refl, sym, ap, subst, ◌∙◌, Some, None}
 use Rattle.std.proofs.lemmas.List.{append-nil, length-set, set-get_or}
 use Rattle.std.proofs.lemmas.Option.{slice_get_within}
 use Rattle.street_base.specs.declared.names.Place.{Place}
-use Rattle.street_base.specs.State.{Traffic, lane_at}
-use Rattle.street_base.specs.Step.{driven, driven_lane, arrival, leaver_of}
-use Rattle.street_lanes.specs.Views.{LaneStands}
-use Rattle.street_lanes.specs.Lanes.{lane_of, place_at}
-use Rattle.street_lanes.specs.Whole.{LanesStand}
-use Rattle.street_lanes.specs.Motion.{cells_on}
-use Rattle.street_lanes.specs.Detectors.{watch_of}
-use Rattle.street_net.specs.Slots.{slot_of}
-use Rattle.street_tile.specs.Tiles.{AreBare}
-use Rattle.street_tile.specs.Motion.{IsOfStep}
+use Rattle.street_base.specs.Prelude.{Traffic, lane_at, driven, driven_lane, arrival, leaver_of}
+use Rattle.street_lanes.specs.Prelude.{LaneStands, lane_of, place_at, LanesStand, cells_on, watch_of}
+use Rattle.street_net.specs.Prelude.{slot_of}
+use Rattle.street_tile.specs.Prelude.{AreBare, IsOfStep}
 use Rattle.street_tile.proofs.SameLanes.{same-then, same-long, of-same, even-of, lanes-here, lanes-next, lanes-all, place-is}
 use Rattle.street_tile.proofs.TileMotion.{lane_at-driven, arrivals-more, arrivals-all}
 use Rattle.street_tile.proofs.HeldMouths.{slot-inside, shown-after, shown-all}
@@ -25,9 +18,6 @@ drive_lane-requires-clause-lane c = let e = same-long c.args.own.now c.loop-n.ow
 
 pub drive_lane-requires-clause-of : goal.drive_lane-requires-clause-of
 drive_lane-requires-clause-of c = of-same c.args.step.now.net.now c.args.own.now c.loop-n.own c.loop-n.invariant.same c.requires.ready.of
-
-pub drive_lane-requires-clause-node : goal.drive_lane-requires-clause-node
-drive_lane-requires-clause-node c = rw c.loop-n.invariant.same.places (c.requires.ready.nodes c.loop-n.n (omega arith))
 
 pub drive_lane-requires-clause-size : goal.drive_lane-requires-clause-size
 drive_lane-requires-clause-size c =

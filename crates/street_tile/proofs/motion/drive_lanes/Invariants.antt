@@ -1,14 +1,8 @@
-use Rattle.std.proofs.Common.{◌≡◌, ℕ, ◌+◌, ◌-◌, ◌<◌, ◌≤◌, length, map, take, vec_len, vec_capacity}
-use Rattle.std.specs.Prelude.{◌++◌, Some, false, filter_map, slice_get}
+use Rattle.std.proofs.Common.{◌≡◌, ℕ, ◌+◌, ◌-◌, ◌<◌, ◌≤◌, length, map, take, vec_len, vec_capacity, ◌++◌, Some, false, filter_map, slice_get}
 use Rattle.street_base.specs.declared.names.Place.{Place}
-use Rattle.street_base.specs.State.{Traffic}
-use Rattle.street_base.specs.Step.{driven_lane, arrival, leaver_of}
-use Rattle.street_lanes.specs.Lanes.{AllLanes, Same}
-use Rattle.street_lanes.specs.Whole.{LanesStand}
-use Rattle.street_lanes.specs.Detectors.{watch_of}
-use Rattle.street_tile.specs.Tiles.{IsRoads}
-use Rattle.street_tile.specs.Motion.{IsOfStep}
-use Rattle.street_tile.specs.TileDetectors.{KeepMeters, detectors_at}
+use Rattle.street_base.specs.Prelude.{Traffic, driven_lane, arrival, leaver_of}
+use Rattle.street_lanes.specs.Prelude.{AllLanes, Same, LanesStand, watch_of}
+use Rattle.street_tile.specs.Prelude.{IsRoads, IsOfStep, KeepMeters, detectors_at}
 use Rattle.street_tile.proofs.SameLanes.{LanesDone}
 use Rattle.street_tile.proofs.HeldMouths.{IsShown, IsFreeIn}
 use Rattle.street_tile.proofs.motion.drive_lanes.Given as goal

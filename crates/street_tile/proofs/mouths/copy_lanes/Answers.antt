@@ -1,10 +1,9 @@
-use Rattle.std.proofs.Common.{◌≡◌, ℕ, ◌+◌, ◌*◌, ◌<◌, false, length, get_or, ◌∙◌, ap, refl, sym, subst, arith}
-use Rattle.std.specs.Prelude.{slice_set}
+use Rattle.std.proofs.Common.{◌≡◌, ℕ, ◌+◌, ◌*◌, ◌<◌, false, length, get_or, ◌∙◌, ap, refl, sym, subst, arith, slice_set}
 use Rattle.std.proofs.lemmas.List.{length-set}
 use Rattle.std.proofs.lemmas.Option.{slice_get_within}
 use Rattle.street_base.specs.declared.names.Place.{Place}
-use Rattle.street_lanes.specs.Lanes.{place_at}
-use Rattle.street_net.specs.Slots.{mouth, slot_of}
+use Rattle.street_lanes.specs.Prelude.{place_at}
+use Rattle.street_net.specs.Prelude.{mouth, slot_of}
 use Rattle.street_tile.proofs.SameLanes.{place-is}
 use Rattle.street_tile.proofs.HeldMouths.{IsHeld, slot-inside, shown-start, shown-next}
 use Rattle.street_tile.proofs.mouths.copy_lanes.Goals as goal

@@ -1,5 +1,5 @@
-use Rattle.street_lanes.specs.Lanes.{AllLanes}
-use Rattle.street_tile.specs.Tiles.{IsRoads}
+use Rattle.street_lanes.specs.Prelude.{AllLanes}
+use Rattle.street_tile.specs.Prelude.{IsRoads}
 use Rattle.street_tile.proofs.HeldMouths.{IsShown, IsHeld}
 use Rattle.street_tile.proofs.mouths.copy_lanes.Given as goal
 

@@ -1,6 +1,6 @@
 use Rattle.std.proofs.Common.{◌≡◌, ℕ, true, false, get_or, refl, sym, ap, ◌∙◌}
 use Rattle.std.proofs.lemmas.Bool.{both_ways}
-use Rattle.street_net.specs.Slots.{mouth}
+use Rattle.street_net.specs.Prelude.{mouth}
 use Rattle.street_tile.proofs.release.release_front.Goals as goal
 
 pub returns-in_default-clause-front : goal.returns-in_default-clause-front

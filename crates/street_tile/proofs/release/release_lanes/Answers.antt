@@ -1,15 +1,10 @@
-use Rattle.std.proofs.Common.{◌≡◌, ℕ, ◌<◌, List, Bool, length, arith, refl, sym, ap, subst, ◌∙◌, inl, inr}
-use Rattle.std.specs.Prelude.{Some, None}
+use Rattle.std.proofs.Common.{◌≡◌, ℕ, ◌<◌, List, Bool, length, arith, refl, sym, ap, subst, ◌∙◌, inl, inr, Some, None}
 use Rattle.std.proofs.lemmas.Bool.{cases_Bool}
 use Rattle.street_base.specs.declared.names.Place.{Place}
-use Rattle.street_base.specs.State.{Traffic, lane_at}
-use Rattle.street_base.specs.Release.{target}
-use Rattle.street_lanes.specs.Views.{LaneStands}
-use Rattle.street_lanes.specs.Lanes.{Lanes, lane_of, place_at}
-use Rattle.street_tile.specs.Halves.{Transfer}
-use Rattle.street_net.specs.Slots.{mouth}
-use Rattle.street_tile.specs.Tiles.{IsRoads}
-use Rattle.street_tile.specs.Walks.{IsReleasing}
+use Rattle.street_base.specs.Prelude.{Traffic, lane_at, target}
+use Rattle.street_lanes.specs.Prelude.{LaneStands, Lanes, lane_of, place_at}
+use Rattle.street_tile.specs.Prelude.{Transfer, IsRoads, IsReleasing}
+use Rattle.street_net.specs.Prelude.{mouth}
 use Rattle.street_tile.proofs.SameLanes.{same-none, same-then, same-long}
 use Rattle.street_node.proofs.Crossings.{leads-of}
 use Rattle.street_tile.proofs.TileReleases.{IsReleased, released-start, released-here, released-none, released-shut, released-goes, released-lanes, released-handed}
@@ -25,16 +20,13 @@ loop-n-init c = record {
   released = λ roads even m r. released-start c.args.net.now roads c.args.clock c.args.own.now even c.args.mouths.now c.args.handed.now.items m r;
 }
 
-pub candidate-requires-clause-lane : goal.candidate-requires-clause-lane
-candidate-requires-clause-lane c = let e = same-long c.args.own.now c.loop-n.own c.loop-n.invariant.same in omega arith
+pub lane_for_front-requires-clause-lane : goal.lane_for_front-requires-clause-lane
+lane_for_front-requires-clause-lane c = let e = same-long c.args.own.now c.loop-n.own c.loop-n.invariant.same in omega arith
 
 pub release_front-requires-clause-lane : goal.release_front-requires-clause-lane
 release_front-requires-clause-lane c = let e = same-long c.args.own.now c.loop-n.own c.loop-n.invariant.same in omega arith
 
-pub release_front-requires-clause-room : goal.release_front-requires-clause-room
-release_front-requires-clause-room c = let e = c.loop-n.invariant.left in omega arith
-
-module _ (c : goal.Joined-candidate) (roads : IsRoads c.args.net.now) (even : length c.args.own.now.lanes ≡ length c.args.own.now.places) (m : Traffic) (r : IsReleasing c.args.net.now c.args.clock c.args.own.now c.args.mouths.now m) where
+module _ (c : goal.Joined-lane_for_front) (roads : IsRoads c.args.net.now) (even : length c.args.own.now.lanes ≡ length c.args.own.now.places) (m : Traffic) (r : IsReleasing c.args.net.now c.args.clock c.args.own.now c.args.mouths.now m) where
   within : c.loop-n.n < length c.args.own.now.places
   within = omega arith
 
@@ -58,7 +50,7 @@ module _ (c : goal.Joined-candidate) (roads : IsRoads c.args.net.now) (even : le
 
 pub loop-n-preserved : goal.loop-n-preserved
 loop-n-preserved c =
-    elim c.match-candidate.branch [
+    elim c.match-lane_for_front.branch [
       | in-Some w ↦ (
           let e = w.release_front.ensures in
           rw (w.own-is, w.mouths-is, w.handed-is) (record {
@@ -71,7 +63,7 @@ loop-n-preserved c =
             kept = omega (arith, c.loop-n.invariant.kept, e.kept);
             released = λ roads even m r.
                 let leads : target m (place_at c.args.own.now c.loop-n.n) ≡ Some w.in-Some.to =
-                ap (target m) (sym (same_place c roads even m r)) ∙ sym (c.candidate.ensures.goes m r.on.network r.in_time (here_too c roads even m r)) ∙ rw w.in-Some.is refl in
+                ap (target m) (sym (same_place c roads even m r)) ∙ sym (c.lane_for_front.ensures.goes m r.on.network r.in_time (here_too c roads even m r)) ∙ rw w.in-Some.is refl in
                 let inside = w.in-Some.ensures.inside in
                 elim (cases_Bool (mouth c.loop-n.mouths w.in-Some.to)) [
                   | inl is_open ↦ (
@@ -93,7 +85,7 @@ loop-n-preserved c =
         kept = c.loop-n.invariant.kept;
         released = λ roads even m r.
             let none : target m (place_at c.args.own.now c.loop-n.n) ≡ None =
-            ap (target m) (sym (same_place c roads even m r)) ∙ sym (c.candidate.ensures.goes m r.on.network r.in_time (here_too c roads even m r)) ∙ rw w.in_default.is refl in
+            ap (target m) (sym (same_place c roads even m r)) ∙ sym (c.lane_for_front.ensures.goes m r.on.network r.in_time (here_too c roads even m r)) ∙ rw w.in_default.is refl in
             released-none c.args.net.now roads c.args.clock c.args.own.now even c.args.mouths.now c.args.handed.now.items m r c.loop-n.n c.loop-n.own c.loop-n.mouths c.loop-n.handed.items (within c roads even m r) (so_far c roads even m r) none;
       })
     ]

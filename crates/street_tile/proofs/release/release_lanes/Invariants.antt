@@ -1,8 +1,7 @@
 use Rattle.std.proofs.Common.{◌≡◌, ◌+◌, ◌-◌, ◌≤◌, length, vec_len, vec_capacity}
-use Rattle.street_base.specs.State.{Traffic}
-use Rattle.street_lanes.specs.Lanes.{Same}
-use Rattle.street_tile.specs.Tiles.{IsRoads}
-use Rattle.street_tile.specs.Walks.{IsReleasing}
+use Rattle.street_base.specs.Prelude.{Traffic}
+use Rattle.street_lanes.specs.Prelude.{Same}
+use Rattle.street_tile.specs.Prelude.{IsRoads, IsReleasing}
 use Rattle.street_tile.proofs.TileReleases.{IsReleased}
 use Rattle.street_tile.proofs.release.release_lanes.Given as goal
 

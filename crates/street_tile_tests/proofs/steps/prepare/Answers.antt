@@ -1,8 +1,7 @@
 use Rattle.std.proofs.Common.{◌≡◌, ◌<◌, length, set, get_or, sym, ◌∙◌, ap, subst, arith, inl, inr, ℕ}
 use Rattle.std.proofs.lemmas.Bool.{cases_eq}
 use Rattle.std.proofs.lemmas.List.{get_or-set_same, get_or-set_other, get_or_default, length-set}
-use Rattle.street_tile.specs.Commands.{KeepsAll}
-use Rattle.street_tile.specs.Tiles.{Part, IsPrepared}
+use Rattle.street_tile.specs.Prelude.{KeepsAll, Part, IsPrepared}
 use Rattle.street_tile_tests.proofs.steps.prepare.Goals as goal
 
 pub loop-i-preserved : goal.loop-i-preserved

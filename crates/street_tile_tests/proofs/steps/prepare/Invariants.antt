@@ -1,6 +1,5 @@
 use Rattle.std.proofs.Common.{◌≡◌, ℕ, ◌<◌, ◌≤◌, length, get_or}
-use Rattle.street_tile.specs.Commands.{KeepsAll}
-use Rattle.street_tile.specs.Tiles.{Part, IsPrepared}
+use Rattle.street_tile.specs.Prelude.{KeepsAll, Part, IsPrepared}
 use Rattle.street_tile_tests.proofs.steps.prepare.Given as goal
 
 abbrev pub invariant-loop-i : goal.invariant-loop-i

@@ -1,6 +1,6 @@
 use Rattle.std.proofs.Common.{None, sym, ◌∙◌, subst}
-use Rattle.street_base.specs.State.{State}
-use Rattle.street_engine.specs.Refines.{StandsFor}
+use Rattle.street_base.specs.Prelude.{State}
+use Rattle.street_engine.specs.Prelude.{StandsFor}
 use Rattle.street_desk.specs.History.{entry, state_of}
 use Rattle.street_desk.proofs.Histories.{legal_snoc, state_snoc}
 use Rattle.street_desk.proofs.journal.Recorder.call.Goals as goal

@@ -1,10 +1,8 @@
-use Rattle.std.proofs.Common.{◌≡◌, refl, sym, ◌∙◌, subst}
-use Rattle.std.specs.Prelude.{Some}
+use Rattle.std.proofs.Common.{◌≡◌, refl, sym, ◌∙◌, subst, Some}
 use Rattle.street_base.specs.declared.command.Command.TheVariants.{Advance}
 use Rattle.street_base.specs.declared.refusal.Refusal.TheVariants.{NotLoaded}
-use Rattle.street_base.specs.State.{State}
-use Rattle.street_base.specs.Machine.{refusal}
-use Rattle.street_engine.specs.Refines.{EngineView, StandsFor}
+use Rattle.street_base.specs.Prelude.{State, refusal}
+use Rattle.street_engine.specs.Prelude.{EngineView, StandsFor}
 use Rattle.street_engine.proofs.Serves.{at-none, at-some}
 use Rattle.street_engine.proofs.engine.Engine.advance_refusal.Goals as goal
 

@@ -1,5 +1,5 @@
 use Rattle.std.proofs.Common.{subst}
-use Rattle.street_engine.specs.Refines.{EngineView, Serves}
+use Rattle.street_engine.specs.Prelude.{EngineView, Serves}
 use Rattle.street_engine.proofs.engine.Engine.apply.Goals as goal
 
 pub returns-clause-serves : goal.returns-clause-serves

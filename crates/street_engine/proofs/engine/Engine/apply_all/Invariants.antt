@@ -1,5 +1,5 @@
 use Rattle.std.proofs.Common.{◌≡◌, ◌≤◌, take, length, vec_len, vec_capacity}
-use Rattle.street_engine.specs.Refines.{ServesAll}
+use Rattle.street_engine.specs.Prelude.{ServesAll}
 use Rattle.street_engine.proofs.engine.Engine.apply_all.Given as goal
 
 abbrev pub invariant-loop-command : goal.invariant-loop-command

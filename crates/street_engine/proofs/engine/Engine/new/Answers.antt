@@ -1,4 +1,4 @@
-use Rattle.street_engine.specs.Refines.{StandsFor}
+use Rattle.street_engine.specs.Prelude.{StandsFor}
 use Rattle.street_engine.proofs.engine.Engine.new.Goals as goal
 
 pub returns : goal.returns

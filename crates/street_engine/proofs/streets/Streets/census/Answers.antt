@@ -1,24 +1,24 @@
-use Rattle.std.proofs.Common.{length, ◌∙◌, ap, arith}
-use Rattle.std.specs.List.{count_by}
-use Rattle.street_base.specs.Shown.{has_arrived, was_taken}
-use Rattle.street_engine.specs.Streets.{streets_of}
-use Rattle.street_engine.proofs.StreetsStandFor.{traffic-of, census-is}
+use Rattle.std.proofs.Common.{◌≡◌, ℕ, length, refl, ◌∙◌, ap, arith, count_by}
+use Rattle.street_base.specs.declared.reply.Reply.TheVariants.{Census}
+use Rattle.street_base.specs.Prelude.{Traffic, census, has_arrived, was_taken, have_arrived, were_taken, in_buffers, in_cells, in_wait}
+use Rattle.street_engine.proofs.StreetsStandFor.{traffic-of}
 use Rattle.street_engine.proofs.streets.Streets.census.Goals as goal
+
+census-is : (m : Traffic) (admitted arrived buffers cells clock taken waiting : ℕ) → admitted ≡ length m.ends → arrived ≡ have_arrived m → buffers ≡ in_buffers m → cells ≡ in_cells m → clock ≡ m.clock → taken ≡ were_taken m → waiting ≡ in_wait m → Census admitted arrived buffers cells clock taken waiting ≡ census m
+unfolding census
+census-is m admitted arrived buffers cells clock taken waiting a b c d e f g = rw (a, b, c, d, e, f, g) refl
 
 pub totals-totals-requires : goal.totals-totals-requires
 totals-totals-requires c =
-    let s = c.self.inside in
-    let m = c.self.invariant.some.0 in
     let t = c.self.invariant.some.1 in
     let long = ap length t.ends in
     let few = c.len.ensures.few in
-    (m, t.tiles, t.sound, omega arith)
+    (c.self.invariant.some.0, t.tiles, t.sound, omega arith)
 
 pub returns : goal.returns
 returns c = λ m stands.
-    let s = c.self.inside in
-    let t = traffic-of (streets_of s.tiles s.sites.items s.clock s.ends.ends) c.args.self.now m c.self.view_is stands in
-    census-is m c.from-admitted.result c.from.result c.totals-totals.result.buffers c.totals-totals.result.cells c.from-2.result c.from-3.result c.totals-totals.result.waiting
+    let t = traffic-of c.self.view_is stands in
+    census-is m _ _ _ _ _ _ _
     (c.from-admitted.ensures ∙ c.len.ensures.count ∙ ap length t.ends)
     (c.from.ensures ∙ c.arrived.ensures ∙ ap (count_by has_arrived) t.ends)
     (c.totals-totals.ensures.buffers m t.tiles)

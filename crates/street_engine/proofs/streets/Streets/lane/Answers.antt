@@ -1,11 +1,6 @@
 use Rattle.std.proofs.lemmas.Result.{IfOk-weaker}
-use Rattle.street_engine.specs.Streets.{streets_of}
 use Rattle.street_engine.proofs.StreetsStandFor.{traffic-of}
 use Rattle.street_engine.proofs.streets.Streets.lane.Goals as goal
 
 pub returns : goal.returns
-returns c =
-    let s = c.self.inside in
-    IfOk-weaker c.lane.result _ _ (λ found is m stands.
-    let t = traffic-of (streets_of s.tiles s.sites.items s.clock s.ends.ends) c.args.self.now m c.self.view_is stands in
-    is m t.tiles) c.lane.ensures
+returns c = IfOk-weaker c.lane.result _ _ (λ found is m stands. is m (traffic-of c.self.view_is stands).tiles) c.lane.ensures

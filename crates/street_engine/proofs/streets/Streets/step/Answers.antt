@@ -1,40 +1,33 @@
-use Rattle.std.proofs.Common.{◌≡◌, ◌+◌, ◌<◌, sym, subst, arith}
-use Rattle.std.specs.Prelude.{All}
-use Rattle.street_base.specs.Limits.{last_clock}
-use Rattle.street_base.specs.State.{Traffic}
-use Rattle.street_base.specs.Step.{step}
-use Rattle.street_tile.specs.Tiles.{IsPrepared}
-use Rattle.street_tile.specs.Together.{TilesStandFor}
-use Rattle.street_engine.specs.Streets.{StreetsView, streets_of}
-use Rattle.street_engine.proofs.StreetsStandFor.{step-coming, step-stands, step-kept, goes-with}
+use Rattle.std.proofs.Common.{refl}
+use Rattle.street_base.specs.Prelude.{step}
+use Rattle.street_engine.proofs.StreetsStandFor.{kept-still, goes-still, prepared, may-step, step-coming, step-kept, step-stands, goes-with, always-err}
 use Rattle.street_engine.proofs.streets.Streets.step.Goals as goal
 
+pub invariant_of-self : goal.invariant_of-self
+invariant_of-self g c = kept-still refl refl c.self.invariant c.prepare.ensures.kept
+
+pub returns-in_err-prepare-clause-starved : goal.returns-in_err-prepare-clause-starved
+returns-in_err-prepare-clause-starved g c = always-err _ c.from_residual.result (goes-still refl refl c.self.view_is c.prepare.ensures.kept)
+
+pub step-requires-clause-nobody : goal.step-requires-clause-nobody
+step-requires-clause-nobody g c κs within = (prepared c.self.invariant c.prepare.ensures.kept).nobody
+
 pub step-requires-clause-stand : goal.step-requires-clause-stand
-step-requires-clause-stand g c κs within =
-    let s = c.self.inside in
-    let early : s.clock < last_clock = subst (λ (v : StreetsView). v.clock < last_clock) (sym c.self.view_is) c.requires.in_time in
-    let stood = c.self.invariant.some.1 in
-    let clock = stood.clock in
-    (c.self.invariant.some.0, stood.tiles, omega arith)
+step-requires-clause-stand g c κs within = may-step c.self.invariant c.prepare.ensures.kept c.self.view_is c.requires.in_time
 
 pub note_arrivals-requires : goal.note_arrivals-requires
 note_arrivals-requires g c =
-    let s = c.self.inside in
     let went = c.step.ensures in
-    step-coming s.sites.items s.clock s.tiles c.step.new.self c.step.new.self s.ends.ends s.ends.ends went.cut went.network went.len went.steps c.self.invariant.some.0 c.self.invariant.some.1
+    step-coming c.self.invariant c.prepare.ensures.kept went.cut went.network went.len went.steps
 
-pub invariant_of-self : goal.invariant_of-self
-invariant_of-self g c =
-    let s = c.self.inside in
+pub invariant_of-self-2 : goal.invariant_of-self-2
+invariant_of-self-2 g c =
     let went = c.step.ensures in
     let noted = c.note_arrivals.ensures in
-    let early : s.clock < last_clock = subst (λ (v : StreetsView). v.clock < last_clock) (sym c.self.view_is) c.requires.in_time in
-    step-kept s.sites.items s.clock s.tiles c.step.new.self c.note_arrivals.new.tiles s.ends.ends c.note_arrivals.new.ends.ends went.cut went.network went.len went.steps noted.network noted.long noted.tiles noted.ends early c.self.invariant.some.0 c.self.invariant.some.1
+    step-kept c.self.invariant c.prepare.ensures.kept went.cut went.network went.len went.steps noted.network noted.long noted.tiles noted.ends c.self.view_is c.requires.in_time
 
 pub returns-clause-step : goal.returns-clause-step
 returns-clause-step g c =
-    let s = c.self.inside in
     let went = c.step.ensures in
     let noted = c.note_arrivals.ensures in
-    goes-with step (streets_of s.tiles s.sites.items s.clock s.ends.ends) (streets_of c.note_arrivals.new.tiles s.sites.items (s.clock + 1) c.note_arrivals.new.ends.ends) c.args.self.now c.self.view_is
-    (step-stands s.sites.items s.clock s.tiles c.step.new.self c.note_arrivals.new.tiles s.ends.ends c.note_arrivals.new.ends.ends went.cut went.network went.len went.steps noted.network noted.long noted.tiles noted.ends)
+    goes-with step c.self.view_is (step-stands c.self.invariant c.prepare.ensures.kept went.cut went.network went.len went.steps noted.network noted.long noted.tiles noted.ends)

@@ -1,19 +1,17 @@
-use Rattle.std.proofs.Common.{sym, subst, arith}
-use Rattle.street_base.specs.Step.{steps}
-use Rattle.street_engine.specs.Streets.{StreetsStandFor}
-use Rattle.street_engine.proofs.StreetsStandFor.{steps-last}
+use Rattle.std.proofs.Common.{◌≡◌, ◌+◌, sym, ◌∙◌, arith}
+use Rattle.street_engine.proofs.RanSteps.{go-refused, go-made}
+use Rattle.street_engine.proofs.StreetsStandFor.{unless-err}
 use Rattle.street_engine.proofs.streets.Streets.steps.Goals as goal
 
 pub returns-then-is_err-clause-steps : goal.returns-then-is_err-clause-steps
-returns-then-is_err-clause-steps g c = λ m s. c.prepare.ensures.kept (steps c.loop-done.done m) (c.loop-done.invariant.stands m s)
+returns-then-is_err-clause-steps g c = go-refused c.loop-done.done _ c.loop-done.self c.step.new.self c.step.result c.loop-done.invariant.stands (sym c.is_err.ensures.value ∙ c.if-is_err.true) c.step.ensures.starved
 
 pub loop-done-preserved : goal.loop-done-preserved
 loop-done-preserved g c =
-    let clock = c.step.ensures.clock in
-    let same = c.prepare.ensures.clock in
-    let before = c.loop-done.invariant.in_time in
+    let ok = sym c.is_err.ensures.value ∙ c.if-is_err.false in
+    let clock = unless-err (c.step.new.self.clock ≡ c.loop-done.self.clock + 1) c.step.result ok c.step.ensures.clock in
     record {
-      stands = λ m s. subst (StreetsStandFor c.step.new.self) (sym (steps-last c.loop-done.done m)) (c.step.ensures.step (steps c.loop-done.done m) (c.prepare.ensures.kept (steps c.loop-done.done m) (c.loop-done.invariant.stands m s)));
-      in_time = omega (arith, clock, same, before);
-      some = c.threads-threads.ensures;
+      stands = go-made c.loop-done.done _ c.loop-done.self c.step.new.self c.step.result c.loop-done.invariant.stands ok c.step.ensures.step;
+      in_time = (let before = c.loop-done.invariant.in_time in omega (arith, clock, before));
+      some = c.threads_of_step-threads.ensures;
     }

@@ -1,7 +1,6 @@
 use Rattle.std.proofs.Common.{◌+◌, ◌-◌, ◌<◌, ◌≤◌}
-use Rattle.street_base.specs.Limits.{last_clock}
-use Rattle.street_base.specs.Step.{steps}
-use Rattle.street_engine.specs.Streets.{StreetsGo}
+use Rattle.street_base.specs.Prelude.{last_clock, steps}
+use Rattle.street_engine.specs.Prelude.{StreetsGo}
 use Rattle.street_engine.proofs.streets.Streets.steps.Given as goal
 
 abbrev pub invariant-loop-done : goal.invariant-loop-done

@@ -3,14 +3,14 @@ use Rattle.street_engine.proofs.RanSteps.{go-then}
 use Rattle.street_engine.proofs.streets.Streets.steps_by_team.Goals as goal
 
 pub returns-then-over-clause-steps : goal.returns-then-over-clause-steps
-returns-then-over-clause-steps g c = go-then c.loop.done c.some_steps-left.result.1 c.args.self c.loop.streets c.some_steps-left.result.0 c.loop.invariant.stands c.some_steps-left.ensures.steps
+returns-then-over-clause-steps g c = go-then c.loop.done c.steps_between_counts-left.result.1 c.args.self c.loop.streets c.steps_between_counts-left.result.0 c.loop.invariant.stands c.steps_between_counts-left.ensures.steps
 
 pub loop-preserved : goal.loop-preserved
 loop-preserved g c =
-    let left = c.some_steps-left.ensures in
+    let left = c.steps_between_counts-left.ensures in
     let before = c.loop.invariant in
     record {
       most = (let a = left.most in let b = before.most in let e = c.min-some.ensures in omega (arith, a, b, e));
       clock = (let a = left.clock in let b = before.clock in omega (arith, a, b));
-      stands = go-then c.loop.done c.some_steps-left.result.1 c.args.self c.loop.streets c.some_steps-left.result.0 before.stands left.steps;
+      stands = go-then c.loop.done c.steps_between_counts-left.result.1 c.args.self c.loop.streets c.steps_between_counts-left.result.0 before.stands left.steps;
     }

@@ -1,6 +1,6 @@
 use Rattle.std.proofs.Common.{◌≡◌, ◌+◌, ◌≤◌}
-use Rattle.street_base.specs.Step.{steps}
-use Rattle.street_engine.specs.Streets.{StreetsGo}
+use Rattle.street_base.specs.Prelude.{steps}
+use Rattle.street_engine.specs.Prelude.{StreetsGo}
 use Rattle.street_engine.proofs.streets.Streets.steps_by_team.Given as goal
 
 abbrev pub invariant-loop : goal.invariant-loop

@@ -1,6 +1,6 @@
 -- Cells closed: a stretch of its own where nothing closed touches it, and else all that touch it joined.
 use Rattle.std.proofs.Common.{◌≡◌, ℕ, false, ◌≤◌, ◌+◌}
-use Rattle.street_gap.specs.Closed.{is_in}
+use Rattle.street_gap.specs.Prelude.{is_in}
 use Rattle.street_gap.proofs.Edits.{close-apart-rises, close-apart-in, close-apart-open, close-joins-rises, close-joins-in, OnErr-from}
 use Rattle.street_gap.proofs.stretches.Stretches.close.Goals as goal
 

@@ -1,5 +1,5 @@
 use Rattle.std.proofs.Common.{sym, ap, subst, ◌∙◌}
-use Rattle.street_gap.specs.Closed.{IsRising, closed_count}
+use Rattle.street_gap.specs.Prelude.{IsRising, closed_count}
 use Rattle.street_gap.proofs.Counts.{closed_count-marks}
 use Rattle.street_gap.proofs.stretches.Stretches.count_closed.Goals as goal
 

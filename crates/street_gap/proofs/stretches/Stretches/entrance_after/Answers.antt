@@ -1,6 +1,6 @@
 use Rattle.std.proofs.Common.{Some, sym, ap, subst, ◌∙◌, arith}
 use Rattle.street_gap.specs.declared.closures.Stretch.{Stretch}
-use Rattle.street_gap.specs.Closed.{IsWithin}
+use Rattle.street_gap.specs.Prelude.{IsWithin}
 use Rattle.street_gap.proofs.Entrances.{entrance-some, entrance-none}
 use Rattle.street_gap.proofs.stretches.Stretches.entrance_after.Goals as goal
 

@@ -1,7 +1,6 @@
 -- Cells opened: of the stretches that have some of them, what lies below and above is left.
-use Rattle.std.proofs.Common.{◌≡◌, ℕ, true, ◌≤◌, ◌+◌, sym, subst, take, drop}
-use Rattle.street_gap.specs.Closed.{is_in, is_between, IsRising}
-use Rattle.std.specs.Prelude.{not, ◌&&◌}
+use Rattle.std.proofs.Common.{◌≡◌, ℕ, true, ◌≤◌, ◌+◌, sym, subst, take, drop, not, ◌&&◌}
+use Rattle.street_gap.specs.Prelude.{is_in, is_between, IsRising}
 use Rattle.street_gap.proofs.Edits.{open-apart, open-rises, open-in, open-within, none-left, left-left, right-left, both-left, OnErr-from, on_either}
 use Rattle.street_gap.proofs.stretches.Stretches.reopen.Goals as goal
 

@@ -1,4 +1,4 @@
-use Rattle.street_yard.specs.Yard.{IsOnList}
+use Rattle.street_yard.specs.Prelude.{IsOnList}
 use Rattle.street_yard.proofs.YardLemmas.{left}
 use Rattle.street_lanes.proofs.hints.Marks.renew.Given as goal
 

@@ -1,9 +1,8 @@
-use Rattle.std.proofs.Common.{◌≡◌, map, sym, ◌∙◌, ap, subst, arith}
-use Rattle.std.specs.List.{All}
+use Rattle.std.proofs.Common.{◌≡◌, map, sym, ◌∙◌, ap, subst, arith, All}
 use Rattle.std.specs.Vec.{with_items}
 use Rattle.std.proofs.lemmas.List.{with_items_is}
-use Rattle.street_rule.specs.Watch.{IsReady}
-use Rattle.street_lanes.specs.Detectors.{Detectors, cleared}
+use Rattle.street_rule.specs.Prelude.{IsReady}
+use Rattle.street_lanes.specs.Prelude.{Detectors, cleared}
 use Rattle.street_lanes.proofs.ClearedWatches.{cleared-ready}
 use Rattle.street_lanes.proofs.lane_meters.LaneMeters.clear.Goals as goal
 

@@ -1,5 +1,5 @@
 use Rattle.std.proofs.Common.{◌≡◌, ◌<◌, ◌++◌, ◌∷◌, [], ◌∙◌, ap, arith}
-use Rattle.street_lanes.specs.Detectors.{Detectors}
+use Rattle.street_lanes.specs.Prelude.{Detectors}
 use Rattle.street_lanes.proofs.PlacedMeter.{even-more, within-more}
 use Rattle.street_lanes.proofs.lane_meters.LaneMeters.place.Goals as goal
 

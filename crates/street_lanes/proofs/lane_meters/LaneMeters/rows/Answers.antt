@@ -1,6 +1,6 @@
 use Rattle.std.proofs.Common.{List, sym, ap, subst, arith}
 use Rattle.street_meter.specs.Meter.{Meter}
-use Rattle.street_lanes.specs.Detectors.{Detectors, MetersStandFor}
+use Rattle.street_lanes.specs.Prelude.{Detectors, MetersStandFor}
 use Rattle.street_lanes.proofs.ShownRows.{shown-none, shown-all}
 use Rattle.street_lanes.proofs.lane_meters.LaneMeters.rows.Goals as goal
 

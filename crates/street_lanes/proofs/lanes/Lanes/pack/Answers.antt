@@ -1,7 +1,7 @@
 use Rattle.std.proofs.Common.{ap, subst, ◌∙◌}
-use Rattle.street_yard.specs.Yard.{Yard}
-use Rattle.street_rule.specs.Odds.{Odds}
-use Rattle.street_lanes.specs.Lists.{Packs}
+use Rattle.street_yard.specs.Prelude.{Yard}
+use Rattle.street_rule.specs.Prelude.{Odds}
+use Rattle.street_lanes.specs.Prelude.{Packs}
 use Rattle.street_lanes.specs.Inside.{view_of}
 use Rattle.street_lanes.proofs.PackLemmas.{packed-sound, packed-view}
 use Rattle.street_lanes.proofs.lanes.Lanes.pack.Goals as goal

@@ -1,14 +1,12 @@
-use Rattle.std.proofs.Common.{◌≡◌, ℕ, ◌<◌, List, [], length, sym, subst, None, arith}
-use Rattle.std.specs.Prelude.{Vec}
+use Rattle.std.proofs.Common.{◌≡◌, ℕ, ◌<◌, List, [], length, sym, subst, None, arith, Vec}
 use Rattle.std.specs.declared.alloc.Global.{Global}
 use Rattle.street_base.specs.declared.net.NetSpec.{NetSpec}
 use Rattle.street_base.specs.declared.net.Turn.{Turn}
-use Rattle.street_base.specs.Faults.{network_fault}
-use Rattle.street_net.specs.Keys.{ids_of_nodes, ids_of_links}
+use Rattle.street_base.specs.Prelude.{network_fault}
+use Rattle.street_net.specs.Prelude.{ids_of_nodes, ids_of_links, AreBriefs, AreInLanes, IsTurnTable, AreKept, IsChecked}
 use Rattle.street_net.specs.declared.briefs.Brief.{Brief}
 use Rattle.street_base.specs.declared.names.Place.{Place}
 use Rattle.street_net.specs.declared.nexts.Pair.{Pair}
-use Rattle.street_net.specs.Tables.{AreBriefs, AreInLanes, IsTurnTable, AreKept, IsChecked}
 use Rattle.street_net.proofs.network.Network.build.Goals as goal
 
 module _ (net given : NetSpec) (nodes links : List ℕ) (briefs : List Brief) (in_lanes : List (Vec Place Global)) (starts : List ℕ) (turns : List Turn) (nexts : List Pair) where

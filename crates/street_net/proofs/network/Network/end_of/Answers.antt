@@ -1,8 +1,6 @@
-use Rattle.std.proofs.Common.{◌∙◌, ap}
-use Rattle.std.specs.Prelude.{slice_get, ◌==◌}
-use Rattle.std.specs.Option.{option_and_then}
+use Rattle.std.proofs.Common.{◌∙◌, ap, slice_get, ◌==◌, option_and_then}
 use Rattle.street_base.specs.declared.net.NodeSpec.{NodeSpec}
-use Rattle.street_base.specs.Network.{link_at}
+use Rattle.street_base.specs.Prelude.{link_at}
 use Rattle.street_net.proofs.KeyLemmas.{find-position}
 use Rattle.street_net.proofs.BriefLemmas.{told-at}
 use Rattle.street_net.proofs.network.Network.end_of.Goals as goal

@@ -1,6 +1,5 @@
 use Rattle.std.proofs.Common.{◌≡◌, ◌+◌, ◌-◌, ◌<◌, length, get_or, ◌∙◌, ap, arith, rules}
-use Rattle.street_base.specs.Network.{link_of}
-use Rattle.street_base.specs.Faults.{is_bad_entry}
+use Rattle.street_base.specs.Prelude.{link_of, is_bad_entry}
 use Rattle.street_net.proofs.FirstBad.{NoneBad-more}
 use Rattle.street_net.proofs.PlanRefusal.{whole-none, whole-at}
 use Rattle.street_net.proofs.network.Network.first_link.Goals as goal

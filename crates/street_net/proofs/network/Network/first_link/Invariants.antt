@@ -1,6 +1,5 @@
 use Rattle.std.proofs.Common.{◌≡◌, ◌-◌, ◌<◌, Some, length, get_or}
-use Rattle.street_base.specs.Network.{link_of}
-use Rattle.street_base.specs.Faults.{is_bad_entry}
+use Rattle.street_base.specs.Prelude.{link_of, is_bad_entry}
 use Rattle.street_net.proofs.FirstBad.{NoneBad}
 use Rattle.street_net.proofs.network.Network.first_link.Given as goal
 

@@ -1,9 +1,8 @@
-use Rattle.std.proofs.Common.{◌≡◌, ◌<◌, ◌++◌, ◌∷◌, [], Some, None, length, take, Vec, sym, ◌∙◌, ap, arith}
-use Rattle.std.specs.Prelude.{List, ℕ}
+use Rattle.std.proofs.Common.{◌≡◌, ◌<◌, ◌++◌, ◌∷◌, [], Some, None, length, take, Vec, sym, ◌∙◌, ap, arith, List, ℕ}
 use Rattle.std.proofs.lemmas.List.{append-nil}
 use Rattle.std.specs.declared.alloc.Global.{Global}
 use Rattle.street_base.specs.declared.names.LinkIx.{LinkIx}
-use Rattle.street_base.specs.Machine.{plan_links}
+use Rattle.street_base.specs.Prelude.{plan_links}
 use Rattle.street_net.proofs.PlanRefusal.{some-link, short-plan, links-more, all-taken}
 use Rattle.street_net.proofs.network.Network.links_of.Goals as goal
 use Rattle.street_net.proofs.network.Network.links_of.Goals.{in-Some+in_ok-push, in_default}

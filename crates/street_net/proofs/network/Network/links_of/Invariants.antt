@@ -1,6 +1,5 @@
-use Rattle.std.proofs.Common.{◌≡◌, take}
-use Rattle.std.specs.List.{filter_map}
-use Rattle.street_base.specs.Network.{link_of}
+use Rattle.std.proofs.Common.{◌≡◌, take, filter_map}
+use Rattle.street_base.specs.Prelude.{link_of}
 use Rattle.street_net.proofs.network.Network.links_of.Given as goal
 
 abbrev pub invariant-loop-id : goal.invariant-loop-id

@@ -1,5 +1,5 @@
 use Rattle.std.proofs.Common.{◌≡◌, ◌<◌, true, length, sym, subst, arith}
-use Rattle.street_base.specs.Network.{serves}
+use Rattle.street_base.specs.Prelude.{serves}
 use Rattle.street_net.proofs.NextLemmas.{kept-at}
 use Rattle.street_net.proofs.network.Network.nexts_from.Goals as goal
 

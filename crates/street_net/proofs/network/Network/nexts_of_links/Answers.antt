@@ -1,7 +1,7 @@
 use Rattle.std.proofs.Common.{◌∷◌, [], length, length-append, sym, ap, subst, arith}
 use Rattle.street_base.proofs.FaultLemmas.{few_links}
 use Rattle.street_net.specs.declared.nexts.Pair.{Pair}
-use Rattle.street_net.specs.Tables.{AreServed, IsKept, AreKept}
+use Rattle.street_net.specs.Prelude.{AreServed, IsKept, AreKept}
 use Rattle.street_net.proofs.NextLemmas.{kept-more}
 use Rattle.street_net.proofs.network.Network.nexts_of_links.Goals as goal
 

@@ -1,5 +1,5 @@
 use Rattle.std.proofs.Common.{◌≡◌, length}
-use Rattle.street_net.specs.Tables.{AreKept}
+use Rattle.street_net.specs.Prelude.{AreKept}
 use Rattle.street_net.proofs.network.Network.nexts_of_links.Given as goal
 
 abbrev pub invariant-loop-position : goal.invariant-loop-position

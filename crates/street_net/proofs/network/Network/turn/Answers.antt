@@ -1,7 +1,6 @@
-use Rattle.std.proofs.Common.{◌≡◌, ◌+◌, ◌*◌, ◌∙◌, sym, ap, subst, arith}
-use Rattle.std.specs.Prelude.{option_map}
+use Rattle.std.proofs.Common.{◌≡◌, ◌+◌, ◌*◌, ◌∙◌, sym, ap, subst, arith, option_map}
 use Rattle.street_base.specs.declared.names.Place.{Place}
-use Rattle.street_net.specs.Tables.{turn_by_position, list_at, AreTurnsFrom}
+use Rattle.street_net.specs.Prelude.{turn_by_position, list_at, AreTurnsFrom}
 use Rattle.street_net.proofs.TurnTable.{turn-nowhere, turn-answer}
 use Rattle.street_net.proofs.Starts.{turns-at}
 use Rattle.street_net.proofs.network.Network.turn.Goals as goal

@@ -2,7 +2,7 @@ use Rattle.std.proofs.Common.{◌≡◌, length, map, sym, ◌∙◌, ap, subst,
 use Rattle.std.specs.List.Sorted.{IsPermutation, IsNonDecreasingBy}
 use Rattle.std.proofs.lemmas.List.{length-map}
 use Rattle.std.proofs.lemmas.List.Sorted.{IsNonDecreasingBy-from_sort_by_key, length_permutation}
-use Rattle.street_net.specs.Tables.{seen_turn, list_number, turn_rank, AreStarts}
+use Rattle.street_net.specs.Prelude.{seen_turn, list_number, turn_rank, AreStarts}
 use Rattle.street_net.proofs.Starts.{few-turns, lists-rise}
 use Rattle.street_net.proofs.turns.TurnTable.build.Goals as goal
 

@@ -1,5 +1,5 @@
 use Rattle.std.proofs.Common.{◌+◌, get_or, arith}
-use Rattle.street_net.specs.Tables.{IsStart}
+use Rattle.street_net.specs.Prelude.{IsStart}
 use Rattle.street_net.proofs.Starts.{starts-rise}
 use Rattle.street_net.proofs.turns.TurnTable.list.Goals as goal
 

@@ -1,6 +1,6 @@
 use Rattle.std.proofs.Common.{◌≡◌, ◌<◌, ℕ, List, length, map, get_or, sym, ap, ◌∙◌, arith}
 use Rattle.std.proofs.lemmas.List.{get_or-map, length-map}
-use Rattle.street_node.specs.Buffers.{Buffers}
+use Rattle.street_node.specs.Prelude.{Buffers}
 use Rattle.street_node.proofs.buffers.Buffers.has_room.Goals as goal
 
 pub list_len-requires : goal.list_len-requires

@@ -2,7 +2,7 @@ use Rattle.std.proofs.Common.{rules, subst}
 use Rattle.std.specs.Ordering.{is_lt}
 use Rattle.std.proofs.lemmas.List.Sorted.{ranks_by, answers_always, IsPermutation-map}
 use Rattle.street_node.specs.declared.phase.GreenTurn.{GreenTurn}
-use Rattle.street_node.specs.Greens.{turn_cmp, green_seen, HasMarks}
+use Rattle.street_node.specs.Prelude.{turn_cmp, green_seen, HasMarks}
 use Rattle.street_node.proofs.GreenSearch.{turns_total}
 use Rattle.street_node.proofs.phase.KeptPhase.new.Goals as goal
 

@@ -4,7 +4,7 @@ use Rattle.std.specs.List.{list_any}
 use Rattle.std.specs.List.Sorted.{IsBinarySearchResult}
 use Rattle.std.proofs.lemmas.Fn.{always_returns_same}
 use Rattle.street_node.specs.declared.phase.GreenTurn.{GreenTurn}
-use Rattle.street_node.specs.Greens.{turn_cmp, green_seen, IsInOrder}
+use Rattle.street_node.specs.Prelude.{turn_cmp, green_seen, IsInOrder}
 use Rattle.street_node.proofs.GreenSearch.{answered, unmarked, leads_from, place_from}
 use Rattle.street_node.proofs.phase.KeptPhase.shows.Goals as goal
 

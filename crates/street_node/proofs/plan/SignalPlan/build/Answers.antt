@@ -1,8 +1,8 @@
 use Rattle.std.proofs.Common.{◌≡◌, ◌∙◌, None, get_or, ap, refl, sym, arith}
 use Rattle.std.proofs.lemmas.Result.{err_from_is_err_and}
 use Rattle.street_base.specs.declared.net.NodeSpec.{NodeSpec}
-use Rattle.street_base.specs.Faults.{signal_fault}
-use Rattle.street_node.specs.Greens.{node_id}
+use Rattle.street_base.specs.Prelude.{signal_fault}
+use Rattle.street_node.specs.Prelude.{node_id}
 use Rattle.street_node.proofs.KeptPlan.{no-fault, told-sum, kept-cycle, kept-shows}
 use Rattle.street_node.proofs.plan.SignalPlan.build.Goals as goal
 

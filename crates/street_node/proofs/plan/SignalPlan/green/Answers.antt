@@ -1,7 +1,7 @@
 use Rattle.std.proofs.Common.{◌≡◌, ◌+◌, ◌%◌, ◌∙◌, refl, sym}
 use Rattle.street_base.specs.declared.names.Place.{Place}
-use Rattle.street_base.specs.Signal.{cycle}
-use Rattle.street_node.specs.Greens.{shown, plan_seen}
+use Rattle.street_base.specs.Prelude.{cycle}
+use Rattle.street_node.specs.Prelude.{shown, plan_seen}
 use Rattle.street_node.proofs.Shown.{shown-at}
 use Rattle.street_node.proofs.plan.SignalPlan.green.Goals as goal
 

@@ -1,5 +1,5 @@
 use Rattle.std.proofs.Common.{◌<◌, subst, ◌∙◌}
-use Rattle.street_rule.specs.Odds.{Odds}
+use Rattle.street_rule.specs.Prelude.{Odds}
 use Rattle.street_rule.proofs.DrawLemmas.{settled, slow-bit}
 use Rattle.street_rule.proofs.dice.Dice.dawdles.Goals as goal
 

@@ -1,5 +1,5 @@
 use Rattle.std.proofs.Common.{◌<◌, subst, ◌∙◌}
-use Rattle.street_rule.specs.Odds.{Odds}
+use Rattle.street_rule.specs.Prelude.{Odds}
 use Rattle.street_rule.proofs.DrawLemmas.{settled, lane-bit}
 use Rattle.street_rule.proofs.dice.Dice.may_change.Goals as goal
 

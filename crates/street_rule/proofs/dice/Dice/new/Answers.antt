@@ -1,7 +1,7 @@
 use Rattle.std.proofs.Common.{refl}
 use Rattle.std.proofs.lemmas.List.Elements.{All-replicate}
 use Rattle.std.proofs.lemmas.Result.{IfOk-from_err}
-use Rattle.street_rule.specs.KeptDraws.{IsKept}
+use Rattle.street_rule.specs.Prelude.{IsKept}
 use Rattle.street_rule.proofs.dice.Dice.new.Goals as goal
 
 pub returns-in_err-kept : goal.returns-in_err-kept

@@ -1,6 +1,6 @@
 use Rattle.std.proofs.Common.{sym, subst, arith}
 use Rattle.std.proofs.lemmas.List.Elements.{All-set, All-get_or}
-use Rattle.street_rule.specs.KeptDraws.{IsKept}
+use Rattle.street_rule.specs.Prelude.{IsKept}
 use Rattle.street_rule.proofs.dice.Dice.put_aside.Goals as goal
 
 pub invariant_of-self : goal.invariant_of-self

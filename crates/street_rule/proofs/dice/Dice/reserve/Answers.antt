@@ -1,8 +1,7 @@
 use Rattle.std.proofs.Common.{sym, subst, ◌∙◌}
 use Rattle.std.proofs.lemmas.List.Elements.{All-append, All-replicate}
-use Rattle.street_base.specs.Draw.{key_of_seed}
-use Rattle.street_rule.specs.KeptDraws.{IsKept}
-use Rattle.street_rule.specs.Odds.{Odds}
+use Rattle.street_base.specs.Prelude.{key_of_seed}
+use Rattle.street_rule.specs.Prelude.{IsKept, Odds}
 use Rattle.street_rule.proofs.dice.Dice.reserve.Goals as goal
 
 pub invariant_of-self : goal.invariant_of-self

@@ -1,5 +1,4 @@
-use Rattle.std.proofs.Common.{◌≡◌, ◌∙◌, ◌+◌, length, get_or, ap, arith}
-use Rattle.std.specs.Prelude.{vec_len}
+use Rattle.std.proofs.Common.{◌≡◌, ◌∙◌, ◌+◌, length, get_or, ap, arith, vec_len}
 use Rattle.street_team.proofs.Moved.{moved_back, moved_front}
 use Rattle.street_team.proofs.block.Block.fill.Goals as goal
 

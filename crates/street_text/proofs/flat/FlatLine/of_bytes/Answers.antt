@@ -1,5 +1,4 @@
-use Rattle.std.proofs.Common.{◌≡◌, arith}
-use Rattle.std.specs.Str.{IsUtf8}
+use Rattle.std.proofs.Common.{◌≡◌, arith, IsUtf8}
 use Rattle.street_text.proofs.FlatReading.{flat_value}
 use Rattle.street_text.proofs.flat.FlatLine.of_bytes.Goals as goal
 

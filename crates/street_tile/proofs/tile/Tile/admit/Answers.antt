@@ -1,7 +1,6 @@
 use Rattle.std.specs.Prelude.{◌≡◌}
-use Rattle.street_base.specs.Census.{in_lane}
-use Rattle.street_base.specs.Machine.{with_waiting}
-use Rattle.street_lanes.specs.Views.{waiting_of}
+use Rattle.street_base.specs.Prelude.{in_lane, with_waiting}
+use Rattle.street_lanes.specs.Prelude.{waiting_of}
 use Rattle.street_tile.proofs.DoesIf.{seen-if}
 use Rattle.street_tile.proofs.tile.Tile.admit.Goals as goal
 

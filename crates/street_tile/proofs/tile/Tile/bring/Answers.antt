@@ -1,14 +1,11 @@
-use Rattle.std.proofs.Common.{◌≡◌, ◌∷◌, List, map, set, ap, ◌∙◌, sym, subst, arith, true}
-use Rattle.std.specs.Prelude.{Option, Some}
+use Rattle.std.proofs.Common.{◌≡◌, ◌∷◌, List, map, set, ap, ◌∙◌, sym, subst, arith, true, Option, Some}
 use Rattle.std.proofs.lemmas.List.{map-set}
 use Rattle.std.proofs.lemmas.Option.{slice_get_within}
-use Rattle.street_base.specs.Vehicle.{Vehicle}
-use Rattle.street_tile.specs.Halves.{Transfer, entry_in, vehicle_in}
+use Rattle.street_base.specs.Prelude.{Vehicle}
+use Rattle.street_tile.specs.Prelude.{Transfer, entry_in, vehicle_in, Part, IsTileOf, is_own, Awaits}
 use Rattle.street_tile.specs.Inside.{seen}
-use Rattle.street_net.specs.Slots.{slot_of}
-use Rattle.street_tile.specs.Tiles.{Part, IsTileOf, is_own}
-use Rattle.street_tile.specs.HandOvers.{Awaits}
-use Rattle.street_node.specs.Walks.{AtMostOnce}
+use Rattle.street_net.specs.Prelude.{slot_of}
+use Rattle.street_node.specs.Prelude.{AtMostOnce}
 use Rattle.street_tile.proofs.MovedHandOvers.{coming-here}
 use Rattle.street_tile.proofs.Numbers.{number-found}
 use Rattle.street_tile.proofs.OwnLanes.{own-once}

@@ -1,11 +1,8 @@
-use Rattle.std.proofs.Common.{◌≡◌, ℕ, ◌<◌}
-use Rattle.std.specs.Prelude.{Some, slice_get}
+use Rattle.std.proofs.Common.{◌≡◌, ℕ, ◌<◌, Some, slice_get}
 use Rattle.street_base.specs.declared.names.Place.{Place}
-use Rattle.street_base.specs.State.{Traffic, lane_at}
-use Rattle.street_base.specs.Census.{in_lane}
-use Rattle.street_lanes.specs.Whole.{IsOn}
-use Rattle.street_tile.specs.Tiles.{StandsFor}
-use Rattle.street_tile.specs.Commands.{HaveAtMostOne}
+use Rattle.street_base.specs.Prelude.{Traffic, lane_at, in_lane}
+use Rattle.street_lanes.specs.Prelude.{IsOn}
+use Rattle.street_tile.specs.Prelude.{StandsFor, HaveAtMostOne}
 use Rattle.street_tile.proofs.tile.Tile.find.Given as goal
 
 abbrev pub invariant-loop-n : goal.invariant-loop-n

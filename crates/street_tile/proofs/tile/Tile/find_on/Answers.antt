@@ -1,13 +1,9 @@
-use Rattle.std.proofs.Common.{◌≡◌, subst}
-use Rattle.std.specs.Prelude.{IfOk}
+use Rattle.std.proofs.Common.{◌≡◌, subst, IfOk}
 use Rattle.std.proofs.lemmas.Option.{slice_get_within, get_or_from_slice_get}
 use Rattle.street_base.specs.declared.names.Place.{Place}
-use Rattle.street_base.specs.State.{Traffic, lane_at}
-use Rattle.street_base.specs.Machine.{seen_in}
-use Rattle.street_lanes.specs.Lanes.{place_at, no_place}
-use Rattle.street_lanes.specs.Whole.{IsOn}
-use Rattle.street_tile.specs.Tiles.{StandsFor}
-use Rattle.street_tile.specs.Commands.{HaveAtMostOne}
+use Rattle.street_base.specs.Prelude.{Traffic, lane_at, seen_in}
+use Rattle.street_lanes.specs.Prelude.{place_at, no_place, IsOn}
+use Rattle.street_tile.specs.Prelude.{StandsFor, HaveAtMostOne}
 use Rattle.street_tile.proofs.tile.Tile.find_on.Goals as goal
 
 pub find_at-requires-clause-lane : goal.find_at-requires-clause-lane

@@ -1,18 +1,12 @@
-use Rattle.std.proofs.Common.{◌≡◌, ◌-◌, ◌<◌, ◌≤◌, List, length, map, get_or, refl, sym, ◌∙◌, ap, subst, arith}
-use Rattle.std.specs.Prelude.{Option, Some, None, slice_get, option_map}
+use Rattle.std.proofs.Common.{◌≡◌, ◌-◌, ◌<◌, ◌≤◌, List, length, map, get_or, refl, sym, ◌∙◌, ap, subst, arith, Option, Some, None, slice_get, option_map}
 use Rattle.std.proofs.lemmas.List.{length-map, length-replicate}
 use Rattle.std.proofs.lemmas.Option.{slice_get-map, slice_get-get_or}
 use Rattle.street_base.specs.declared.names.Place.{Place}
-use Rattle.street_base.specs.Machine.{loaded}
-use Rattle.street_base.specs.Signal.{SignalPlan}
-use Rattle.street_base.specs.Limits.{last_clock}
+use Rattle.street_base.specs.Prelude.{loaded, SignalPlan, last_clock}
 use Rattle.street_base.proofs.FaultLemmas.{few_links, good_start}
-use Rattle.street_lanes.specs.Lanes.{Lanes, IsLane, AllLanes}
-use Rattle.street_lanes.specs.Whole.{LanesStand}
-use Rattle.street_lanes.specs.Motion.{cells_on}
-use Rattle.street_tile.specs.Halves.{vehicle_in}
-use Rattle.street_tile.specs.Tiles.{ShowSignals, AreNumbers, AreBare, AreDue, own_places, sizes_of}
-use Rattle.street_node.specs.Walks.{AtMostOnce}
+use Rattle.street_lanes.specs.Prelude.{Lanes, IsLane, AllLanes, LanesStand, cells_on}
+use Rattle.street_tile.specs.Prelude.{vehicle_in, ShowSignals, AreNumbers, AreBare, AreDue, own_places, sizes_of}
+use Rattle.street_node.specs.Prelude.{AtMostOnce}
 use Rattle.street_tile.proofs.OwnLanes.{own-lanes, own-once}
 use Rattle.street_tile.proofs.EmptyTile.{faultless-roads, loaded-lanes, loaded-clock, loaded-signals, nobody-comes}
 use Rattle.street_tile.proofs.MetersStand.{bare-sizes, bare-all, bare-due, bare-stand}
@@ -69,9 +63,7 @@ returns-clause-tile c =
 pub returns-clause-idle : goal.returns-clause-idle
 returns-clause-idle c =
     let places : c.in_ok-own.own.places ≡ c.deref.result.now = ap (λ (x : Lanes). x.places) c.in_ok-own.ensures.fresh in
-    let items : length c.deref-2.result.now ≡ length c.deref.result.now = ap length (c.deref-2.ensures.value ∙ sym c.deref.ensures.value) in
-    let same : length c.in_ok-own.own.places ≡ length c.deref.result.now = ap length places in
-    let long : length c.deref-2.result.now ≡ length c.in_ok-own.own.places = omega arith in
+    let long : length c.deref-2.result.now ≡ length c.in_ok-own.own.places = ap length (c.deref-2.ensures.value ∙ sym c.deref.ensures.value ∙ sym places) in
     record {
       handed = c.in_ok-tables.ensures.handed.0;
       coming = ap (map vehicle_in) c.in_ok-tables.ensures.coming ∙ nobody-comes (length c.deref-2.result.now) c.in_ok-own.own.places long;
@@ -100,10 +92,8 @@ invariant_of-result c =
     let net = c.args.net.now in
     let ps = c.in_ok-own.own.places in
     let places : ps ≡ c.deref.result.now = ap (λ (x : Lanes). x.places) c.in_ok-own.ensures.fresh in
-    let items : length c.deref-2.result.now ≡ length c.deref.result.now = ap length (c.deref-2.ensures.value ∙ sym c.deref.ensures.value) in
-    let same : length ps ≡ length c.deref.result.now = ap length places in
-    let long : length c.deref-2.result.now ≡ length ps = omega arith in
-    let numbers : c.deref-2.result.now ≡ ps = (c.deref-2.ensures.value ∙ sym c.deref.ensures.value) ∙ sym places in
+    let numbers : c.deref-2.result.now ≡ ps = c.deref-2.ensures.value ∙ sym c.deref.ensures.value ∙ sym places in
+    let long : length c.deref-2.result.now ≡ length ps = ap length numbers in
     let plans : length c.in_ok-tables.tables.2.items ≡ c.args.high - c.args.low = ap length c.in_ok-tables.ensures.plans ∙ length-replicate (c.args.high - c.args.low) None in
     let slots : length c.in_ok-tables.tables.1.1 ≡ length c.deref-2.result.now = ap length c.in_ok-tables.ensures.coming ∙ length-replicate (length c.deref-2.result.now) None in
     let order = c.requires.order in

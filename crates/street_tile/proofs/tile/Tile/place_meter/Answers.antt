@@ -1,8 +1,7 @@
-use Rattle.std.proofs.Common.{◌≡◌, ◌<◌, length, get_or, ap, subst, sym, ◌∙◌, arith}
-use Rattle.std.specs.Prelude.{OnOk, OnErr}
+use Rattle.std.proofs.Common.{◌≡◌, ◌<◌, length, get_or, ap, subst, sym, ◌∙◌, arith, OnOk, OnErr}
 use Rattle.std.proofs.lemmas.Result.{IfOk-weaker, on_ok_weaker, on_err_weaker}
-use Rattle.street_base.specs.Network.{link_at}
-use Rattle.street_lanes.specs.Detectors.{Detectors, Placed}
+use Rattle.street_base.specs.Prelude.{link_at}
+use Rattle.street_lanes.specs.Prelude.{Detectors, Placed}
 use Rattle.street_tile.proofs.PlacesMeter.{seen-there, seen-sized, seen-meters, seen-placed, seen-same, placed-or-not}
 use Rattle.street_tile.proofs.tile.Tile.place_meter.Goals as goal
 

@@ -1,7 +1,7 @@
 use Rattle.std.proofs.Common.{subst, sym, arith}
 use Rattle.std.proofs.lemmas.Result.{IfOk-weaker}
-use Rattle.street_lanes.specs.Detectors.{Detectors, MetersStandFor}
-use Rattle.street_tile.specs.TileDetectors.{detectors_on}
+use Rattle.street_lanes.specs.Prelude.{Detectors, MetersStandFor}
+use Rattle.street_tile.specs.Prelude.{detectors_on}
 use Rattle.street_tile.proofs.PlacesMeter.{seen-there, seen-meters}
 use Rattle.street_tile.proofs.tile.Tile.read_meter.Goals as goal
 

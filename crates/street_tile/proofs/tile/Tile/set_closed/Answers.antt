@@ -1,7 +1,6 @@
 use Rattle.std.proofs.Common.{◌≡◌, length}
-use Rattle.street_base.specs.Closing.{with_marks}
-use Rattle.street_base.specs.Network.{link_at}
-use Rattle.street_lanes.specs.Lanes.{lane_of}
+use Rattle.street_base.specs.Prelude.{with_marks, link_at}
+use Rattle.street_lanes.specs.Prelude.{lane_of}
 use Rattle.street_tile.proofs.DoesIf.{seen-length, seen-within, seen-at, seen-count}
 use Rattle.street_tile.proofs.tile.Tile.set_closed.Goals as goal
 

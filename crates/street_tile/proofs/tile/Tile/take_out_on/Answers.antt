@@ -1,15 +1,9 @@
-use Rattle.std.proofs.Common.{◌≡◌, ◌<◌, None, subst}
-use Rattle.std.specs.Prelude.{IfSome, option_map}
+use Rattle.std.proofs.Common.{◌≡◌, ◌<◌, None, subst, IfSome, option_map}
 use Rattle.std.proofs.lemmas.Option.{slice_get_within, get_or_from_slice_get}
 use Rattle.street_base.specs.declared.names.Place.{Place}
-use Rattle.street_base.specs.Vehicle.{vehicle_of}
-use Rattle.street_base.specs.State.{Traffic, lane_at}
-use Rattle.street_base.specs.Census.{in_lane}
-use Rattle.street_lanes.specs.Lanes.{place_at, no_place}
-use Rattle.street_lanes.specs.Whereabouts.{vehicle_on}
-use Rattle.street_lanes.specs.Whole.{IsOn}
-use Rattle.street_tile.specs.Tiles.{StandsFor}
-use Rattle.street_tile.specs.Commands.{HaveAtMostOne}
+use Rattle.street_base.specs.Prelude.{vehicle_of, Traffic, lane_at, in_lane}
+use Rattle.street_lanes.specs.Prelude.{place_at, no_place, vehicle_on, IsOn}
+use Rattle.street_tile.specs.Prelude.{StandsFor, HaveAtMostOne}
 use Rattle.street_tile.proofs.tile.Tile.take_out_on.Goals as goal
 
 pub take_at-requires-clause-lane : goal.take_at-requires-clause-lane

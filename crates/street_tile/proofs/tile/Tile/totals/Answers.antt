@@ -1,7 +1,5 @@
-use Rattle.std.proofs.Common.{◌≡◌, sym, subst, length}
-use Rattle.std.specs.Prelude.{is_some, count_by}
-use Rattle.street_tile.specs.Tiles.{Part, StandsFor}
-use Rattle.street_tile.specs.Commands.{over}
+use Rattle.std.proofs.Common.{◌≡◌, sym, subst, length, is_some, count_by}
+use Rattle.street_tile.specs.Prelude.{Part, StandsFor, over}
 use Rattle.street_tile.proofs.tile.Tile.totals.Goals as goal
 
 pub returns-clause-cells : goal.returns-clause-cells

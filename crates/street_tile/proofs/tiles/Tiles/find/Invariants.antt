@@ -1,5 +1,5 @@
 use Rattle.std.proofs.Common.{ℕ, ◌<◌}
-use Rattle.street_tile.specs.Together.{TileHasNot}
+use Rattle.street_tile.specs.Prelude.{TileHasNot}
 use Rattle.street_tile.proofs.tiles.Tiles.find.Given as goal
 
 abbrev pub invariant-loop-i : goal.invariant-loop-i

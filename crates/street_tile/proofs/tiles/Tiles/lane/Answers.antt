@@ -1,8 +1,8 @@
 use Rattle.std.proofs.Common.{refl}
-use Rattle.street_tile.proofs.Together.{owns-here}
+use Rattle.street_tile.proofs.Together.{tile-at, owns-here}
 use Rattle.street_tile.proofs.tiles.Tiles.lane.Goals as goal
 
 pub lane-requires-clause-own : goal.lane-requires-clause-own
 lane-requires-clause-own c =
-    let s = c.self.inside in
-    owns-here s.network.value c.deref.result.now s.tiles.items c.owner_of-i.result c.index.result.now c.deref.ensures c.index.ensures c.args.self.now c.args.at.link c.args.at c.self.view_is c.owner_of-i.ensures.own refl
+    let t = tile-at c.self.view_is c.owner_of-i.ensures.inside c.deref.ensures c.index.ensures in
+    owns-here t c.args.at.link c.args.at c.owner_of-i.ensures.own refl

@@ -3,8 +3,7 @@ use Rattle.std.proofs.lemmas.Bool.{ltb-true}
 use Rattle.std.proofs.lemmas.List.{get_or_default}
 use Rattle.street_base.specs.declared.net.NetSpec.{NetSpec}
 use Rattle.street_base.specs.declared.net.LinkSpec.{LinkSpec}
-use Rattle.street_base.specs.Limits.{most_lanes}
-use Rattle.street_base.specs.Network.{no_link}
+use Rattle.street_base.specs.Prelude.{most_lanes, no_link}
 use Rattle.street_net.proofs.GoodLinks.{good-link}
 use Rattle.street_tile.proofs.tiles.Tiles.lanes_of.Goals as goal
 

@@ -1,8 +1,8 @@
 use Rattle.std.proofs.Common.{refl, sym, subst}
 use Rattle.street_base.specs.declared.net.NetSpec.{NetSpec}
-use Rattle.street_base.specs.Machine.{loaded}
+use Rattle.street_base.specs.Prelude.{loaded}
 use Rattle.street_base.proofs.LoadLemmas.{loaded-sound}
-use Rattle.street_tile.specs.Together.{TilesStandFor, tiles_of}
+use Rattle.street_tile.specs.Prelude.{TilesStandFor, tiles_of}
 use Rattle.street_tile.proofs.tiles.Tiles.new.Goals as goal
 
 pub returns-clause-stand : goal.returns-clause-stand

@@ -1,5 +1,5 @@
 use Rattle.std.proofs.Common.{◌<◌, length, subst, arith}
-use Rattle.street_tile.specs.Together.{TilesView, TakesArrivalOf}
+use Rattle.street_tile.specs.Prelude.{TilesView, TakesArrivalOf}
 use Rattle.street_tile.proofs.NextArrival.{takes-arrival}
 use Rattle.street_tile.proofs.tiles.Tiles.next_arrival.Goals as goal
 

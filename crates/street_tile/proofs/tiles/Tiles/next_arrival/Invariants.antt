@@ -1,5 +1,5 @@
 use Rattle.std.proofs.Common.{◌≡◌, ℕ, ◌<◌, [], get_or}
-use Rattle.street_tile.specs.Tiles.{Part}
+use Rattle.street_tile.specs.Prelude.{Part}
 use Rattle.street_tile.proofs.tiles.Tiles.next_arrival.Given as goal
 
 abbrev pub invariant-loop-i : goal.invariant-loop-i

@@ -1,6 +1,5 @@
 use Rattle.std.proofs.Common.{◌≡◌, ◌+◌, ◌*◌, ◌/◌, ◌<◌, true, length, get_or, vec_len, sym, subst, arith}
-use Rattle.street_tile.specs.Tiles.{is_own}
-use Rattle.street_tile.specs.Together.{TilesView}
+use Rattle.street_tile.specs.Prelude.{is_own, TilesView}
 use Rattle.street_tile.proofs.LaneOwners.{share-owns}
 use Rattle.street_tile.proofs.tiles.Tiles.owner_of.Goals as goal
 

@@ -1,6 +1,5 @@
 use Rattle.std.proofs.Common.{ℕ, ◌<◌, get_or}
-use Rattle.street_tile.specs.Tiles.{Part, IsPrepared}
-use Rattle.street_tile.specs.Together.{TilesKeep}
+use Rattle.street_tile.specs.Prelude.{Part, IsPrepared, TilesKeep}
 use Rattle.street_tile.proofs.tiles.Tiles.prepare.Given as goal
 
 abbrev pub invariant-loop-i : goal.invariant-loop-i

@@ -1,15 +1,8 @@
-use Rattle.std.proofs.Common.{◌≡◌, ℕ, ◌+◌, ◌<◌, ◌≤◌, List, length, take, get_or, sym, ◌∙◌, subst, arith}
-use Rattle.std.specs.Prelude.{is_some}
-use Rattle.std.specs.List.{count_by}
+use Rattle.std.proofs.Common.{◌≡◌, ℕ, ◌+◌, ◌<◌, ◌≤◌, List, length, take, get_or, sym, ◌∙◌, subst, arith, is_some, count_by}
 use Rattle.street_base.specs.declared.net.NetSpec.{NetSpec}
-use Rattle.street_base.specs.Limits.{most_vehicles}
-use Rattle.street_base.specs.Shown.{over_all}
-use Rattle.street_base.specs.State.{Traffic, LaneState}
+use Rattle.street_base.specs.Prelude.{most_vehicles, over_all, Traffic, LaneState}
 use Rattle.street_base.proofs.CountLemmas.{adds-up}
-use Rattle.street_tile.specs.Commands.{over}
-use Rattle.street_tile.specs.HandOvers.{all_places}
-use Rattle.street_tile.specs.Tiles.{Part, StandsFor, AreTiles}
-use Rattle.street_tile.specs.Together.{TilesView, TilesStandFor, tiles_of}
+use Rattle.street_tile.specs.Prelude.{over, all_places, Part, StandsFor, AreTiles, TilesView, TilesStandFor, tiles_of}
 use Rattle.street_tile.proofs.LaneCounts.{count-more, count-few, count-all}
 use Rattle.street_tile.proofs.Together.{stands-seen}
 use Rattle.street_tile.proofs.tiles.Tiles.totals.Goals as goal
@@ -35,32 +28,26 @@ module _ (net : NetSpec) (xs : List Part) (v : TilesView) (seen : tiles_of net x
 
 pub overflow_add-all : goal.overflow_add-all
 overflow_add-all c =
-    let m = c.requires.0 in
-    let s = c.self.inside in
-    let sum = adds-up m c.requires.2 in
+    let sum = adds-up c.requires.0 c.requires.2 in
     let most = c.requires.3 in
-    let h : c.loop-i.i < length s.tiles.items = omega (arith, c.loop-i-test.true, c.len-i-end.ensures, s.tiles.ok.0) in
-    let le = few c.self.inside.network.value c.self.inside.tiles.items c.args.self.now c.self.view_is c.self.invariant.tiles c.loop-i.i (λ lane. count_by is_some lane.track.cells) c.loop-i.all.cells c.loop-i.invariant.cells c.index.result.now h c.index.ensures c.totals-own.result.cells c.totals-own.ensures.cells m c.requires.1 (omega arith) in
+    let h : c.loop-i.i < length c.self.inside.tiles.items = omega (arith, c.loop-i-test.true, c.len-i-end.ensures, c.self.inside.tiles.ok.0) in
+    let le = few c.self.inside.network.value c.self.inside.tiles.items c.args.self.now c.self.view_is c.self.invariant.tiles c.loop-i.i (λ lane. count_by is_some lane.track.cells) c.loop-i.all.cells c.loop-i.invariant.cells c.index.result.now h c.index.ensures c.totals-own.result.cells c.totals-own.ensures.cells c.requires.0 c.requires.1 (omega arith) in
     omega arith
 
 pub overflow_add-all-in-loop-i : goal.overflow_add-all-in-loop-i
 overflow_add-all-in-loop-i c =
-    let m = c.requires.0 in
-    let s = c.self.inside in
-    let sum = adds-up m c.requires.2 in
+    let sum = adds-up c.requires.0 c.requires.2 in
     let most = c.requires.3 in
-    let h : c.loop-i.i < length s.tiles.items = omega (arith, c.loop-i-test.true, c.len-i-end.ensures, s.tiles.ok.0) in
-    let le = few c.self.inside.network.value c.self.inside.tiles.items c.args.self.now c.self.view_is c.self.invariant.tiles c.loop-i.i (λ lane. length lane.queue) c.loop-i.all.buffers c.loop-i.invariant.buffers c.index.result.now h c.index.ensures c.totals-own.result.buffers c.totals-own.ensures.buffers m c.requires.1 (omega arith) in
+    let h : c.loop-i.i < length c.self.inside.tiles.items = omega (arith, c.loop-i-test.true, c.len-i-end.ensures, c.self.inside.tiles.ok.0) in
+    let le = few c.self.inside.network.value c.self.inside.tiles.items c.args.self.now c.self.view_is c.self.invariant.tiles c.loop-i.i (λ lane. length lane.queue) c.loop-i.all.buffers c.loop-i.invariant.buffers c.index.result.now h c.index.ensures c.totals-own.result.buffers c.totals-own.ensures.buffers c.requires.0 c.requires.1 (omega arith) in
     omega arith
 
 pub overflow_add-all-in-loop-i-2 : goal.overflow_add-all-in-loop-i-2
 overflow_add-all-in-loop-i-2 c =
-    let m = c.requires.0 in
-    let s = c.self.inside in
-    let sum = adds-up m c.requires.2 in
+    let sum = adds-up c.requires.0 c.requires.2 in
     let most = c.requires.3 in
-    let h : c.loop-i.i < length s.tiles.items = omega (arith, c.loop-i-test.true, c.len-i-end.ensures, s.tiles.ok.0) in
-    let le = few c.self.inside.network.value c.self.inside.tiles.items c.args.self.now c.self.view_is c.self.invariant.tiles c.loop-i.i (λ lane. length lane.waiting) c.loop-i.all.waiting c.loop-i.invariant.waiting c.index.result.now h c.index.ensures c.totals-own.result.waiting c.totals-own.ensures.waiting m c.requires.1 (omega arith) in
+    let h : c.loop-i.i < length c.self.inside.tiles.items = omega (arith, c.loop-i-test.true, c.len-i-end.ensures, c.self.inside.tiles.ok.0) in
+    let le = few c.self.inside.network.value c.self.inside.tiles.items c.args.self.now c.self.view_is c.self.invariant.tiles c.loop-i.i (λ lane. length lane.waiting) c.loop-i.all.waiting c.loop-i.invariant.waiting c.index.result.now h c.index.ensures c.totals-own.result.waiting c.totals-own.ensures.waiting c.requires.0 c.requires.1 (omega arith) in
     omega arith
 
 pub loop-i-preserved : goal.loop-i-preserved

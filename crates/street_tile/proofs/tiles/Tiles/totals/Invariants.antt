@@ -1,10 +1,6 @@
-use Rattle.std.proofs.Common.{◌≡◌, take, length}
-use Rattle.std.specs.Prelude.{is_some}
-use Rattle.std.specs.List.{count_by}
-use Rattle.street_base.specs.State.{Traffic}
-use Rattle.street_tile.specs.Together.{TilesStandFor}
-use Rattle.street_tile.specs.Commands.{over}
-use Rattle.street_tile.specs.HandOvers.{all_places}
+use Rattle.std.proofs.Common.{◌≡◌, take, length, is_some, count_by}
+use Rattle.street_base.specs.Prelude.{Traffic}
+use Rattle.street_tile.specs.Prelude.{TilesStandFor, over, all_places}
 use Rattle.street_tile.proofs.tiles.Tiles.totals.Given as goal
 
 abbrev pub invariant-loop-i : goal.invariant-loop-i

@@ -1,9 +1,8 @@
-use Rattle.std.proofs.Common.{◌≡◌, ◌≢◌, ℕ, ◌+◌, ◌<◌, ◌≤◌, ◌∷◌, ◌++◌, [], length, Some, refl, sym, ap, ◌∙◌, arith}
-use Rattle.std.specs.Prelude.{vec_capacity}
+use Rattle.std.proofs.Common.{◌≡◌, ◌≢◌, ℕ, ◌+◌, ◌<◌, ◌≤◌, ◌∷◌, ◌++◌, [], length, Some, refl, sym, ap, ◌∙◌, arith, vec_capacity}
 use Rattle.std.proofs.lemmas.List.{length_push}
 use Rattle.slab.specs.Slab.{Slab}
 use Rattle.street_yard.specs.declared.yard.Slot.{Slot}
-use Rattle.street_yard.specs.Yard.{Yard}
+use Rattle.street_yard.specs.Prelude.{Yard}
 use Rattle.street_yard.specs.Inside.{slot_in, vacant}
 use Rattle.street_yard.proofs.SlotLemmas.{spare-few, roomier-sound, roomier-seen, room_stays, grown-sound, grown-seen}
 use Rattle.street_yard.proofs.yard.Yard.add_slot.Goals as goal

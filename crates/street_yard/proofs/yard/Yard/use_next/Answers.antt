@@ -1,5 +1,4 @@
-use Rattle.std.proofs.Common.{◌-◌, arith}
-use Rattle.std.specs.Prelude.{vec_capacity}
+use Rattle.std.proofs.Common.{◌-◌, arith, vec_capacity}
 use Rattle.std.proofs.lemmas.List.Sorted.{IsPermutation-swap}
 use Rattle.std.specs.List.Sorted.{IsPermutation}
 use Rattle.street_yard.proofs.Spare.{reordered-sound}

@@ -1,7 +1,0 @@
-use Rattle.std.proofs.Common.{true, refl}
-use Rattle.std.specs.Prelude.{Some}
-use Rattle.street_tile.proofs.Slots.{marked-set}
-use Rattle.street_tile.proofs.comers.Comers.put.Goals as goal
-
-pub invariant_of-self : goal.invariant_of-self
-invariant_of-self c = marked-set c.self.inside.slots.items c.self.inside.full.items c.self.invariant c.args.n (Some c.args.hand_over) true refl

@@ -1,0 +1,5 @@
+use Rattle.street_tile.proofs.PublishedView.{IsPublished}
+use Rattle.street_tile.proofs.mouths.publish.Given as goal
+
+abbrev pub invariant-loop-i : goal.invariant-loop-i
+invariant-loop-i l = IsPublished l.net l.tiles l.i l.view

@@ -1,5 +1,0 @@
-use Rattle.street_tile.proofs.PublishedView.{IsPublished}
-use Rattle.street_tile.proofs.step.publish.Given as goal
-
-abbrev pub invariant-loop-i : goal.invariant-loop-i
-invariant-loop-i l = IsPublished l.net l.tiles l.i l.view

@@ -1,0 +1,18 @@
+-- The names that contracts and proofs cite most, passed on from one place. Declares nothing.
+pub use Rattle.street_tile.specs.Commands.{Does, DoesIf, Finds, FindsAt, Have, HaveAtMostOne, HaveNot, Hold, KeepsAll, WhereOnce, over}
+unfoldable pub use Rattle.street_tile.specs.Commands.{at_place, planned, without}
+pub use Rattle.street_tile.specs.Entries.{EnterAll, EntersAt}
+pub use Rattle.street_tile.specs.Halves.{Transfer, crossing, entries_to, entry_in, entry_on, let_go_lane, placed_lane, vehicle_in}
+unfoldable pub use Rattle.street_tile.specs.Halves.{let_go, placed}
+pub use Rattle.street_tile.specs.HandOvers.{Awaits, IsMoved, MovesLast, all_handed, all_places, moved_at, received}
+pub use Rattle.street_tile.specs.Hinted.{Hinted, KeepsHints}
+pub use Rattle.street_tile.specs.Motion.{DrivesLane, DrivesLanes, HasPlanFor, IsOfStep, MayDrive, ShowLanes, WatchLanes, WatchesLane}
+pub use Rattle.street_tile.specs.Parts.{DoesWork, MayWork}
+pub use Rattle.street_tile.specs.Phases.{ChangeLanes, EnterPhase, GoesBy, LanePhase, MeterPhase, MotionPhase, ReleasePhase, Then}
+unfoldable pub use Rattle.street_tile.specs.Phases.{ticked}
+pub use Rattle.street_tile.specs.Steps.{MayStep, Steps}
+pub use Rattle.street_tile.specs.TileDetectors.{AllMetersStand, HaveNoted, HaveWatched, KeepMeters, MetersStand, PlacesMeter, bare, detectors_at, detectors_on, no_detectors}
+unfoldable pub use Rattle.street_tile.specs.TileDetectors.{noted_by}
+pub use Rattle.street_tile.specs.Tiles.{AllStand, AreBare, AreDue, AreNumbers, ArePairs, AreTiles, Each, IsBare, IsIdle, IsPrepared, IsRoads, IsShare, IsStill, IsTileOf, Part, SameTile, ShowSignals, Shows, ShowsOwn, StandsFor, beside, is_own, lanes_beside, nobody, nth, own_places, sizes_of}
+pub use Rattle.street_tile.specs.Together.{AreKept, NobodyArrived, OwnsLink, PreparesOne, SameButArrived, TakesArrival, TakesArrivalOf, TileHasNot, TilesGo, TilesKeep, TilesStandFor, TilesView, all_arrived, tiles_of}
+pub use Rattle.street_tile.specs.Walks.{HandsOver, HasFront, IsReleasing, ReleasesFront, Targets}

@@ -1,5 +1,0 @@
-use Rattle.street_yard.proofs.Totals.{totals-are}
-use Rattle.street_yard.proofs.sides.Listed.totals.Goals as goal
-
-pub returns : goal.returns
-returns c = totals-are c.self.inside.fronts.items c.self.inside.rests.items c.self.inside.totals c.args.self.now c.self.invariant c.self.view_is

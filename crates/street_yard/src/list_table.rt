@@ -1,0 +1,132 @@
+//! The fronts and the backs of lists.
+ghost use Rattle.std.specs.Prelude.{◌≡◌, ◌^◌, ◌<◌, length, map, replicate, IfOk, slice_index_or, slice_set};
+
+use crate::hot::Neighbour;
+use std::alloc::{AllocError, Global};
+use std::marker::Model;
+
+/// The first and the last key of a list, and how many it has.
+#[derive(Clone, Copy)]
+pub(crate) struct ListRow {
+    pub(crate) front: Neighbour,
+    pub(crate) back: Neighbour,
+    pub(crate) count: u32,
+}
+
+/// What is kept of a list beside its first key.
+#[derive(Clone, Copy)]
+struct BackAndCount {
+    back: Neighbour,
+    count: u32,
+}
+
+/// The fronts and the backs of all lists by number, in two tables: the first keys, for which a step asks each list, lie close together.
+#[derive(Drop)]
+pub(crate) struct ListTable {
+    fronts: Vec<Neighbour>,
+    rests: Vec<BackAndCount>,
+    // How many keys are on the lists whose number leaves this remainder by 3.
+    totals: [u64; 3],
+}
+
+impl Model for ListTable {
+    ghost use Rattle.std.specs.Prelude.{List};
+    ghost use Rattle.street_yard.specs.declared.list_table.ListRow.{ListRow as Row};
+
+    ghost Value = { List Row };
+
+    ghost use Rattle.street_yard.specs.Prelude.{joined, AreListed};
+
+    ghost view = { λ l. joined l.fronts.items l.rests.items };
+
+    ghost invariant = { λ l. AreListed l.fronts.items l.rests.items l.totals };
+}
+
+impl ListTable {
+    ghost use Rattle.street_yard.specs.Prelude.{no_row, thirds};
+
+    /// So many lists without keys.
+    ///
+    /// # Errors
+    /// Memory was refused.
+    pub(crate) fn new(alloc: Global, lists: usize) -> Result<Self, AllocError>
+        requires { lists < 2 ^ 32 }
+        ensures { IfOk result (λ l. l ≡ replicate lists no_row) }
+    {
+        let nobody = BackAndCount {
+            back: Neighbour::nobody(),
+            count: 0,
+        };
+        let fronts = vec![in alloc; Neighbour::nobody(); lists]?;
+        let rests = vec![in alloc; nobody; lists]?;
+        Ok(ListTable {
+            fronts,
+            rests,
+            totals: [0; 3],
+        })
+    }
+
+    /// The first key of a list.
+    #[inline]
+    pub(crate) fn front(&self, list: usize) -> Neighbour
+        requires { list < length self.now }
+        ensures { result ≡ (slice_index_or self.now list no_row).front }
+    {
+        self.fronts[list]
+    }
+
+    /// The last key of a list.
+    #[inline]
+    pub(crate) fn back(&self, list: usize) -> Neighbour
+        requires { list < length self.now }
+        ensures { result ≡ (slice_index_or self.now list no_row).back }
+    {
+        self.rests[list].back
+    }
+
+    /// How many keys a list has.
+    #[inline]
+    pub(crate) fn count(&self, list: usize) -> u32
+        requires { list < length self.now }
+        ensures { result ≡ (slice_index_or self.now list no_row).count }
+    {
+        self.rests[list].count
+    }
+
+    /// How many keys are on lists 0, 3, 6 and so on, on lists 1, 4, 7 .., and on lists 2, 5, 8 ..
+    pub(crate) fn totals(&self) -> [u64; 3]
+        ensures { result ≡ thirds (map (λ e. e.count) self.now) }
+    {
+        self.totals
+    }
+
+    /// The front, the back and the count of a list.
+    #[inline]
+    pub(crate) fn get(&self, list: usize) -> ListRow
+        requires { list < length self.now }
+        ensures { result ≡ slice_index_or self.now list result }
+    {
+        let rest = self.rests[list];
+        ListRow {
+            front: self.fronts[list],
+            back: rest.back,
+            count: rest.count,
+        }
+    }
+
+    /// Writes the front, the back and the count of a list; the totals follow.
+    #[inline]
+    pub(crate) fn set(&mut self, list: usize, row: ListRow)
+        requires { list < length self.old }
+        ensures { self.new ≡ slice_set self.old list row }
+    {
+        let class = list % 3;
+        let others = self.totals[class] - u64::from(self.rests[list].count);
+        self.totals[class] = others + u64::from(row.count);
+        self.fronts[list] = row.front;
+        self.rests[list] = BackAndCount {
+            back: row.back,
+            count: row.count,
+        };
+    }
+}
