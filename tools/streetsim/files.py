@@ -256,10 +256,11 @@ def whole_file(path: FilePath) -> Iterator[TextFile]:
 
 
 @contextlib.contextmanager
-def whole_folder(path: FilePath, last: str) -> Iterator[str]:
+def whole_folder(path: FilePath, last: str, at_wish: Iterable[str] = ()) -> Iterator[str]:
     """A folder to write to, whose files come to an output folder together; after a fault that folder is as it was.
 
     A file of the name `last` is away while the others take their places, so that a folder without it is not whole.
+    Beside it files that are only written at wish, and are not now, go too: they are of what stood there before.
     """
     made = not os.path.isdir(path)
     try:
@@ -267,7 +268,7 @@ def whole_folder(path: FilePath, last: str) -> Iterator[str]:
         with half_folder(path) as half:
             yield half
             with uninterrupted():
-                move_files(half, path, last)
+                move_files(half, path, last, at_wish)
         made = False
     except OSError as fault:
         named = fault.filename if fault.filename and not is_half(fault.filename) else path
@@ -278,8 +279,9 @@ def whole_folder(path: FilePath, last: str) -> Iterator[str]:
                 os.rmdir(path)
 
 
-def move_files(source: str, target: FilePath, last: str) -> None:
-    """Moves all files below a folder to their places below another; those of the name `last` at the end."""
+def move_files(source: str, target: FilePath, last: str, at_wish: Iterable[str] = ()) -> None:
+    """Moves all files below a folder to their places below another; those of the name `last` at the end.
+    Where one of these is, older files of the names `at_wish` are removed."""
     names = [
         os.path.relpath(os.path.join(folder, name), source) for folder, _, files in os.walk(source) for name in files
     ]
@@ -288,8 +290,9 @@ def move_files(source: str, target: FilePath, last: str) -> None:
         place_of(os.path.join(target, name))
     for name in names:
         if os.path.basename(name) == last:
-            with contextlib.suppress(FileNotFoundError):
-                os.remove(os.path.join(target, name))
+            for old in (last, *at_wish):
+                with contextlib.suppress(FileNotFoundError, NotADirectoryError):
+                    os.remove(os.path.join(target, os.path.dirname(name), old))
     for name in sorted(names, key=lambda name: os.path.basename(name) == last):
         os.replace(os.path.join(source, name), os.path.join(target, name))
 

@@ -85,6 +85,26 @@ class Folders(Case):
         self.fill(folder, "new")
         self.assertEqual(self.content(folder), {"one": "new", "last": "new", "mine": "kept"})
 
+    def test_what_an_earlier_one_had_at_wish(self):
+        """It goes where a new whole folder comes, also in folders of it, and nowhere else."""
+
+        def fill(*names):
+            with whole_folder(self.folder / "out", "last", ("wished", "sub/wished")) as half:
+                for name in names:
+                    path = Path(half, name)
+                    path.parent.mkdir(parents=True, exist_ok=True)
+                    path.write_text("x")
+
+        fill("a.b", "last")
+        for name in ("wished", "sub/wished", "seed-1/wished", "seed-2/wished", "sub/mine.x"):
+            fill(name)
+        fill("seed-1/last", "last", "wished")
+        found = sorted(str(path.relative_to(self.folder / "out")) for path in (self.folder / "out").rglob("*"))
+        kept = ["a.b", "last", "seed-1", "seed-1/last", "seed-2", "seed-2/wished", "sub", "sub/mine.x", "wished"]
+        self.assertEqual(found, kept)
+        fill("last")
+        self.assertFalse((self.folder / "out/wished").exists())
+
     def test_a_place_that_is_taken(self):
         folder = self.folder / "out"
         (folder / "one").mkdir(parents=True)
@@ -167,6 +187,17 @@ class Kept(Case):
         bad = self.write("bad.jsonl", "".join(json.dumps(line) + "\n" for line in (load, enter, late)))
         self.assertIn("line 3 (close) was refused: 7 BadRange", self.tool("run", bad, *words, status=2)[1])
         self.assertEqual({path.name: path.read_bytes() for path in (self.folder / "out").iterdir()}, before)
+
+    def test_no_table_of_an_earlier_run_stays(self):
+        load, enter = {"cmd": "load", **NUMBERED}, {"cmd": "enter", "plan": [0], "lane": 0, "depart": 0}
+        run = self.write("run.jsonl", "".join(json.dumps(line) + "\n" for line in (load, enter)))
+        mapped = self.write("map.json", json.dumps({**MAP, "cars": ["v"]}))
+        words = [run, "--map", mapped, "--until", 300, "--program", PROGRAM, "--out", self.folder / "out"]
+        at_wish = [self.folder / "out" / name for name in ("junctions.csv", "movements.csv", "sumo/tripinfo.xml")]
+        self.tool("run", *words, "--junctions", "--sumo-output", "tripinfo")
+        self.assertTrue(all(path.exists() for path in at_wish))
+        self.tool("run", *words)
+        self.assertFalse(any(path.exists() for path in at_wish))
 
 
 class Words(Case):

@@ -30,6 +30,11 @@ from .trips import Trips, connected, read_trips, write_routes
 from .watching import Ground
 
 AFTER = 7200  # seconds that a run may last after the last departure
+# What a folder has only for works, for one share alone, or where matplotlib is installed.
+AT_WISH = (
+    *("before.rou.xml", "knowing.csv", "flows.csv", "flows.png", "gap.png"),
+    *("iterations.csv", "check.csv", "movements.csv", "trips.csv"),
+)
 
 
 def parser() -> argparse.ArgumentParser:
@@ -257,7 +262,7 @@ def write(job: Job, all_: Sequence[Diverted]) -> None:
         write_routes(placed(words.output, one.share, many), Trips(list(one.trips), job.trips.types), job.town.graph)
         if words.run:
             write_run_of(job, one, placed(words.run, one.share, many), placed(words.map, one.share, many))
-    with whole_folder(words.out, NAME) as folder:
+    with whole_folder(words.out, NAME, AT_WISH) as folder:
         for one in all_[len(all_) > 1 :]:
             place = f"{folder}/{one.label.replace(' ', '-')}" if many else folder
             os.makedirs(place, exist_ok=True)

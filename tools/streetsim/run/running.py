@@ -36,6 +36,8 @@ from .serving import serving as serve
 from .works import all_works, with_works
 
 DETECTORS = {"e1": "inductionLoop", "e2": "laneAreaDetector"}  # SUMO's names, by the kind of output
+# What a run writes where a word asks for it.
+AT_WISH = ("movements.csv", "approaches.csv", "junctions.csv", *(f"sumo/{kind}.xml" for kind in KINDS))
 
 
 def parser() -> argparse.ArgumentParser:
@@ -173,7 +175,7 @@ def main(arguments: list[str]) -> int:
     if words.seeds:
         return run_seeds(words, run, mapping, settings)
     shown = UnderWay(words.until)
-    with whole_folder(words.out, NAME) as folder:
+    with whole_folder(words.out, NAME, AT_WISH) as folder:
         figures = one_run(words, run, mapping, settings, folder, shown.show, words.jobs)
     report(figures, "")
     return 0
@@ -305,7 +307,7 @@ def run_seeds(words: argparse.Namespace, run: Run, mapping: Map, settings: Setti
     """A run for each seed, side by side; prints and writes each mean trip, their mean and its 95 % interval."""
     seeds = seeds_of(words.seeds, "--seeds")
     shown = UnderWay(words.until, len(seeds))
-    with whole_folder(words.out, NAME) as folder:
+    with whole_folder(words.out, NAME, AT_WISH) as folder:
 
         def run_seed(seed: int, tell: Callable[[Any], object]) -> dict[str, Any]:
             place = f"{folder}/seed-{seed}"

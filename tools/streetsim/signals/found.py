@@ -70,7 +70,7 @@ def write_found(
 ) -> None:
     """Writes the plan, the tables and the pictures, all or none."""
     plan = search.best[1]
-    with whole_folder(words.out, LAST) as folder:
+    with whole_folder(words.out, LAST, ("before.png", "after.png")) as folder:
         told = [(name, *(f"{value:.3f}" for value in values), runs) for name, *values, runs in rows]
         write_table(f"{folder}/{LAST}", BEFORE_AFTER, told)
         write_table(f"{folder}/lights.csv", LIGHTS, light_rows(town, plan))
