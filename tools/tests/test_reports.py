@@ -13,7 +13,7 @@ from streetsim.reports.comparing import paired, total_delay
 from streetsim.reports.drawing import COLOURS, LIGHT, anchor, queue_picture
 from streetsim.reports.reading import read_runs
 from streetsim.reports.reporting import leads_back
-from streetsim.run.tables import TRIPS, write_table
+from streetsim.run.tables import SEEDS, TRIPS, write_table
 
 CHROMIUM = shutil.which("chromium") or shutil.which("chromium-browser")
 CORRIDOR = TOOLS / "examples/corridor"
@@ -159,6 +159,19 @@ class Pages(Given):
     def test_a_corridor_of_one_way_streets(self):
         """The street of two links has no edge back."""
         self.assertFalse(leads_back(read_runs(str(self.folder / "before")).first, "a b"))
+
+    def test_seeds_of_two_runs(self):
+        """What an earlier run left in a folder is in no mean: it is named."""
+        plan = self.folder / "before"
+        write_table(f"{plan}/seeds.csv", SEEDS, [(1, 2, 2, 101, 0), (2, 2, 2, 102, 0)])
+        self.page(plan)
+        self.write_folder("before/seed-3", 3, 20.0)
+        told = self.tool("report", plan, "-o", self.folder / "x.html", status=2)[1]
+        self.assertIn("before: seed-3: not of the run that wrote seeds.csv: remove what is old", told)
+        shutil.rmtree(plan / "seed-3")
+        shutil.copy(plan / "seed-1/setting.json", plan)
+        told = self.tool("report", plan, "-o", self.folder / "x.html", status=2)[1]
+        self.assertIn("before: a run without --seeds is there beside seeds of another one: remove what is old", told)
 
     def test_faults(self):
         plans = self.plans()

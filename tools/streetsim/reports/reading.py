@@ -4,7 +4,7 @@ from __future__ import annotations
 import os
 import re
 from collections import defaultdict
-from collections.abc import Mapping
+from collections.abc import Collection, Mapping
 from dataclasses import dataclass, field
 from statistics import fmean
 from typing import Any
@@ -13,7 +13,8 @@ from ..files import Fault
 from ..junctions.rows import APPROACHES, JUNCTIONS, MOVEMENTS
 from ..junctions.service import level
 from ..run.folder import NAME, Folder, read_folder
-from ..run.tables import read_table
+from ..run.tables import SEEDS, read_table
+from ..sumo.report import some
 
 TABLES = {"movements": MOVEMENTS, "approaches": APPROACHES, "junctions": JUNCTIONS}
 KEYS = {"movements": ("junction", "approach", "to"), "approaches": ("junction", "approach"), "junctions": ("junction",)}
@@ -86,8 +87,20 @@ def read_folders(path: str) -> Runs:
         folder = read_folder(path)
         folders = {folder.made.get("seed", 1): folder}
     else:
+        refuse_old(path, places)
         folders = {seed: read_folder(place) for seed, place in sorted(places.items())}
     return Runs(os.path.basename(os.path.normpath(path)), folders)
+
+
+def refuse_old(path: str, seeds: Collection[int]) -> None:
+    """Refuses a folder with what another run left there: it would be in the means."""
+    advice = "remove what is old, or give each run a folder of its own"
+    if os.path.exists(f"{path}/{NAME}"):
+        raise Fault(f"{path}: a run without --seeds is there beside seeds of another one: {advice}")
+    if os.path.exists(table := f"{path}/seeds.csv"):
+        known = {int(row["seed"]) for row in read_table(table, SEEDS)}
+        if old := [f"seed-{seed}" for seed in sorted(seeds) if seed not in known]:
+            raise Fault(f"{path}: {some(old)}: not of the run that wrote seeds.csv: {advice}")
 
 
 def read_runs(path: str) -> Runs:

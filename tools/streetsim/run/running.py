@@ -317,9 +317,8 @@ def run_seeds(words: argparse.Namespace, run: Run, mapping: Map, settings: Setti
         figures = side_by_side(
             run_seed, seeds, words.jobs, lambda place, values: shown.show(values[0], values[1], place)
         )
-        names = ("vehicles", "arrived", "mean_trip_s", "rescues")
-        rows = [(seed, *(one[name] for name in names)) for seed, one in zip(seeds, figures, strict=True)]
-        tables.write_table(f"{folder}/seeds.csv", ("seed", *names), rows)
+        rows = [(seed, *(one[name] for name in tables.SEEDS[1:])) for seed, one in zip(seeds, figures, strict=True)]
+        tables.write_table(f"{folder}/seeds.csv", tables.SEEDS, rows)
     for seed, one in zip(seeds, figures, strict=True):
         report(one, f"seed {seed}: ")
     means = [one["mean_trip_s"] for one in figures if one["arrived"]]

@@ -72,6 +72,7 @@ AREAS = (
 )
 QUEUES = ("time", "edge", "lane", "vehicles", "metres")
 SUMMARY = ("time", "entered", "waiting", "on_cells", "in_buffers", "arrived", "taken_out")
+SEEDS = ("seed", "vehicles", "arrived", "mean_trip_s", "rescues")
 
 
 def counts(records: Records, mapping: Map) -> Iterator[Entry]:
