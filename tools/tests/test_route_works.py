@@ -279,6 +279,11 @@ knowing = 0.5
             with self.subTest(told):
                 self.check_refused(told, *words)
 
+    def test_over_at_the_start(self):
+        self.given(two_ways(), flow(10, 100))
+        _, said = self.route("--close", "short_0:100-200:0-9", "--begin", 9, status=2)
+        self.assertIn("--close 'short_0:100-200:0-9': ends at the start, 9 s, or earlier", said)
+
     def test_who_ends_on_a_closed_edge(self):
         self.given(two_ways(), flow(10, 100))
         _, said = self.route("--close", "out_0:100-200:0-900", "--iterations", 0, status=2)

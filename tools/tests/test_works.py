@@ -142,6 +142,26 @@ class Works(Case):
             self.run_with(run, mapped, "a_0:0-9:1200-1300", status=2),
         )
 
+    def test_over_at_the_start(self):
+        run, mapped = self.imported()
+        words = ["--routes", self.folder / "x.rou.xml", "--begin", 300, "-o", run, "--map", mapped]
+        self.tool("import", self.folder / "x.net.xml", *words)
+        told = self.run_with(run, mapped, "a_0:100-200:60-300", status=2)
+        self.assertIn("--close 'a_0:100-200:60-300': ends at the start, 300 s, or earlier", told)
+
+    def test_never_begun(self):
+        """All have arrived before 900 s, when the works would begin; a run with a last second is refused them."""
+        run, mapped = self.imported()
+        works, words = "a_0:100-200:900-1800", ["--out", self.folder / "out", "--program", PROGRAM]
+        told = self.tool("run", run, "--map", mapped, "--close", works, *words)[0].splitlines()
+        doubt = "works on a_0 begin at 900 s, and the run had ended by then"
+        self.assertEqual(told[1:], [f"not to be trusted: {doubt}"])
+        text = 'run = "run.jsonl"\nmap = "map.json"\nseeds = "1-2"\n[variant.given]\n[variant.late]\n'
+        text += f'close = ["{works}"]'
+        told = self.tool("study", self.write("study.toml", text), *words)[0].splitlines()
+        doubt = "late: works on a_0 begin at 900 s, and 2 of 2 runs had ended by then"
+        self.assertEqual(told[-1], f"not to be trusted: {doubt}")
+
     def test_joint_from_the_start(self):
         run, mapped = self.imported(more=("--joint", "a"))
         told, _, arrived = self.run_with(run, mapped, "a_0:100-200:60-1200")

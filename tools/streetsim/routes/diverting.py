@@ -95,6 +95,8 @@ def check_works(texts: Sequence[str], signs: Sequence[str], trips: Sequence[Trip
     the runs without works."""
     mapping = town.mapped()
     works = [works_of(text, mapping) for text in texts]
+    if over := [one.text for one in works if one.last <= town.options.begin]:
+        raise Fault(f"--close {over[0]!r}: ends at the start, {town.options.begin:,} s, or earlier")
     if late := [one.text for one in works if one.first >= until]:
         raise Fault(f"--close {late[0]!r}: begins after the end of the runs, {until:,} s")
     if unknown := [name for name in signs if name not in town.graph.number]:

@@ -166,7 +166,7 @@ def main(arguments: list[str]) -> int:
         if not any(one.kind == kind for one in mapping.detectors):
             missing = f"the map has no {DETECTORS[kind]}: import an additional file that has one"
             raise Fault(f"--sumo-output {kind}: {missing}")
-    works = all_works(words.close, mapping, None if open_end else words.until)
+    works = all_works(words.close, mapping, run.start(), None if open_end else words.until)
     run, mapping, told = with_works(run, mapping, words.map, works, listed(words.joint))
     print(*told, sep="\n", end="\n" if told else "", file=sys.stderr)
     if words.until <= run.start():

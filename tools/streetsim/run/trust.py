@@ -7,7 +7,7 @@ from __future__ import annotations
 import json
 from bisect import bisect_right
 from collections import Counter
-from collections.abc import Iterator, Mapping, Sequence
+from collections.abc import Iterable, Iterator, Mapping, Sequence
 from dataclasses import dataclass
 from itertools import compress, pairwise
 from statistics import fmean
@@ -93,6 +93,7 @@ def of_missing(arrived: Mapping[str, float], due: float) -> list[str]:
 def doubts(trips: Trips, rescues: int, censuses: Sequence, run: Run, mapping: Map) -> list[str]:
     """What speaks against a run, each in some words; nothing where it is to be trusted."""
     found = [*of_rescues(trips, rescues), *of_arrivals(trips), *of_entries(trips, censuses)]
+    found += of_works(works_in(run, mapping), [trips.clock])
     return [*found, *of_lengths(trips.clock, run, mapping), *of_actuated(trips.clock, run, mapping, mapping.actuated)]
 
 
@@ -125,6 +126,21 @@ def of_waiting(waiting: Mapping[str, Sequence[tuple[int, int]]], vehicles: int) 
         if count > MOST_WAITING * vehicles:
             told = f"vehicles waited to enter at some {clock:,.0f} s, and are in no queue or count"
             yield f"{name} {count:,.0f} of {vehicles:,} {told}".strip()
+
+
+def works_in(run: Run, mapping: Map) -> Iterator[tuple[str, int]]:
+    """The lanes of the works that a run was asked for, and when each begins."""
+    for clock, line in run.timed:
+        if line.number == 0 and line.command["cmd"] == "close":
+            yield mapping.lane_name(line.command["link"], line.command["lane"]), clock
+
+
+def of_works(works: Iterable[tuple[str, int]], ends: Sequence[int]) -> Iterator[str]:
+    """Where works, each a lane and its first second, had not begun when runs without a last second ended."""
+    for lane, first in works:
+        if early := sum(end <= first for end in ends):
+            ended = "the run" if len(ends) == 1 else f"{early:,} of {len(ends):,} runs"
+            yield f"works on {lane} begin at {first:,} s, and {ended} had ended by then"
 
 
 def plans_before(clock: int, run: Run) -> list[list[int]]:

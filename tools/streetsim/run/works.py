@@ -52,9 +52,12 @@ class Site:
     cells: tuple  # the first and the last
 
 
-def all_works(texts: Iterable[str], mapping: Map, until: int | None) -> list[Works]:
-    """The works of texts that may each name several, with commas between; none may begin at the end or after it."""
+def all_works(texts: Iterable[str], mapping: Map, start: int, until: int | None) -> list[Works]:
+    """The works of texts that may each name several, with commas between; none may be over at the start, or begin at
+    the end or after it."""
     works = [works_of(one, mapping) for text in texts for one in listed(text)]
+    if over := [one.text for one in works if one.last <= start]:
+        raise Fault(f"--close {over[0]!r}: ends at the start, {start} s, or earlier")
     if late := [one.text for one in works if until is not None and one.first >= until]:
         raise Fault(f"--close {late[0]!r}: begins at the end, {until} s, or later")
     return works

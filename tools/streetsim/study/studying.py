@@ -58,6 +58,7 @@ class Variant:
     signals: bytes  # lines
     due: list[float]  # when vehicles would arrive, were nobody in their way, rising
     doubts: list[str]  # what speaks against its runs before any is made
+    works: list[tuple[str, int]]  # lanes, and when works on them begin
 
 
 @dataclass(slots=True)
@@ -190,7 +191,7 @@ def joint_lanes(path: str, study: dict[str, Any]) -> dict[tuple[str, str], dict[
             lanes = found.setdefault(pair_of(study, variant), {})
             if closed := variant.get("close"):
                 mapping = read_map(os.path.join(os.path.dirname(os.path.abspath(path)), pair_of(study, variant)[1]))
-                lanes.update(dict.fromkeys(lanes_to_join(all_works(closed, mapping, study["until"]), mapping)))
+                lanes.update(dict.fromkeys(lanes_to_join(all_works(closed, mapping, 0, study["until"]), mapping)))
     return found
 
 
@@ -212,7 +213,7 @@ def read_variant(
     beside = partial(os.path.join, os.path.dirname(os.path.abspath(path)))
     run_path, map_path = map(beside, pair_of(study, variant))
     run, mapping = read_pair(run_path, map_path, study["until"])
-    works = all_works(variant.get("close", ()), mapping, study["until"])
+    works = all_works(variant.get("close", ()), mapping, run.start(), study["until"])
     until = study["until"] or first_guess(run)
     told: list[str] = []
     found: list[str] = []
@@ -232,7 +233,8 @@ def read_variant(
         nodes = frozenset(node for _, node in mapping.signals)
     session = giving_session(simulator, run, mapping, until, study["rounds"], nodes, study["until"] is None, **load)
     doubts = [*found, *trust.of_lengths(until, run, mapping), *trust.of_actuated(until, run, mapping, sensing)]
-    return Variant(session, signals, trust.free_arrivals(run, mapping), doubts)
+    begins = [(one.lane, one.first) for one in works]
+    return Variant(session, signals, trust.free_arrivals(run, mapping), doubts, begins)
 
 
 def check_types(where: str, value: dict[str, Any]) -> None:
