@@ -163,7 +163,7 @@ class Pictures(Given):
         for words, told in (
             (("queues", self.folder, "-o", self.folder / "x.bmp"), "a picture's name ends with .png, .svg or .pdf"),
             (("corridor", self.folder, "--edges", "b a"), "no turn leads from 'b' to 'a'"),
-            (("corridor", self.folder, "--edges", " "), "no edge is named"),
+            (("corridor", self.folder, "--edges", " "), "--edges: ' ' names nothing"),
             (("corridor", self.folder, "--edges", "a b", "--first", 50), "nothing was polled from 50 to 600 s"),
             (
                 ("corridor", self.folder, "--edges", "a b", "--first", 5, "--last", 5),

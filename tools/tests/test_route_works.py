@@ -261,7 +261,7 @@ knowing = 0.5
         }
         for words, told in (
             (("--knowing", 0.5), "--knowing is of road works: give --close too"),
-            ((*self.WORKS, "--knowing", ","), "--knowing: ',' names no share"),
+            ((*self.WORKS, "--knowing", ","), "--knowing: ',' names nothing"),
             (("--close", "none_0:1-2:3-4"), "the map has no lane 'none_0'"),
             (("--close", "short_0:100-400:3-4"), "the lane ends at 300 m"),
             (

@@ -29,6 +29,25 @@ class Words(Case):
                 self.assertEqual((told, said.count("\n"), said.split(": ")[0]), ("", 1, f"streetsim-{tool}"))
                 self.assertTrue(said.endswith(f"(what may be given: streetsim-{tool} --help)\n"), said)
 
+    def test_words_without_a_name(self):
+        """As a variable of the shell leaves one that is not set."""
+        run = ["x.jsonl", "--map", "m", "--out", "o"]
+        for tool, words, told in (
+            ("run", [*run, "--close", ""], "--close: '' names nothing"),
+            ("run", [*run, "--edges= ,"], "--edges: ' ,' names nothing"),
+            ("run", [*run, "--seeds", ""], "--seeds: '' names nothing"),
+            ("import", ["x.net.xml", "--routes", "", "-o", "x", "--map", "m"], "--routes: '' names nothing"),
+            ("import", ["x.net.xml", "", "-o", "x", "--map", "m"], "'' names nothing"),
+            ("compare", ["out", "--sumo", ","], "--sumo: ',' names nothing"),
+            ("plot", ["fundamental", "out", "--edges", "", "-o", "x.png"], "--edges: '' names nothing"),
+            ("signals", ["x", "--map", "m", "--until", 9, "--out", "o", "--plans", ""], "--plans: '' names nothing"),
+        ):
+            with self.subTest(tool=tool, words=words):
+                self.assertIn(f"streetsim-{tool}: {told} (what may be given: ", self.tool(tool, *words, status=2)[1])
+        made = Parser(prog="x")
+        made.add_argument("--title", default="a")
+        self.assertEqual(made.parse_args(["--title", ""]).title, "")
+
     def test_times(self):
         time = time_within(0, 100_000)
         told = [time(text) for text in ("90", "90.0", "01:00:00", "00:01:30", "1:00:00:01")]

@@ -2,7 +2,8 @@
 import argparse
 import os
 import re
-from collections.abc import Callable, Iterable
+import sys
+from collections.abc import Callable, Iterable, Sequence
 from typing import Any, NoReturn
 
 from ..files import Fault, seconds
@@ -10,6 +11,7 @@ from ..study.jobs import CORES
 
 ROUNDS, MOST_ROUNDS = 2, 10  # before a run that counts
 FALSE = ("false", "0", "no", "off", "f")  # as SUMO reads a word that is on or off
+FREE = ("--title",)  # words whose text may be empty
 
 
 class Parser(argparse.ArgumentParser):
@@ -20,8 +22,24 @@ class Parser(argparse.ArgumentParser):
         super().__init__(*args, **more)
         self._negative_number_matcher = re.compile("-[^-]")  # what argparse takes for a value all the same
 
+    def parse_known_args(self, args: Any = None, namespace: Any = None) -> Any:
+        if (told := naming_nothing(sys.argv[1:] if args is None else list(args))) is not None:
+            self.error(told)
+        return super().parse_known_args(args, namespace)
+
     def error(self, message: str) -> NoReturn:
         raise Fault(f"{message.removeprefix('argument ')} (what may be given: {self.prog} --help)")
+
+
+def naming_nothing(words: Sequence[str]) -> str | None:
+    """Tells of a word without a name in it, as a variable of the shell that is not set leaves one: a tool would go on
+    as if it were not there."""
+    for before, word in zip(("", *words), words):
+        name, sign, text = word.partition("=")
+        option, value = (name, text) if sign and word.startswith("--") else (before, word)
+        if option not in FREE and not listed(value):
+            return f"{option}: {value!r} names nothing" if option.startswith("-") else f"{value!r} names nothing"
+    return None
 
 
 def within(least: int, most: int) -> Callable[[str], int]:

@@ -163,8 +163,6 @@ def save(figure: Any, path: str) -> None:
 def path_of(folder: Folder, text: str) -> list[str]:
     """The edges of --edges, each of which must lead to the next."""
     edges = listed(text)
-    if not edges:
-        raise Fault("--edges: no edge is named")
     links = folder.links_along(edges)
     turns = {(turn.link, turn.next) for turn in folder.mapping.turns}
     for (edge, here), (following, there) in zip(zip(edges, links), list(zip(edges, links))[1:]):

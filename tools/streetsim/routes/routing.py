@@ -142,9 +142,7 @@ def add_works(made: argparse.ArgumentParser) -> None:
 
 
 def shares_of(text: str) -> list[float]:
-    if shares := list(dict.fromkeys(map(share_of, listed(text)))):
-        return shares
-    raise argparse.ArgumentTypeError(f"{text!r} names no share")
+    return list(dict.fromkeys(map(share_of, listed(text))))
 
 
 def share_of(text: str) -> float:
