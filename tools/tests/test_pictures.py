@@ -165,6 +165,8 @@ class Pictures(Given):
             (("corridor", self.folder, "--edges", "b a"), "no turn leads from 'b' to 'a'"),
             (("corridor", self.folder, "--edges", " "), "--edges: ' ' names nothing"),
             (("corridor", self.folder, "--edges", "a b", "--first", 50), "nothing was polled from 50 to 600 s"),
+            (("fundamental", self.folder, "--edges", "a z"), "the map has no edge 'z'"),
+            (("fundamental", self.folder, "--counts", "--edges", "z"), "the map has no edge 'z'"),
             (
                 ("corridor", self.folder, "--edges", "a b", "--first", 5, "--last", 5),
                 "--first 5 is not before --last 5",

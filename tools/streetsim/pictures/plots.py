@@ -234,8 +234,9 @@ def draw_fundamental(pyplot: Any, folder: Folder, words: argparse.Namespace) -> 
             )
         axes.legend(frameon=False)
     else:
-        found = series.flows if words.counts else series.middle_flows
-        counts = found(folder, listed(words.edges))
+        edges = listed(words.edges)
+        folder.links_along(edges)  # which names an edge that the map does not have
+        counts = (series.flows if words.counts else series.middle_flows)(folder, edges)
         axes.set(
             xlabel="density (vehicles/km and lane)",
             ylabel="flow (vehicles/h and lane)",
