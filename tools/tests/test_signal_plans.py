@@ -351,6 +351,8 @@ class Tool(Searching):
             (["--seeds", "1-4", "--check", "4-8"], "--seeds 1-4 and --check 4-8 overlap"),
             (["--check", "4"], "--check 4: an interval needs two seeds at least"),
             (["--change", "offset"], "--change: 'offset' is none of offsets, splits, cycle"),
+            (["--cycle", "60-90", "--change", "offsets"], "--change offsets leaves the cycles as they are"),
+            (["--last", 900], "--last is of the pictures: give --edges too"),
             (["--keep", "J1 J2 J3 J4 J5"], "no light whose plan may be changed"),
             (["--plans", other], "no program of light 'J1'"),
             (["--until", 0], "'0' is not 1 to"),

@@ -80,6 +80,8 @@ class Runs(Case):
         self.assertEqual(read_json(self.folder / "out/setting.json", ["every"])["every"], 10)
         _, said = self.tool("run", *self.words("--until", 60, "--edges", "a,z"), status=2)
         self.assertEqual(said, "streetsim-run: --edges: the map has no edge 'z'\n")
+        _, said = self.tool("run", *self.words("--until", 60, "--edges", "a", "--every", 0), status=2)
+        self.assertEqual(said, "streetsim-run: --edges are those whose lanes are polled, and --every 0 polls none\n")
 
     def test_stretches_with_commas(self):
         """Both lanes are closed in the last step; an edge is told its lanes."""

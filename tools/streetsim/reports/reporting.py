@@ -14,6 +14,8 @@ from . import writing
 from ..run.folder import Folder
 from .reading import Runs, read_runs
 
+PICTURE = {"first": 0, "last": 600}  # seconds of the corridor's picture
+
 
 def parser() -> Parser:
     made = Parser(
@@ -31,12 +33,13 @@ def parser() -> Parser:
         "--begin", type=time_within(0, limits.CLOCK), metavar="S", help="the interval shown (default: the busiest)"
     )
     made.add_argument("--corridor", default="", metavar="EDGES", help="a path to draw, of a run with --every 1 (to 5)")
-    made.add_argument(
-        "--first", type=time_within(0, limits.CLOCK), default=0, metavar="S", help="of the corridor's picture"
-    )
-    made.add_argument(
-        "--last", type=time_within(0, limits.CLOCK), default=600, metavar="S", help="of the corridor's picture"
-    )
+    for name, default in PICTURE.items():
+        made.add_argument(
+            f"--{name}",
+            type=time_within(0, limits.CLOCK),
+            metavar="S",
+            help=f"of the corridor's picture (default {default})",
+        )
     return made
 
 
@@ -44,6 +47,11 @@ def main(arguments: list[str]) -> int:
     words = parser().parse_args(arguments)
     if len(words.runs) > 2:
         raise Fault("a report is of one run, or of two: before and after")
+    for name, default in PICTURE.items():
+        if getattr(words, name) is None:
+            setattr(words, name, default)
+        elif not words.corridor:
+            raise Fault(f"--{name} is of the corridor's picture: give --corridor too")
     place_of(words.output)
     all_runs = [read_runs(path) for path in words.runs]
     if len(all_runs) == 2 and all_runs[0].name == all_runs[1].name:

@@ -162,6 +162,8 @@ def main(arguments: list[str]) -> int:
     unknown = [edge for edge in settings.edges if edge not in mapping.links_of]
     if unknown:
         raise Fault(f"--edges: the map has no edge {unknown[0]!r}")
+    if settings.edges and settings.every == 0:
+        raise Fault("--edges are those whose lanes are polled, and --every 0 polls none")
     for kind in DETECTORS.keys() & set(words.sumo_output):
         if not any(one.kind == kind for one in mapping.detectors):
             missing = f"the map has no {DETECTORS[kind]}: import an additional file that has one"

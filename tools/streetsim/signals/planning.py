@@ -23,6 +23,7 @@ from .search import Search, search_plan
 from .town import Reading, Runner, Town, read_town, sessions_of
 
 CHANGES = ("offsets", "splits", "cycle")
+CYCLES = "60-120"  # seconds
 STEP = 10  # seconds from one cycle that is proposed to the next
 TRIED = 10  # runs of the given plan tell how many seeds a search needs
 RESERVE = 80  # a chance of slowing down, of 1,000, by which a tenth fewer pass in a green
@@ -77,7 +78,7 @@ def add_search(made: argparse.ArgumentParser) -> None:
     made.add_argument(
         "--change", default=",".join(CHANGES), help="what may be changed, with commas between (default %(default)s)"
     )
-    made.add_argument("--cycle", default="60-120", metavar="S-S", help="cycles to try (default %(default)s)")
+    made.add_argument("--cycle", metavar="S-S", help=f"cycles to try (default {CYCLES})")
     made.add_argument(
         "--least",
         type=within(1, limits.PHASE_STEPS),
@@ -163,6 +164,9 @@ def changes_of(words: argparse.Namespace) -> tuple[list[str], range]:
     changed = listed(words.change)
     if unknown := [name for name in changed if name not in CHANGES]:
         raise Fault(f"--change: {unknown[0]!r} is none of {', '.join(CHANGES)}")
+    if words.cycle and "cycle" not in changed:
+        raise Fault(f"--cycle {words.cycle}: --change {words.change} leaves the cycles as they are")
+    words.cycle = words.cycle or CYCLES
     first, _, last = words.cycle.partition("-")
     most = limits.PHASES * limits.PHASE_STEPS
     if not (first.isdecimal() and last.isdecimal() and 1 <= int(first) <= int(last) <= most):
@@ -207,6 +211,8 @@ def check_cycles(words: argparse.Namespace, town: Town, cycles: range) -> None:
 def check_pictures(words: argparse.Namespace, town: Town) -> None:
     """Fills in the seconds of the pictures; refuses what could not be drawn at the end."""
     if not words.edges:
+        if given := [name for name in ("first", "last") if getattr(words, name) is not None]:
+            raise Fault(f"--{given[0]} is of the pictures: give --edges too")
         return
     plots.path_of(Folder("--edges", town.mapping, [], 0, 1, 0), words.edges)
     plots.drawing()
