@@ -103,6 +103,11 @@ class Configurations(Case):
         first = [line.split(":")[0] for line in said.splitlines()]
         self.assertLess(max(at for at, word in enumerate(first) if word == "warning"), first.index("ignored"))
 
+    def test_an_end_before_the_begin(self):
+        """SUMO refuses it too."""
+        told = "streetsim-import: the end, 60 s, is not after the begin, 60 s: nobody would depart\n"
+        self.assertEqual(self.imported(CONFIGURATION, "", "--begin", 60, status=2), told)
+
     def test_faults(self):
         self.assertIn(
             "x.sumocfg: names no network (net-file)", self.imported("<c><begin value='1'/></c>", "", status=2)

@@ -147,6 +147,8 @@ def add_numbers(made: argparse.ArgumentParser) -> None:
 def options_of(words: argparse.Namespace) -> Options:
     if words.permissive is not None and not 0 <= words.permissive <= 1:
         raise Fault("--permissive is a share from 0 to 1")
+    if words.end is not None and words.end <= words.begin:
+        raise Fault(f"the end, {words.end} s, is not after the begin, {words.begin} s: nobody would depart")
     classes = tuple(listed(words.classes))
     unknown = [name for name in classes if name not in CLASSES]
     if unknown:
