@@ -103,6 +103,12 @@ class Configurations(Case):
         first = [line.split(":")[0] for line in said.splitlines()]
         self.assertLess(max(at for at, word in enumerate(first) if word == "warning"), first.index("ignored"))
 
+    def test_no_end(self):
+        """SUMO's own value for none."""
+        said = self.imported(CONFIGURATION.replace('"60"', '"-1"'), "")
+        self.assertNotIn("that depart at the end", said)
+        self.assertEqual(read_json(self.folder / "m.json", ["cars"])["cars"], ["late"])
+
     def test_an_end_before_the_begin(self):
         """SUMO refuses it too."""
         told = "streetsim-import: the end, 60 s, is not after the begin, 60 s: nobody would depart\n"

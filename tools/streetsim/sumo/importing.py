@@ -172,6 +172,8 @@ def words_of(arguments: list[str]) -> tuple[argparse.Namespace, dict[str, str]]:
         return words, {}
     options = read_configuration(words.configuration)
     given: dict[str, Any] = {name.replace("-", "_"): options[name] for name in DEFAULTS if options.get(name)}
+    if given.get("end", "").startswith("-"):
+        del given["end"]  # SUMO's -1: none
     if "ignore_route_errors" in given:
         given["ignore_route_errors"] = given["ignore_route_errors"].lower() not in FALSE
     made.set_defaults(**given)
