@@ -2,6 +2,7 @@
 import csv
 import json
 import os
+import re
 import unittest
 from unittest.mock import patch
 
@@ -99,6 +100,18 @@ class FewCalls(Case):
             with self.subTest(told):
                 self.assertIn(told, self.tool("run", *words, *more, *options, status=2)[1])
                 self.assertFalse((self.folder / "out").exists())
+
+    def test_what_is_named_helps(self):
+        """The run of as many seconds as are named fits, and one of a second more does not; none has fewer calls than
+        its vehicles take."""
+        words = self.given(*[{"cmd": "enter", "plan": [0], "lane": 0, "depart": 0}] * 9, cars=list("abcdefghi"))
+        more = ["--calls", 200, "--rescue", 0, "--out", self.folder / "out"]
+        _, said = self.tool("run", *words, *more, "--until", 6000, status=2)
+        last = int(re.search(r"try a run up to ([\d,]+) s, or fewer vehicles", said)[1].replace(",", ""))
+        self.tool("run", *words, *more, "--until", last + 1, status=2)
+        self.tool("run", *words, *more, "--until", last)
+        _, said = self.tool("run", *words, *more, "--calls", 18, status=2)
+        self.assertIn("the program takes 18: try fewer vehicles: each takes two calls", said)
 
 
 @needs_simulator

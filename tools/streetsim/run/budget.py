@@ -1,9 +1,10 @@
 """How often a run asks, so that its calls are within those that the program takes."""
 from __future__ import annotations
 
+from bisect import bisect_right
 from collections import Counter
 from collections.abc import Collection, Sequence
-from dataclasses import dataclass, field
+from dataclasses import dataclass, field, replace
 from math import ceil
 from typing import TYPE_CHECKING
 
@@ -111,10 +112,21 @@ class Budget:
         told = f"the run needs {self.needed(wished or 0, False):,} calls and the program takes {most:,}: try "
         if wished and self.needed(fitting, False) <= most:
             return told + f"--every {fitting}"
-        if self.settings.rescue and self.base(0) <= most:
+        if self.settings.rescue and self.needed(wished or 0, False) - self.watching(False) <= most:
             return told + "--rescue 0"
-        share = max(1, int(self.settings.until * most / max(1, self.base(0))))
-        return told + f"a run up to {share:,} s, or fewer vehicles: each takes two calls"
+        last = self.longest(wished or 0, most)
+        return told + (f"a run up to {last:,} s, or " if last else "") + "fewer vehicles: each takes two calls"
+
+    def longest(self, every: int, most: int) -> int:
+        """The last second of the longest run that takes so many calls; 0 where its vehicles alone take more."""
+
+        def needed(until: int) -> int:
+            settings = replace(self.settings, until=until)
+            return Budget(self.run, settings, self.places, self.polled, self.detectors).needed(every, False)
+
+        seconds = range(self.run.start() + 1, self.settings.until)
+        fitting = bisect_right(seconds, most, key=needed)
+        return seconds[fitting - 1] if fitting else 0
 
     def share(self, asking: Asking, left: int | None) -> None:
         """Deals the lanes to this run and further ones, and how often each is sampled."""
