@@ -173,6 +173,13 @@ class Pages(Given):
         told = self.tool("report", plan, "-o", self.folder / "x.html", status=2)[1]
         self.assertIn("before: a run without --seeds is there beside seeds of another one: remove what is old", told)
 
+    def test_tools_of_one_run(self):
+        """They name the seeds of a folder that has several."""
+        for tool, *words in (("play", "-o", self.folder / "x.html"), ("compare", "--sumo", self.folder / "x.xml")):
+            told = self.tool(tool, self.folder / "before", *words, status=2)[1]
+            self.assertIn("before: the runs of 2 seeds: name one of them, ", told)
+            self.assertTrue(told.endswith("before/seed-1\n"), told)
+
     def test_faults(self):
         plans = self.plans()
         (plans[0] / "seed-1/movements.csv").unlink()

@@ -2,7 +2,6 @@
 from __future__ import annotations
 
 import os
-import re
 from collections import defaultdict
 from collections.abc import Collection, Mapping
 from dataclasses import dataclass, field
@@ -12,7 +11,7 @@ from typing import Any
 from ..files import Fault
 from ..junctions.rows import APPROACHES, JUNCTIONS, MOVEMENTS
 from ..junctions.service import level
-from ..run.folder import NAME, Folder, read_folder
+from ..run.folder import NAME, Folder, read_folder, seeds_in
 from ..run.tables import SEEDS, read_table
 from ..sumo.report import some
 
@@ -82,13 +81,13 @@ def read_folders(path: str) -> Runs:
     """The runs of a folder that streetsim-run wrote, or of its seeds, without their tables."""
     if not os.path.isdir(path):
         raise Fault(f"{path}: no folder that streetsim-run wrote")
-    places = {int(name[5:]): f"{path}/{name}" for name in sorted(os.listdir(path)) if is_seed(path, name)}
-    if not places:
+    seeds = seeds_in(path)
+    if not seeds:
         folder = read_folder(path)
         folders = {folder.made.get("seed", 1): folder}
     else:
-        refuse_old(path, places)
-        folders = {seed: read_folder(place) for seed, place in sorted(places.items())}
+        refuse_old(path, seeds)
+        folders = {seed: read_folder(f"{path}/seed-{seed}") for seed in seeds}
     return Runs(os.path.basename(os.path.normpath(path)), folders)
 
 
@@ -99,7 +98,7 @@ def refuse_old(path: str, seeds: Collection[int]) -> None:
         raise Fault(f"{path}: a run without --seeds is there beside seeds of another one: {advice}")
     if os.path.exists(table := f"{path}/seeds.csv"):
         known = {int(row["seed"]) for row in read_table(table, SEEDS)}
-        if old := [f"seed-{seed}" for seed in sorted(seeds) if seed not in known]:
+        if old := [f"seed-{seed}" for seed in seeds if seed not in known]:
             raise Fault(f"{path}: {some(old)}: not of the run that wrote seeds.csv: {advice}")
 
 
@@ -117,10 +116,6 @@ def read_any(path: str) -> Runs:
     """The same, with rows where the first run has junction tables."""
     runs = read_folders(path)
     return read_runs(path) if os.path.exists(f"{runs.first.path}/junctions.csv") else runs
-
-
-def is_seed(path: str, name: str) -> bool:
-    return re.fullmatch(r"seed-\d+", name) is not None and os.path.exists(f"{path}/{name}/{NAME}")
 
 
 def read_rows(runs: Runs, table: str) -> None:

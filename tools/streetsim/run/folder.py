@@ -3,6 +3,7 @@ from __future__ import annotations
 
 import json
 import os
+import re
 from collections.abc import Iterable, Iterator, Sequence
 from dataclasses import asdict, dataclass, field
 from typing import TYPE_CHECKING, Any
@@ -91,7 +92,16 @@ def write_setting(
         )
 
 
+def seeds_in(path: str) -> list[int]:
+    """The seeds of which a folder has runs."""
+    names = os.listdir(path) if os.path.isdir(path) else []
+    seeds = [int(name[5:]) for name in names if re.fullmatch(r"seed-\d+", name)]
+    return sorted(seed for seed in seeds if os.path.exists(f"{path}/seed-{seed}/{NAME}"))
+
+
 def read_folder(path: str) -> Folder:
+    if not os.path.exists(f"{path}/{NAME}") and (seeds := seeds_in(path)):
+        raise Fault(f"{path}: the runs of {len(seeds)} seeds: name one of them, {path}/seed-{seeds[0]}")
     value = read_json(f"{path}/{NAME}", ("map", "signals", "dawdle", "every", "period"))
     signals, dawdle, every, period = (value[key] for key in ("signals", "dawdle", "every", "period"))
     more = value.get("made", {}), value.get("not_trusted", [])
