@@ -8,11 +8,13 @@ import subprocess
 import unittest
 
 from support import MAP, PROGRAM, TOOLS, Case, needs_package, needs_simulator
+from streetsim.junctions.passages import queue_metres
 from streetsim.junctions.rows import APPROACHES, JUNCTIONS, MOVEMENTS
 from streetsim.reports.comparing import paired, total_delay
 from streetsim.reports.drawing import COLOURS, LIGHT, anchor, queue_picture
 from streetsim.reports.reading import read_runs
 from streetsim.reports.reporting import leads_back
+from streetsim.run.mapping import MapLink
 from streetsim.run.tables import SEEDS, TRIPS, write_table
 
 CHROMIUM = shutil.which("chromium") or shutil.which("chromium-browser")
@@ -50,11 +52,15 @@ class Numbers(unittest.TestCase):
         self.assertIsNone(paired({1: 1.0}, {2: 1.0}))
 
     def test_queues(self):
-        """Bars of 480 pixels for the longest: 75 of 150 m are 240."""
-        picture = queue_picture([("a", 30, 75, 150, 150), ("b", 0, 0, 0, 75)])
+        """Bars of 480 pixels for the longest: 75 of 150 m are 240. A full edge has the gap behind its last vehicle."""
+        rows = [("a", 30, 75, 147.5, 150), ("b", 0, 0, 0, 75), ("c", 9, 9, 140, 150), ("d", 9, 9, 196.7, 199.2)]
+        picture = queue_picture([*rows[:3], ("d", 0, 0, 0, 2)])
         self.assertIn('width="240.0" height="12" fill="#9ecae1"', picture)
-        self.assertIn("30, 75, 150 of 150 m, fills the edge", picture)
+        self.assertIn("30, 75, 148 of 150 m, fills the edge", picture)
         self.assertEqual(picture.count("fills"), 1)
+        self.assertEqual(queue_picture(rows).count("fills"), 2)
+        full = [(1, cell, 0) for cell in reversed(range(20))]
+        self.assertEqual(queue_metres(full, MapLink("a", (0,), 0, 1, 20, 5, 150.0, ())), 147.5)
 
     def test_letters_in_grey(self):
         """Each letter is darker than the better one, and its writing has the contrast 4.5 that WCAG 2 asks for."""

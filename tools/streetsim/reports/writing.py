@@ -7,6 +7,7 @@ from html import escape
 from pathlib import Path
 
 from ..junctions.measures import STOP_LOSS
+from ..limits import GAP_METRES
 from ..run.tables import interval
 from .comparing import Difference, by_seed, paired, total_delay
 from .drawing import COLOURS, LIGHT, anchor, letter_mark, map_picture, queue_picture
@@ -28,7 +29,8 @@ ASSUMPTIONS = (
     "as vehicles brake and start at once: measured on lone crosses against SUMO's detectors. Not for those that turn "
     "at a light, as seconds of their green are left out instead.",
     "Letters are those of the Highway Capacity Manual 2010 by control delay; of a movement F too where v/c is above 1.",
-    "Queues are the backs of queues in each cycle of a signal. One as long as its edge has filled it; it may reach on.",
+    f"Queues are the backs of queues in each cycle of a signal. One that is {GAP_METRES} m shorter than its edge, the "
+    "gap behind a vehicle, has filled it; it may reach on.",
     "Routes are given: nobody changes its route on the way.",
 )
 
