@@ -5,7 +5,7 @@ import unittest
 from collections import Counter
 from types import SimpleNamespace
 
-from support import MAP, PROGRAM, TOOLS, Case, needs_simulator
+from support import MAP, NUMBERED, PROGRAM, TOOLS, Case, needs_simulator
 from streetsim.junctions import reporting
 from streetsim.junctions.capacity import usual_flow
 from streetsim.junctions.facing import facing
@@ -253,6 +253,28 @@ class OfARun(Case):
             self.assertGreaterEqual(float(row["control_delay_s"]) + 1, float(row["stopped_delay_s"]))
             self.assertLessEqual(float(row["queue_50_m"]), float(row["queue_95_m"]))
             self.assertTrue(0 < float(row["v_c"]) < 1)
+
+    def test_a_queue_beyond_a_short_approach(self):
+        """A street of 75 m before an approach of 15 m: what stands on the street is in no row, which is said; not where
+        the approach has room for all."""
+        for cells, count, said in ((2, 9, True), (2, 1, False), (20, 9, False)):
+            nodes = [["A", 0, 0, 1], ["P", 75, 0, 1], ["B", 90, 0, 1], ["C", 165, 0, 1]]
+            ends = (("z", 0, 1, 10), ("a", 1, 2, cells), ("b", 2, 3, 10))
+            links = [[name, [0], *pair, long, 5, 7.5 * long, [[0, 0], [1, 0]]] for name, *pair, long in ends]
+            turns = [[0, 0, 1, 0, "", 0, False], [1, 0, 2, 0, "L", 0, False]]
+            more = {"nodes": nodes, "links": links, "turns": turns, "signals": [["L", 2]]}
+            more["cars"] = [f"v{number}" for number in range(count)]
+            load = {**NUMBERED, "nodes": [[at, 1, 2] for at in range(4)], "turns": [turn[:4] for turn in turns]}
+            load["links"] = [[at, *pair, 1, long, 5] for at, (_, *pair, long) in enumerate(ends)]
+            green = [[60, []], [60, [[1, 0, 2]]]]
+            enter = {"cmd": "enter", "plan": [0, 1, 2], "lane": 0, "depart": 0}
+            signal = {"cmd": "signal", "node": 2, "offset": 0, "phases": green}
+            lines = [{"cmd": "load", **load}, signal, *[enter] * count]
+            run = self.write("street.jsonl", "".join(json.dumps(line) + "\n" for line in lines))
+            mapped = self.write("street.json", json.dumps({**MAP, **more}))
+            words = ("--map", mapped, "--junctions", 60, "--out", self.folder / "out", "--program", PROGRAM)
+            told = self.tool("run", run, *words)[1]
+            self.assertEqual("and goes on in the edge before it, which no table has: a\n" in told, said, (cells, told))
 
     def test_random_moments_are_near(self):
         """The mean delay of approaches within the error that is stated, for most of them."""

@@ -2,7 +2,7 @@
 from __future__ import annotations
 
 from collections import defaultdict
-from collections.abc import Iterable, Sequence
+from collections.abc import Collection, Iterable, Sequence
 from dataclasses import dataclass, field
 from math import atan2, degrees
 from typing import TYPE_CHECKING, Any
@@ -48,6 +48,15 @@ def approaches_of(mapping: Map) -> dict[str, Approach]:
         if source.edge in found:
             found[source.edge].movements[target.edge] = turn_name(source.shape, target.shape)
     return {edge: approach for edge, approach in found.items() if approach.movements}
+
+
+def cut_short(mapping: Map, approaches: Collection[str]) -> list[str]:
+    """Those of the approaches that edges lead to of which no table has a row, as where an edge is cut for turn lanes:
+    the delay of a queue that goes on there is nowhere."""
+    before = defaultdict(set)
+    for turn in mapping.turns:
+        before[mapping.links[turn.next].edge].add(mapping.links[turn.link].edge)
+    return [edge for edge in approaches if not before[edge] <= set(approaches)]
 
 
 def turn_name(source: Shape, target: Shape) -> str:

@@ -8,7 +8,7 @@ from typing import TYPE_CHECKING
 from ..outputs.watching import watch, windows
 from ..sumo.report import some
 from .facing import facing
-from .layout import approaches_of
+from .layout import approaches_of, cut_short
 from .measures import Measures
 from .passages import Passages
 from .rows import Tables
@@ -70,4 +70,9 @@ def write_junctions(
     )
     if found := facing(mapping, plans, (settings.until - start) / 3600):
         told.append(f"junctions: delays are too small where minor streets wait for each other: {some(found)}")
+    if found := sorted(made.filled() & set(cut_short(mapping, approaches))):
+        told.append(
+            "junctions: delays, letters and queues are too small where a queue fills an approach, as of turn lanes, "
+            f"and goes on in the edge before it, which no table has: {some(found)}"
+        )
     return told

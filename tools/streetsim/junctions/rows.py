@@ -5,6 +5,7 @@ from collections import defaultdict
 from collections.abc import Collection, Mapping, Sequence
 from typing import Any
 
+from ..limits import GAP_METRES
 from ..run import tables
 from .layout import Approach
 from .measures import Interval, Totals, together
@@ -18,6 +19,7 @@ MOVEMENTS = (
 )
 APPROACHES = ("begin", "end", "junction", "control", "approach", *LOST, *QUEUED, "v_c", "los")
 JUNCTIONS = ("begin", "end", "junction", "control", *LOST, "queue_max_m", "v_c", "los")
+ROUNDED = 0.1  # metres by which a queue and its edge may be off in the tables
 MOVEMENT_SHARE = 0.05  # of a movement's vehicles, from which on a lane counts for its queue
 
 
@@ -75,10 +77,21 @@ class Tables:
         self.movements.append((*head, *told(lost, interval), *worst(used, approach.metres), *last, letter))
         return ratio
 
+    def filled(self) -> set[str]:
+        """The approaches that a queue filled in any interval."""
+        at = [APPROACHES.index(name) for name in ("approach", "queue_max_m", "storage_m")]
+        rows = ([row[place] for place in at] for row in self.approaches)
+        return {edge for edge, queue, metres in rows if fills(float(queue), float(metres))}
+
     def write(self, folder: str) -> None:
         tables.write_table(f"{folder}/movements.csv", MOVEMENTS, self.movements)
         tables.write_table(f"{folder}/approaches.csv", APPROACHES, self.approaches)
         tables.write_table(f"{folder}/junctions.csv", JUNCTIONS, self.junctions)
+
+
+def fills(queue: float, metres: float) -> bool:
+    """Whether a queue leaves no room on an edge but the gap behind its last vehicle."""
+    return queue >= metres - GAP_METRES - ROUNDED
 
 
 def told(lost: Totals, interval: Interval) -> tuple:

@@ -5,14 +5,13 @@ from collections.abc import Mapping, Sequence
 from html import escape
 from math import hypot
 
-from ..limits import GAP_METRES
+from ..junctions.rows import fills
 from ..run.mapping import Map, Shape
 
 # Darker is worse, so that the letters differ in grey too.
 COLOURS = {"A": "#ffffcc", "B": "#fed976", "C": "#feb24c", "D": "#fd8d3c", "E": "#e31a1c", "F": "#800026"}
 LIGHT = "EF"  # letters that are written in white
 WIDE, MOST_HIGH, SIDE = 900, 640, 4  # pixels
-ROUNDED = 0.1  # metres by which a queue and its edge may be off in the tables
 
 
 def letter_mark(letter: str) -> str:
@@ -78,7 +77,7 @@ def queue_picture(rows: Sequence[tuple[str, float, float, float, float]]) -> str
     for place, (name, half, usual, greatest, room) in enumerate(rows):
         y = 8 + 26 * place
         title = f"{name}: 50 % {half:.0f} m, 95 % {usual:.0f} m, greatest {greatest:.0f} m of {room:.0f} m"
-        over = ", fills the edge" if greatest > 0 and greatest >= room - GAP_METRES - ROUNDED else ""
+        over = ", fills the edge" if greatest > 0 and fills(greatest, room) else ""
         parts.append(
             f"<g><title>{escape(title)}</title>"
             f'<text x="150" y="{y + 13}" text-anchor="end">{escape(name)}</text>'
