@@ -13,10 +13,9 @@ from .client import Client, line_of, read_reply
 from .routes.underway import Turning, Waiting, WaysRound, shut_edges, turning
 from .run import tables
 from .files import FilePath
-from .run.mapping import read_map
 from .run.record import Records
 from .run.rounds import giving_way_to_scripts
-from .run.runs import Line, Run, read_run
+from .run.runs import Line, Run, read_with_map
 from .run.works import why_parallel, with_works
 from .sumo.net import Program
 from .sumo.report import Report
@@ -92,7 +91,7 @@ class Scenario:
         joint: Iterable[str] = (),
         rounds: int = ROUNDS,
     ) -> None:
-        source, self.map, _ = with_works(read_run(run), read_map(mapping), mapping, [], joint)
+        source, self.map, _ = with_works(*read_with_map(run, mapping), mapping, [], joint)
         self.load = source.load.command
         self.signals = {line.command["node"]: line.command for line in source.first if line.command["cmd"] == "signal"}
         source, self.yielding = giving_way_to_scripts(source, self.map, rounds, program, workers)

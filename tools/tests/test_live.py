@@ -43,7 +43,7 @@ class Data(LiveCase):
     def test_a_map_of_another_run(self):
         path = self.write("other.json", json.dumps({**MAP, "links": MAP["links"][:1]}))
         told = self.tool("live", self.run_path, "--map", path, "--program", "/bin/cat", "--no-open", status=2)[1]
-        self.assertIn("the map is of another run", told)
+        self.assertIn("run.jsonl, whose links are other ones", told)
 
     def test_nothing_to_run(self):
         told = self.tool(

@@ -12,6 +12,7 @@ from streetsim.run import tables
 from streetsim.files import Fault
 from streetsim.run.record import Recorder, Settings, standing
 from streetsim.run.runs import read_run
+from streetsim.scenario import Scenario
 
 
 class Runs(Case):
@@ -160,6 +161,12 @@ class Reading(Runs):
         told = self.tool(*words, status=2)[1]
         self.assertIn("other.map.json: not the map of", told)
         self.assertFalse((self.folder / "out").exists())
+        with self.assertRaisesRegex(Fault, "other.map.json: not the map of .*, whose links are other ones"):
+            Scenario(self.run_file, self.map_file, PROGRAM)
+        words[3] = self.write("other.map.json", json.dumps({**MAP, "cars": ["v", "w"]}))
+        told = self.tool("live", self.run_file, "--map", words[3], "-o", self.folder / "x.html", status=2)[1]
+        for text in (told, self.tool(*words, status=2)[1]):
+            self.assertIn("run.jsonl, which has 0 vehicles and not 2", text)
 
     def test_faults(self):
         for text, words in (

@@ -6,8 +6,7 @@ from pathlib import Path
 
 from ..cli.words import Parser, within
 from ..files import Fault, whole_file
-from ..run.mapping import read_map
-from ..run.runs import read_run
+from ..run.runs import read_with_map
 from .bridge import HOST, Bridge
 from .engine import Engine
 from .page import own_lines, page_of
@@ -73,7 +72,7 @@ def serve(bridge: Bridge, opens: bool) -> None:
 
 def main(arguments: list[str]) -> int:
     words = parser().parse_args(arguments)
-    run, mapping = read_run(words.run), read_map(words.map)
+    run, mapping = read_with_map(words.run, words.map)
     if words.output:
         page = page_of(run, mapping, module_of(words.program))
         with whole_file(words.output) as file:

@@ -22,11 +22,6 @@ def data_of(run: Run, mapping: Map) -> dict:
     """What the page knows of a run beside the replies: names, shapes, turns,
     signal plans and the lines that are sent later."""
     load = run.load.command
-    if len(load["links"]) != len(mapping.links):
-        raise Fault(
-            f"{run.path}: the map is of another run: it has {len(mapping.links):,} links, "
-            f"the run {len(load['links']):,}"
-        )
     links = [
         {
             "number": number, "name": link.edge, "lanes": lanes, "names": list(link.lanes), "cells": cells,

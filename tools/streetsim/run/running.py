@@ -28,10 +28,10 @@ from .budget import INTERVALS, Budget
 from .detectors import area_rows, loop_rows
 from .ending import first_guess
 from .folder import NAME, write_setting
-from .mapping import Map, Place, read_map
+from .mapping import Map, Place
 from .record import Recorder, Records, Repeater, Settings, Tell
 from .rounds import giving_way
-from .runs import Run, read_run, with_load
+from .runs import Run, read_with_map, with_load
 from .serving import serving as serve
 from .works import all_works, with_works
 
@@ -153,9 +153,7 @@ def add_outputs(made: argparse.ArgumentParser) -> None:
 
 def main(arguments: list[str]) -> int:
     words = parser().parse_args(arguments)
-    run, mapping = read_run(words.run), read_map(words.map)
-    if not fits(run, mapping):
-        raise Fault(f"{words.map}: not the map of {words.run}, whose links are other ones")
+    run, mapping = read_with_map(words.run, words.map)
     open_end, words.until = words.until is None, words.until or first_guess(run)
     asked = (words.until, words.every, words.period, words.rescue, tuple(listed(words.edges)), words.calls)
     settings = Settings(*asked, words.counted == "all", open_end)
@@ -181,14 +179,6 @@ def main(arguments: list[str]) -> int:
         figures = one_run(words, run, mapping, settings, folder, shown.show, words.jobs)
     report(figures, "")
     return 0
-
-
-def fits(run: Run, mapping: Map) -> bool:
-    """Whether a run loads the links of a map."""
-    links = [
-        [at, link.begin, link.end, len(link.lanes), link.cells, link.limit] for at, link in enumerate(mapping.links)
-    ]
-    return run.load.command.get("links") == links
 
 
 def one_run(

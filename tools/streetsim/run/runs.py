@@ -9,6 +9,7 @@ from itertools import accumulate
 from typing import Any
 
 from ..files import Fault, FilePath, open_text, reading
+from .mapping import Map, read_map
 
 
 @dataclass(slots=True)
@@ -35,6 +36,22 @@ def read_run(path: FilePath) -> Run:
     """The run of a file. The load must be its first line."""
     with reading(path), open_text(path) as file:
         return run_of_texts(path, file)
+
+
+def read_with_map(run_path: FilePath, map_path: FilePath) -> tuple[Run, Map]:
+    """A run and the map of its names; the map of another one is refused."""
+    run, mapping = read_run(run_path), read_map(map_path)
+    links = [
+        [at, link.begin, link.end, len(link.lanes), link.cells, link.limit] for at, link in enumerate(mapping.links)
+    ]
+    if run.load.command.get("links") != links:
+        raise Fault(f"{map_path}: not the map of {run_path}, whose links are other ones")
+    if len(mapping.cars) > len(run.enters):
+        raise Fault(
+            f"{map_path}: not the map of {run_path}, which has {len(run.enters):,} vehicles and not "
+            f"{len(mapping.cars):,}"
+        )
+    return run, mapping
 
 
 def run_of_texts(path: FilePath, texts: Iterable[str]) -> Run:

@@ -9,9 +9,8 @@ from types import MappingProxyType
 from typing import Any, NamedTuple
 
 from ..files import Fault
-from ..run.mapping import Map, read_map
-from ..run.running import fits
-from ..run.runs import Line, Run, read_run
+from ..run.mapping import Map
+from ..run.runs import Line, Run, read_with_map
 from ..study.giving import gaps, giving_session, outcome_giving_way, with_gaps
 from ..study.machines import Machines
 from ..study.sessions import Outcome, Session, vehicle_seconds
@@ -67,9 +66,7 @@ def signal_node(line: Line) -> int | None:
 
 def read_pair(run_path: str, map_path: str, until: int | None = None) -> tuple[Run, Map]:
     """A run and its map, with something to run until a clock, or without one."""
-    run, mapping = read_run(run_path), read_map(map_path)
-    if not fits(run, mapping):
-        raise Fault(f"{map_path}: not the map of {run_path}, whose links are other ones")
+    run, mapping = read_with_map(run_path, map_path)
     if until is None and not run.enters:
         raise Fault(f"{run_path}: no vehicle in it")
     if until is None:
