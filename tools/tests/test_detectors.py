@@ -21,8 +21,8 @@ LOOPS = """<additional>
 
 
 class Detectors(Case):
-    def run_import(self, additional, status=0):
-        words = [self.write("x.net.xml", STREET), self.write("x.add.xml", additional), "--dawdle", 0]
+    def run_import(self, additional, status=0, network=STREET):
+        words = [self.write("x.net.xml", network), self.write("x.add.xml", additional), "--dawdle", 0]
         routes = '<routes><vehicle id="v" depart="0"><route edges="a"/></vehicle></routes>'
         words += ["--routes", self.write("x.rou.xml", routes), "-o", self.folder / "run.jsonl"]
         return self.tool("import", *words, "--map", self.folder / "map.json", status=status)[1]
@@ -52,8 +52,21 @@ class Detectors(Case):
         for place in ('pos="10" length="90"', 'pos="-15" length="20"', 'endPos="15" length="20"'):
             told = self.run_import(f'<additional><e2Detector id="x" lane="a_0" {place}/></additional>')
             self.assertIn("warning: detector x reaches beyond a_0, and sees what is on that lane alone", told)
-        told = self.run_import('<additional><inductionLoop id="x" lane="a_7" pos="0"/></additional>')
-        self.assertIn("warning: detector x lies on a_7, which is left out", told)
+        self.assertIn(
+            "<inductionLoop 'x'>: the network has no lane 'a_7'",
+            self.run_import('<additional><inductionLoop id="x" lane="a_7" pos="0"/></additional>', status=2),
+        )
+
+    def test_lanes_that_are_left_out(self):
+        """A bus lane beside another one, and the only lane of an edge."""
+        bus = 'allow="bus"'
+        edges = [("a", "A", "B", [lane("a", 0, more=bus), lane("a", 1)]), ("b", "B", "C", [lane("b", 0, more=bus)])]
+        for name in ("a_0", "b_0"):
+            loop = f'<additional><inductionLoop id="x" lane="{name}" pos="0"/></additional>'
+            self.assertIn(
+                f"warning: detector x lies on {name}, which is left out",
+                self.run_import(loop, network=net(edges, [("a", 0, "b", 0, "")])),
+            )
 
     def test_places(self):
         """Cells of 7.5 m; SUMO takes each of these, with friendlyPos also those beyond the lane."""

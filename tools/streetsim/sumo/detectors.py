@@ -71,9 +71,9 @@ def tell_beyond(name: str | None, lane: str | None, report: Report) -> None:
     report.warn(f"detector {name} reaches beyond {lane}, and sees what is on that lane alone")
 
 
-def placed(detectors: Iterable[SumoDetector], mapping: Map, dropped: Container[str], report: Report) -> list[Detector]:
+def placed(detectors: Iterable[SumoDetector], mapping: Map, closed: Container[str], report: Report) -> list[Detector]:
     """Detectors on the cells of a map. A lane that the network does not have is a Fault;
-    one that was left out is not."""
+    one that was left out, as it is closed to the classes, is not."""
     places = {mapping.lane_name(*place): place for place in mapping.lanes()}
     found = {}
     for one in detectors:
@@ -84,7 +84,7 @@ def placed(detectors: Iterable[SumoDetector], mapping: Map, dropped: Container[s
             found[one.name] = Detector(
                 one.name, one.kind, link, lane, *cells(one, mapping.links[link], report), one.period
             )
-        elif one.lane.rpartition("_")[0] in mapping.links_of or one.lane.rpartition("_")[0] in dropped:
+        elif one.lane in closed:
             report.warn(f"detector {one.name} lies on {one.lane}, which is left out")
         else:
             raise Fault(f"{one.where}: the network has no lane {one.lane!r}")

@@ -239,7 +239,7 @@ def run_and_map(made: Made, report: Report) -> tuple[list[str], Map]:
     """The lines of the run as texts, and its map, of what `converted` made."""
     network, lights, commands, names = made
     mapping = map_of(network, lights, names, report)
-    mapping.detectors = placed(network.detectors, mapping, network.dropped, report)
+    mapping.detectors = placed(network.detectors, mapping, network.closed_lanes, report)
     mapping.warnings, mapping.told = list(report.lines()), report.rows()
     lines = [json.dumps(command, separators=(",", ":")) for command in commands]
     refuse_over_limits(network, lines[0], names)

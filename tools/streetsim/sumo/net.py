@@ -71,7 +71,7 @@ class SumoNet:
     junctions: dict[str, Point] = field(default_factory=dict)
     edges: dict[str, Edge] = field(default_factory=dict)  # by name
     dropped: set[str] = field(default_factory=set)  # edges without a lane for the classes
-    closed_lanes: int = 0  # lanes that are not for the classes
+    closed_lanes: set[str] = field(default_factory=set)  # names of lanes that are not for the classes
     connections: list[Connection] = field(default_factory=list)  # between kept lanes
     closed_ways: set[tuple[str, str]] = field(default_factory=set)  # (edge, edge) of those that are not for the classes
     roundabouts: set[str] = field(default_factory=set)  # edges
@@ -177,7 +177,7 @@ def read_edge(path: FilePath, element: Element, net: SumoNet, classes: Collectio
     ]
     if len({lane.index for lane in lanes}) < len(lanes):
         raise Fault(f"{told(path, element)}: two lanes of one index")
-    net.closed_lanes += sum(1 for _ in element.iter("lane")) - len(lanes)
+    net.closed_lanes.update(f"{name}_{lane.get('index')}" for lane in element.iter("lane") if not allows(lane, classes))
     if lanes:
         net.edges[name] = Edge(
             name,

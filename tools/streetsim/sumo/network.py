@@ -71,7 +71,7 @@ class Network:
 
     def __init__(self, net: SumoNet, options: Options, report: Report, flows: Flows) -> None:
         """Flows are the routes' vehicles an hour from edge to edge; none where no route is known."""
-        self.options, self.detectors, self.dropped = options, net.detectors, net.dropped
+        self.options, self.detectors, self.closed_lanes = options, net.detectors, net.closed_lanes
         edges = ordered(net)
         ends = {name for edge in edges for name in (edge.begin, edge.end)}
         self.nodes = [name for name in net.junctions if name in ends]

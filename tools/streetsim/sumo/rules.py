@@ -24,7 +24,7 @@ def warn_of_classes(net: SumoNet, network: Network, report: Report) -> None:
     if net.closed_lanes:
         classes = " and ".join(network.options.classes)
         report.warn(
-            f"{net.closed_lanes} lanes are closed to {classes} and left out, with {len(net.dropped)} whole edges",
+            f"{len(net.closed_lanes)} lanes are closed to {classes} and left out, with {len(net.dropped)} whole edges",
             sorted(net.dropped),
             "--classes NAMES keeps those of other classes too",
         )
