@@ -179,6 +179,18 @@ class Pages(Given):
         told = self.tool("report", plan, "-o", self.folder / "x.html", status=2)[1]
         self.assertIn("before: a run without --seeds is there beside seeds of another one: remove what is old", told)
 
+    def test_a_table_that_was_changed(self):
+        """A number that a sheet wrote in its own way, and half a row."""
+        path = self.folder / "before/seed-2/movements.csv"
+        text = path.read_text()
+        for changed, told in (
+            (text.replace("94.0", '"94,0"', 1), "movements.csv: line 2: control_delay_s = '94,0' is no number"),
+            (text[: text.rindex(",94.0")] + "\n", "movements.csv: line 3: control_delay_s = None is no number"),
+        ):
+            path.write_text(changed)
+            said = self.tool("report", self.folder / "before", "-o", self.folder / "x.html", status=2)[1]
+            self.assertIn(told, said)
+
     def test_tools_of_one_run(self):
         """They name the seeds of a folder that has several."""
         for tool, *words in (("play", "-o", self.folder / "x.html"), ("compare", "--sumo", self.folder / "x.xml")):

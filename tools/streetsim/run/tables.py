@@ -3,6 +3,7 @@ from __future__ import annotations
 
 import csv
 from collections.abc import Iterable, Iterator, Sequence
+from math import isfinite
 from statistics import fmean, stdev
 from typing import TYPE_CHECKING, Any
 
@@ -73,6 +74,7 @@ AREAS = (
 QUEUES = ("time", "edge", "lane", "vehicles", "metres")
 SUMMARY = ("time", "entered", "waiting", "on_cells", "in_buffers", "arrived", "taken_out")
 SEEDS = ("seed", "vehicles", "arrived", "mean_trip_s", "rescues")
+TEXTS = {"id", "edge", "state", "junction", "control", "approach", "to", "movement", "los"}  # all else is numbers
 
 
 def counts(records: Records, mapping: Map) -> Iterator[Entry]:
@@ -143,7 +145,22 @@ def read_table(path: FilePath, header: Sequence[str]) -> list[dict[str, str]]:
         rows = csv.DictReader(file)
         if tuple(rows.fieldnames or ()) != header:
             raise Fault(f"{path}: expected the columns {', '.join(header)}")
-        return list(rows)
+        found = []
+        for row in rows:
+            if wrong := next((name for name in header if not is_cell(name, row[name])), None):
+                raise Fault(f"{path}: line {rows.line_num}: {wrong} = {row[wrong]!r} is no number")
+            found.append(row)
+        return found
+
+
+def is_cell(name: str, text: str | None) -> bool:
+    """Whether a column may have a text; numbers may be left out, but not the end of a row."""
+    if text is None or name in TEXTS:
+        return text is not None
+    try:
+        return not text or isfinite(float(text))
+    except ValueError:
+        return False
 
 
 def interval(values: Sequence[float]) -> tuple[float, float | None]:
