@@ -106,6 +106,14 @@ class ByHand(Case):
         last = rows[-1]
         self.assertEqual((last["meanWaitingTime"], last["meanTravelTime"], last["arrived"]), ("1.00", "8.00", "1"))
 
+    def test_rescues(self):
+        """Who is taken out of a junction looks as if it drove on."""
+        with Outputs({"summary": f"{self.folder}/x.xml"}, map_from("", MAPPING), 0.0, rescued=[5]) as outputs:
+            for clock, lanes, arrived in FRAMES:
+                outputs.step(clock, lanes, arrived)
+        self.assertEqual([row["teleports"] for row in self.rows("x", "step")], [*"00000111"])
+        self.assertEqual({row["teleports"] for row in self.rows("summary", "step")}, {"0"})
+
     def test_fcd(self):
         times = ElementTree.parse(self.folder / "fcd.xml").getroot()
         at = {(float(time.get("time")), one.get("id")): one.attrib for time in times for one in time}

@@ -83,9 +83,10 @@ class Summary(XmlFile):
 
     root, schema = "summary", "summary_file"
 
-    def __init__(self, file: TextFile, places: Places, wished: Sequence[int]) -> None:
+    def __init__(self, file: TextFile, places: Places, wished: Sequence[int], rescued: Sequence[int] = ()) -> None:
         super().__init__(file, places)
         self.wished = wished  # sorted seconds at which vehicles would depart, as far as they are known
+        self.rescued = rescued  # the same of rescues: looks do not show those out of a junction
         self.loaded = self.inserted = self.arrived = self.delays = self.durations = self.teleports = 0
 
     def step(self, second: Second) -> None:
@@ -102,7 +103,7 @@ class Summary(XmlFile):
             ended=self.arrived,
             arrived=self.arrived,
             collisions=0,
-            teleports=self.teleports,
+            teleports=max(self.teleports, bisect_right(self.rescued, second.time)),
             halting=sum(speed < HALTING for speed in speeds),
             stopped=0,
             meanWaitingTime=self.delays / self.inserted if self.inserted else -1.0,

@@ -34,17 +34,20 @@ class Outputs(contextlib.ExitStack):
     """Open output files, {kind: path}, which take their names when the block ends without a fault.
 
     Tell vehicles by `expect`, then each second of the run by `step`. Edges are summed over `period` seconds, detectors
-    over their own; `dawdle` is the run's chance of slowing down (0 to 1), by which the free driving time is reckoned.
+    over their own; `dawdle` is the run's chance of slowing down (0 to 1), by which the free driving time is reckoned;
+    `rescued` are the clocks at which vehicles were rescued, rising, as far as they are known.
     """
 
-    def __init__(self, paths: dict, mapping: Map, dawdle: float, period: int = 900, start: int = 0) -> None:
+    def __init__(
+        self, paths: dict, mapping: Map, dawdle: float, period: int = 900, start: int = 0, rescued: Sequence[int] = ()
+    ) -> None:
         super().__init__()
         self.follower = Follower(mapping, dawdle)
         self.wished: list[int] = []
         places = Places(mapping)
         makers: dict[str, Callable[[TextFile], XmlFile]] = {
             "tripinfo": lambda file: Tripinfo(file, places),
-            "summary": lambda file: Summary(file, places, self.wished),
+            "summary": lambda file: Summary(file, places, self.wished, rescued),
             "edgedata": lambda file: Edgedata(file, places, period, start),
             "fcd": lambda file: Fcd(file, places),
             "queue": lambda file: Queue(file, places),
@@ -84,13 +87,14 @@ def write_outputs(
     dawdle: float,
     period: int,
     start: int,
+    rescued: Sequence[int] = (),
 ) -> None:
     """Writes outputs from the rows of trips.csv and the frames of every second."""
     arrivals = defaultdict(list)
     for car, trip in enumerate(trips):
         if trip["arrival"] != "":
             arrivals[int(trip["arrival"])].append(car)
-    with Outputs(paths, mapping, dawdle, period, start) as outputs:
+    with Outputs(paths, mapping, dawdle, period, start, rescued) as outputs:
         for car, trip in enumerate(trips):
             outputs.expect(car, trip["id"], int(trip["depart"]))
         clock = start

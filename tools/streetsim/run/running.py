@@ -238,7 +238,8 @@ def with_sumo_outputs(
     start, dawdle = run.start(), run.load.command["dawdle"] / 1000
     clocks, lanes = range(start + 1, settings.until + 1), mapping.lanes()
     frames = watch(partial(serving, words), run, mapping, settings, records.rescued, clocks, lanes, folder, jobs)
-    write_outputs(paths, mapping, rows, frames, dawdle, settings.period, start)
+    rescued = [clock for clock, *_ in records.rescued]
+    write_outputs(paths, mapping, rows, frames, dawdle, settings.period, start, rescued)
 
 
 def report(figures: dict[str, Any], name: str) -> None:
