@@ -9,7 +9,10 @@ from streetsim.sumo.importing import convert
 from streetsim.sumo.network import Options
 from streetsim.sumo.report import Report
 from streetsim.sumo.net import request_of
-from streetsim.sumo.yielding import gap_capacity, green_here, hidden_middle, hidden_start, leaving, passing_here
+from streetsim.sumo.yielding import (
+    Movement, gap_capacity, gap_wait, green_here, hidden_middle, hidden_start, lane_here, lane_queue, lane_there,
+    leaving, passing_here, seconds_for, set_lane, time_of, until_first,
+)
 
 # SUMO's vehicles a green by case and way, of the demand with seed 1; a tenth or 0.6 of a vehicle off is allowed.
 SUMO = {
@@ -74,6 +77,71 @@ class Formulas(unittest.TestCase):
         # The lanes of one inner edge follow each other: ":c_13_1" is the connection after ":c_13_0".
         self.assertEqual([request_of(name) for name in (":c_9_0", ":c_13_1", ":a_b_2_0")], [9, 14, 2])
         self.assertEqual([request_of(name) for name in ("", "x", ":c_1")], [None, None, None])
+
+
+class OneLane(unittest.TestCase):
+    """A cross of one lane an arm, 42 s of 90 green, each vehicle of a queue 2 s: lefts from the west wait."""
+
+    def movement(self, way, lane, flow, runs=()):
+        green = (1 << 42) - 1
+        runs = {start: 42 for start in runs}
+        sure = 0 if runs else green
+        return Movement(way, lane, 0, 90, sure, green, [(0, 48)], flow, flow, 2.0, 2, runs)
+
+    def lanes(self, *flows):
+        """Straight on and left from the west, and from the east, by vehicles an hour."""
+        west, left, east, other = (
+            self.movement((arm, way), (arm, 0), flow, [0] * (way == "left"))
+            for (arm, way), flow in zip((("w", "on"), ("w", "left"), ("e", "on"), ("e", "left")), flows, strict=True)
+        )
+        for one, foe in ((left, east), (other, west)):
+            one.foes = [foe] if foe.flow else []
+            one.meets = {0: [(one.green, tuple(one.foes))]}
+        for one in (west, left, east, other):
+            set_lane(one, (west, left, east, other))
+        return west, left, east, other
+
+    def test_wait_for_a_gap(self):
+        # (e^1.0833 - 1) * 6 - 6.5 and (e^0.65 - 1) * 10 - 6.5 seconds.
+        self.assertAlmostEqual(gap_wait(600), 5.227, places=3)
+        self.assertAlmostEqual(gap_wait(360), 2.655, places=3)
+        self.assertEqual(gap_wait(0), 0)
+
+    def test_until_the_first_that_waits(self):
+        # Of three with a share of a half: 1/2 + 1/4 + 1/8.
+        self.assertEqual([until_first(3, 0.5), until_first(0, 0.5), until_first(5, 1.0)], [0.875, 0, 0])
+
+    def test_time_of_one(self):
+        # Of 360 against, 360 e^-0.45 / (1 - e^-0.25) = 1,037.7 an hour find a gap, one in 3.469 s; one alone takes 2 s
+        # and the wait, 4.655 s. One in five follows another that waited: 0.2 * 3.469 + 0.8 * 4.655.
+        west, left, *_ = self.lanes(80, 20, 360, 0)
+        self.assertEqual((west.waits, left.waits, west.share, left.beside), (False, True, left.share, 2.0))
+        self.assertAlmostEqual(left.share, 0.2)
+        self.assertAlmostEqual(time_of(left, 360), 4.418, places=3)
+        self.assertEqual((time_of(left, 0), time_of(west, 360)), (2.0, 2.0))
+        self.assertGreater(time_of(left, 1e9), 3600)
+
+    def test_seconds_of_a_shared_lane(self):
+        # The queue of 360 leaves in 2 + 48 * 0.2 / 0.8 = 14 s. In these (14 - 0.803) / 2 = 6.599 could pass, and
+        # 0.8 (1 - 0.8^6.599) / 0.2 = 3.083 do; then one in 0.2 * 4.418 + 0.8 * 2 = 2.484 s, 11.274 in 28 s.
+        # Here 22 s at the end let 14.78 pass, 21 s 14.35.
+        _, left, *_ = self.lanes(80, 20, 360, 0)
+        self.assertAlmostEqual(lane_there(left, 0, 42, 1.0), 14.357, places=2)
+        self.assertAlmostEqual(lane_here(left, 22, 42), 14.778, places=2)
+        self.assertAlmostEqual(lane_here(left, 21, 42), 14.347, places=2)
+        self.assertEqual([seconds_for(left, vehicles, 42) for vehicles in (0, 14.357, 99)], [1, 21, 42])
+
+    def test_a_queue_is_of_all_on_its_lane(self):
+        # 240 straight on for 2 s each and 60 to the left for 4.418 s each: 745 s of an hour, 2 + 48 * 0.207 / 0.793
+        # = 14.5 s. Where most turn left, those straight on alone: 60 for 2 s each, 2 + 48 * 0.0333 / 0.9667 = 3.7 s.
+        for on, turning, expected in ((240, 60, 15), (60, 300, 4)):
+            _, left, east, _ = self.lanes(360, 10, on, turning)
+            self.assertEqual(lane_queue(left, east, 1.0).bit_count(), expected)
+
+    def test_a_queue_ends_with_its_green(self):
+        _, left, east, _ = self.lanes(80, 20, 1700, 0)
+        self.assertEqual(lane_queue(left, east, 1.0), east.green)
+        self.assertAlmostEqual(lane_there(left, 0, 42, 1.0), 4.0 * (1 - 0.8 ** 20.598) + 1, places=1)  # and one after
 
 
 class Shown(Case):

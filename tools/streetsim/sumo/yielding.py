@@ -9,6 +9,7 @@ number, second 0 the lowest.
 from __future__ import annotations
 
 import math
+from bisect import bisect_left
 from collections import Counter, defaultdict
 from collections.abc import Collection, Iterable, Mapping, Sequence
 from dataclasses import dataclass, field
@@ -23,9 +24,12 @@ Way = tuple[str, str]  # an edge and the next one
 Meeting = tuple[int, tuple["Movement", ...]]  # seconds, and the foes that are green in them
 CRITICAL_GAP = 4.5  # seconds
 FOLLOW_UP = 2.5  # seconds between two that use one gap
+FIRST_GAP = 6.5  # seconds that one needs who does not follow one that waited, chosen at a lone cross with 42 s of green
+LEAST_SHARE = 0.02  # of a lane's vehicles wait, also where routes have fewer
 LOST = 2.0  # seconds until a queue of the other side moves
 SNEAKERS = 1  # vehicles that pass in a permissive green, whatever comes
 SPREAD = ((1 / 6, -(3**0.5)), (2 / 3, 0.0), (1 / 6, 3**0.5))  # weights of three cycles, and their standard deviations
+MOST_AGAINST = 1e5  # vehicles an hour; beyond that numbers overflow
 MOST_EQUIVALENT = 10.0  # vehicles, for one that waits
 ROUNDS, CLOSE = 30, 1.0  # of the search for flows that fit to each other, vehicles an hour
 BEHIND, ROOM = 1.42, 7.5  # in SUMO (g - start) / (BEHIND + ROOM / speed) pass in a green of g seconds, where the
@@ -34,6 +38,7 @@ HEADWAYS, AHEAD = (3.0, 2.07, 1.89, 1.83, 1.83), 1.35  # here (g + AHEAD) / HEAD
 SHORT = (0.8, 0.97, 1.68, 2.45, 2.82, 3.37)  # in 1 to 6 seconds so many
 TWO_PARTS = 9  # seconds of green, from which on seconds in its middle hold a queue up as wanted
 USUAL_SPEED = 13.9  # metres a second, where a junction's is not known
+START = USUAL_SPEED / (2 * ACCELERATION) - EARLY  # seconds until a queue moves that drives straight on, in SUMO
 GREEN, PERMISSIVE = "GsO", "go"
 SHOWN = GREEN + PERMISSIVE
 
@@ -69,6 +74,14 @@ class Movement:
     # By first second of a permissive green: how many seconds of it are shown.
     shown: dict[int, int] = field(default_factory=dict)
     parts: int = 1  # in which they are shown
+    sharing: list[Movement] = field(default_factory=list)  # its lane, with it
+    lanes: int = 1  # of its edge
+    share: float = 1.0  # of the vehicles on its lane that wait for gaps
+    beside: float = 0.0  # seconds between vehicles of a queue of those on its lane that do not
+
+    @property
+    def waits(self) -> bool:
+        return bool(self.runs and self.foes)
 
 
 def movements_of(
@@ -90,15 +103,20 @@ def movements_of(
         movement.foes = [found[foe] for foe in sorted(yields.get(request, ())) if foe in found and found[foe].flow]
         movement.meets = {start: meetings(movement, start, length) for start, length in movement.runs.items()}
     for movement in found.values():
-        movement.parts = 2 if is_mixed(movement, found.values()) else 1
+        set_lane(movement, found.values())
     return found
 
 
-def is_mixed(movement: Movement, movements: Collection[Movement]) -> bool:
-    """Whether others on its lane need not wait, at an edge of several lanes."""
-    lanes = {other.lane for other in movements if other.way[0] == movement.way[0]}
-    free = any(other.lane == movement.lane and other.flow and not other.runs for other in movements)
-    return len(lanes) > 1 and free
+def set_lane(movement: Movement, movements: Collection[Movement]) -> None:
+    """Tells a movement of its lane, and in how many parts its seconds are shown: in two where others on its lane need
+    not wait, at an edge of several lanes."""
+    movement.lanes = len({other.lane for other in movements if other.way[0] == movement.way[0]})
+    movement.sharing = [other for other in movements if other.lane == movement.lane]
+    movement.parts = 2 if movement.lanes > 1 and any(one.flow and not one.runs for one in movement.sharing) else 1
+    whole, free = (sum(one.flow for one in movement.sharing if not (wait and one.waits)) for wait in (False, True))
+    movement.share = max(LEAST_SHARE, 1 - free / whole) if whole else 1.0
+    seconds = sum(one.flow * one.headway for one in movement.sharing if not one.waits)
+    movement.beside = seconds / free if free else movement.headway
 
 
 def movement_of(connection: Connection, states: Sequence[str], flow: float, limit: int) -> Movement:
@@ -192,12 +210,83 @@ def pass_through(sharing: Sequence[Movement]) -> float:
 
 def seconds_shown(movement: Movement, start: int, length: int) -> int:
     """The seconds of a permissive green in which as many leave a queue as find a gap in all of it: the mean of cycles
-    with less and with more traffic than usual."""
-    vehicles, usual = 0.0, sum(foe.passing for foe in movement.foes) * movement.cycle / 3600
-    for weight, deviations in SPREAD:
-        factor = max(0.0, 1 + deviations / max(1.0, usual) ** 0.5)
-        vehicles += weight * max(SNEAKERS, finding_gaps(movement, start, factor))
+    with less and with more traffic than usual. On the only lane of an edge as many of all on it, as those who need not
+    wait go first until one comes that must."""
+    usual = sum(foe.passing for foe in movement.foes) * movement.cycle / 3600
+    cycles = [(weight, max(0.0, 1 + deviations / max(1.0, usual) ** 0.5)) for weight, deviations in SPREAD]
+    if movement.waits and movement.lanes == 1:
+        vehicles = sum(weight * lane_there(movement, start, length, factor) for weight, factor in cycles)
+        return seconds_for(movement, vehicles, length)
+    vehicles = sum(weight * max(SNEAKERS, finding_gaps(movement, start, factor)) for weight, factor in cycles)
     return min(length, green_here(vehicles, movement.limit))
+
+
+def lane_there(movement: Movement, start: int, length: int, factor: float) -> float:
+    """How many of all on its lane pass in a permissive green in SUMO when the traffic that they give way to is a factor
+    of the usual: while the queue of the others leaves those before the first that waits, and then all, in gaps."""
+    blocked, free, passed = 0, 0, 0.0
+    for foe in movement.foes:
+        blocked |= lane_queue(movement, foe, factor)
+    for seconds, foes in movement.meets[start]:
+        count = (seconds & ~blocked).bit_count()
+        each = time_of(movement, sum(foe.passing for foe in foes) * factor)
+        passed += count / (movement.share * each + (1 - movement.share) * movement.beside)
+        free += count
+    before = max(0.0, length - free - START) / movement.beside
+    waiting = 1 - (1 - movement.share) ** before
+    return until_first(before, movement.share) + max(passed, SNEAKERS * waiting)
+
+
+def lane_queue(movement: Movement, foe: Movement, factor: float) -> int:
+    """As `queue_seconds`, of a foe's lane: of all on it, as those who wait hold up the others, but where most do not
+    go first of these alone."""
+    first = [one for one in movement.foes if one.lane == foe.lane]
+    most = 2 * sum(one.passing for one in first) >= sum(one.passing for one in foe.sharing)
+    seconds = sum(one.passing * time_of(one, most_against(one)) for one in (foe.sharing if most else first))
+    return leaving_seconds(foe, seconds * factor / 3600) & foe.green
+
+
+def most_against(movement: Movement) -> float:
+    """The most vehicles an hour that it gives way to in a second of a permissive green."""
+    groups = (foes for found in movement.meets.values() for _, foes in found)
+    return max((sum(foe.passing for foe in foes) for foes in groups), default=0.0)
+
+
+def time_of(movement: Movement, against: float) -> float:
+    """The seconds that one holds up its lane, against a flow of so many vehicles an hour where it waits for gaps. Who
+    follows one that waited may use its gap; others wait for one of their own, in traffic at random."""
+    if not movement.waits:
+        return movement.headway
+    against = min(against, MOST_AGAINST)
+    following = max(movement.headway, 3600 / gap_capacity(against))
+    alone = max(following, movement.headway + gap_wait(against))
+    return movement.share * following + (1 - movement.share) * alone
+
+
+def gap_wait(flow: float) -> float:
+    """The mean seconds until a gap comes that one alone can use, in a flow of so many vehicles an hour at random."""
+    each = flow / 3600
+    return (math.exp(each * FIRST_GAP) - 1) / each - FIRST_GAP if each > 0 else 0.0
+
+
+def until_first(vehicles: float, share: float) -> float:
+    """How many of so many vehicles pass before the first of a share that waits, on the mean."""
+    return (1 - share) * (1 - (1 - share) ** vehicles) / share
+
+
+def lane_here(movement: Movement, seconds: int, length: int) -> float:
+    """How many of all on its lane pass here where so many seconds are shown at the end of a permissive green."""
+    whole = max(0.0, length - START) / movement.beside  # pass if nobody waits, here as in SUMO
+    before = whole * (length - seconds + AHEAD) / (length + AHEAD)
+    none = (1 - movement.share) ** before  # that waits has come until then
+    shown = none * (whole - before) + (1 - none) * passing_here(seconds, movement.limit)
+    return until_first(before, movement.share) + shown
+
+
+def seconds_for(movement: Movement, vehicles: float, length: int) -> int:
+    """The seconds at the end of a permissive green with which so many of its lane pass here, as near as may be."""
+    more = bisect_left(range(1, length), vehicles, key=lambda seconds: lane_here(movement, seconds, length)) + 1
+    return min((more, max(1, more - 1)), key=lambda seconds: abs(lane_here(movement, seconds, length) - vehicles))
 
 
 def places(length: int, seconds: int, parts: int) -> list[tuple[int, int]]:
@@ -222,7 +311,12 @@ def finding_gaps(movement: Movement, start: int, factor: float) -> float:
 
 def queue_seconds(foe: Movement, factor: float) -> int:
     """The seconds of the cycle in which the queue leaves that has waited for a green."""
-    seconds, rate = 0, min(foe.passing * factor * foe.headway / 3600, 0.99)
+    return leaving_seconds(foe, foe.passing * factor * foe.headway / 3600)
+
+
+def leaving_seconds(foe: Movement, rate: float) -> int:
+    """The seconds of the cycle in which a queue leaves that needs so large a share of the time."""
+    seconds, rate = 0, min(rate, 0.99)
     for start, red in foe.begins if foe.passing else ():
         seconds |= seconds_from(start, round(LOST + red * rate / (1 - rate)), foe.cycle)
     return seconds
@@ -243,15 +337,14 @@ def capacity(sharing: Sequence[Movement], wish: float) -> float:
         green |= movement.green
     each = sum(movement.flow * movement.headway for movement in sharing) / wish
     whole = green.bit_count() / each
-    waiting = [movement for movement in sharing if movement.runs and movement.foes]
+    waiting = [movement for movement in sharing if movement.waits]
     share = sum(movement.flow for movement in waiting) / wish
     if not share:
         return whole * 3600 / cycle
     shown = max(sum(movement.shown.values()) / HEADWAYS[movement.limit - 1] for movement in waiting)
     shown += waiting[0].sure.bit_count() / each
     before = max(0.0, whole - shown)
-    passed = (1 - share) * (1 - (1 - share) ** before) / share if share < 1 else 0.0
-    return min(whole, passed + shown) * 3600 / cycle
+    return min(whole, until_first(before, share) + shown) * 3600 / cycle
 
 
 def leaving(green: float, speed: float) -> float:
@@ -293,7 +386,7 @@ def equivalents(movements: Iterable[Movement]) -> dict[Way, float]:
     others could pass in the whole of its green for each that passes."""
     found: dict[Way, float] = {}
     for movement in movements:
-        if movement.runs and movement.foes:
+        if movement.waits:
             passing = sum(movement.shown.values()) / HEADWAYS[movement.limit - 1]
             passing += movement.sure.bit_count() / movement.headway
             most = min(MOST_EQUIVALENT, movement.green.bit_count() / movement.headway / max(passing, 0.5))
