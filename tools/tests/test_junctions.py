@@ -273,8 +273,14 @@ class OfARun(Case):
             run = self.write("street.jsonl", "".join(json.dumps(line) + "\n" for line in lines))
             mapped = self.write("street.json", json.dumps({**MAP, **more}))
             words = ("--map", mapped, "--junctions", 60, "--out", self.folder / "out", "--program", PROGRAM)
-            told = self.tool("run", run, *words)[1]
+            out, told = self.tool("run", run, *words)
             self.assertEqual("and goes on in the edge before it, which no table has: a\n" in told, said, (cells, told))
+            why = "junction tables: delays, letters and queues are too small at a, as queues go on in the edges before"
+            self.assertEqual(out.splitlines()[-1].startswith(f"not to be trusted: {why}"), said, (cells, out))
+            self.tool("report", self.folder / "out", "-o", self.folder / "page.html")
+            page = (self.folder / "page.html").read_text(encoding="utf-8")
+            self.assertEqual("nothing speaks against this run" in page, not said)
+            self.assertEqual(f"<li>seed 0: {why}" in page, said)
 
     def test_random_moments_are_near(self):
         """The mean delay of approaches within the error that is stated, for most of them."""

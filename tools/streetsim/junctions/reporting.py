@@ -33,9 +33,9 @@ def write_junctions(
     folder: str,
     jobs: int,
     interval: int,
-) -> list:
+) -> tuple[list[str], list[str]]:
     """Writes movements.csv, approaches.csv and junctions.csv into a folder; serving() gives a program.
-    Gives what is to be told of how they were made, if anything."""
+    Gives what is to be told of how they were made, and why they are not to be trusted, if anything."""
     approaches, start = approaches_of(mapping), run.start()
     lanes = [place for approach in approaches.values() for place in approach.lanes]
     clocks: Sequence[int] = range(start + 1, settings.until + 1)
@@ -70,9 +70,15 @@ def write_junctions(
     )
     if found := facing(mapping, plans, (settings.until - start) / 3600):
         told.append(f"junctions: delays are too small where minor streets wait for each other: {some(found)}")
-    if found := sorted(made.filled() & set(cut_short(mapping, approaches))):
-        told.append(
-            "junctions: delays, letters and queues are too small where a queue fills an approach, as of turn lanes, "
-            f"and goes on in the edge before it, which no table has: {some(found)}"
-        )
-    return told
+    beyond, doubts = of_queues(sorted(made.filled() & set(cut_short(mapping, approaches))))
+    return told + beyond, doubts
+
+
+def of_queues(approaches: Sequence[str]) -> tuple[list[str], list[str]]:
+    """What is to be told of approaches beyond which queues went on, and why their rows are not to be trusted."""
+    if not approaches:
+        return [], []
+    small, found = "delays, letters and queues are too small", some(approaches)
+    where = "where a queue fills an approach, as of turn lanes, and goes on in the edge before it, which no table has"
+    doubt = f"junction tables: {small} at {found}, as queues go on in the edges before, which no table has"
+    return [f"junctions: {small} {where}: {found}"], [doubt]

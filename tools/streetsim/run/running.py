@@ -194,19 +194,15 @@ def one_run(
     if words.sumo_output:
         with_sumo_outputs(words, run, mapping, settings, records, trips, folder, jobs)
     told = list(notes(records, settings))
+    beyond: list[str] = []
     if words.junctions is not None:
         interval = words.junctions or settings.period
-        told += write_junctions(partial(serving, words), run, mapping, settings, records, folder, jobs, interval)
-    tables.write_table(f"{folder}/counts.csv", tables.COUNTS, tables.counts(records, mapping))
-    tables.write_table(f"{folder}/trips.csv", tables.TRIPS, trips)
-    tables.write_table(f"{folder}/edges.csv", tables.EDGES, tables.edges(records, mapping))
-    tables.write_table(f"{folder}/detectors.csv", tables.LOOPS, loop_rows(records, mapping.detectors))
-    tables.write_table(f"{folder}/areas.csv", tables.AREAS, area_rows(records, mapping.detectors, settings.until))
-    tables.write_table(f"{folder}/queues.csv", tables.QUEUES, tables.queues(records, mapping))
-    tables.write_table(f"{folder}/summary.csv", tables.SUMMARY, tables.summary(records))
-    tables.write_table(f"{folder}/warnings.csv", COLUMNS, mapping.told)
+        made_of = run, mapping, settings, records, folder, jobs, interval
+        more, beyond = write_junctions(partial(serving, words), *made_of)
+        told += more
+    write_tables(folder, records, mapping, settings.until, trips)
     made, rescues = trust.trips_at(records.clock, run.start(), trips), records.rescues.total()
-    doubts = trust.doubts(made, rescues, records.censuses, run, mapping)
+    doubts = [*trust.doubts(made, rescues, records.censuses, run, mapping), *beyond]
     program_sum = digest_of(words.program)
     write_setting(folder, mapping, given, settings, records.asking.every, yielding, doubts, program_sum)
     return {
@@ -219,6 +215,18 @@ def one_run(
         "told": ", ".join(filter(None, (made.told(), f"{rescues:,} rescues", yielding.told(), records.ended))),
         "doubts": doubts,
     }
+
+
+def write_tables(folder: str, records: Records, mapping: Map, until: int, trips: Sequence[tuple]) -> None:
+    """The tables that each run has."""
+    tables.write_table(f"{folder}/counts.csv", tables.COUNTS, tables.counts(records, mapping))
+    tables.write_table(f"{folder}/trips.csv", tables.TRIPS, trips)
+    tables.write_table(f"{folder}/edges.csv", tables.EDGES, tables.edges(records, mapping))
+    tables.write_table(f"{folder}/detectors.csv", tables.LOOPS, loop_rows(records, mapping.detectors))
+    tables.write_table(f"{folder}/areas.csv", tables.AREAS, area_rows(records, mapping.detectors, until))
+    tables.write_table(f"{folder}/queues.csv", tables.QUEUES, tables.queues(records, mapping))
+    tables.write_table(f"{folder}/summary.csv", tables.SUMMARY, tables.summary(records))
+    tables.write_table(f"{folder}/warnings.csv", COLUMNS, mapping.told)
 
 
 def with_sumo_outputs(
