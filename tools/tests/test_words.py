@@ -83,6 +83,17 @@ class Runs(Case):
         _, said = self.tool("run", *self.words("--until", 60, "--edges", "a", "--every", 0), status=2)
         self.assertEqual(said, "streetsim-run: --edges are those whose lanes are polled, and --every 0 polls none\n")
 
+    def test_nothing_is_polled(self):
+        """A run that ends before its first poll; one at the last second is enough."""
+        _, said = self.tool("run", *self.words("--until", 100, "--every", 200), status=2)
+        told = "the first poll of the lanes is at 200 s, and the run ends at 100 s"
+        advice = "take --every 100 or less, or --every 0, which polls none"
+        self.assertEqual(said, f"streetsim-run: --every 200: {told}: {advice}\n")
+        for words in (("--until", 100, "--every", 100), ("--until", 100, "--every", 0)):
+            self.assertEqual(self.tool("run", *self.words(*words))[1], "")
+        _, said = self.tool("run", *self.words("--every", 600))
+        self.assertEqual(said, "lanes were never polled: the run ended at 60 s, and the first poll is at 600 s\n")
+
     def test_stretches_with_commas(self):
         """Both lanes are closed in the last step; an edge is told its lanes."""
         works = "a_0:0-75:20-30,b_0:0-75:00:00:10-00:00:50"

@@ -171,6 +171,8 @@ def main(arguments: list[str]) -> int:
     print(*told, sep="\n", end="\n" if told else "", file=sys.stderr)
     if words.until <= run.start():
         raise Fault(f"--until {words.until}: the run starts at {run.start()}")
+    if not open_end:
+        refuse_no_poll(settings, run.start())
     words.program = program.find_program(words.program)
     if words.seeds:
         return run_seeds(words, run, mapping, settings)
@@ -179,6 +181,20 @@ def main(arguments: list[str]) -> int:
         figures = one_run(words, run, mapping, settings, folder, shown.show, words.jobs)
     report(figures, "")
     return 0
+
+
+def refuse_no_poll(settings: Settings, start: int) -> None:
+    """Refuses seconds between polls that are so many that a run ends before the first one."""
+    if (first := first_poll(settings.every, start)) > settings.until:
+        raise Fault(
+            f"--every {settings.every}: the first poll of the lanes is at {first} s, and the run ends at "
+            f"{settings.until} s: take --every {settings.until - start} or less, or --every 0, which polls none"
+        )
+
+
+def first_poll(every: int | None, start: int) -> int:
+    """The clock at which lanes are first polled that are polled each so many seconds; the start where none are."""
+    return (start // every + 1) * every if every else start
 
 
 def one_run(
@@ -193,7 +209,7 @@ def one_run(
     trips = list(tables.trips(records, run, mapping))
     if words.sumo_output:
         with_sumo_outputs(words, run, mapping, settings, records, trips, folder, jobs)
-    told = list(notes(records, settings))
+    told = list(notes(records, settings, run.start()))
     beyond: list[str] = []
     if words.junctions is not None:
         interval = words.junctions or settings.period
@@ -283,7 +299,7 @@ def count_further(
         first.uncounted -= len(records.counts)
 
 
-def notes(records: Records, settings: Settings) -> Iterator[str]:
+def notes(records: Records, settings: Settings, start: int) -> Iterator[str]:
     """What the tables do not have."""
     if records.uncounted:
         yield (
@@ -293,6 +309,8 @@ def notes(records: Records, settings: Settings) -> Iterator[str]:
     if settings.every is None and records.asking.every != INTERVALS[0]:
         often = f"every {records.asking.every:,} s" if records.asking.every else "never"
         yield f"lanes are polled {often}, as the program takes no more calls"
+    if (first := first_poll(records.asking.every, start)) > records.clock:
+        yield f"lanes were never polled: the run ended at {records.clock:,} s, and the first poll is at {first:,} s"
     if records.unpolled:
         yield f"{records.unpolled:,} polls of the lanes were left out, as rescues took the calls"
     if records.unsent:
