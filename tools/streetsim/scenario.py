@@ -5,6 +5,7 @@ import warnings
 from collections.abc import Collection, Iterable, Iterator, Sequence
 from dataclasses import replace
 from heapq import heappop, heappush
+from math import ceil
 from typing import Any, Self
 
 from . import client, limits
@@ -132,8 +133,8 @@ class Scenario:
         self.client.__exit__(*fault)
 
     def simulationStep(self, time: float = 0) -> None:
-        """One step, or all steps until a time in seconds."""
-        target = max(self.clock + 1, int(time))
+        """One step, or all steps until a time in seconds is reached; none where it is, as in SUMO."""
+        target = ceil(time) if time else self.clock + 1
         while self.clock < target:
             self.turn_off()
             due = [max(1, one.due - self.clock) for one in self.turning.values()]
@@ -214,16 +215,18 @@ class Scenario:
         self,
         lane: str,
         begin: float = 0.0,
-        end: float = float(10**7),
+        end: float | None = None,
         divert: bool = False,
         until: float = float("inf"),
     ) -> list[str]:
-        """Closes a lane from one place to another, in metres: road works. ValueError beyond the lane, where the end is
-        not after the begin, and where vehicles could not change to the lane beside it. divert: where nobody can pass
-        the edge any more, those who would come there before a second, `until`, take another way, from their begin on
-        or from a crossing ahead of them; gives their names."""
+        """Closes a lane from one place to another (its end), in metres: road works. ValueError beyond the lane, where
+        the end is not after the begin, and where vehicles could not change to the lane beside it. divert: where nobody
+        can pass the edge any more, those who would come there before a second, `until`, take another way, from their
+        begin on or from a crossing ahead of them; gives their names. ValueError where that second is over."""
         if why := why_parallel(self.map, lane):
             raise ValueError(f"{why}: Scenario(.., joint=[{lane!r}])")
+        if divert:
+            self.refuse_past(until)
         link, place = self.lane_of[lane]
         self.client.close_lane(link, place, *self.works_cells(lane, begin, end))
         return self.divert(self.map.links[link].edge, until) if divert else []
@@ -232,6 +235,7 @@ class Scenario:
         """Those who have not departed or are on the road take the shortest ways round an edge that is shut: they are
         taken out and entered anew, with another number, who is on the road where its new way begins. Gives the names of
         those for whom there is a way."""
+        self.refuse_past(until)
         places = [(link, lane) for link in self.map.links_of[edge] for lane in range(len(self.map.links[link].lanes))]
         closed = {place: self.client.lane(*place).closed for place in places}
         shut = shut_edges(self.map, [edge], closed)
@@ -247,6 +251,11 @@ class Scenario:
             else:
                 self.enter_anew(name, plan, max(self.clock, self.departs[name]))
         return [name for name in self.plans if name in ways]
+
+    def refuse_past(self, until: float) -> None:
+        """Nobody comes before a second that is over."""
+        if not until > self.clock:
+            raise ValueError(f"until {until:g} s nobody can take another way: the clock is at {self.clock} s")
 
     def turn_later(self, name: str, way: tuple[int, ...]) -> None:
         """Has a vehicle on the road leave its plan for a way from where it is."""
@@ -306,16 +315,20 @@ class Scenario:
         """Writes these rows as a table."""
         tables.write_table(path, tables.TRIPS, self.trips())
 
-    def reopen(self, lane: str, begin: float = 0.0, end: float = float(10**7)) -> None:
+    def reopen(self, lane: str, begin: float = 0.0, end: float | None = None) -> None:
         self.client.reopen_lane(*self.lane_of[lane], *self.works_cells(lane, begin, end))
 
-    def works_cells(self, lane: str, begin: float, end: float) -> tuple[int, int]:
+    def works_cells(self, lane: str, begin: float, end: float | None) -> tuple[int, int]:
+        """The cells of works; a lane takes the whole metre in which it ends, as streetsim-run --close does."""
         link = self.map.links[self.lane_of[lane][0]]
-        if not 0 <= begin < end:
-            raise ValueError(f"lane {lane!r}: from {begin:g} m to {end:g} m there are no works")
+        last = link.metres if end is None else end
         if begin >= link.metres:
             raise ValueError(f"lane {lane!r} ends at {link.metres:g} m, before {begin:g} m")
-        return link.closed_between(begin, end)
+        if not 0 <= begin < last:
+            raise ValueError(f"lane {lane!r}: from {begin:g} m to {last:g} m there are no works")
+        if last > ceil(link.metres):
+            raise ValueError(f"lane {lane!r} ends at {link.metres:g} m, before {last:g} m")
+        return link.closed_between(begin, last)
 
 
 class Simulation(Part):

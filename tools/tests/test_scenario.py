@@ -105,7 +105,18 @@ class Scenarios(Case):
         ):
             with self.assertRaisesRegex(ValueError, f"lane 'b_0': from {told} there are no works"):
                 self.sim.close("b_0", *places)
+        for change in (self.sim.close, self.sim.reopen):
+            with self.assertRaisesRegex(ValueError, "lane 'b_0' ends at 75 m, before 76 m"):
+                change("b_0", 0, 76)
         self.assertEqual(self.sim.lane_state("b_0").closed, ())
+        self.sim.close("b_0", 74.5)
+        self.assertEqual(self.sim.lane_state("b_0").closed, ((9, 9),))
+
+    def test_steps_until_a_time(self):
+        """None where it is reached; 602.4 s is only when 603 are (in SUMO as well: test_traci)."""
+        for time, clock in ((600, 600), (300, 600), (600, 600), (-5, 600), (0, 601), (600.5, 601), (602.4, 603)):
+            self.sim.simulationStep(time)
+            self.assertEqual((time, self.sim.simulation.getTime()), (time, clock))
 
     def test_detector(self):
         self.sim.inductionloop.add("d", "a_0", 29.0, 10)  # cell 3
@@ -255,6 +266,18 @@ class Diverting(Case):
         sim = self.begun(*range(0, 1200, 20))
         sim.simulationStep(130)
         self.assertEqual(sim.close("short_0", 100, 200, divert=True, until=610), [str(at) for at in range(6, 30)])
+
+    def test_works_whose_end_is_over(self):
+        """Nobody comes before it: nothing is closed."""
+        sim = self.begun(0, 120)
+        sim.simulationStep(130)
+        told = "until 130 s nobody can take another way: the clock is at 130 s"
+        with self.assertRaisesRegex(ValueError, told):
+            sim.close("short_0", 100, 200, divert=True, until=130)
+        self.assertEqual(sim.lane_state("short_0").closed, ())
+        with self.assertRaisesRegex(ValueError, told):
+            sim.divert("short", 130)
+        self.assertEqual(sim.close("short_0", 100, 200, until=130), [])
 
     def test_further_works_before_the_other_way_begins(self):
         """Who is on its way to the crossing hears of the second works there, and takes the short way after all."""

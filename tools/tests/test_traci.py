@@ -792,6 +792,14 @@ class Scripts(Case):
 
     @needs_sumo
     @needs_traci
+    def test_steps_as_in_sumo(self):
+        """Until a time that is over there is none."""
+        (here, _), (there, _) = (self.run_script("steps", *self.cross()[:4], sumo=sumo) for sumo in (False, True))
+        self.assertEqual(here, there)
+        self.assertEqual(here[1], "300 600.0")
+
+    @needs_sumo
+    @needs_traci
     def test_progress_as_in_sumo(self):
         """Metres and gaps, through a junction too. A queue begins a metre nearer to the stop line, in cells;
         and as vehicles brake and start at once, those who stop lose some seconds less."""

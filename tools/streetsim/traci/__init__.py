@@ -77,7 +77,7 @@ def _now() -> Session:
 
 
 def simulationStep(step: float = 0) -> None:
-    """One step, or all steps until a time in seconds; none where that is over."""
+    """One step, or all steps until a time in seconds is reached; none where it is."""
     session = _now()
     session.step(step)
     session.listeners.step(step)

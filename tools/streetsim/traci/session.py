@@ -3,6 +3,7 @@ from __future__ import annotations
 
 from collections.abc import Iterable, Iterator, Mapping, Sequence
 from dataclasses import dataclass
+from math import ceil
 from pathlib import Path
 from typing import TYPE_CHECKING, Any, Self
 
@@ -184,8 +185,8 @@ class Session(Scenario):
     # Steps
 
     def step(self, target: float = 0.0) -> None:
-        """One step, or all steps until a time; none where that is over."""
-        target = int(target) if target else self.clock + 1
+        """One step, or all steps until a time is reached; none where it is."""
+        target = ceil(target) if target else self.clock + 1
         while self.clock < target:
             self.advance(self.clock + 1 if self.followed or self.timers else min(target, self.clock + limits.STEPS))
 
