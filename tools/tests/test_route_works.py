@@ -300,6 +300,14 @@ knowing = 0.5
         setting = json.loads((self.folder / "out/setting.json").read_text())
         self.assertGreater(setting["without_works"]["relative_gap"], 0.001)
 
+    def test_works_that_meet_nobody(self):
+        self.given(two_ways(), flow(10, 100))
+        words = ("--close", "short_0:100-200:3000-3600", "--knowing", 0, "--gap", 1, "--iterations", 0)
+        why = "works on short_0 begin at 3,000 s, and met nobody in 3 of 3 runs, as all vehicles had arrived by then"
+        told, _ = self.route(*words)
+        self.assertEqual(told.splitlines()[-1], f"not to be trusted: knowing 0: {why}")
+        self.assertEqual(json.loads((self.folder / "out/setting.json").read_text())["not_trusted"], [why])
+
     def test_more_come_than_the_open_lanes_pass(self):
         """Of three lanes two are one link; one of them is closed."""
         ends = {"in": ("W", "A", 3), "a": ("A", "B", 3), "out": ("B", "E", 3)}

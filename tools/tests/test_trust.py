@@ -60,6 +60,15 @@ class Marks(unittest.TestCase):
         told = list(trust.of_entries(made, [Census(60, 5), Census(120, 6), Census(180, 2)]))
         self.assertEqual(told, ["6 vehicles waited to enter at 120 s, and are in no queue or count"])
 
+    def test_works_that_met_nobody(self):
+        """All had arrived at 300 s in one run, at 299 s in another and not in a third; the fourth ended before."""
+        runs = [(900, 300), (900, 299), (900, None), (300, None)]
+        told = [
+            "works on a_0 begin at 300 s, and 1 of 4 runs had ended by then",
+            "works on a_0 begin at 300 s, and met nobody in 2 of 4 runs, as all vehicles had arrived by then",
+        ]
+        self.assertEqual(list(trust.of_works([("a_0", 300), ("b_0", 200)], runs)), told)
+
     def test_actuated_lights(self):
         """More than a tenth of those who depart pass light L; who only comes to it,
         or departs after the end, does not."""

@@ -162,6 +162,21 @@ class Works(Case):
         doubt = "late: works on a_0 begin at 900 s, and 2 of 2 runs had ended by then"
         self.assertEqual(told[-1], f"not to be trusted: {doubt}")
 
+    def test_nobody_is_left(self):
+        """The same with a last second after the begin: the works are there, and meet nobody. Works that who is on the
+        way may meet are not named."""
+        run, mapped = self.imported()
+        words = ["--out", self.folder / "out", "--program", PROGRAM]
+        last = ["run", run, "--map", mapped, "--until", 1200, *words, "--close"]
+        why = "works on a_0 begin at 900 s, and met nobody{}, as all vehicles had arrived by then"
+        told = self.tool(*last, "a_0:100-200:900-1100")[0].splitlines()
+        self.assertEqual(told[1:], [f"not to be trusted: {why.format('')}"])
+        self.assertEqual(len(self.tool(*last, "a_0:100-200:300-1100")[0].splitlines()), 1)
+        text = 'run = "run.jsonl"\nmap = "map.json"\nseeds = "1-2"\nuntil = 1200\n[variant.given]\n[variant.late]\n'
+        text += 'close = ["a_0:100-200:900-1100"]'
+        told = self.tool("study", self.write("study.toml", text), *words)[0].splitlines()
+        self.assertEqual(told[-1], f"not to be trusted: late: {why.format(' in 2 of 2 runs')}")
+
     def test_joint_from_the_start(self):
         run, mapped = self.imported(more=("--joint", "a"))
         told, _, arrived = self.run_with(run, mapped, "a_0:100-200:60-1200")

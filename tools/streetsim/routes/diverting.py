@@ -15,6 +15,7 @@ from ..run import trust
 from ..run.crowding import crowded
 from ..run.works import sites_of, works_of
 from ..study.seeds import interval
+from ..study.sessions import all_gone
 from .closing import Closing, knows, shut_edges, why_not
 from .graph import Graph
 from .loading import Town
@@ -60,6 +61,9 @@ class Diverted:
         yield from trust.of_actuated(until, run, mapping, mapping.actuated)
         works = [works_of(text, mapping) for text in self.search.town.works]
         yield from crowded(run, mapping, sites_of(works, mapping))
+        if works:
+            ends = [(until, all_gone(one.ends, run.start())) for one in outcomes]
+            yield from trust.of_works([(one.lane, one.first) for one in works], ends)
 
     def named_doubts(self) -> list[str]:
         return [f"{self.label}: {text}" if self.search.town.works else text for text in self.doubts()]

@@ -41,6 +41,10 @@ class Trips:
     long_due: int  # those that would have arrived for STILL seconds and have not
     last: int  # arrival, or the start
 
+    def gone(self) -> int | None:
+        """When all who wished to depart had arrived; none where some have not."""
+        return None if self.to_date else self.last
+
     def told(self) -> str:
         """Their means, and over whom."""
         if not self.durations:
@@ -93,7 +97,7 @@ def of_missing(arrived: Mapping[str, float], due: float) -> list[str]:
 def doubts(trips: Trips, rescues: int, censuses: Sequence, run: Run, mapping: Map) -> list[str]:
     """What speaks against a run, each in some words; nothing where it is to be trusted."""
     found = [*of_rescues(trips, rescues), *of_arrivals(trips), *of_entries(trips, censuses)]
-    found += of_works(works_in(run, mapping), [trips.clock])
+    found += of_works(works_in(run, mapping), [(trips.clock, trips.gone())])
     return [*found, *of_lengths(trips.clock, run, mapping), *of_actuated(trips.clock, run, mapping, mapping.actuated)]
 
 
@@ -135,12 +139,17 @@ def works_in(run: Run, mapping: Map) -> Iterator[tuple[str, int]]:
             yield mapping.lane_name(line.command["link"], line.command["lane"]), clock
 
 
-def of_works(works: Iterable[tuple[str, int]], ends: Sequence[int]) -> Iterator[str]:
-    """Where works, each a lane and its first second, had not begun when runs without a last second ended."""
+def of_works(works: Iterable[tuple[str, int]], runs: Sequence[tuple[int, int | None]]) -> Iterator[str]:
+    """Where works, each a lane and its first second, met nobody: they had not begun when runs without a last second
+    ended, or all had arrived. runs: of each the last clock, and when all had arrived, or none."""
     for lane, first in works:
-        if early := sum(end <= first for end in ends):
-            ended = "the run" if len(ends) == 1 else f"{early:,} of {len(ends):,} runs"
-            yield f"works on {lane} begin at {first:,} s, and {ended} had ended by then"
+        begin = f"works on {lane} begin at {first:,} s, and"
+        if early := sum(end <= first for end, _ in runs):
+            ended = "the run" if len(runs) == 1 else f"{early:,} of {len(runs):,} runs"
+            yield f"{begin} {ended} had ended by then"
+        if empty := sum(gone is not None and gone <= first < end for end, gone in runs):
+            where = "" if len(runs) == 1 else f" in {empty:,} of {len(runs):,} runs"
+            yield f"{begin} met nobody{where}, as all vehicles had arrived by then"
 
 
 def plans_before(clock: int, run: Run) -> list[list[int]]:

@@ -10,7 +10,7 @@ from ..run.mapping import Map
 from ..run.record import Recorder, Records, Settings
 from ..run.runs import Run
 from ..run.serving import serving
-from .sessions import Outcome
+from .sessions import Outcome, all_gone
 
 
 class Summed(Client):
@@ -54,12 +54,11 @@ def outcome_of(program: str, run: Run, mapping: Map, until: int) -> Outcome:
         assert isinstance(sim, Summed)
         records = Counted(sim, run, mapping, until).record()
         digest = sim.sum.hexdigest()
-    seconds = arrived = 0
-    for line, end in zip(run.enters, records.ends, strict=True):
-        there = end is not None and end.state == "arrived"
-        arrived += there
-        seconds += max(
-            0, (end.step + 1 if end and there and end.step is not None else records.clock) - line.command["depart"]
-        )
+    ends = [one.step + 1 if one and one.state == "arrived" and one.step is not None else None for one in records.ends]
+    seconds = sum(
+        max(0, (records.clock if end is None else end) - line.command["depart"])
+        for line, end in zip(run.enters, ends, strict=True)
+    )
+    arrived, gone = sum(end is not None for end in ends), all_gone(ends, run.start())
     worst = max(records.censuses, key=lambda census: census.waiting)
-    return Outcome(digest, arrived, seconds, records.clock, worst.waiting, worst.clock, records.ended)
+    return Outcome(digest, arrived, seconds, records.clock, worst.waiting, worst.clock, records.ended, gone=gone)

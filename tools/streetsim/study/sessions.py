@@ -63,6 +63,7 @@ class Outcome:
     ended: str = ""  # why a run without a last second ended
     junctions: int = 0  # without a light, at which vehicles give way
     lines: int = 0  # signals by which they do
+    gone: int | None = None  # the clock at which all had arrived; none where some have not
 
 
 @functools.cache
@@ -174,7 +175,14 @@ def outcome(session: Session, signals: bytes, seed: int) -> Outcome:
     ends = [one["step"] + 1 if one["state"] == "arrived" else None for one in last]
     seconds = sum((until if end is None else end) - depart for end, depart in zip(ends, session.departs, strict=True))
     arrived, digest = sum(end is not None for end in ends), hashlib.sha256(text).hexdigest()
-    return Outcome(digest, arrived, seconds, until, *most_waiting(session, map(int, WAITING.findall(text))))
+    waiting = most_waiting(session, map(int, WAITING.findall(text)))
+    return Outcome(digest, arrived, seconds, until, *waiting, gone=all_gone(ends, session.clocks[0]))
+
+
+def all_gone(ends: Sequence[int | None], start: int) -> int | None:
+    """When the last of all arrived, or none where one has not; the start where there is nobody."""
+    arrivals = [end for end in ends if end is not None]
+    return max(arrivals, default=start) if len(arrivals) == len(ends) else None
 
 
 def most_waiting(session: Session, counts: Iterable[int]) -> tuple[int, int]:

@@ -50,7 +50,7 @@ def doubts(study: Study, name: str, outcomes: Sequence[Outcome]) -> Iterator[str
     early = [one for one in outcomes if one.ended and one.arrived < len(variant.due)]
     if early:
         yield f"{len(early):,} of {len(outcomes):,} runs ended before all had arrived, who count until then"
-    yield from trust.of_works(variant.works, [one.end for one in outcomes])
+    yield from trust.of_works(variant.works, [(one.end, one.gone) for one in outcomes])
     yield from variant.doubts
 
 
