@@ -7,11 +7,11 @@ import pty
 import subprocess
 import unittest
 
-from support import MAP, NUMBERED, PROGRAM, RED, TOOLS, Case, lane, needs_simulator, net
+from support import FORK, MAP, NUMBERED, PROGRAM, RED, TOOLS, Case, lane, needs_simulator, net
 from streetsim.run import tables
 from streetsim.files import Fault
 from streetsim.run.record import Recorder, Settings, standing
-from streetsim.run.runs import read_run
+from streetsim.run.runs import read_run, read_with_map
 from streetsim.scenario import Scenario
 
 
@@ -167,6 +167,28 @@ class Reading(Runs):
         told = self.tool("live", self.run_file, "--map", words[3], "-o", self.folder / "x.html", status=2)[1]
         for text in (told, self.tool(*words, status=2)[1]):
             self.assertIn("run.jsonl, which has 0 vehicles and not 2", text)
+
+    def test_map_of_another_demand(self):
+        """On the same network, with as many or fewer vehicles. What a script changes in a run without changing who its
+        vehicles are is taken: departures, lines with a clock, further vehicles."""
+        network = self.write("x.net.xml", FORK)
+        for name, ways in (("one", "bcb"), ("other", "bbc"), ("fewer", "c")):
+            vehicles = "".join(
+                f'<vehicle id="{name}{at}" depart="{9 * at}"><route edges="a {way}"/></vehicle>'
+                for at, way in enumerate(ways)
+            )
+            routes = self.write(f"{name}.rou.xml", f"<routes>{vehicles}</routes>")
+            words = "-o", self.folder / f"{name}.jsonl", "--map", self.folder / f"{name}.json"
+            self.tool("import", network, "--routes", routes, *words)
+        self.run_file, self.map_file = self.folder / "one.jsonl", self.folder / "one.json"
+        for name in ("other", "fewer"):
+            with self.assertRaisesRegex(Fault, f"{name}.json: not the map of .*, whose vehicles begin or end on other"):
+                read_with_map(self.run_file, self.folder / f"{name}.json")
+        lines = self.run_file.read_text().replace('"depart":9', '"depart":11').splitlines(keepends=True)
+        lines.insert(1, '{"cmd":"close","link":0,"lane":0,"first":2,"last":3,"at":900}\n')
+        self.run_file = self.write("changed.jsonl", "".join([*lines, lines[-1]]))
+        self.run_tool("--until", 100)
+        self.assertEqual([row[0] for row in self.table("trips.csv")], ["one0", "one1", "one2", "#3"])
 
     def test_faults(self):
         for text, words in (

@@ -9,6 +9,7 @@ from itertools import accumulate
 from typing import Any
 
 from ..files import Fault, FilePath, open_text, reading
+from ..sumo.sources import sum_of_lines
 from .mapping import Map, read_map
 
 
@@ -51,7 +52,18 @@ def read_with_map(run_path: FilePath, map_path: FilePath) -> tuple[Run, Map]:
             f"{map_path}: not the map of {run_path}, which has {len(run.enters):,} vehicles and not "
             f"{len(mapping.cars):,}"
         )
+    known = mapping.kinds.get("ends")
+    if known is not None and known != sum_of_lines(ends_of(run, mapping)):
+        raise Fault(f"{map_path}: not the map of {run_path}, whose vehicles begin or end on other edges")
     return run, mapping
+
+
+def ends_of(run: Run, mapping: Map) -> Iterator[str]:
+    """The edges on which those begin and end whom the map names; lanes, ways and departures may be changed by hand."""
+    edges = {number: link.edge for number, link in enumerate(mapping.links)}
+    for line in run.enters[: len(mapping.cars)]:
+        plan = line.command["plan"]
+        yield f"{edges.get(plan[0], '')} {edges.get(plan[-1], '')}"
 
 
 def run_of_texts(path: FilePath, texts: Iterable[str]) -> Run:

@@ -15,6 +15,7 @@ from ..files import Fault, FilePath, at_least_zero, attribute, elements, filled,
 from .flows import departs
 from .net import SumoNet
 from .report import Report, some
+from .sources import sum_of_lines
 from .types import Sizes, Types, weights_of
 
 if TYPE_CHECKING:
@@ -233,13 +234,15 @@ def enters(
 
 
 def kinds_of(driven: Sequence[Vehicle], types: Types) -> dict[str, Any]:
-    """The types that files tell, and by vehicle its type and the name of its route, as a map keeps them."""
+    """The types that files tell, and by vehicle its type and the name of its route, as a map keeps them; and a sum of
+    where all begin and end, by which the map of another demand is known."""
     names = list(types.kinds)
     place = {name: at for at, name in enumerate(names)}
     return {
         "types": [[name, *astuple(types.kinds[name])] for name in names],
         "type": [place.get(vehicle.type, 0) for vehicle in driven],
         "route": [vehicle.route for vehicle in driven] if any(vehicle.route for vehicle in driven) else [],
+        "ends": sum_of_lines(f"{vehicle.edges[0]} {vehicle.edges[-1]}" for vehicle in driven),
     }
 
 
