@@ -6,10 +6,9 @@ use Rattle.street_base.specs.declared.command.Command.TheVariants.{Count}
 use Rattle.street_base.specs.declared.reply.Outcome.{Outcome}
 use Rattle.street_base.specs.declared.reply.Outcome.TheVariants.{Whole, Starved, Short}
 use Rattle.street_base.specs.declared.reply.Reply.{Reply}
-use Rattle.street_base.specs.Prelude.{Allows, Answers, reply_to, State}
+use Rattle.street_base.specs.Prelude.{Allows, reply_to, State}
 use Rattle.street_clients.specs.Replies.{IsRetold, IsStopped}
 use Rattle.street_clients.specs.declared.tapes.Retold.{Retold}
-use Rattle.street_desk.specs.declared.journal.Entry.{Entry}
 use Rattle.street_desk.specs.History.{state_of}
 use Rattle.street_stream.specs.declared.tally.Tally.{Tally}
 use Rattle.street_engine.specs.Prelude.{EngineView, Serves}

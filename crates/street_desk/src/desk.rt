@@ -1,7 +1,7 @@
 //! The desk and its calls.
 //!
 //! Source: this profile.
-ghost use Rattle.std.specs.Prelude.{◌≡◌, ◌+◌, ◌*◌, ◌/◌, ◌%◌, ◌^◌, ◌<◌, ◌≤◌, [], ◌∷◌, length, true, false, Some, None, MatchBool, IfOk, IfErr, IsOk};
+ghost use Rattle.std.specs.Prelude.{◌≡◌, ◌+◌, ◌*◌, ◌/◌, ◌%◌, ◌^◌, ◌<◌, ◌≤◌, [], ◌∷◌, length, true, Some, None, MatchBool, IfOk, IfErr, IsOk};
 ghost use Rattle.street_engine.specs.Prelude.{StandsFor};
 ghost use Rattle.street_desk.specs.declared.faults.SplitFault.TheVariants.{Single};
 ghost use Rattle.street_desk.specs.History.{state_of};
@@ -14,7 +14,7 @@ use crate::journal::{Journal, Recorder};
 use crate::pass::{DeskSeat, Note, Pass};
 use crate::view::{DeskLimits, Grab, Hearsay, Last, Look, Release, SeatView, Turns};
 use atomic_table::Table;
-use std::alloc::{AllocError, Global};
+use std::alloc::Global;
 use std::marker::Model;
 use std::sync::Wait;
 use std::sync::atomic::{AtomicU64, Ordering};

@@ -6,11 +6,11 @@ use Rattle.std.proofs.lemmas.List.{get_or_append_left, get_or_push, length-appen
 use Rattle.std.proofs.lemmas.List.Elements.{filter-append}
 use Rattle.std.proofs.lemmas.Option.{slice_get-map, slice_get-get_or, slice_get_within, slice_get_past, get_or_from_slice_get}
 use Rattle.street_base.specs.declared.net.NetSpec.{NetSpec}
-use Rattle.street_base.specs.Prelude.{most_detectors, is_place, Traffic, Detector}
+use Rattle.street_base.specs.Prelude.{most_detectors, is_place, Detector}
 use Rattle.street_base.specs.declared.names.Place.{Place}
 use Rattle.street_base.proofs.ReleaseLemmas.{is_place-refl}
-use Rattle.street_lanes.specs.Prelude.{IsLane, MetersStandFor}
-use Rattle.street_tile.specs.Prelude.{Part, MetersStand, detectors_at, detectors_on}
+use Rattle.street_lanes.specs.Prelude.{IsLane}
+use Rattle.street_tile.specs.Prelude.{detectors_on}
 use Rattle.street_engine.specs.declared.sites.DetectorSite.{DetectorSite}
 use Rattle.street_engine.specs.Prelude.{IsDetectorSite, AreDetectorSites}
 

@@ -1,5 +1,5 @@
 //! A session: lines, and the replies that are wanted.
-ghost use Rattle.std.specs.Prelude.{◌≡◌, ◌∷◌, ◌++◌, ◌≤◌, [], List, length, OnOk};
+ghost use Rattle.std.specs.Prelude.{◌≡◌, ◌∷◌, ◌++◌, ◌≤◌, [], length, OnOk};
 
 use std::alloc::{AllocError, Global};
 

@@ -8,9 +8,7 @@ use crate::Lanes;
 use crate::lane_meters::LaneMeters;
 use std::alloc::Global;
 use std::marker::Model;
-use street_base::{CarNo, CellNo, Place, Reply, Starved, Step};
-use street_net::Network;
-use street_node::Signal;
+use street_base::{CellNo, Place, Reply, Starved, Step};
 
 /// The detectors of a lane.
 pub struct Detectors {

@@ -1,20 +1,20 @@
 //! The detectors of a lane that has some.
 //!
 //! Source: detectors are this profile.
-ghost use Rattle.std.specs.Prelude.{◌≡◌, ◌<◌, ◌≤◌, length, List, [], map, option_map, slice_get, IfOk, OnOk, OnErr, All};
-ghost use Rattle.street_base.specs.Prelude.{last_clock, most_period, shown_rows, LaneState, Detector};
+ghost use Rattle.std.specs.Prelude.{◌≡◌, ℕ, ◌<◌, ◌≤◌, length, List, [], map, option_map, slice_get, IfOk, OnOk, OnErr, All};
+ghost use Rattle.street_base.specs.Prelude.{last_clock, most_period, shown_rows, is_covered, LaneState, Detector};
 ghost use Rattle.street_lanes.specs.Prelude.{LaneStands, lane_of, cleared, GoesOn, Notes, AllGoOn, AllNote, MetersStandFor, Placed};
 ghost use Rattle.street_meter.specs.Meter.{next_step};
 ghost use Rattle.street_rule.specs.Prelude.{IsReady};
+ghost use Rattle.street_yard.specs.Prelude.{cells_at, IsLane};
 
-use crate::Lanes;
+use crate::lanes::{Lanes, cells_list};
 use std::alloc::Global;
 use std::marker::Model;
-use street_base::{CarNo, CellNo, Place, Reply, Starved, Step};
+use street_base::{CellNo, Place, Reply, Starved, Step};
 use street_meter::{Meter, MeterSite};
-use street_net::Network;
-use street_node::Signal;
 use street_rule::Watch;
+use street_yard::{ListId, Yard};
 
 /// The meters of a lane, and their watches.
 #[derive(Drop)]
@@ -55,7 +55,35 @@ fn clear(watches: &mut [Watch], meters: &[Meter])
     ensures { watches.new ≡ map cleared meters.now }
 {
     for k in 0..meters.len() {
-        watches[k] = watch_at(meters[k].place().cell);
+        watches[k] = watch_at(meters[k].site().cell);
+    }
+}
+
+/// Whether somebody on a list covers a cell. The list is walked from its front down to the cell.
+fn holds(yard: &Yard, cells: ListId, cell: CellNo) -> bool
+    requires { cells.0 < length yard.now.lists }
+    ensures { (count : ℕ) → IsLane yard.now cells.0 count → result ≡ is_covered (cells_at yard.now cells.0 count) cell }
+{
+    let mut cursor = yard.list_front(cells);
+    while let Some(key) = cursor {
+        if yard.cell(key) < cell {
+            return false;
+        }
+        if yard.rear(key) <= cell {
+            return true;
+        }
+        cursor = yard.behind(key);
+    }
+    false
+}
+
+impl Lanes {
+    /// Whether somebody covers a cell of a lane.
+    pub fn is_covered(&self, lane: usize, cell: CellNo) -> bool
+        requires { lane < length self.now.lanes }
+        ensures { (s : LaneState) → LaneStands (lane_of self.now lane) s → result ≡ is_covered s.track.cells cell }
+    {
+        holds(&self.yard, cells_list(lane), cell)
     }
 }
 
@@ -66,7 +94,7 @@ fn note_one(meter: &mut Meter, watch: Watch, own: &Lanes, lane: usize)
     ensures goes { GoesOn meter.old meter.new }
     ensures notes { (s : LaneState) → LaneStands (lane_of own.now lane) s → Notes s.track.cells watch meter.old meter.new }
 {
-    let covered = own.is_covered(lane, meter.place().cell);
+    let covered = own.is_covered(lane, meter.site().cell);
     meter.note(watch.passes, watch.speeds, u32::from(covered));
 }
 
@@ -136,8 +164,8 @@ impl LaneMeters {
         ensures ok { OnOk result (Placed at cell period start self.old self.new) }
         ensures err { OnErr result (self.new ≡ self.old) }
     {
-        let place = MeterSite { at, cell };
-        let meter = Meter::new(alloc, place, period, start)?;
+        let site = MeterSite { at, cell };
+        let meter = Meter::new(alloc, site, period, start)?;
         self.meters.reserve(1)?;
         self.watches.reserve(1)?;
         let number = self.meters.len();

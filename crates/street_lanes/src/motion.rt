@@ -11,8 +11,7 @@ ghost use Rattle.street_lanes.specs.Prelude.{cleared, lane_of, cells_list, buffe
 ghost use Rattle.street_lanes.specs.Lanes.{IsOf};
 
 use crate::detectors::{Detectors, Kind};
-use crate::lanes::Lanes;
-use crate::lists::{buffer_list, cells_list};
+use crate::lanes::{Lanes, buffer_list, cells_list};
 use street_base::{CarNo, CellNo, LinkIx, NodeSpec, Place, Step, Turn};
 use street_gap::Closures;
 use street_net::Network;

@@ -1,7 +1,7 @@
 //! Scripts: files of commands, each served as a session on a thread of its own.
 //!
 //! Source: this profile.
-ghost use Rattle.std.specs.Prelude.{◌≡◌, ◌↔◌, ◌⊎◌, ◌<◌, ◌≤◌, ℕ, List, [], ◌∷◌, All, IfSome, IsNone, IsSome, length, slice_index_or};
+ghost use Rattle.std.specs.Prelude.{◌≡◌, ◌↔◌, ◌⊎◌, ◌<◌, ◌≤◌, ℕ, [], All, IfSome, IsNone, IsSome, length, slice_index_or};
 ghost use Rattle.street_desk.specs.Passes.{DeskView};
 ghost use Rattle.street_stream.specs.Streams.{IsFresh};
 ghost use Rattle.street_stream.specs.declared.tally.FaultKind.TheVariants as kinds;

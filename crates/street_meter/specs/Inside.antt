@@ -7,8 +7,8 @@ use Rattle.street_meter.specs.Meter.{Meter}
 
 abbrev pub shown : Inside → Meter
 shown m = record {
-  place = m.place.at;
-  cell = m.place.cell;
+  place = m.site.at;
+  cell = m.site.cell;
   period = m.period;
   start = m.start;
   rows = m.rows.items;

@@ -34,7 +34,7 @@ pub struct Rows {
 
 /// What a cell's detector has noted, summed by periods: the running one and the last 32 full ones.
 pub struct Meter {
-    place: MeterSite,
+    site: MeterSite,
     period: u32,
     start: Step,
     running: RunningRow,
@@ -44,7 +44,7 @@ pub struct Meter {
 impl Drop for Meter {
     fn drop(self) {
         let Meter {
-            place: _,
+            site: _,
             period: _,
             start: _,
             running: _,
@@ -113,18 +113,18 @@ impl Meter {
     ///
     /// # Errors
     /// Out of memory for the rows.
-    pub fn new(alloc: Global, place: MeterSite, period: u32, start: Step) -> Result<Meter, Starved>
+    pub fn new(alloc: Global, site: MeterSite, period: u32, start: Step) -> Result<Meter, Starved>
         requires some { 1 ≤ period }
         requires short { period ≤ most_period }
         requires start { start ≤ last_clock }
-        ensures place { IfOk result (λ m. (m.place ≡ place.at) × (m.cell ≡ place.cell)) }
+        ensures place { IfOk result (λ m. (m.place ≡ site.at) × (m.cell ≡ site.cell)) }
         ensures period { IfOk result (λ m. (m.period ≡ period) × (m.start ≡ start)) }
         ensures next { IfOk result (λ m. next_step m ≡ start) }
         ensures stands { IfOk result (λ m. Stands m []) }
     {
         let rows = HeapCircularBuffer::with_capacity(alloc, KEPT_ROWS)?;
         Ok(Meter {
-            place,
+            site,
             period,
             start,
             running: begun_at(u64::from(start)),
@@ -164,11 +164,11 @@ impl Meter {
     }
 
     /// Where the meter is.
-    pub fn place(&self) -> MeterSite
+    pub fn site(&self) -> MeterSite
         ensures lane { self.now.place ≡ result.at }
         ensures cell { self.now.cell ≡ result.cell }
     {
-        self.place
+        self.site
     }
 
     /// How many steps a row sums.

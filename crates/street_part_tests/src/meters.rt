@@ -53,7 +53,7 @@ fn check_sums(rt: &impl Abort, now: RunningRow, full: &[MeterRow]) {
 
 /// What is read of a meter in cell 3 that notes by periods of two.
 fn check_read(rt: &(impl Abort + AllocGlobal), meter: &Meter) -> Result<(), Fail> {
-    assert!(rt; meter.place().cell == 3 && meter.period() == 2);
+    assert!(rt; meter.site().cell == 3 && meter.period() == 2);
     let rows = meter.rows(rt.alloc())?;
     check_sums(rt, rows.running, rows.full.as_slice());
     Ok(())

@@ -1,7 +1,7 @@
 //! The command, as the parser knows it.
 //!
 //! Source: this profile.
-ghost use Rattle.std.specs.Prelude.{◌≡◌, All, IfOk, codes, false, map};
+ghost use Rattle.std.specs.Prelude.{◌≡◌, All, IfOk, false, map};
 ghost use Rattle.clap.specs.Words.{app_of, rule_of};
 ghost use Rattle.street_runs.specs.Parser.{option_rule, script_rule, streetsim_app, streetsim_rules};
 

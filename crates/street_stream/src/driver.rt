@@ -1,8 +1,7 @@
 //! The lines of a text, cut out of reads and handled one after another.
 //!
 //! Source: this profile. Each reply is written, and passed on, before the next read.
-ghost use Rattle.std.specs.Prelude.{◌≡◌, ◌+◌, ◌^◌, ◌<◌, ◌≤◌, [], ◌∷◌, ◌++◌, IfOk, OnOk, IfErr, length};
-ghost use Rattle.std.specs.Io.KnownBytes.{Consumes, IsAtEnd};
+ghost use Rattle.std.specs.Prelude.{◌≡◌, ◌+◌, ◌^◌, ◌<◌, [], ◌∷◌, ◌++◌, IfOk, OnOk, IfErr, length};
 ghost use Rattle.street_stream.specs.Streams.{IsFlushed, IsFresh, IsPrompt};
 ghost use Rattle.street_stream.specs.Faults.{IsCausedByLine};
 ghost use Rattle.street_stream.specs.HandledLines.{Drives, IsTally};

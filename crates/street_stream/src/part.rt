@@ -1,7 +1,7 @@
 //! A line as far as it was read.
 //!
 //! Source: this profile. A line of spaces, tabs and CR alone is blank, however long it is.
-ghost use Rattle.std.specs.Prelude.{◌≡◌, List, ℕ, [], ◌∷◌, ◌++◌, OnOk};
+ghost use Rattle.std.specs.Prelude.{◌≡◌, List, ℕ, [], ◌++◌, OnOk};
 ghost use Rattle.std.specs.List.{list_all};
 ghost use Rattle.street_stream.specs.Lines.{is_space, is_blank, kept, IsPart};
 

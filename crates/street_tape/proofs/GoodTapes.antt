@@ -1,12 +1,12 @@
 -- A good tape is never told bad.
-use Rattle.std.proofs.Common.{◌≡◌, ℕ, ◌+◌, ◌<◌, List, [], ◌∷◌, ◌++◌, length, Bool, true, false, ◌==◌, if◌then◌else◌, Option, Some, None, ◌⊎◌, inl, inr, refl, sym, ap, ◌∙◌, append_assoc, append-nil, length-append, arith}
+use Rattle.std.proofs.Common.{◌≡◌, ℕ, ◌+◌, List, [], ◌∷◌, ◌++◌, Bool, true, false, ◌==◌, if◌then◌else◌, Option, Some, None, inl, inr, refl, sym, ap, ◌∙◌, append_assoc, append-nil, length-append, arith}
 use Rattle.std.specs.Prelude.{⊤}
 use Rattle.street_desk.specs.declared.journal.Entry.{Entry}
 use Rattle.street_stream.specs.HandledLines.{EndsLine, IsNext}
 use Rattle.street_stream.specs.Lines.{cut, onto_first, if_any, lines_of}
 use Rattle.street_engine.specs.Prelude.{EngineView}
 use Rattle.street_tape.proofs.Legal.{replayable_front}
-use Rattle.street_tape.specs.BadTapes.{IsNoTape, IsBadAt, IsBadAfter}
+use Rattle.street_tape.specs.BadTapes.{IsNoTape, IsBadAfter}
 use Rattle.street_tape.specs.Faults.{TapeBreaks, IsOfRun}
 use Rattle.street_tape.specs.Replies.{AreReplayable}
 use Rattle.street_tape.specs.Upgrades.{UpgradeBreaks}

@@ -2,7 +2,7 @@
 use Rattle.std.proofs.Common.{◌≡◌, List, All, true, length}
 use Rattle.street_desk.specs.declared.journal.Entry.{Entry}
 use Rattle.street_text.specs.Fits.{IsWord}
-use Rattle.street_tape.specs.Entries.{is_part, IsOfWords, HasTapeLine, EntryFits, TapeFits}
+use Rattle.street_tape.specs.Entries.{is_part, IsOfWords, HasTapeLine, TapeFits}
 
 pub tape_fits : (es : List Entry) → IsWord (length es) → All IsOfWords es → All (λ e. is_part e.command e.outcome ≡ true) es → All HasTapeLine es → TapeFits es
 tape_fits es few words parts lines = record {

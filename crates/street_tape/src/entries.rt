@@ -4,7 +4,7 @@
 ghost use Rattle.std.specs.Prelude.{◌≡◌, ◌⊎◌};
 ghost use Rattle.serde_json.specs.Errors.{IsMemory};
 ghost use Rattle.serde_json.specs.View.{view};
-ghost use Rattle.street_text.specs.LineCommands.{or_fault, field, number_field, Gives};
+ghost use Rattle.street_text.specs.LineCommands.{or_fault, number_field, Gives};
 ghost use Rattle.street_tape.specs.Entries.{tape_value, head_in, head_reading, is_part, outcome_in, call_in, entry_in, entry_reading, GivesTapeValue};
 
 use crate::head::Head;

@@ -1,7 +1,7 @@
 //! Faults of a replay and of an upgrade.
 //!
 //! Source: this profile.
-ghost use Rattle.std.specs.Prelude.{◌≡◌, ◌^◌, ◌<◌, true, IfErr, OnOk, IfOk};
+ghost use Rattle.std.specs.Prelude.{◌≡◌, ◌^◌, ◌<◌, true, IfErr, OnOk};
 ghost use Rattle.street_tape.specs.ReplayHandler.{fault_of, Misses};
 ghost use Rattle.street_tape.specs.TapeLines.{may_end};
 

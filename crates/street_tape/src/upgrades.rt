@@ -1,8 +1,7 @@
 //! A tape, written anew in version 2.
 //!
 //! Source: this profile. Nothing is written before the tape was read to its end.
-ghost use Rattle.std.specs.Prelude.{◌≡◌, ◌≤◌, ◌<◌, ◌^◌, ◌++◌, OnOk, IfOk, IfErr, length};
-ghost use Rattle.std.specs.Io.KnownBytes.{Appends};
+ghost use Rattle.std.specs.Prelude.{◌≡◌, ◌≤◌, ◌<◌, ◌^◌, ◌++◌, OnOk, IfOk, IfErr};
 ghost use Rattle.street_stream.specs.Streams.{IsFlushed, IsFresh};
 ghost use Rattle.street_stream.specs.Faults.{IsCausedByWriting};
 ghost use Rattle.street_tape.specs.Faults.{IsTapeCaused};

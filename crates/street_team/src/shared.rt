@@ -1,5 +1,5 @@
 //! What the threads of a team share.
-ghost use Rattle.std.specs.Prelude.{◌≡◌, ◌≤◌, vec_len, IfOk};
+ghost use Rattle.std.specs.Prelude.{◌≡◌, vec_len, IfOk};
 
 use crate::errand::{Done, Errand};
 use crate::waits::Signal;

@@ -3,7 +3,7 @@
 //! Source: this profile. What stands so in most lines; any other line is left to the JSON value.
 ghost use Rattle.std.specs.Prelude.{◌≡◌, ◌<◌, ◌≤◌, ◌==◌, ℕ, suc, length, slice_index, Some, IfSome, option_map};
 ghost use Rattle.json.specs.Json.{value};
-ghost use Rattle.serde_json.specs.Data.{unsigned, no_items};
+ghost use Rattle.serde_json.specs.Data.{unsigned};
 ghost use Rattle.serde_json.specs.Read.{number_of, of_json, converted, read};
 ghost use Rattle.serde_json.specs.Find.{get, as_str};
 ghost use Rattle.street_text.specs.FlatLines.{flat_data, flat_members, flat_object, ReadsItems, ReadsMembers};

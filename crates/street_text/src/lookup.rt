@@ -1,7 +1,6 @@
 //! Where the fields of a command are looked up.
 //!
 //! Source: this profile.
-ghost use Rattle.std.specs.Prelude.{ℕ, List};
 ghost use Rattle.serde_json.specs.Data.{Data};
 ghost use Rattle.serde_json.specs.View.{view};
 ghost use Rattle.street_text.specs.LineCommands.{number_in, list_in, field, number_field, number_or, or_fault, Gives};

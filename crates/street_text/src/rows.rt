@@ -1,7 +1,7 @@
 //! The lists of a reply, printed straight into bytes: numbers, and rows of numbers.
 //!
 //! Source: this profile.
-ghost use Rattle.std.specs.Prelude.{◌≡◌, OnOk};
+ghost use Rattle.std.specs.Prelude.{OnOk};
 ghost use Rattle.serde_json.specs.Data.{Data, array};
 ghost use Rattle.street_text.specs.Tokens.{tokens_of, Adds};
 ghost use Rattle.street_text.specs.ReplyLines.{items_from, number_data, meter_data, running_data, buffer_data, cell_data, stretch_data, waiting_data};

@@ -1,12 +1,12 @@
 -- One tile changes, the others stand as they did.
-use Rattle.std.proofs.Common.{◌≡◌, ℕ, ◌*◌, ◌<◌, true, List, [], length, set, get_or, refl, sym, ◌∙◌, ap, subst, arith, inl, inr, All, Result, Ok, Err, OnOk, OnErr, slice_get}
+use Rattle.std.proofs.Common.{◌≡◌, ℕ, ◌<◌, true, List, [], length, set, get_or, refl, sym, ◌∙◌, ap, subst, arith, inl, inr, Result, Ok, Err, OnOk, OnErr, slice_get}
 use Rattle.std.proofs.lemmas.Bool.{cases_eq}
 use Rattle.std.proofs.lemmas.List.{get_or-set_same, get_or-set_other, get_or_default, length-set}
 use Rattle.street_base.specs.declared.net.NetSpec.{NetSpec}
 use Rattle.street_base.specs.declared.names.Place.{Place}
 use Rattle.street_base.specs.Prelude.{Traffic}
 use Rattle.street_lanes.specs.Prelude.{MetersStandFor, IsOn}
-use Rattle.street_tile.specs.Prelude.{Part, AreTiles, AllStand, StandsFor, SameTile, Each, IsStill, is_own, DoesIf, KeepsAll, MetersStand, AllMetersStand, detectors_at, detectors_on, TilesView, tiles_of, AreKept, TilesStandFor, TilesGo, TilesKeep, OwnsLink}
+use Rattle.street_tile.specs.Prelude.{Part, AllStand, StandsFor, SameTile, Each, IsStill, is_own, DoesIf, KeepsAll, MetersStand, detectors_at, detectors_on, TilesView, tiles_of, AreKept, TilesStandFor, TilesGo, TilesKeep, OwnsLink}
 use Rattle.street_tile.proofs.SameTile.{tile-none}
 use Rattle.street_tile.proofs.BetweenPhases.{tiles-same}
 

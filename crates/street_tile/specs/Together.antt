@@ -1,6 +1,6 @@
 -- All tiles of a network together, between two steps, and what a call does to them.
 -- Source: this profile.
-use Rattle.std.specs.Prelude.{◌≡◌, ◌*◌, ◌<◌, ◌≤◌, ◌++◌, ◌∷◌, ℕ, List, [], length, true, slice_index_or, slice_set, All}
+use Rattle.std.specs.Prelude.{◌≡◌, ◌*◌, ◌≤◌, ◌++◌, ◌∷◌, ℕ, List, [], length, true, slice_index_or, slice_set, All}
 use Rattle.street_base.specs.declared.net.NetSpec.{NetSpec}
 use Rattle.street_base.specs.declared.names.Place.{Place}
 use Rattle.street_base.specs.Prelude.{Traffic, IsWhole}

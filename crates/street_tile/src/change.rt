@@ -1,7 +1,7 @@
 //! Lane changes on a tile's own lanes.
 //!
 //! Source: the order of the phases is this profile.
-ghost use Rattle.std.specs.Prelude.{◌≡◌, ◌+◌, ◌<◌, ◌≤◌, length, IsTrue, ◌↔◌};
+ghost use Rattle.std.specs.Prelude.{◌≡◌, ◌<◌, ◌≤◌, length, IsTrue, ◌↔◌};
 ghost use Rattle.street_base.specs.Prelude.{link_at};
 ghost use Rattle.street_lanes.specs.Prelude.{Same};
 ghost use Rattle.street_lanes.specs.Lanes.{IsOf};

@@ -19,7 +19,6 @@ mod hand_over;
 mod hints;
 mod meters;
 mod motion;
-mod mouths;
 mod phase_by_phase;
 mod release;
 mod step;

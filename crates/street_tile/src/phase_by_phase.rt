@@ -6,10 +6,10 @@ ghost use Rattle.std.specs.Prelude.{◌≡◌, ◌*◌, ◌<◌, ◌≤◌, leng
 ghost use Rattle.street_base.specs.Prelude.{last_clock};
 ghost use Rattle.street_tile.specs.Prelude.{IsTileOf, IsPrepared, Each, LanePhase, MotionPhase, EnterPhase, MeterPhase, KeepsHints, MayStep, Steps};
 
-use crate::gate::{DETECTORS, ENTRIES, LANE_CHANGES, MOTION, RELEASES};
+use crate::gate::{DETECTORS, ENTRIES, LANE_CHANGES, MOTION};
 use crate::hand_over::move_all;
-use crate::mouths::publish;
 use crate::step::all_release;
+use crate::view::publish;
 use crate::{Gate, Hints, Tile, View};
 use std::thread;
 use std::thread::Threads;

@@ -10,7 +10,7 @@ ghost use Rattle.street_tile.specs.Prelude.{IsTileOf, IsPrepared, Each, LanePhas
 
 use crate::gate::{DETECTORS, ENTRIES, LANE_CHANGES, MOTION, RELEASES};
 use crate::hand_over::move_all;
-use crate::mouths::publish;
+use crate::view::publish;
 use crate::{Gate, Hints, Tile, View};
 use std::thread;
 use std::thread::Threads;

@@ -8,8 +8,8 @@ ghost use Rattle.street_lanes.specs.Prelude.{IsLane};
 ghost use Rattle.street_tile.specs.Prelude.{all_handed, received, KeepsHints, MayWork, DoesWork, LanePhase, MotionPhase, ReleasePhase, EnterPhase, MeterPhase, Then, MayStep, Steps, IsTileOf, IsPrepared, Each, AreTiles, AllStand, Shows, ShowsOwn, nobody};
 
 use crate::hand_over::move_all;
-use crate::mouths::publish;
 use crate::step::{drive, release, settle};
+use crate::view::publish;
 use crate::{Gate, Hints, Tile, View};
 use std::marker::{Brand, PhantomData};
 use std::sync::Wait;

@@ -3,9 +3,7 @@ use Rattle.std.proofs.Common.{◌≡◌, ◌<◌, List, length, get_or, refl, sy
 use Rattle.street_base.specs.declared.net.NetSpec.{NetSpec}
 use Rattle.street_base.specs.Prelude.{network_fault, last_clock, Traffic, loaded}
 use Rattle.street_base.proofs.LoadLemmas.{loaded-sound}
-use Rattle.street_lanes.specs.Prelude.{IsOn}
 use Rattle.street_tile.specs.Prelude.{KeepsAll, Part, AreTiles, AllStand, StandsFor, SameTile, Each, IsIdle, IsPrepared}
-use Rattle.street_tile.proofs.SameTile.{tile-none}
 use Rattle.street_tile.proofs.BetweenPhases.{tiles-same}
 
 -- ---- one tile

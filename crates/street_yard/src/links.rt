@@ -5,7 +5,6 @@ ghost use Rattle.street_yard.specs.Inside.{hots_behind, hots_ahead, next_behind_
 
 use crate::hot::Neighbour;
 use crate::list_table::ListRow;
-use crate::names::Key;
 use crate::tables::Hots;
 
 /// `to` comes behind `at`, or first where that is nobody.

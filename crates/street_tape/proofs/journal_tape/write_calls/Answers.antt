@@ -3,7 +3,7 @@ use Rattle.std.proofs.KnownBytes.{Appends-trans, Appends-kept}
 use Rattle.std.proofs.lemmas.List.{take_all}
 use Rattle.std.proofs.lemmas.Result.{err_from_is_err_and}
 use Rattle.street_tape.specs.Tapes.{entry_line, entry_lines, head_line}
-use Rattle.street_tape.proofs.Prefixes.{lines_more, prefix_none, prefix_after, prefix_line}
+use Rattle.street_tape.proofs.Prefixes.{lines_more, prefix_none, prefix_line}
 use Rattle.street_tape.proofs.journal_tape.write_calls.Goals as goal
 
 pub loop-at-init : goal.loop-at-init

@@ -1,4 +1,4 @@
-use Rattle.std.proofs.Common.{◌≡◌, None, sym, ap, ◌∙◌}
+use Rattle.std.proofs.Common.{◌≡◌, None, ap, ◌∙◌}
 use Rattle.street_tape.proofs.Legal.{legal_again}
 use Rattle.street_tape.proofs.GoodTapes.{never_bad, never_refused}
 use Rattle.street_tape.specs.Entries.{tape_reading}

@@ -1,4 +1,3 @@
-use Rattle.std.proofs.Common.{refl}
 use Rattle.street_stream.proofs.HandlerReferences.{whole_part, broke_part}
 use Rattle.street_tape.proofs.Replayed.{replays_whole, misses, replay_broke}
 use Rattle.street_tape.specs.ReplayHandler.{ReplaysLine, StopsLine}

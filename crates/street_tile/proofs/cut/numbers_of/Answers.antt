@@ -1,6 +1,6 @@
-use Rattle.std.proofs.Common.{◌≡◌, ℕ, ◌<◌, List, length, map, get_or, sym, ◌∙◌, ap, subst, arith, Some, slice_get, option_map, All}
-use Rattle.std.proofs.lemmas.List.{length-map, length-set, get_or_default}
-use Rattle.std.proofs.lemmas.Option.{slice_get-map, slice_get-get_or, slice_get_within, same_Some}
+use Rattle.std.proofs.Common.{◌≡◌, ℕ, ◌<◌, List, length, get_or, sym, ◌∙◌, ap, subst, arith, Some, slice_get, All}
+use Rattle.std.proofs.lemmas.List.{length-set, get_or_default}
+use Rattle.std.proofs.lemmas.Option.{slice_get-get_or, slice_get_within, same_Some}
 use Rattle.street_base.specs.declared.names.Place.{Place}
 use Rattle.street_net.specs.Prelude.{slot_of}
 use Rattle.street_tile.proofs.EmptyTile.{numbered-more}

@@ -1,4 +1,4 @@
-use Rattle.std.proofs.Common.{◌≡◌, ℕ, ◌*◌, ◌<◌, length, map, get_or, Some, slice_get}
+use Rattle.std.proofs.Common.{◌≡◌, ℕ, ◌*◌, ◌<◌, length, get_or, Some, slice_get}
 use Rattle.street_base.specs.declared.names.Place.{Place}
 use Rattle.street_net.specs.Prelude.{slot_of}
 use Rattle.street_tile.proofs.cut.numbers_of.Given as goal

@@ -1,7 +1,6 @@
 use Rattle.std.proofs.Common.{◌≡◌, ◌≤◌, ◌++◌, List, length, get_or, map, refl, sym, ◌∙◌, ap, subst, arith, Some, filter}
 use Rattle.std.specs.List.{range_with_len}
 use Rattle.std.proofs.lemmas.Bool.{le-leb, lt-leb, le-ltb}
-use Rattle.std.proofs.lemmas.List.{map-append}
 use Rattle.street_base.specs.Prelude.{most_lanes, link_at, node_of, no_link}
 use Rattle.street_base.specs.declared.names.Place.{Place}
 use Rattle.street_base.proofs.FaultLemmas.{link_below, link_keeps_limits}

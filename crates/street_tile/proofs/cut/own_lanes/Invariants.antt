@@ -1,4 +1,4 @@
-use Rattle.std.proofs.Common.{◌≡◌, map, filter}
+use Rattle.std.proofs.Common.{◌≡◌, filter}
 use Rattle.street_net.proofs.InLanes.{places_below}
 use Rattle.street_tile.specs.Prelude.{is_own}
 use Rattle.street_tile.proofs.cut.own_lanes.Given as goal

@@ -1,4 +1,4 @@
-use Rattle.std.proofs.Common.{◌≡◌, ◌<◌, length, refl, arith}
+use Rattle.std.proofs.Common.{◌≡◌, length, refl, arith}
 use Rattle.street_tile.proofs.Rows.{roads-of, one-tile}
 use Rattle.street_tile.proofs.LaneOwners.{share-owns}
 use Rattle.street_tile.proofs.Sums.{all-own}

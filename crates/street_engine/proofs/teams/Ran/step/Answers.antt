@@ -1,4 +1,4 @@
-use Rattle.std.proofs.Common.{◌<◌, sym, subst, arith}
+use Rattle.std.proofs.Common.{◌<◌, sym, subst}
 use Rattle.street_engine.specs.Prelude.{RanView}
 use Rattle.street_engine.proofs.RanSteps.{run-prepared, run-stepped}
 use Rattle.street_engine.proofs.teams.Ran.step.Goals as goal

@@ -1,4 +1,4 @@
-use Rattle.std.proofs.Common.{None, Some, inl, inr, refl, subst, List, ℕ}
+use Rattle.std.proofs.Common.{None, Some, inl, inr, refl}
 use Rattle.std.proofs.lemmas.Result.{err_from_is_err_and, IfOk-weaker, IfErr-weaker}
 use Rattle.street_tape.specs.ReplayHandler.{silent}
 use Rattle.street_tape.proofs.Taken.{takes_kept, refuses_kept}

@@ -1,4 +1,4 @@
-use Rattle.std.proofs.Common.{◌≡◌, ◌+◌, ◌*◌, ◌/◌, ◌<◌, true, length, get_or, vec_len, sym, subst, arith}
+use Rattle.std.proofs.Common.{◌≡◌, true, length, get_or, vec_len, subst, arith}
 use Rattle.street_tile.specs.Prelude.{is_own, TilesView}
 use Rattle.street_tile.proofs.LaneOwners.{share-owns}
 use Rattle.street_tile.proofs.tiles.Tiles.owner_of.Goals as goal

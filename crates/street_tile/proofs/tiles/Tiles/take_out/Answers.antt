@@ -1,6 +1,6 @@
 use Rattle.std.proofs.Common.{◌≡◌, length, ap, sym, ◌∙◌, subst, arith}
 use Rattle.street_base.specs.Prelude.{IsWhole}
-use Rattle.street_tile.specs.Prelude.{without, TilesView, TilesGo, TileHasNot, tiles_of}
+use Rattle.street_tile.specs.Prelude.{without, TilesView, TilesGo, TileHasNot}
 use Rattle.street_tile.proofs.TileCommands.{nowhere-does}
 use Rattle.street_tile.proofs.tiles.Tiles.take_out.Goals as goal
 use Rattle.street_tile.proofs.tiles.Tiles.take_out.Goals.{in_default-via-in-None-1, in_default-via-in-Some+else-take_near}

@@ -5,7 +5,7 @@ use Rattle.street_net.specs.Prelude.{mouth}
 use Rattle.street_tile.specs.Prelude.{Part}
 use Rattle.street_tile.proofs.Rows.{in-row, roads-of}
 use Rattle.street_tile.proofs.PublishedView.{published-start, published-next, published-all}
-use Rattle.street_tile.proofs.mouths.publish.Goals as goal
+use Rattle.street_tile.proofs.view.publish.Goals as goal
 
 pub loop-i-init : goal.loop-i-init
 loop-i-init c = published-start c.args.net.now c.args.tiles.now c.args.view.now c.requires.view

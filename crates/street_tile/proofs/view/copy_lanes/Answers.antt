@@ -6,7 +6,7 @@ use Rattle.street_lanes.specs.Prelude.{place_at}
 use Rattle.street_net.specs.Prelude.{mouth, slot_of}
 use Rattle.street_tile.proofs.SameLanes.{place-is}
 use Rattle.street_tile.proofs.HeldMouths.{IsHeld, slot-inside, shown-start, shown-next}
-use Rattle.street_tile.proofs.mouths.copy_lanes.Goals as goal
+use Rattle.street_tile.proofs.view.copy_lanes.Goals as goal
 
 pub loop-n-init : goal.loop-n-init
 loop-n-init c = λ roads there. shown-start c.args.net.now roads c.args.own.now.places there (IsHeld c.args.mouths.now) c.args.view.now c.requires.wide
