@@ -4,7 +4,9 @@
 //!
 //! Source: this profile.
 ghost use Rattle.std.specs.Prelude.{◌≡◌};
-ghost use Rattle.street_base.specs.Limits.{last_clock, greatest_id, most_nodes, most_links, most_turns, most_lanes, most_size, most_cells, most_residence, most_capacity, most_limit, most_zone, most_dawdle, most_change, most_vehicles, most_steps, most_plan, most_phases, most_duration, most_greens, most_detectors, most_period};
+ghost use Rattle.street_base.specs.Limits.{last_clock, greatest_id, most_nodes, most_links, most_turns, most_lanes, most_size, most_cells};
+ghost use Rattle.street_base.specs.Limits.{most_residence, most_capacity, most_limit, most_zone, most_dawdle, most_change, most_vehicles};
+ghost use Rattle.street_base.specs.Limits.{most_steps, most_plan, most_phases, most_duration, most_greens, most_detectors, most_period};
 
 use crate::names::{CarNo, Step};
 

@@ -1,4 +1,4 @@
-//! The desk and its calls.
+//! The desk, and all that a caller asks of it with a pass. `specs/Passes` says what each of these tells the pass.
 //!
 //! Source: this profile.
 ghost use Rattle.std.specs.Prelude.{◌≡◌, ◌+◌, ◌*◌, ◌/◌, ◌%◌, ◌^◌, ◌<◌, ◌≤◌, [], ◌∷◌, length, true, Some, None, MatchBool, IfOk, IfErr, IsOk};
@@ -7,7 +7,8 @@ ghost use Rattle.street_desk.specs.declared.faults.SplitFault.TheVariants.{Singl
 ghost use Rattle.street_desk.specs.History.{state_of};
 ghost use Rattle.street_desk.specs.Rule.{recorded};
 ghost use Rattle.street_desk.specs.Steps.{Looks, Grabs, Calls};
-ghost use Rattle.street_desk.specs.Passes.{desk_view, pass_view, Rests, first_pass, without_last, of_last, Answered, Filled, Told, ServedCount, OwnsUnused, Heard, Finished};
+ghost use Rattle.street_desk.specs.Passes.{desk_view, pass_view, Rests, first_pass, without_last, of_last};
+ghost use Rattle.street_desk.specs.Passes.{Answered, Filled, Told, ServedCount, OwnsUnused, Heard, Finished};
 
 use crate::faults::{Full, SplitFault, Torn};
 use crate::journal::{Journal, Recorder};
@@ -23,10 +24,12 @@ use std::thread::Threads;
 use street_base::{Command, Reply, Starved};
 use street_engine::{Engine, Gate};
 
-/// How often a caller that finds the turn taken only gives way, before it sleeps.
+/// How often a caller that finds the turn taken only lets other threads run, before it sleeps.
 const TRIES: u32 = 64;
 
-/// An engine that many threads call in turn, each with a pass of its own.
+/// An engine that many threads call in turn, each with a pass of its own. Its table has one word, the turn word, and one slot,
+/// where the engine lies; `view.rt` says more. `calls` is how many calls it takes, `sleepers` how many callers sleep or are about
+/// to.
 #[derive(Drop)]
 pub struct Desk<G: Gate + Sync + Drop + Send> {
     table: Table<Option<Recorder<G>>, SeatView, DeskLimits, Turns, Global>,
@@ -53,7 +56,8 @@ impl<G: Gate + Sync + Drop + Send> Model for Desk<G> {
 }
 
 impl<G: Gate + Sync + Drop + Send> Desk<G> {
-    /// The turn word: how many turns were taken and given back. The seat then knows it.
+    /// The turn word: twice the number of finished calls, and one more during a turn. The seat then knows that number; where the
+    /// word is even, it has seen the whole history.
     fn look(&self, seat: &mut DeskSeat<G>) -> u64
         requires { seat.old.table_id ≡ self.now.table }
         ensures same { (seat.new.table_id ≡ seat.old.table_id) × (seat.new.id ≡ seat.old.id) × (seat.new.me.1 ≡ seat.old.me.1) }
@@ -62,7 +66,8 @@ impl<G: Gate + Sync + Drop + Send> Desk<G> {
         self.table.shared.load::<Look>(seat, 0)
     }
 
-    /// Takes the turn where the turn word still is `at`, as it was found. Answers whether it did.
+    /// Takes the turn where the turn word still is `at`, as it was found when nobody had the turn. Answers whether it did; if so,
+    /// the seat has seen the whole history, and has the slot with the engine.
     fn grab(&self, seat: &mut DeskSeat<G>, at: u64) -> bool
         requires desk { seat.old.table_id ≡ self.now.table }
         requires rests { (seat.old.me.1 ≡ []) × (seat.old.me.0.live ≡ true) }
@@ -79,7 +84,7 @@ impl<G: Gate + Sync + Drop + Send> Desk<G> {
     }
 
     /// Uses the turn of a seat that has it, and gives it back: the engine is taken out, called, and put back. `at` is the turn word
-    /// before the turn was taken.
+    /// before the turn was taken. Answers the reply to the command.
     fn turn<R: Threads + Wait + Sync>(
         &self,
         rt: &R,
@@ -108,8 +113,8 @@ impl<G: Gate + Sync + Drop + Send> Desk<G> {
         }
     }
 
-    /// Lets others go on while one of them has the turn: gives way at first, and from then on sleeps until the word is no
-    /// more as it was found. It may also return sooner.
+    /// Lets others go on while one of them has the turn: the first `TRIES` times, which `tries` counts, it only lets other threads
+    /// run; from then on it sleeps until the turn word is no more `found`. It may also return sooner.
     fn give_way<R: Wait>(&self, rt: &R, tries: &mut u32, found: u64)
         requires { found < 2 ^ 32 }
     {
@@ -123,7 +128,7 @@ impl<G: Gate + Sync + Drop + Send> Desk<G> {
         self.sleepers.fetch_sub(1, Ordering::SeqCst);
     }
 
-    /// Wakes one of those that sleep. Who sleeps was counted before it looked at the word, so that nobody sleeps through.
+    /// Wakes one of those that sleep. Each is counted before its sleep tests the turn word, so that none is missed here.
     fn wake(&self) {
         if self.sleepers.load(Ordering::SeqCst) > 0 {
             self.table.shared.wake_one(0);
@@ -131,6 +136,10 @@ impl<G: Gate + Sync + Drop + Send> Desk<G> {
     }
 
     /// Makes the call of the pass that has this seat, as this session: waits for the turn, uses it, and wakes one that waits.
+    ///
+    /// # Errors
+    ///
+    /// As [`call`](Self::call) has it.
     fn call_from<R: Threads + Wait + Sync>(
         &self,
         rt: &R,
@@ -169,11 +178,12 @@ impl<G: Gate + Sync + Drop + Send> Desk<G> {
     }
 
     /// A desk for an engine with nothing loaded, and the pass that has seen the empty history and owns every session, 0 to
-    /// `sessions` less 1. The room for all calls is taken here. `calls` is 1 to 1,000,000, `sessions` 1 to 1,024.
+    /// `sessions` less 1. The room for all calls is taken here: `calls`, 1 to 1,000,000, is the most that the desk takes.
+    /// `sessions` is 1 to 1,024.
     ///
     /// # Errors
     ///
-    /// Memory was refused; the engine is dropped.
+    /// `Starved` where memory was refused; the engine is dropped.
     pub fn start(
         alloc: Global,
         engine: Engine<G>,
@@ -241,8 +251,8 @@ impl<G: Gate + Sync + Drop + Send> Desk<G> {
     ///
     /// # Errors
     ///
-    /// The journal has no place left. The command was not applied and comes back; the pass has then seen the whole history,
-    /// with its own calls as before.
+    /// `Full` where the journal has no place left. The command was not applied and comes back; the pass has then seen the whole
+    /// history, with its own calls as before.
     pub fn call<R: Threads + Wait + Sync>(
         &self,
         rt: &R,
@@ -267,8 +277,11 @@ impl<G: Gate + Sync + Drop + Send> Desk<G> {
         self.look(&mut pass.seat) / 2
     }
 
-    /// A note of what the pass has seen and of the count that it knows. Waits for nobody and takes no memory; it is never
-    /// starved, as `given` says.
+    /// A note of what the pass has seen and of the count that it knows. Waits for nobody and takes no memory.
+    ///
+    /// # Errors
+    ///
+    /// None: `given` says that a note is made.
     pub fn note(&self, pass: &mut Pass<G>) -> Result<Note<G>, Starved>
         requires { pass.old.desk ≡ self.now }
         ensures same { pass.new ≡ pass.old }
@@ -281,7 +294,7 @@ impl<G: Gate + Sync + Drop + Send> Desk<G> {
         Ok(Note { seat })
     }
 
-    /// The pass has then seen what it had and what the note's maker had. Waits for nobody.
+    /// Lets the pass hear a note of the same desk: it has then seen what it had and what the note's maker had. Waits for nobody.
     pub fn hear(&self, pass: &mut Pass<G>, note: Note<G>)
         requires { (pass.old.desk ≡ self.now) × (note.desk ≡ self.now) }
         ensures { Heard pass.old note pass.new }
@@ -291,12 +304,12 @@ impl<G: Gate + Sync + Drop + Send> Desk<G> {
         self.look(&mut pass.seat);
     }
 
-    /// The engine and the journal: a legal history that begins with what the pass had seen and has no calls of its session
-    /// but those; the engine stands for the state that it leaves.
+    /// Ends the desk, and answers the engine and the journal: a legal history that begins with what the pass had seen and has no
+    /// calls of its session but those; the engine stands for the state that it leaves.
     ///
     /// # Errors
     ///
-    /// The turn word was odd, which no call that returned leaves.
+    /// `Torn` where the turn word was odd, which no call that returned leaves.
     pub fn finish(self, pass: Pass<G>) -> Result<(Engine<G>, Journal), Torn>
         requires { pass.desk ≡ self }
         ensures whole { IfOk result (λ r. Finished pass r.1 × StandsFor r.0 (state_of r.1)) }

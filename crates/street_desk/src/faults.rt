@@ -1,4 +1,4 @@
-//! Why a call at the desk was not served.
+//! Why a call, a split or the finish of a desk was not done.
 //!
 //! Source: this profile.
 
@@ -26,7 +26,7 @@ pub struct Full {
     pub served: u64,
 }
 
-/// Without the command.
+/// Shows the count without the command.
 impl fmt::Debug for Full {
     fn fmt<W: fmt::Write>(&self, f: &mut fmt::Formatter<W>) -> fmt::Result {
         f.debug_struct("Full")

@@ -1,4 +1,4 @@
-//! The journal, and the engine that writes it.
+//! The journal of a desk's calls, and the recorder, an engine that writes it.
 //!
 //! Source: this profile.
 ghost use Rattle.std.specs.Prelude.{◌≡◌, ◌<◌, [], ◌∷◌, ◌++◌, length, IfOk, None, slice_get, option_copied};
@@ -48,21 +48,21 @@ impl Model for Journal {
 }
 
 impl Journal {
-    /// The calls are a legal history.
+    /// The calls are a legal history: who calls this learns it, and nothing is done.
     pub fn legal(&self)
         ensures { IsLegal self.now }
     {
         let _ = &self.entries;
     }
 
-    /// How many calls.
+    /// How many calls it has.
     pub fn len(&self) -> usize
         ensures { result ≡ length self.now }
     {
         self.entries.len()
     }
 
-    /// The call at a position, counted from 0.
+    /// The call at a position, counted from 0; `None` past the last.
     pub fn entry(&self, index: usize) -> Option<&Entry>
         ensures { option_copied result ≡ slice_get self.now index }
     {
@@ -71,7 +71,7 @@ impl Journal {
 }
 
 /// An engine with the journal of all that it was called for: the journal is legal, the engine stands for the state that it
-/// leaves, and there is room for so many calls.
+/// leaves, and there is room for `calls` calls in all.
 #[derive(Drop)]
 pub(crate) struct Recorder<G: Gate + Sync + Drop> {
     engine: Engine<G>,
@@ -95,7 +95,11 @@ impl<G: Gate + Sync + Drop> Model for Recorder<G> {
 }
 
 impl<G: Gate + Sync + Drop> Recorder<G> {
-    /// An engine with nothing loaded, and room for so many calls.
+    /// A recorder of an engine with nothing loaded: an empty journal, with room for so many calls.
+    ///
+    /// # Errors
+    ///
+    /// `AllocError` where there was no memory for that room; the engine is dropped.
     pub(crate) fn new(
         alloc: Global,
         engine: Engine<G>,
@@ -112,7 +116,8 @@ impl<G: Gate + Sync + Drop> Recorder<G> {
         })
     }
 
-    /// Applies a command and writes it down. The journal takes no memory.
+    /// Applies a command and writes it down, as called by a session. Answers the reply, and whether the command was done. The
+    /// journal takes no memory.
     pub(crate) fn call<R: Threads + Wait + Sync>(
         &mut self,
         rt: &R,
@@ -135,7 +140,7 @@ impl<G: Gate + Sync + Drop> Recorder<G> {
         (reply, outcome)
     }
 
-    /// The engine and the journal.
+    /// The engine, and the journal of all its calls.
     pub(crate) fn into_parts(self) -> (Engine<G>, Journal)
         ensures history { result.1 ≡ self.history }
         ensures legal { IsLegal result.1 }

@@ -11,7 +11,7 @@ use street_engine::Gate;
 /// A seat at the desk's table.
 pub(crate) type DeskSeat<G> = Seat<Option<Recorder<G>>, SeatView>;
 
-/// What one caller knows of a desk, and the session numbers that it owns. It calls as the least of them.
+/// What one caller knows of a desk, and the session numbers that it owns, `least` to `greatest`. It calls as the least of them.
 #[derive(Drop)]
 pub struct Pass<G: Gate + Sync + Drop> {
     pub(crate) seat: DeskSeat<G>,

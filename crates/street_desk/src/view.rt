@@ -30,7 +30,7 @@ pub struct SeatView {
     pub calls: u64,
     /// How many sessions it has.
     pub sessions: u64,
-    /// Whether it is not spent.
+    /// Whether it is still of use: the seat of a note that was heard is not.
     pub live: bool,
 }
 
@@ -52,7 +52,7 @@ impl<G: Gate + Sync + Drop> TableRule<Option<Recorder<G>>, SeatView, DeskLimits>
     ghost first = { λ k. first_view k.calls k.sessions };
 }
 
-/// A load.
+/// A load of the word.
 pub(crate) struct Look;
 
 impl<G: Gate + Sync + Drop> Play<Option<Recorder<G>>, SeatView> for Look {
@@ -61,7 +61,7 @@ impl<G: Gate + Sync + Drop> Play<Option<Recorder<G>>, SeatView> for Look {
     ghost then = { look };
 }
 
-/// A compare-exchange, which may take the turn.
+/// A compare-exchange of the word, which may take the turn.
 pub(crate) struct Grab;
 
 impl<G: Gate + Sync + Drop> Play<Option<Recorder<G>>, SeatView> for Grab {
@@ -70,7 +70,7 @@ impl<G: Gate + Sync + Drop> Play<Option<Recorder<G>>, SeatView> for Grab {
     ghost then = { grab };
 }
 
-/// The store that gives the turn back.
+/// The store to the word that gives the turn back.
 pub(crate) struct Release;
 
 impl<G: Gate + Sync + Drop> Play<Option<Recorder<G>>, SeatView> for Release {

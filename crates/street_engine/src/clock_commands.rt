@@ -1,4 +1,4 @@
-//! Commands of the clock and of all vehicles together.
+//! Commands of the clock and of all vehicles together: advance and count.
 //!
 //! Source: this profile.
 ghost use Rattle.std.specs.Prelude.{◌≡◌, ◌+◌, ◌≤◌, Some, None};
@@ -13,7 +13,7 @@ use std::thread::Threads;
 use street_base::{LAST_CLOCK, MOST_STEPS, Outcome, Refusal, Reply};
 use street_tile::Gate;
 
-/// Why an advance of so many steps is refused. Takes no memory.
+/// Why an advance of so many steps is refused; none where it is not. Takes no memory.
 pub(crate) fn advance_refusal(streets: &Streets, steps: u64) -> Option<Refusal>
     ensures refusal { (m : Traffic) → StreetsStandFor streets.now m → result ≡ advance_refusal steps m }
     ensures in_time { result ≡ None → streets.now.clock + steps ≤ last_clock }
@@ -52,7 +52,8 @@ pub(crate) fn advance<R: Threads + Sync, G: Gate + Sync>(
     }
 }
 
-/// As [`advance`], by workers that stay for many steps. Gives the streets back as the steps left them.
+/// As [`advance`], by workers that stay for up to 16 steps, where the gate lets them share steps; `alloc` gives the memory for these
+/// workers. Gives the streets back as the steps left them.
 pub(crate) fn advance_by_team<R: Threads + Wait + Sync, G: Gate + Sync>(
     rt: &R,
     gate: &G,
@@ -82,7 +83,7 @@ pub(crate) fn advance_by_team<R: Threads + Wait + Sync, G: Gate + Sync>(
     }
 }
 
-/// Serves the count of all vehicles. Takes no memory.
+/// Serves the question how many vehicles stand where or have ended how. Takes no memory.
 pub(crate) fn count(streets: &Streets) -> (Reply, Outcome)
     ensures { Serves (Some streets.now) Count result.0 result.1 (Some streets.now) }
 {

@@ -1,4 +1,4 @@
-//! Each command by its name: refusals in their order, then what is done.
+//! One command, whichever it is: served by its own function where a network is loaded, else refused; and a load, served here.
 //!
 //! Source: this profile.
 ghost use Rattle.std.specs.Prelude.{◌≤◌, Some, None};

@@ -1,4 +1,4 @@
-//! Commands of detectors.
+//! Commands of detectors: placing one, and reading its rows.
 //!
 //! Source: this profile.
 ghost use Rattle.street_base.specs.declared.command.Command.TheVariants.{PlaceMeter, ReadMeter};
@@ -9,7 +9,8 @@ use crate::names::named_cells;
 use std::alloc::Global;
 use street_base::{MOST_DETECTORS, MOST_PERIOD, Outcome, Refusal, Reply};
 
-/// Serves the placing of a detector in a cell of a lane. Takes memory for the detector.
+/// Serves the placing of a detector in a cell of a lane. `link` is an identifier, `period` is in steps. Answers the number of the
+/// detector. Takes memory for it.
 pub(crate) fn place_meter(
     alloc: Global,
     streets: &mut Streets,
@@ -40,7 +41,7 @@ pub(crate) fn place_meter(
     }
 }
 
-/// Serves the question what a detector has measured, row by row. Takes memory for the list of rows.
+/// Serves the question what the detector of a number has measured, row by row. Takes memory for the list of rows.
 pub(crate) fn read_meter(alloc: Global, streets: &Streets, meter: u64) -> (Reply, Outcome)
     ensures { Serves (Some streets.now) (ReadMeter meter) result.0 result.1 (Some streets.now) }
 {

@@ -1,4 +1,4 @@
-//! How vehicles ended.
+//! How vehicles ended, and how many: kept by number, in the order of admission.
 //!
 //! Source: this profile.
 ghost use Rattle.std.specs.Prelude.{◌≡◌, ◌+◌, ◌<◌, ◌≤◌, ◌++◌, ◌∷◌, [], length, Some, None, slice_get, slice_set, slice_index_or, OnOk, count_by};

@@ -54,7 +54,7 @@ impl Unwatched {
 }
 
 impl Gate for Unwatched {
-    // Only what lies in other tiles than the fullest is spared, so half of the bound has to: as of two tiles that have the same.
+    // Sharing saves only the time of tiles other than the fullest, so these need half of the bound, as one of two equal tiles has.
     fn shares(&self, vehicles: u64, fullest: u64) -> bool {
         vehicles >= self.from && vehicles.saturating_sub(fullest) >= self.from / 2
     }
@@ -145,7 +145,7 @@ impl<G: Gate + Sync + Drop> Engine<G> {
         )
     }
 
-    /// Why an advance of so many steps is refused. Changes nothing, and takes no memory.
+    /// Why an advance of so many steps is refused; none where it is not. Changes nothing, and takes no memory.
     pub fn advance_refusal(&self, steps: u64) -> Option<Refusal>
         ensures { (m : State) → StandsFor self.now m → result ≡ refusal m (Advance steps) }
     {
@@ -155,7 +155,7 @@ impl<G: Gate + Sync + Drop> Engine<G> {
         }
     }
 
-    /// Serves all commands in order: the headline, for a list of commands.
+    /// Serves all commands in order, as [`apply`](Self::apply) does, and answers each: the machine's run of this list.
     ///
     /// # Errors
     /// Memory for the list of answers was refused; nothing was served.

@@ -1,4 +1,4 @@
-//! Commands that name a node or a lane.
+//! Commands on the network: the signal plan of a node, closed cells of a lane, and the question what is on a lane.
 //!
 //! Source: this profile.
 ghost use Rattle.street_base.specs.declared.command.Command.TheVariants.{Signal, Lane};
@@ -10,7 +10,8 @@ use std::alloc::Global;
 use street_base::{Outcome, PhaseSpec, Refusal, Reply};
 use street_node::{SignalFault, SignalPlan};
 
-/// Serves a signal plan, which a node then has. Takes memory for the plan.
+/// Serves a signal plan: the node with this identifier has it from the next step on; by `offset` steps its cycle is ahead of the
+/// clock. Answers the cycle in steps. Takes memory for the plan.
 pub(crate) fn signal(
     alloc: Global,
     streets: &mut Streets,
@@ -37,7 +38,8 @@ pub(crate) fn signal(
     }
 }
 
-/// Serves the closing of cells of a lane, or, where `closed` is false, their opening. Takes memory for a stretch of closed cells.
+/// Serves the closing of cells of a lane, or, where `closed` is false, their opening. `link` is an identifier. Answers how many of
+/// the lane's cells are closed then. Takes memory for a stretch of closed cells.
 pub(crate) fn set_closed(
     streets: &mut Streets,
     link: u64,
@@ -59,7 +61,8 @@ pub(crate) fn set_closed(
     }
 }
 
-/// Serves the question who is on a lane, and which of its cells are closed. Takes memory for the lists that it answers.
+/// Serves the question who is on a lane of the link with an identifier, and which of its cells are closed. Takes memory for the
+/// lists that it answers.
 pub(crate) fn lane(alloc: Global, streets: &Streets, link: u64, lane: u64) -> (Reply, Outcome)
     ensures { Serves (Some streets.now) (Lane link lane) result.0 result.1 (Some streets.now) }
 {

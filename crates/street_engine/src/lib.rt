@@ -1,7 +1,7 @@
 //! The engine: commands over the traffic of one network, each answered exactly as the cell machine answers it.
 //!
-//! [`Engine`] serves commands. Each command has a function of its name, which tests its refusals in their order, then does
-//! the command by one call of [`Streets`], and answers; it knows nothing of how traffic is kept.
+//! [`Engine`] serves commands. Each command has a function, which tests its refusals in their order, then does the command by one
+//! call of [`Streets`], and answers; it knows nothing of how traffic is kept.
 //!
 //! [`Streets`] holds the tiles of the network ([`street_tile::Tiles`]), the clock, how each vehicle ended, and where each detector
 //! is, behind contracts that name the machine alone.

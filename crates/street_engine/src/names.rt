@@ -1,4 +1,4 @@
-//! Lanes and cells that a command names by numbers of its own.
+//! Lanes and cells that a command names, by a link's identifier and untested numbers, as places and cells of the network.
 //!
 //! Source: this profile.
 ghost use Rattle.std.specs.Prelude.{◌≡◌, ℕ, ◌≤◌, ◌<◌, None, Some, length, IfOk, IfErr, OnOk};
@@ -21,7 +21,7 @@ pub(crate) struct Cells {
     pub(crate) last: CellNo,
 }
 
-/// The lane of the link with an identifier.
+/// The lane of a number on the link with an identifier.
 ///
 /// # Errors
 /// `NoLink`, or else `NoLane`.
@@ -43,7 +43,7 @@ pub(crate) fn named_lane(net: &Network, link: u64, lane: u64) -> Result<Place, R
     })
 }
 
-/// The number of a lane that some link has.
+/// A lane's number in its own type, which has room for it: some link has such a lane.
 pub(crate) fn lane_number(net: &Network, lane: u64) -> LaneNo
     requires { (link : ℕ) × (lane < (link_at net.now link).lanes) }
     ensures { result ≡ lane }
@@ -52,7 +52,7 @@ pub(crate) fn lane_number(net: &Network, lane: u64) -> LaneNo
     lane as LaneNo
 }
 
-/// Cells of the lane of the link with an identifier.
+/// The cells of a lane from the first to the last. The lane is named as for [`named_lane`].
 ///
 /// # Errors
 /// `NoLink`, or else `NoLane`, or else `BadRange` where the first is above the last, or the last is not in the lane.

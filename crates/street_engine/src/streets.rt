@@ -1,6 +1,8 @@
-//! The traffic on a loaded network.
+//! The traffic on a loaded network: what commands do to it and ask of it, and its steps by one or several threads.
 ghost use Rattle.std.specs.Prelude.{◌≡◌, ℕ, ◌+◌, ◌<◌, ◌≤◌, List, length, slice_get, slice_index_or, min, Some, None, option_map, IfOk, IfErr, OnOk, OnErr};
-ghost use Rattle.street_base.specs.Prelude.{last_clock, most_plan, most_vehicles, most_period, most_detectors, link_at, network_fault, Traffic, lane_at, step, steps, with_closure, taken_out, metered, loaded, plan_links, closed_after, seen, shown_lane, shown_rows, census, in_cells};
+ghost use Rattle.street_base.specs.Prelude.{last_clock, most_plan, most_vehicles, most_period, most_detectors, link_at};
+ghost use Rattle.street_base.specs.Prelude.{network_fault, Traffic, lane_at, step, steps, with_closure, taken_out, metered};
+ghost use Rattle.street_base.specs.Prelude.{loaded, plan_links, closed_after, seen, shown_lane, shown_rows, census, in_cells};
 ghost use Rattle.street_net.specs.Prelude.{TellsFault};
 ghost use Rattle.street_lanes.specs.Prelude.{IsLane};
 ghost use Rattle.street_engine.specs.Prelude.{StreetsStandFor, StreetsGo, StreetsAdmit, StreetsSignal};
@@ -21,10 +23,10 @@ use street_node::SignalPlan;
 use street_team::{Block, Team, locks};
 use street_tile::{Gate, TeamNetwork, Tile, TileWork, Tiles};
 
-/// For how many steps what the gate said of threads holds.
+/// After so many steps it is counted anew how many vehicles are in cells, and the gate is asked whether workers share the next.
 const STEPS_BETWEEN_COUNTS: u64 = 16;
 
-/// How often a step lends the tiles.
+/// How often a step by a team lends the tiles to its threads: once in each of its three parts.
 const LENDINGS: usize = 3;
 
 /// The tiles of a loaded network, their clock, how each vehicle ended, and where each detector is.
@@ -57,7 +59,8 @@ impl Model for Streets {
 }
 
 impl Streets {
-    /// The streets of a network with no vehicle, for so many workers, 1 to 64.
+    /// The streets of a network with no vehicle, for so many workers, 1 to 64: a tile for each, or for each node where these are
+    /// fewer.
     ///
     /// # Errors
     /// The network's first fault, or lack of memory.
@@ -88,7 +91,7 @@ impl Streets {
         self.tiles.network()
     }
 
-    /// Blocks in which a team of so many threads lends the tiles.
+    /// Blocks in which a team lends the tiles to so many threads, the caller's not counted.
     ///
     /// # Errors
     /// Memory was refused.
@@ -100,7 +103,7 @@ impl Streets {
         self.tiles.blocks(alloc, threads)
     }
 
-    /// The clock.
+    /// The clock: the number of the next step.
     pub fn clock(&self) -> Step
         ensures clock { result ≡ self.now.clock }
         ensures in_time { self.now.clock ≤ last_clock }
@@ -116,14 +119,15 @@ impl Streets {
         self.ends.len()
     }
 
-    /// How a vehicle ended, if it did.
+    /// How the vehicle of a number ended, if it did.
     pub fn end_of(&self, number: CarNo) -> Option<End>
         ensures { result ≡ slice_index_or self.now.ends number None }
     {
         self.ends.get(number)
     }
 
-    /// One more vehicle waits on a lane of the first link of its plan. Fewer than 1,000,000 were admitted before it.
+    /// One more vehicle waits on a lane of the first link of its plan. Fewer than 1,000,000 were admitted before it; how many is its
+    /// number.
     ///
     /// # Errors
     /// Memory was refused; the streets stand for what they stood for.
@@ -170,7 +174,7 @@ impl Streets {
         self.tiles.set_signal(node, plan);
     }
 
-    /// Closes cells of a lane, or opens them, and tells how many of its cells are closed then.
+    /// Closes cells of a lane, or, where `closed` is false, opens them, and tells how many of its cells are closed then.
     ///
     /// # Errors
     /// Memory was refused; the streets stand for what they stood for.
@@ -201,7 +205,7 @@ impl Streets {
         self.ends.note_taken(number, self.clock);
     }
 
-    /// Where a vehicle is that has not ended. Takes memory for the plan that it answers.
+    /// Where the vehicle of a number is, if it was admitted and has not ended. Takes memory for the plan that it answers.
     ///
     /// # Errors
     /// Memory for the plan was refused.
@@ -211,7 +215,7 @@ impl Streets {
         self.tiles.find(alloc, number)
     }
 
-    /// All of a lane.
+    /// The reply with all of a lane: its buffer, who is in its cells, its closed stretches, and who waits.
     ///
     /// # Errors
     /// Memory for the lists was refused.
@@ -230,7 +234,7 @@ impl Streets {
     }
 
     /// One more detector stands in a cell of a lane, with a period of 1 to 100,000 steps; it notes from the next step on.
-    /// Fewer than 1,024 stood before it. Answers its number.
+    /// Fewer than 1,024 stood before it. Answers its number among all, from 0.
     ///
     /// # Errors
     /// Memory was refused; the streets stand for what they stood for.
@@ -250,6 +254,7 @@ impl Streets {
         ensures number { IfOk result (λ number. number ≡ length self.old.sites) }
         ensures starved { OnErr result (StreetsGo (λ m. m) self.old self.new) }
     {
+        // In parts, as the borrow checker does not cover a struct that is passed by value twice.
         let Place { link, lane } = at;
         let detector = self.sites.len();
         self.sites.reserve(1)?;
@@ -263,7 +268,7 @@ impl Streets {
         Ok(detector)
     }
 
-    /// The rows of a detector, if there is one of this number. Takes memory for the list of rows.
+    /// The reply with the rows of a detector, if there is one of this number. Takes memory for the list of rows.
     ///
     /// # Errors
     /// Memory for the list was refused.
@@ -309,13 +314,13 @@ impl Streets {
             return false;
         }
         let vehicles = self.in_cells();
-        let fullest = self.tiles.fullest();
+        let fullest = self.tiles.most_in_cells();
         gate.shares(vehicles, fullest)
     }
 
-    /// How many threads the next step takes, after so many others of the same advance that took so many: one for each tile
-    /// where the gate lets the workers share it, else the caller's alone. The gate is asked once in 16 steps, in which traffic
-    /// changes little.
+    /// How many threads the next step takes, after `done` others of the same advance, the last of them by `before` threads: one for
+    /// each tile where the gate lets the workers share it, else the caller's alone. The gate is asked once in 16 steps, in which
+    /// traffic changes little.
     fn threads_of_step<G: Gate>(&self, gate: &G, done: u64, before: usize) -> usize
         requires { 0 < before }
         ensures { 0 < result }
@@ -413,8 +418,8 @@ impl Streets {
         (streets, count)
     }
 
-    /// So many steps by a team of the caller and so many threads: what it leaves, and how many were made, which is none where memory
-    /// for the team was refused.
+    /// So many steps by a team of the caller and at most so many threads, or fewer steps where memory was refused for one: what it
+    /// leaves, and how many were made, which is none where memory for the team was refused or the network is shared too often.
     fn team_steps<R: Threads + Wait + Sync, G: Gate + Sync>(
         self,
         rt: &R,
@@ -453,8 +458,9 @@ impl Streets {
         }
     }
 
-    /// `count` steps, or fewer where memory was refused for one: what they leave, and how many. The gate is asked before them only: a
-    /// team of several threads makes them, else the caller alone, who also does where the team made none, as for want of its own memory.
+    /// `count` steps, or fewer where memory was refused for one: what they leave, and how many. Only before the first it is counted
+    /// how many vehicles are in cells, and the gate is asked: where it lets workers share and has processors for several threads, a
+    /// team makes them, else the caller alone, who also does where the team made none, as for want of its own memory.
     fn steps_between_counts<R: Threads + Wait + Sync, G: Gate + Sync>(
         self,
         rt: &R,
@@ -479,8 +485,8 @@ impl Streets {
         self.steps_alone(rt, gate, count)
     }
 
-    /// As `steps`, where workers may stay: a team of them makes up to 16 steps at a time, while the gate shares steps and there is
-    /// memory for it; else the caller makes them alone. What they leave, and how many were made.
+    /// As `steps`, where workers may stay: a team of them makes up to 16 steps at a time, while the gate shares steps and has
+    /// processors for several threads, and there is memory for it; else the caller makes them alone. What they leave, and how many were made.
     pub fn steps_by_team<R: Threads + Wait + Sync, G: Gate + Sync>(
         self,
         rt: &R,

@@ -1,4 +1,4 @@
-//! Steps by a team: workers that stay for so many steps of an advance.
+//! Steps by a team: the caller and threads that stay for up to 16 steps of an advance.
 ghost use Rattle.std.specs.Prelude.{◌≡◌, ℕ, ◌+◌, ◌^◌, ◌<◌, ◌≤◌, slice_get, Some, OnOk, OnErr};
 ghost use Rattle.street_base.specs.Prelude.{last_clock};
 ghost use Rattle.street_engine.specs.Prelude.{StreetsView, HaveRun};
@@ -15,7 +15,7 @@ use street_net::Network;
 use street_team::{Block, Shared, Team, join_all, start};
 use street_tile::{Gate, TeamNetwork, Tile, TileWork};
 
-/// The streets with which a team begins, and how many steps it makes at most.
+/// The streets with which a team begins, and how many steps it makes at most: facts of a type, which the proof of a call picks.
 pub(crate) trait Begun {
     ghost begun: { StreetsView };
 
@@ -101,7 +101,7 @@ impl<B: Begun> Ran<B> {
     }
 }
 
-/// So many steps by a team, or fewer where memory was refused for one.
+/// So many steps by a team that was started, or fewer where memory was refused for one.
 fn run<G: Gate + Sync, K: TeamNetwork, B: Begun, R: Wait>(
     team: &mut Team<'_, '_, '_, '_, Tile, TileWork<'_, G, K>, R>,
     streets: Streets,
@@ -121,7 +121,9 @@ fn run<G: Gate + Sync, K: TeamNetwork, B: Begun, R: Wait>(
     ran
 }
 
-/// So many steps by the caller and so many threads, which stay for all of them and are started in a scope.
+/// So many steps, or fewer where memory was refused for one, by the caller and so many threads, which stay for all of them and are
+/// started in a scope. `shared` has a tray for each of these, `spare` a block to lend tiles in to each, and `locks` are those of
+/// [`run_with_locks`].
 fn run_in_scope<
     'a,
     G: Gate + Sync,
@@ -162,7 +164,9 @@ fn run_in_scope<
     )
 }
 
-/// So many steps by a team whose items these locks tell of: what they leave, and how many were made.
+/// So many steps, or fewer where memory was refused for one or for the team: what they leave, and how many were made. The team is
+/// the caller and so many threads. Each block of tiles that it lends takes one of the locks, which tells what the tiles were; `net`
+/// is the network of the streets.
 pub(crate) fn run_with_locks<
     K: TeamNetwork + Send + Sync,
     B: Begun + Send + Sync,

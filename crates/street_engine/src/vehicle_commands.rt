@@ -1,4 +1,4 @@
-//! Commands that name a vehicle.
+//! Commands of one vehicle: its entry, its taking out, and the question where it is.
 //!
 //! Source: this profile.
 ghost use Rattle.std.specs.Prelude.{◌≡◌, ◌<◌, ◌≤◌, None, length, true};
@@ -15,8 +15,8 @@ use street_base::{
 };
 use street_net::PlanFault;
 
-/// Why a vehicle is refused: where 1,000,000 were admitted, or else for its plan, or else its lane, or else its depart or its size.
-/// Takes no memory.
+/// Why the entry of a vehicle is refused, if it is: where 1,000,000 were admitted, or else for its plan, or else its lane, or else
+/// its depart or its size. Takes no memory.
 fn entry_refusal(
     streets: &Streets,
     plan: &[u64],
@@ -43,7 +43,8 @@ fn entry_refusal(
     }
 }
 
-/// Serves the entry of a vehicle, which then waits on a lane of the first link of its plan. Takes memory for the vehicle and its plan.
+/// Serves the entry of a vehicle, which then waits on a lane of the first link of its plan, a list of identifiers. `depart` is a
+/// step, `size` in cells. Answers its number. Takes memory for the vehicle and its plan.
 pub(crate) fn enter(
     alloc: Global,
     streets: &mut Streets,
@@ -75,7 +76,7 @@ pub(crate) fn enter(
     }
 }
 
-/// Serves the taking out of a vehicle that has not ended, wherever it is. Takes no memory.
+/// Serves the taking out of the vehicle of a number, which has not ended, wherever it is. Takes no memory.
 pub(crate) fn take_out(streets: &mut Streets, car: u64) -> (Reply, Outcome)
     ensures serves { Serves (Some streets.old) (TakeOut car) result.0 result.1 (Some streets.new) }
     ensures refused { KeepsRefused (Some streets.old) result.0 (Some streets.new) }
@@ -91,7 +92,8 @@ pub(crate) fn take_out(streets: &mut Streets, car: u64) -> (Reply, Outcome)
     (Reply::Taken { taken: car }, Outcome::Whole)
 }
 
-/// Serves the question where a vehicle is, or how it ended. Takes memory for the plan that it answers, where it has not ended.
+/// Serves the question where the vehicle of a number is, or how it ended. Takes memory for the plan that it answers, where it has
+/// not ended.
 pub(crate) fn vehicle(alloc: Global, streets: &Streets, car: u64) -> (Reply, Outcome)
     ensures { Serves (Some streets.now) (Vehicle car) result.0 result.1 (Some streets.now) }
 {

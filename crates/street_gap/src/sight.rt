@@ -1,4 +1,4 @@
-//! What a driver sees on a lane's list: the obstacle ahead, who is next behind, and the key beside a cell.
+//! What a driver sees on a lane's list: the obstacle ahead, who is next behind, who is next above a cell, and the cells between.
 //!
 //! Source: Nagel and Schreckenberg 1992 ahead, Rickert, Nagel, Schreckenberg and Latour 1996 beside and behind; closed cells
 //! are this profile.
@@ -10,7 +10,7 @@ use crate::closures::Closures;
 use street_base::CellNo;
 use street_yard::{Key, ListId, Yard};
 
-/// The cell of a key's car, where there is a key.
+/// The cell that the front of a key's car stands in; none where there is no key.
 pub(crate) fn cell_of(yard: &Yard, key: Option<Key>) -> Option<CellNo>
     requires { HasCar yard.now key }
     ensures { result ≡ option_map (cell_at yard.now) key }
@@ -21,7 +21,7 @@ pub(crate) fn cell_of(yard: &Yard, key: Option<Key>) -> Option<CellNo>
     }
 }
 
-/// The last cell that a key's car covers, where there is a key.
+/// The last cell that a key's car covers; none where there is no key.
 pub(crate) fn rear_of(yard: &Yard, key: Option<Key>) -> Option<CellNo>
     requires { HasCar yard.now key }
     ensures { result ≡ option_map (rear_at yard.now) key }
@@ -32,7 +32,7 @@ pub(crate) fn rear_of(yard: &Yard, key: Option<Key>) -> Option<CellNo>
     }
 }
 
-/// The key behind `ahead` on the list, or the first one.
+/// The key behind `ahead` on the list, or the list's first where `ahead` is none; none where nobody is behind.
 pub fn next_behind(yard: &Yard, list: ListId, ahead: &Option<Key>) -> Option<Key>
     requires list { list.0 < length yard.now.lists }
     requires ahead { IsOnList yard.now list.0 ahead.now }
@@ -45,7 +45,8 @@ pub fn next_behind(yard: &Yard, list: ListId, ahead: &Option<Key>) -> Option<Key
     }
 }
 
-/// The last key of the list whose vehicle is above the cell, sought from such a key on. The list stands for a lane.
+/// The last key of a lane's list whose vehicle has its front above the cell; none where there is no such vehicle. `from` is such
+/// a key, from which on it is sought, or none to begin with the list's first.
 pub fn last_above(yard: &Yard, list: ListId, from: Option<Key>, cell: CellNo) -> Option<Key>
     requires list { list.0 < length yard.now.lists }
     requires from { IsUpTo yard.now list.0 cell from }
@@ -65,7 +66,7 @@ pub fn last_above(yard: &Yard, list: ListId, from: Option<Key>, cell: CellNo) ->
     above
 }
 
-/// The lesser, where both are there.
+/// The lesser of the two cells, or the one that is there.
 fn lesser(vehicle: Option<CellNo>, entrance: Option<CellNo>) -> Option<CellNo>
     ensures { result ≡ lesser vehicle entrance }
 {
@@ -76,9 +77,9 @@ fn lesser(vehicle: Option<CellNo>, entrance: Option<CellNo>) -> Option<CellNo>
     }
 }
 
-/// The obstacle ahead of a cell: the rear of the vehicle ahead, or the first entrance above the cell where that comes before
-/// it. Whether some cell is closed is told, as a walk along a lane keeps it at hand: entrances are looked up only then. Each
-/// vehicle asks in each step, so this stands in the walks themselves.
+/// The obstacle ahead of a cell: the rear of the vehicle ahead, which `ahead` is, or the first entrance above the cell where that
+/// comes before it; none where there is neither. `has_closed` tells whether some cell of the lane is closed, which a walk along
+/// a lane asks once: entrances are looked up only then. Each vehicle asks in each step, so this stands in the walks themselves.
 #[inline(always)]
 pub fn obstacle_ahead(
     closures: &Closures,
@@ -96,7 +97,7 @@ pub fn obstacle_ahead(
     }
 }
 
-/// How many cells lie between a cell and an obstacle above it, where there is one; 0 where it is not above.
+/// How many cells lie between a cell and an obstacle above it; 0 where it is not above, none where there is no obstacle.
 pub fn cells_up_to(obstacle: Option<CellNo>, cell: CellNo) -> Option<CellNo>
     ensures { result ≡ option_map (λ y. y - cell - 1) obstacle }
 {
@@ -106,7 +107,7 @@ pub fn cells_up_to(obstacle: Option<CellNo>, cell: CellNo) -> Option<CellNo>
     }
 }
 
-/// How many cells lie between a cell and a vehicle below it, where there is one; 0 where it is not below.
+/// How many cells lie between a cell and a vehicle's front below it; 0 where it is not below, none where there is no vehicle.
 pub(crate) fn cells_down_to(below: Option<CellNo>, cell: CellNo) -> Option<CellNo>
     ensures { result ≡ option_map (λ y. cell - y - 1) below }
 {

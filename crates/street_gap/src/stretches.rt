@@ -1,7 +1,9 @@
-//! The closed cells of a lane that has some.
+//! The closed cells of a lane that has some, as a list of stretches that is searched by halving. `low` and `high` are positions
+//! in the list.
 //!
 //! Source: closed cells are this profile.
-ghost use Rattle.std.specs.Prelude.{◌≡◌, ◌↔◌, ℕ, ◌+◌, ◌-◌, ◌<◌, ◌≤◌, not, ◌&&◌, ◌||◌, true, false, IsTrue, [], ◌∷◌, ◌++◌, length, take, drop, count_by, OnOk, OnErr};
+ghost use Rattle.std.specs.Prelude.{◌≡◌, ◌↔◌, ℕ, ◌+◌, ◌-◌, ◌<◌, ◌≤◌, not, ◌&&◌, ◌||◌, true, false};
+ghost use Rattle.std.specs.Prelude.{IsTrue, [], ◌∷◌, ◌++◌, length, take, drop, count_by, OnOk, OnErr};
 ghost use Rattle.street_gap.specs.Prelude.{is_between, is_in, IsRising, IsWithin, closed_marks, entrance_after, closed_count};
 ghost use Rattle.street_gap.specs.Inside.{IsCut};
 
@@ -28,7 +30,7 @@ impl Model for Stretches {
     ghost invariant = { λ c. IsRising c.stretches.items };
 }
 
-/// How many of the stretches end below the cell.
+/// How many of the stretches end below the cell: the position of the first that does not.
 fn ending_below(stretches: &[Stretch], cell: CellNo) -> usize
     requires { IsRising stretches.now }
     ensures { IsCut (λ s. s.last < cell) (λ s. cell ≤ s.last) stretches.now result }
@@ -36,7 +38,8 @@ fn ending_below(stretches: &[Stretch], cell: CellNo) -> usize
     stretches.partition_point(|stretch| stretch.last < cell)
 }
 
-/// How many of the stretches begin at the cell or below it. It stands apart from the walks, as few lanes have closed cells.
+/// How many of the stretches begin at the cell or below it: the position of the first that begins above it. It stands apart from
+/// the walks, as few lanes have closed cells.
 #[cold]
 #[inline(never)]
 fn beginning_by(stretches: &[Stretch], cell: CellNo) -> usize
@@ -46,7 +49,8 @@ fn beginning_by(stretches: &[Stretch], cell: CellNo) -> usize
     stretches.partition_point(|stretch| stretch.first <= cell)
 }
 
-/// How many of the stretches begin right above the cell, at it or below it.
+/// How many of the stretches begin at most one cell above this one. The others are apart from a stretch that ends in this cell:
+/// an open cell lies between.
 fn beginning_beside(stretches: &[Stretch], cell: CellNo) -> usize
     requires { IsRising stretches.now }
     ensures { IsCut (λ s. s.first - 1 ≤ cell) (λ s. cell < s.first - 1) stretches.now result }
@@ -74,6 +78,9 @@ fn replace(stretches: &mut Vec<Stretch>, low: usize, high: usize, stretch: Stret
 }
 
 /// Writes two stretches in place of those from `low` up to, but not including, `high`.
+///
+/// # Errors
+/// Out of memory, and nothing changed. It is asked for only where the two take the place of one.
 fn replace_by_two(
     stretches: &mut Vec<Stretch>,
     low: usize,
@@ -96,7 +103,7 @@ fn replace_by_two(
     Ok(())
 }
 
-/// How many cells lie on the stretches.
+/// How many cells lie on the stretches together.
 fn cells_on(stretches: &[Stretch]) -> u64
     requires { IsRising stretches.now }
     ensures { result ≡ closed_count stretches.now }
@@ -109,7 +116,7 @@ fn cells_on(stretches: &[Stretch]) -> u64
 }
 
 impl Stretches {
-    /// No cell is closed.
+    /// No stretches: no cell is closed.
     pub(crate) fn new(alloc: Global) -> Stretches
         ensures { result ≡ [] }
     {
@@ -148,7 +155,7 @@ impl Stretches {
         at < self.stretches.len() && self.stretches[at].first <= cell
     }
 
-    /// The least entrance above the cell.
+    /// The least entrance above the cell: the first cell of a closed stretch. None where no stretch begins above the cell.
     pub(crate) fn entrance_after(&self, cell: CellNo) -> Option<CellNo>
         ensures { (count : ℕ) → IsWithin self.now count → result ≡ entrance_after (closed_marks self.now count) cell }
     {
@@ -160,7 +167,7 @@ impl Stretches {
         }
     }
 
-    /// Closes the cells from the first to the last; cells that are closed stay so.
+    /// Closes the cells from `first` to `last`, both included; cells that are closed stay so.
     ///
     /// # Errors
     /// Out of memory, and nothing changed. It is asked for only where neither these cells nor the two beside them are
@@ -187,7 +194,7 @@ impl Stretches {
         Ok(())
     }
 
-    /// Opens the cells from the first to the last; cells that are open stay so.
+    /// Opens the cells from `first` to `last`, both included; cells that are open stay so.
     ///
     /// # Errors
     /// Out of memory, and nothing changed. It is asked for only where these cells and the two beside them are closed,

@@ -1,4 +1,4 @@
-//! The front of a lane's buffer.
+//! The front of a lane's buffer: to which link it goes on, and taking it out, as a release does.
 ghost use Rattle.std.specs.Prelude.{◌≡◌, ◌+◌, ◌<◌, length, option_map, slice_get, IfSome, option_to_list};
 ghost use Rattle.street_base.specs.Prelude.{LaneState};
 ghost use Rattle.street_lanes.specs.Prelude.{LaneStands, queued_of, ready_next, without_front, lane_of, GoesAt, cars_on, HasShortPlan, LetsGo};
@@ -8,7 +8,8 @@ use street_base::{Car, LinkIx, Step};
 use street_rule::Dice;
 use street_yard::{ListId, Yard};
 
-/// The link to which the first car of a list goes on, if its step has come by the clock. Its plan is not read.
+/// The link to which the first car of a list, a buffer's, goes on, if it is ready by the clock. Its plan is not read: the yard
+/// keeps next links apart.
 fn first_next(yard: &Yard, list: ListId, clock: Step) -> Option<LinkIx>
     requires { list.0 < length yard.now.lists }
     ensures { result ≡ ready_next clock (option_map queued_of (slice_get (cars_on yard.now list.0) 0)) }
@@ -42,7 +43,7 @@ impl Lanes {
         first_next(&self.yard, buffer_list(lane), clock)
     }
 
-    /// Takes the front out of a lane's buffer.
+    /// Takes the front out of a lane's buffer; nobody where the buffer is empty.
     pub fn let_go(&mut self, lane: usize) -> Option<Car>
         requires { lane < length self.old.lanes }
         ensures goes { GoesAt lane without_front self.old self.new }

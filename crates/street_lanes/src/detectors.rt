@@ -29,6 +29,7 @@ const _: () = prove!(size_of::<Detectors>() == 16);
 pub(crate) enum Kind {
     /// None, and so many cells.
     Bare(CellNo),
+    /// Some: their meters and watches.
     Watched(Box<LaneMeters>),
 }
 
@@ -44,7 +45,7 @@ impl Model for Detectors {
 
 impl Detectors {
     /// No detectors, on a lane of so many cells. Takes no memory.
-    pub fn new(_alloc: Global, length: CellNo) -> Detectors
+    pub fn new(length: CellNo) -> Detectors
         ensures { result ≡ record { size = length; meters = []; watches = [] } }
     {
         Detectors {
@@ -52,8 +53,8 @@ impl Detectors {
         }
     }
 
-    /// At the end of the step each meter notes what its watch saw of the motion, and whether its cell is covered. Takes no
-    /// memory.
+    /// At the end of the step each meter notes what its watch saw of the motion, and whether its cell is covered. The lane is that
+    /// of this number among `own`, the lanes of its tile. Takes no memory.
     pub fn note(&mut self, own: &Lanes, lane: usize)
         requires lane { lane < length own.now.lanes }
         requires in_time { All (λ x. next_step x < last_clock) self.old.meters }
@@ -66,8 +67,8 @@ impl Detectors {
         }
     }
 
-    /// Places one more detector in a cell of the lane, which is at `at`, with a period of 1 to 100,000 steps; it notes from
-    /// the step `start` on. Answers its number among those of the lane.
+    /// Places one more detector in a cell of the lane, whose place is `at`, with a period of 1 to 100,000 steps; it notes from
+    /// the step `start` on. Answers its number among those of the lane, from 0.
     ///
     /// # Errors
     /// Memory was refused; the detectors are as they were.
@@ -98,7 +99,7 @@ impl Detectors {
         }
     }
 
-    /// The rows of a detector, by its number among those of the lane, if there is one.
+    /// The reply with the rows of a detector, by its number among those of the lane, if there is one.
     ///
     /// # Errors
     /// Memory was refused.

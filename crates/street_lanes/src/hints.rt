@@ -1,4 +1,5 @@
-//! Where those who wait are to be looked for. A hint may be wrong: whoever takes one tests it.
+//! Hints of a tile: under which key a vehicle may be, and from whom on to look for a car's place among those who wait. A hint may
+//! be wrong: whoever takes one tests it.
 ghost use Rattle.std.specs.Prelude.{◌<◌, length};
 ghost use Rattle.street_yard.specs.Prelude.{IsOnList};
 
@@ -7,13 +8,13 @@ use std::alloc::{AllocError, Global};
 use street_base::{Car, CarNo, Step};
 use street_yard::{Key, ListId, Yard};
 
-/// How many who wait there are to a mark.
+/// Of so many who wait in a row, the first is marked.
 const STRIDE: usize = 16;
 
-/// The fewest who wait for whom marks are made: so few are walked as fast.
+/// Marks are made where at least so many wait on a lane: fewer are walked as fast.
 const FEWEST: usize = 64;
 
-/// One who waited as the marks were made.
+/// A mark: one who waited as the marks were made, from whom a search may begin. The marks on cars in `street_yard` are others.
 #[derive(Clone, Copy)]
 struct Mark {
     depart: Step,
@@ -22,13 +23,14 @@ struct Mark {
 }
 
 impl Mark {
-    /// Whether a car goes behind who has the mark.
+    /// Whether the marked one goes before a car: by depart, then by number.
     fn is_ahead_of(&self, car: &Car) -> bool {
         self.depart < car.step || self.depart == car.step && self.number < car.number
     }
 }
 
-/// Marks on the list of those who wait on a lane, the first to depart first, and how far searches went since they were made.
+/// Marks on the list of those who wait on a lane, the first to depart first, and how many keys and old marks searches passed since
+/// they were made.
 #[derive(Drop)]
 struct Marks {
     marks: Vec<Mark>,
@@ -36,8 +38,8 @@ struct Marks {
 }
 
 impl Marks {
-    /// Who has the last mark ahead of a car's place, or nobody where the place is ahead of all; behind all marks the last on
-    /// the list.
+    /// From whom on to look for a car's place: where all marks go before the car, from the last on the list; else from the last of
+    /// those that do and are still right, or nobody. Adds to `hops` how many marks it passed that were no longer right.
     fn near(&self, yard: &Yard, list: ListId, car: &Car, hops: &mut usize) -> Option<Key>
         requires { list.0 < length yard.now.lists }
         ensures { IsOnList yard.now list.0 result }
@@ -57,7 +59,7 @@ impl Marks {
         None
     }
 
-    /// Marks every so many on a list, as far as there is memory.
+    /// Makes the marks of a list anew, as far as there is memory, and counts what searches pass from 0 on.
     fn renew(&mut self, yard: &Yard, list: ListId)
         requires { list.0 < length yard.now.lists }
     {
@@ -97,7 +99,7 @@ pub(crate) struct Hints {
 }
 
 impl Hints {
-    /// None for so many lanes.
+    /// No hints yet, for a tile of so many lanes.
     ///
     /// # Errors
     /// Memory was refused.
@@ -115,13 +117,15 @@ impl Hints {
         })
     }
 
-    /// The key that the vehicle of a number may have.
+    /// The key that the vehicle of a number may have, if there is a hint; it may be another's.
     pub(crate) fn key_of(&self, number: CarNo) -> Option<Key> {
         let at = self
             .given
             .partition_point(|given: &Given| -> bool { given.number < number });
-        let given = self.given.get(at)?;
-        Some(given.key)
+        match self.given.get(at) {
+            Some(given) if given.number == number => Some(given.key),
+            _ => None,
+        }
     }
 
     /// A vehicle, with a greater number than those before it, begins to wait under a key. Where memory is refused there is no hint.
@@ -148,8 +152,8 @@ impl Hints {
         }
     }
 
-    /// A search on the list of those who wait on a lane went so far. The marks are made anew where searches since they were
-    /// made went four times as far as the list is long. Where memory is refused there are fewer.
+    /// Notes that a search on the list of those who wait on a lane passed so many keys and marks. Where at least 64 wait, the marks
+    /// are made anew once searches have passed more than four times as many as wait. Where memory is refused there are fewer marks.
     pub(crate) fn note(&mut self, yard: &Yard, lane: usize, list: ListId, hops: usize)
         requires { list.0 < length yard.now.lists }
     {

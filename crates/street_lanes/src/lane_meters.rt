@@ -1,4 +1,4 @@
-//! The detectors of a lane that has some.
+//! The detectors of a lane that has some, and whether a cell is covered, which they note.
 //!
 //! Source: detectors are this profile.
 ghost use Rattle.std.specs.Prelude.{◌≡◌, ℕ, ◌<◌, ◌≤◌, length, List, [], map, option_map, slice_get, IfOk, OnOk, OnErr, All};
@@ -21,6 +21,7 @@ use street_yard::{ListId, Yard};
 pub(crate) struct LaneMeters {
     /// How many cells the lane has.
     length: CellNo,
+    /// One for each detector, in the order of placing.
     meters: Vec<Meter>,
     /// For each meter what its detector saw of the lane's last motion.
     pub(crate) watches: Vec<Watch>,
@@ -49,7 +50,7 @@ fn watch_at(cell: CellNo) -> Watch
     }
 }
 
-/// Each watch has seen nothing, and watches its meter's cell.
+/// Sets each watch to one of its meter's cell that has seen nothing.
 fn clear(watches: &mut [Watch], meters: &[Meter])
     requires { length watches.old ≡ length meters.now }
     ensures { watches.new ≡ map cleared meters.now }
@@ -59,8 +60,8 @@ fn clear(watches: &mut [Watch], meters: &[Meter])
     }
 }
 
-/// Whether somebody on a list covers a cell. The list is walked from its front down to the cell.
-fn holds(yard: &Yard, cells: ListId, cell: CellNo) -> bool
+/// Whether somebody on a list, that of a lane's cells, covers a cell. It is walked from its front down to the cell.
+fn covers(yard: &Yard, cells: ListId, cell: CellNo) -> bool
     requires { cells.0 < length yard.now.lists }
     ensures { (count : ℕ) → IsLane yard.now cells.0 count → result ≡ is_covered (cells_at yard.now cells.0 count) cell }
 {
@@ -83,11 +84,11 @@ impl Lanes {
         requires { lane < length self.now.lanes }
         ensures { (s : LaneState) → LaneStands (lane_of self.now lane) s → result ≡ is_covered s.track.cells cell }
     {
-        holds(&self.yard, cells_list(lane), cell)
+        covers(&self.yard, cells_list(lane), cell)
     }
 }
 
-/// A meter notes what its watch saw, and whether its cell is covered now.
+/// A meter notes what its watch saw, and whether its cell is covered now. Its lane is that of this number among `own`.
 fn note_one(meter: &mut Meter, watch: Watch, own: &Lanes, lane: usize)
     requires lane { lane < length own.now.lanes }
     requires in_time { next_step meter.old < last_clock }
@@ -98,7 +99,7 @@ fn note_one(meter: &mut Meter, watch: Watch, own: &Lanes, lane: usize)
     meter.note(watch.passes, watch.speeds, u32::from(covered));
 }
 
-/// Each meter notes what its watch saw, and whether its cell is covered now.
+/// Each meter notes what its watch saw, and whether its cell is covered now. Their lane is that of this number among `own`.
 fn note_all(meters: &mut [Meter], watches: &[Watch], own: &Lanes, lane: usize)
     requires lane { lane < length own.now.lanes }
     requires even { length watches.now ≡ length meters.old }
@@ -123,7 +124,7 @@ impl LaneMeters {
         }
     }
 
-    /// Each watch has seen nothing, and is ready for a motion of the lane. Takes no memory.
+    /// Sets each watch to have seen nothing: it is ready for a motion of the lane. Takes no memory.
     pub(crate) fn clear(&mut self)
         ensures cleared { self.new ≡ record self.old { watches = map cleared self.old.meters } }
         ensures ready { All (IsReady self.old.size) self.new.watches }
@@ -131,8 +132,8 @@ impl LaneMeters {
         clear(&mut self.watches, &self.meters);
     }
 
-    /// At the end of the step each meter notes what its watch saw of the motion, and whether its cell is covered. Takes no
-    /// memory.
+    /// At the end of the step each meter notes what its watch saw of the motion, and whether its cell is covered. The lane is that
+    /// of this number among `own`, the lanes of its tile. Takes no memory.
     pub(crate) fn note(&mut self, own: &Lanes, lane: usize)
         requires lane { lane < length own.now.lanes }
         requires in_time { All (λ x. next_step x < last_clock) self.old.meters }
@@ -143,8 +144,8 @@ impl LaneMeters {
         note_all(&mut self.meters, &self.watches, own, lane);
     }
 
-    /// Places one more detector in a cell of the lane, which is at `at`, with a period of 1 to 100,000 steps; it notes from
-    /// the step `start` on. Answers its number among those of the lane.
+    /// Places one more detector in a cell of the lane, whose place is `at`, with a period of 1 to 100,000 steps; it notes from
+    /// the step `start` on. Answers its number among those of the lane, from 0.
     ///
     /// # Errors
     /// Memory was refused; the detectors are as they were.
@@ -174,7 +175,7 @@ impl LaneMeters {
         Ok(number)
     }
 
-    /// The rows of a detector, by its number among those of the lane, if there is one.
+    /// The reply with the rows of a detector, by its number among those of the lane, if there is one.
     ///
     /// # Errors
     /// Memory was refused.

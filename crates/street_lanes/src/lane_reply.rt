@@ -1,4 +1,4 @@
-//! All of one lane, as it is shown.
+//! All of one lane, as the reply to a `lane` command shows it.
 //!
 //! Source: this profile.
 ghost use Rattle.std.specs.Prelude.{◌≡◌, ◌<◌, length, map, IfOk};
@@ -12,7 +12,7 @@ use std::alloc::{AllocError, Global};
 use street_base::{BufferEntry, CellEntry, Listing, Reply, Starved, Stretch, WaitingEntry};
 use street_yard::{CarView, ListId, Yard};
 
-/// What a lane shows of a car.
+/// An entry of the reply: what a lane shows of a car in its buffer, in its cells, or waiting.
 trait CarEntry: Sized {
     /// What it shows of a car.
     ghost shown: { Driven → Self };
@@ -58,7 +58,10 @@ impl CarEntry for WaitingEntry {
     }
 }
 
-/// What is shown of the cars on a list, the front first.
+/// What is shown of the cars on a list, the front first, in entries of one kind.
+///
+/// # Errors
+/// Memory for them was refused.
 fn entries<E: CarEntry + Drop>(
     alloc: Global,
     yard: &Yard,
@@ -76,7 +79,10 @@ fn entries<E: CarEntry + Drop>(
     Ok(Listing::from_vec(entries))
 }
 
-/// What is shown of closed stretches.
+/// What is shown of closed stretches, in their order.
+///
+/// # Errors
+/// Memory for them was refused.
 fn closed_entries(
     alloc: Global,
     stretches: &[street_gap::Stretch],
@@ -95,7 +101,7 @@ fn closed_entries(
 
 impl Lanes {
     /// All of a lane: its buffer from the front, the vehicles from the greatest cell on, its closed stretches, and who
-    /// waits. Takes memory for what it answers.
+    /// waits, the first to depart first. Takes memory for what it answers.
     ///
     /// # Errors
     /// Memory for the answer was refused.

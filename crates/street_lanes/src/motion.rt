@@ -7,7 +7,8 @@ ghost use Rattle.street_base.specs.Prelude.{most_residence, end_node, is_green};
 ghost use Rattle.street_rule.specs.Prelude.{odds_of, IsReady};
 ghost use Rattle.street_gap.specs.Prelude.{IsWithin};
 ghost use Rattle.street_yard.specs.Prelude.{list_at, entry_at, car_of, IsLoose, IsLane};
-ghost use Rattle.street_lanes.specs.Prelude.{cleared, lane_of, cells_list, buffer_list, NoneLoose, NoneLooseBut, opens_to, cells_on, Settles, MovesLeg, DrivesAt, TellsExit};
+ghost use Rattle.street_lanes.specs.Prelude.{cleared, lane_of, cells_list, buffer_list, NoneLoose, NoneLooseBut};
+ghost use Rattle.street_lanes.specs.Prelude.{opens_to, cells_on, Settles, MovesLeg, DrivesAt, TellsExit};
 ghost use Rattle.street_lanes.specs.Lanes.{IsOf};
 
 use crate::detectors::{Detectors, Kind};
@@ -42,9 +43,9 @@ fn end_node(net: &Network, link: LinkIx) -> NodeSpec
     net.spec().nodes.as_slice()[net.end_of(link).position()]
 }
 
-/// Whether a lane's exit is open to its front vehicle, which goes on to this link: on its last link, or with a turn that is
-/// green and room in the lane's buffer. The signals are asked first, as where there are signals most who wait at an end have red;
-/// the lane's turns, which lie farthest away, are asked last.
+/// Whether a lane's exit is open to its front vehicle: to one on its last link, where `next` is none, or with a turn to this link
+/// that is green and room in the lane's buffer. The signals are asked first, as where there are signals most who wait at an end
+/// have red; the lane's turns, which lie farthest away, are asked last.
 fn exit_is_open(yard: &Yard, leg: &Leg<'_>, buffer: ListId, next: Option<LinkIx>) -> bool
     requires there { leg.now.at.link < length leg.now.net.now.links }
     requires list { buffer.0 < length yard.now.lists }
@@ -74,11 +75,11 @@ fn is_shown_green(leg: &Leg<'_>, next: LinkIx) -> bool
         next,
         next_lane: 0,
     };
-    plan.green(&turn, leg.clock)
+    plan.is_green(&turn, leg.clock)
 }
 
 /// What a motion is told of the lane's exit: whether it is open to the front vehicle. To one that is too far from the lane's
-/// end it does not matter, and then nothing is looked up: neither its plan nor a turn nor the signals.
+/// end it does not matter; then true is told, and nothing is looked up: neither its plan nor a turn nor the signals.
 fn exit_for(yard: &Yard, road: &Road<'_>, leg: &Leg<'_>, buffer: ListId, front: Key) -> bool
     requires network { road.now.network ≡ leg.now.net.now }
     requires link { road.now.link ≡ leg.now.at.link }
@@ -97,7 +98,7 @@ fn exit_for(yard: &Yard, road: &Road<'_>, leg: &Leg<'_>, buffer: ListId, front: 
 }
 
 /// A car that has left its lane arrives, if it is on its last link: it is taken out and its number answered. Else it comes
-/// last into the buffer.
+/// last into the buffer, and may go on from the step `ready`.
 fn settle(yard: &mut Yard, buffer: ListId, key: Key, ready: Step) -> Option<CarNo>
     requires list { buffer.0 < length yard.old.lists }
     requires loose { IsLoose yard.old key }
@@ -113,8 +114,8 @@ fn settle(yard: &mut Yard, buffer: ListId, key: Key, ready: Step) -> Option<CarN
     None
 }
 
-/// The motion of a lane in a step. Nothing is done where nobody is in its cells. The exit is asked for the front vehicle
-/// alone, since it matters to nobody else.
+/// The motion of a lane in a step; answers who has arrived, and each watch notes who went past it. Nothing is done where nobody is
+/// in its cells. The exit is asked for the front vehicle alone, since it matters to nobody else.
 fn drive(yard: &mut Yard, dice: &mut Dice, leg: &Leg<'_>, watches: &mut [Watch]) -> Option<CarNo>
     requires link { leg.now.at.link < length leg.now.net.now.links }
     requires few { leg.now.lane < 2 ^ 32 }
@@ -142,9 +143,9 @@ fn drive(yard: &mut Yard, dice: &mut Dice, leg: &Leg<'_>, watches: &mut [Watch])
 }
 
 impl Lanes {
-    /// The motion of a lane in a step: all vehicles in its cells drive on, and at most one leaves. A leaver on its last link
-    /// has arrived: its number is answered, and there is room for one more. Any other comes last into the lane's buffer, from
-    /// where it may go on after the residence of the node. Takes no memory.
+    /// The motion of a lane in a step, with no watches: all vehicles in its cells drive on, and at most one leaves. A leaver on its
+    /// last link has arrived: its number is answered, and there is room for one more. Any other comes last into the lane's buffer,
+    /// from where it may go on after the residence of the node. Takes no memory.
     ///
     /// `signal` is that of the node that the lane runs to; its plan is looked up where the front vehicle asks.
     pub fn drive(
@@ -164,7 +165,7 @@ impl Lanes {
         self.drive_cells(net, lane, clock, signal, &mut [])
     }
 
-    /// As [`drive`](Self::drive), where the lane's detectors watch.
+    /// As [`drive`](Self::drive), and the watches of the lane's detectors have then seen this motion and no other.
     pub fn drive_watched(
         &mut self,
         net: &Network,

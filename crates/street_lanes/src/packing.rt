@@ -7,7 +7,7 @@ use street_base::Step;
 use street_rule::Dice;
 use street_yard::{ListId, Yard};
 
-/// The fewest who come to lanes until keys are given anew.
+/// The fewest who come to cells until keys are given anew.
 const FEWEST: usize = 64;
 
 /// Keys are given anew in steps that are multiples of this, so that workers who share steps mostly do it in the same one. They wait
@@ -51,9 +51,9 @@ fn pack_lanes(yard: &mut Yard, dice: &mut Dice, lanes: usize) -> usize
 }
 
 impl Lanes {
-    /// Gives the vehicles in cells and buffers keys in the order in which they stand, in the first step of eight once as many have
-    /// come to lanes as half of those who stood there as this was last done: a walk along a lane is then one along memory. Nothing
-    /// else changes. Takes no memory.
+    /// Gives the vehicles in cells and buffers keys in the order in which they stand: a walk along a lane is then one along memory.
+    /// Does so in a step that is a multiple of 8, once at least 64 have come to cells since it did, and half as many as stood in
+    /// cells and buffers then. Nothing else changes. Takes no memory.
     pub fn pack(&mut self, clock: Step)
         ensures { self.new ≡ self.old }
     {

@@ -1,4 +1,4 @@
-//! The vehicle of a number on a lane.
+//! Finding the vehicle of a number on a lane's lists, and taking it out.
 ghost use Rattle.std.specs.Prelude.{◌≡◌, ◌^◌, ◌<◌, length, true, IsSome, Some};
 ghost use Rattle.street_lanes.specs.Prelude.{waiting_list, IsSought, IsFound, TakesOut};
 ghost use Rattle.street_yard.specs.Prelude.{list_on, IsWhole};
@@ -18,7 +18,7 @@ pub(crate) fn stands_on(yard: &Yard, list: ListId, key: Key, number: CarNo) -> b
     }
 }
 
-/// The key on a list whose car has the number. First it is asked whether that is the key of the hint.
+/// The key on a list whose car has the number; none where there is none. First it is asked whether that is the key of the hint.
 pub(crate) fn seek(yard: &Yard, list: ListId, number: CarNo, hint: Option<Key>) -> Option<Key>
     requires { list.0 < length yard.now.lists }
     ensures sought { IsSought yard.now list.0 number result }
@@ -39,7 +39,7 @@ pub(crate) fn seek(yard: &Yard, list: ListId, number: CarNo, hint: Option<Key>) 
     None
 }
 
-/// The key on one of a lane's lists whose car has the number.
+/// The key on one of a lane's lists whose car has the number; none where there is none. On each list the hint is asked first.
 pub(crate) fn seek_on_lane(
     yard: &Yard,
     lane: usize,
@@ -60,7 +60,7 @@ pub(crate) fn seek_on_lane(
     seek(yard, waiting_list(lane), number, *hint)
 }
 
-/// Takes the car of a key out, which is on a list.
+/// Takes the car of a key, which is on a list, out of the list and of the yard.
 pub(crate) fn take_out(yard: &mut Yard, key: Key) -> Car
     requires { IsSome (list_on yard.old key) }
     ensures { TakesOut yard.old yard.new key result }

@@ -1,4 +1,4 @@
-//! Where the vehicle of a number is on one lane.
+//! Where the vehicle of a number is on one lane, as the reply to a `vehicle` command tells it.
 //!
 //! Source: this profile.
 ghost use Rattle.std.specs.Prelude.{◌≡◌, ◌<◌, length, None, IfOk};
@@ -32,7 +32,10 @@ fn remaining_plan<'a>(car: &CarView<'a>) -> &'a [LinkIx]
     &plan[usize::from(car.at).min(plan.len())..]
 }
 
-/// The identifiers of the remaining plan of a car.
+/// The identifiers of the links of a car's remaining plan.
+///
+/// # Errors
+/// Memory for them was refused.
 fn remaining_ids(
     alloc: Global,
     net: &NetSpec,
@@ -48,7 +51,10 @@ fn remaining_ids(
     Ok(Listing::from_vec(ids))
 }
 
-/// What is told of a car in a cell of a lane.
+/// What is told of a car in a cell of the lane at this place.
+///
+/// # Errors
+/// Memory for its plan was refused.
 fn told_in_cell(
     alloc: Global,
     net: &NetSpec,
@@ -67,7 +73,10 @@ fn told_in_cell(
     })
 }
 
-/// What is told of a car in the buffer of a lane.
+/// What is told of a car in the buffer of the lane at this place.
+///
+/// # Errors
+/// Memory for its plan was refused.
 fn told_in_buffer(
     alloc: Global,
     net: &NetSpec,
@@ -86,7 +95,10 @@ fn told_in_buffer(
     })
 }
 
-/// What is told of a car that waits on a lane.
+/// What is told of a car that waits on the lane at this place.
+///
+/// # Errors
+/// Memory for its plan was refused.
 fn told_waiting(
     alloc: Global,
     net: &NetSpec,
@@ -105,8 +117,8 @@ fn told_waiting(
 }
 
 impl Lanes {
-    /// Where the vehicle of a number is on a lane, if it is there. It stands there at most once. Takes memory for the plan
-    /// that it answers.
+    /// Where the vehicle of a number is on a lane, if it is there; what is told holds where it stands there at most once. Takes
+    /// memory for the plan that it answers.
     ///
     /// # Errors
     /// Memory for the plan was refused.

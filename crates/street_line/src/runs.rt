@@ -11,11 +11,8 @@ use crate::service::Service;
 use std::alloc::Global;
 use std::io::{Read, Write};
 use street_base::Starved;
-use street_stream::{Cause, Counted, FaultKind, Limits, RunFault, Tally, drive_lines};
+use street_stream::{Cause, Counted, FaultKind, Limits, MOST_READS, RunFault, Tally, drive_lines};
 use street_text::{LONGEST_LINE, LineReader};
-
-/// The most calls of `read` in one run.
-const MOST_READS: u32 = 1_000_000_000;
 
 /// Why the lines were not served to their end: one ends the run only where memory ran out.
 fn kind_of(cause: Cause<Starved>) -> FaultKind

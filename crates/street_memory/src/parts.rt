@@ -9,7 +9,7 @@ use street_base::{
     Car, CarNo, GreenSpec, LinkIx, LinkSpec, Listing, NetSpec, NodeIx, NodeSpec, PhaseSpec, Place,
     Plan, Size, Starved, Step, TurnSpec,
 };
-use street_gap::{Closures, gap_ahead, gap_back, gap_beside};
+use street_gap::{Closures, gap_ahead, gap_behind, gap_beside};
 use street_lanes::{LaneTotals, Lanes};
 use street_meter::{Meter, MeterSite};
 use street_net::Network;
@@ -114,7 +114,7 @@ fn is_shown(net: &Network, plan: &SignalPlan) -> bool {
         return false;
     };
     match net.turn(link, 0, next) {
-        Some(turn) => plan.cycle() == 10 && !plan.green(&turn, 4) && plan.green(&turn, 5),
+        Some(turn) => plan.cycle() == 10 && !plan.is_green(&turn, 4) && plan.is_green(&turn, 5),
         None => false,
     }
 }
@@ -207,7 +207,7 @@ fn are_gaps(yard: &Yard, closures: &Closures, front: Key, back: Key) -> bool
     let ahead = gap_ahead(yard, closures, front).is_none()
         && gap_ahead(yard, closures, back) == Some(2);
     let beside = gap_beside(yard, closures, list, Some(front), 6) == Some(2);
-    let behind = gap_back(yard, list, Some(front), 7) == Some(4);
+    let behind = gap_behind(yard, list, Some(front), 7) == Some(4);
     ahead && beside && behind
 }
 

@@ -52,7 +52,8 @@ impl Model for Network {
 
     ghost view = { λ n. n.spec };
 
-    ghost invariant = { λ n. IsChecked n.spec n.node_ids.keys n.link_ids.keys n.briefs.items n.in_lanes.items n.turns.starts.items n.turns.turns.items n.nexts.items };
+    ghost invariant = { λ n. IsChecked n.spec n.node_ids.keys n.link_ids.keys n.briefs.items n.in_lanes.items
+        n.turns.starts.items n.turns.turns.items n.nexts.items };
 }
 
 /// A load that equals `spec`.

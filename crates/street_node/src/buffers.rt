@@ -1,4 +1,4 @@
-//! The buffers of a node.
+//! The buffers of a node: whether they have room, who comes in, and who is released.
 //!
 //! Source: this profile.
 ghost use Rattle.std.specs.Prelude.{◌≡◌, ◌+◌, ◌*◌, ◌<◌, ◌≤◌, length, map, nat_lt, vec_len, vec_capacity};
@@ -47,7 +47,7 @@ impl Buffers {
         }
     }
 
-    /// Whether the buffer of a lane, by its place among the node's lanes, is shorter than the capacity.
+    /// Whether the buffer of a lane, by its position in `Network::in_lanes`, holds fewer vehicles than the capacity.
     pub fn has_room(&self, yard: &Yard, lane: usize) -> bool
         requires lane { lane < length self.now.lists }
         requires lists { AreIn yard.now self.now }
@@ -56,7 +56,8 @@ impl Buffers {
         yard.list_len(self.lists[lane]) < self.capacity
     }
 
-    /// A loose vehicle comes last in the buffer of a lane, and may go on from the step `ready`.
+    /// Puts a loose vehicle last into the buffer of a lane, by its position in `Network::in_lanes`. It may go on from the step
+    /// `ready`.
     pub fn take_in(&self, yard: &mut Yard, lane: usize, key: Key, ready: Step)
         requires lane { lane < length self.now.lists }
         requires lists { AreIn yard.old self.now }
@@ -68,11 +69,13 @@ impl Buffers {
         yard.set_step(key, ready);
     }
 
-    /// Goes through the buffers in order. A front that is ready goes, if the lane that its turn leads to has an open mouth;
-    /// the mouth closes behind it. Who goes is on no list then, at most as fast as its next link allows, and is added to
-    /// `released` with its turn. The signal is not asked. Takes no memory.
+    /// Goes through the buffers in order. A front that is ready in the step `step` goes, if the lane that its turn leads to has
+    /// an open mouth; the mouth closes behind it. Who goes is on no list then, one link further in its plan, at most as fast as
+    /// that link allows, and is added to `released` with its turn. The signal is not asked: it counts as a vehicle leaves its
+    /// lane. Takes no memory.
     ///
-    /// `mouths` has two entries for each link of the network, one a lane: whether cell 0 is free.
+    /// `mouths` has two entries for each link of the network, one a lane, at its `slot`: whether cell 0 is free. `released` has
+    /// room for one more vehicle from each buffer.
     pub fn release(
         &self,
         network: &Network,
@@ -86,7 +89,8 @@ impl Buffers {
         requires plans { HaveShortPlans yard.old }
         requires mouths { length mouths.old ≡ 2 * length network.now.links }
         requires room { vec_len released.old + length self.now.lists ≤ vec_capacity released.old }
-        ensures releases { Releases network.now self.now.node step self.now.lists yard.old yard.new mouths.old mouths.new released.old.items released.new.items }
+        ensures releases { Releases network.now self.now.node step self.now.lists yard.old yard.new
+            mouths.old mouths.new released.old.items released.new.items }
         ensures capacity { vec_capacity released.old ≤ vec_capacity released.new }
     {
         release_lanes(

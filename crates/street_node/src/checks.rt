@@ -1,4 +1,4 @@
-//! Whether a signal plan is bad.
+//! Which part of a signal plan for a node is bad, if one is. The node is told by its identifier.
 //!
 //! Source: this profile.
 ghost use Rattle.std.specs.Prelude.{◌≡◌, ◌*◌, ◌≤◌, None, length, sum_by};
@@ -10,7 +10,7 @@ use street_base::{
 };
 use street_net::Network;
 
-/// Whether this is a turn of the network whose link runs to the node with an identifier.
+/// Whether this is a turn of the network, and the link that it leaves runs to the node with the identifier `node`.
 fn is_turn_to(net: &Network, node: u64, green: &GreenSpec) -> bool
     ensures { result ≡ is_turn_to net.now node green.now }
 {
@@ -30,7 +30,7 @@ fn is_turn_to(net: &Network, node: u64, green: &GreenSpec) -> bool
     links[link.position()].to == node
 }
 
-/// Whether all these are turns of the network whose links run to the node.
+/// Whether all these are turns of the network, and the links that they leave run to the node.
 fn are_turns_to(net: &Network, node: u64, greens: &[GreenSpec]) -> bool
     ensures { result ≡ list_all (is_turn_to net.now node) greens.now }
 {
@@ -42,7 +42,8 @@ fn are_turns_to(net: &Network, node: u64, greens: &[GreenSpec]) -> bool
     true
 }
 
-/// Whether a phase is bad at its position.
+/// Whether the phase at the position `at` of a plan is bad: `at` is past the most phases, its duration is out of range, it has
+/// too many green turns, or one of them is no turn to the node.
 fn is_bad_phase(net: &Network, node: u64, at: usize, phase: &PhaseSpec) -> bool
     ensures { result ≡ is_bad_phase net.now node at phase.now }
 {
@@ -51,7 +52,7 @@ fn is_bad_phase(net: &Network, node: u64, at: usize, phase: &PhaseSpec) -> bool
     at >= MOST_PHASES || !lasts || greens.len() > MOST_GREENS || !are_turns_to(net, node, greens)
 }
 
-/// The position of the first bad phase.
+/// The position of the first bad phase, if one is bad.
 fn phases_fault(net: &Network, node: u64, phases: &[PhaseSpec]) -> Option<u64>
     ensures { result ≡ first_bad (is_bad_phase net.now node) phases.now }
 {
@@ -63,7 +64,8 @@ fn phases_fault(net: &Network, node: u64, phases: &[PhaseSpec]) -> Option<u64>
     None
 }
 
-/// How long phases last together, none of which is bad.
+/// How long phases last together, in steps. None of them is bad, so that the sum is small. `net` and `node` are for the
+/// contract alone.
 pub(crate) fn cycle_of(net: &Network, node: u64, phases: &[PhaseSpec]) -> u64
     requires { first_bad (is_bad_phase net.now node) phases.now ≡ None }
     ensures cycle { result ≡ sum_by (λ p. p.duration) phases.now }
@@ -77,7 +79,8 @@ pub(crate) fn cycle_of(net: &Network, node: u64, phases: &[PhaseSpec]) -> u64
     cycle
 }
 
-/// The first fault of a signal plan for the node with an identifier: its phases, then its offset.
+/// The first fault of a signal plan, if it has one: the position of a bad phase, or the number of phases for a bad offset, which
+/// is not below the cycle; both are in steps. A plan of no phases is bad at 0.
 pub(crate) fn signal_fault(
     net: &Network,
     node: u64,

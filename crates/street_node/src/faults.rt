@@ -6,7 +6,8 @@ use thiserror::Error;
 /// Why no signal plan was made.
 #[derive(Debug, Drop, Error)]
 pub enum SignalFault {
-    /// The plan has a fault: the first is in the phase at this position; at the number of phases it is the offset.
+    /// The plan has a fault: the first is in the phase at this position; at the number of phases it is the offset,
+    /// or that there is no phase.
     #[error("the signal plan is bad at {at}")]
     Bad {
         /// The position.
@@ -17,6 +18,7 @@ pub enum SignalFault {
     Starved,
 }
 
+// So that `?` answers `Starved` where memory was refused.
 impl From<AllocError> for SignalFault {
     ghost use Rattle.std.specs.Prelude.{◌≡◌};
     ghost use Rattle.street_node.specs.declared.faults.SignalFault.TheVariants.{Starved};
@@ -28,6 +30,7 @@ impl From<AllocError> for SignalFault {
     }
 }
 
+// The same where the refusal gives the value back that found no room, which is dropped.
 impl<T: Drop> From<AllocFailed<T>> for SignalFault {
     ghost use Rattle.std.specs.Prelude.{◌≡◌};
     ghost use Rattle.street_node.specs.declared.faults.SignalFault.TheVariants.{Starved};

@@ -1,4 +1,4 @@
-//! A phase of a signal plan, its green turns in order.
+//! A phase of a signal plan as it is kept: its green turns in order, so that one is found by a search.
 //!
 //! Source: this profile.
 ghost use Rattle.std.specs.Prelude.{◌≡◌, ◌<◌, map};
@@ -11,7 +11,7 @@ use std::cmp::Ordering;
 use std::marker::Model;
 use street_base::{LaneNo, LinkIx, Step, Turn};
 
-/// A turn that is green: from a lane to a next link.
+/// A turn that is green: from a lane of `link` to the link `next`.
 #[derive(Clone, Copy)]
 pub(crate) struct GreenTurn {
     pub(crate) link: LinkIx,
@@ -19,8 +19,8 @@ pub(crate) struct GreenTurn {
     pub(crate) lane: LaneNo,
 }
 
-/// How long a phase lasts, its green turns, in the order of `in_order`, and marks of the links that these leave. A link without
-/// its mark has no green turn, and then no list is read.
+/// How many steps a phase lasts, its green turns, in the order of `in_order`, and marks of the links that these leave, one a bit.
+/// A link without its mark has no green turn, and then no list is read.
 #[derive(Drop)]
 pub(crate) struct KeptPhase {
     duration: Step,
@@ -43,7 +43,7 @@ impl Model for KeptPhase {
 impl GreenTurn {
     ghost use Rattle.street_node.specs.Prelude.{turn_rank};
 
-    /// The turn as one number, so that a search compares once.
+    /// The turn as one number, in the order of `in_order`, so that a search compares once.
     fn rank(&self) -> u64
         ensures rank { result ≡ turn_rank self.now }
         ensures small { (self.now.lane < 256) × (self.now.next < 65536) }
@@ -61,7 +61,7 @@ fn in_order(turn: &GreenTurn, other: &GreenTurn) -> Ordering
     turn.rank().cmp(&other.rank())
 }
 
-/// Which of the 64 marks is that of a link; links may share one.
+/// Which of the 64 marks is that of a link, 0 to 63; links may share one.
 fn mark_of(link: LinkIx) -> u32
     ensures is { result ≡ mark_of link }
     ensures small { result < 64 }
@@ -69,7 +69,7 @@ fn mark_of(link: LinkIx) -> u32
     u32::from(link.as_u16() % 64)
 }
 
-/// The marks of the links that these turns leave.
+/// The marks of the links that these turns leave, one a bit.
 fn marks_of(greens: &[GreenTurn]) -> u64
     ensures { HasMarks result greens.now }
 {
@@ -81,7 +81,7 @@ fn marks_of(greens: &[GreenTurn]) -> u64
 }
 
 impl KeptPhase {
-    /// A phase of these green turns, which it puts into order.
+    /// A phase of so many steps and these green turns, which it puts into order.
     pub(crate) fn new(duration: Step, greens: Vec<GreenTurn>) -> KeptPhase
         ensures duration { result.duration ≡ duration }
         ensures greens { IsPermutation (map green_seen greens.items) result.greens }
@@ -96,14 +96,14 @@ impl KeptPhase {
         }
     }
 
-    /// How many steps it lasts.
+    /// How many steps the phase lasts.
     pub(crate) fn duration(&self) -> Step
         ensures { result ≡ self.now.duration }
     {
         self.duration
     }
 
-    /// Whether it shows a turn green; found by a search among its green turns, where its link has the mark.
+    /// Whether the phase shows a turn green; found by a search among its green turns, where the turn's link has its mark.
     pub(crate) fn shows(&self, turn: &Turn) -> bool
         ensures { let place : Place = record { link = turn.now.link; lane = turn.now.lane } in
             result ≡ lists self.now place turn.now.next }

@@ -1,4 +1,4 @@
-//! Signal plans with fixed times.
+//! Signal plans with fixed times: how one is made of the phases of a command, and which turns it shows green.
 //!
 //! Source: this profile.
 ghost use Rattle.std.specs.Prelude.{◌≡◌, ◌<◌, true, length, map, None, Some, IfOk, IfErr, OnOk};
@@ -15,13 +15,15 @@ use std::marker::Model;
 use street_base::{GreenSpec, LaneNo, LinkIx, NodeIx, PhaseSpec, Step, Turn};
 use street_net::Network;
 
-/// The signal plan of a node: phases one after another, again and again.
+/// The signal plan of a node: phases one after another, again and again. All times are in steps; the time in the cycle in step s
+/// is `(s + offset) % cycle`.
 pub struct SignalPlan {
     offset: Step,
     cycle: Step,
     phases: Vec<KeptPhase>,
 }
 
+// Written out, so that the check of a function that drops one sees this type alone, and nothing below it.
 impl Drop for SignalPlan {
     fn drop(self) {
         let SignalPlan {
@@ -45,7 +47,8 @@ impl Model for SignalPlan {
 }
 
 impl SignalPlan {
-    /// Checks a plan for a node. It counts from whatever step it is first asked for.
+    /// Checks a plan for a node, and makes it where nothing is bad. `offset` and the durations of the phases are in steps: in
+    /// step s the time in the cycle is `(s + offset) % cycle`.
     ///
     /// # Errors
     ///
@@ -83,8 +86,8 @@ impl SignalPlan {
         self.cycle
     }
 
-    /// Whether a turn is green in a step.
-    pub fn green(&self, turn: &Turn, step: Step) -> bool
+    /// Whether a turn is green in a step: the phase of that step shows it green.
+    pub fn is_green(&self, turn: &Turn, step: Step) -> bool
         ensures { let place : Place = record { link = turn.now.link; lane = turn.now.lane } in
             result ≡ is_green (Some self.now) place turn.now.next step }
     {
@@ -93,7 +96,7 @@ impl SignalPlan {
     }
 }
 
-/// Whether the phase at a time of the cycle shows a turn green.
+/// Whether the phase at a time of the cycle, in steps, shows a turn green; no turn is green past the last phase.
 fn phase_shows(phases: &[KeptPhase], time: u64, turn: &Turn) -> bool
     ensures { let place : Place = record { link = turn.now.link; lane = turn.now.lane } in
         result ≡ shown place turn.now.next phases.now time }
@@ -109,7 +112,7 @@ fn phase_shows(phases: &[KeptPhase], time: u64, turn: &Turn) -> bool
     false
 }
 
-/// The phases of a plan that is not bad.
+/// These phases, as they are kept. None is bad for the node with the identifier `node`, which is for the contract alone.
 ///
 /// # Errors
 ///
@@ -133,7 +136,8 @@ fn kept_phases(
     Ok(kept)
 }
 
-/// Green turns by the positions of their links.
+/// The same green turns by the positions of their links. Each is a turn to the node with the identifier `node`, which is for the
+/// contract alone.
 ///
 /// # Errors
 ///
@@ -159,12 +163,9 @@ fn green_turns(
     Ok(turns)
 }
 
-/// The position of a link that is there.
+/// The position of the link with an identifier; 0 where there is none, which a plan without a fault never names.
 fn position_of(net: &Network, id: u64) -> LinkIx
     ensures { result ≡ position_of net.now id }
 {
-    match net.link_of(id) {
-        Some(link) => link,
-        None => LinkIx::new(0),
-    }
+    net.link_of(id).unwrap_or(LinkIx::new(0))
 }

@@ -1,4 +1,4 @@
-//! Releases from the buffers of one node.
+//! Releases from the buffers of one node: which fronts go, and what becomes of them.
 //!
 //! Source: this profile.
 ghost use Rattle.std.specs.Prelude.{◌≡◌, ◌+◌, ◌*◌, ◌<◌, ◌≤◌, false, length, map, option_map, slice_get, vec_len, vec_capacity, IfSome, IsSomeAnd, Some};
@@ -20,14 +20,15 @@ pub struct Released {
     pub turn: Turn,
 }
 
-/// The link after the present one of a car's plan.
+/// The link after the present one of a car's plan, if there is one.
 fn next_link(car: &CarView<'_>) -> Option<LinkIx>
     ensures { result ≡ next_link (vehicle_of (viewed car.now)) }
 {
     car.plan.as_slice().get(usize::from(car.at) + 1).copied()
 }
 
-/// Who goes first from a lane's buffer, with its turn, if it is ready and has one. It still stands in the buffer.
+/// Who goes first from the buffer of the lane `from`, which is `list`, with its turn, if it is ready in the step `step` and its
+/// lane has a turn to its next link. It still stands in the buffer.
 fn front_to_go(
     network: &Network,
     yard: &Yard,
@@ -49,7 +50,8 @@ fn front_to_go(
     Some(Released { key, turn })
 }
 
-/// A vehicle leaves its buffer for its next link, where it is at most as fast as allowed.
+/// A vehicle leaves its buffer for its next link, whose `limit` bounds its speed: it is loose then, and one link further in its
+/// plan. `list`, that of the buffer, is for the contract alone.
 fn send_on(yard: &mut Yard, list: ListId, key: Key, limit: Speed)
     requires list { list_on yard.old key ≡ Some list.0 }
     requires next { IsSomeAnd (car_of yard.old key) (λ c. c.at < 65535) }
@@ -63,8 +65,8 @@ fn send_on(yard: &mut Yard, list: ListId, key: Key, limit: Speed)
     yard.unlink(key);
 }
 
-/// A front that is ready, which the caller has seen, leaves its buffer's `list` and is told in `released`, if the mouth that its turn
-/// leads to is open, which then closes; else nothing changes.
+/// A front that is ready, which the caller has seen, leaves its buffer's `list` and is added to `released`, if the mouth that its
+/// turn leads to is open, which then closes; else nothing changes. `mouths` are as in `Buffers::release`.
 fn release_front(
     network: &Network,
     yard: &mut Yard,
@@ -93,7 +95,8 @@ fn release_front(
     released.push_reserved(*front);
 }
 
-/// The fronts of a node's buffers that are ready go in order, each to a lane whose mouth is open, and closes it.
+/// Releases from the buffers of a node as `Buffers::release` does: each front that is ready goes, in the order of `lists`, if the
+/// mouth of its next lane is open, and closes it. `lists` are the buffers of `Network::in_lanes`, in their order.
 pub(crate) fn release_lanes(
     network: &Network,
     node: NodeIx,

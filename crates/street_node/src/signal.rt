@@ -4,8 +4,8 @@ ghost use Rattle.std.specs.Prelude.{◌≡◌, ◌<◌, length, None, slice_inde
 use crate::plan::SignalPlan;
 use std::marker::Model;
 
-/// The signal plan of one of some nodes, if that has one. It is looked up where it is asked for: of most lanes a step asks
-/// nothing. Contracts see the plan.
+/// The signal plan of one of some nodes, if that has one: their plans, and its position among them. It is looked up where it is
+/// asked for: of most lanes a step asks nothing. Contracts see the plan.
 #[derive(Drop)]
 pub struct Signal<'a> {
     plans: &'a [Option<SignalPlan>],
@@ -24,7 +24,7 @@ impl<'a> Model for Signal<'a> {
 }
 
 impl<'a> Signal<'a> {
-    /// The signal of the node at a position of those whose plans these are.
+    /// The signal of the node at the position `node` among those whose plans these are.
     pub fn new(plans: &'a [Option<SignalPlan>], node: usize) -> Signal<'a>
         requires { node < length plans.now }
         ensures { result ≡ slice_index_or plans.now node None }
@@ -32,7 +32,7 @@ impl<'a> Signal<'a> {
         Signal { plans, node }
     }
 
-    /// The node's plan, if it has one.
+    /// The node's plan, if it has one; a node without one shows every turn green.
     pub fn plan(&self) -> Option<&'a SignalPlan>
         ensures { option_copied result ≡ self.now }
     {

@@ -7,7 +7,7 @@ use std::alloc::Global;
 use std::process::Abort;
 use std::test::Fail;
 use street_base::{Car, CellNo, Listing, Size, Starved};
-use street_gap::{Closures, Stretch, gap_ahead, gap_back, gap_beside};
+use street_gap::{Closures, Stretch, gap_ahead, gap_behind, gap_beside};
 use street_yard::{Key, ListId, Yard};
 
 #[test]
@@ -175,9 +175,9 @@ fn behind_each(yard: &Yard, front: Key, back: Key) -> Option<[Option<CellNo>; 3]
         return None;
     }
     Some([
-        gap_back(yard, list, None, 12),
-        gap_back(yard, list, Some(front), 7),
-        gap_back(yard, same, Some(back), 1),
+        gap_behind(yard, list, None, 12),
+        gap_behind(yard, list, Some(front), 7),
+        gap_behind(yard, same, Some(back), 1),
     ])
 }
 

@@ -86,7 +86,10 @@ fn turn() -> Turn {
 /// Whether the turn is green in each of these steps.
 fn check_greens(rt: &impl Abort, plan: &SignalPlan, greens: &[(Step, bool)]) {
     for (step, is_green) in greens {
-        assert!(rt; plan.green(&turn(), *step) == *is_green, "in step {step}");
+        assert!(rt;
+            plan.is_green(&turn(), *step) == *is_green,
+            "in step {step}"
+        );
     }
 }
 

@@ -338,7 +338,7 @@ fn write_other_fields(rt: &impl Abort, yard: &mut Yard, key: Key) {
 fn set_mark(rt: &impl Abort, yard: &mut Yard, key: Key) {
     is_named(rt, yard, key);
     assert!(rt; !yard.is_marked(key));
-    yard.mark(key, true);
+    yard.set_mark(key, true);
     is_named(rt, yard, key);
     assert!(rt; yard.is_marked(key));
 }

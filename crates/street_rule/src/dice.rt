@@ -24,7 +24,7 @@ struct KeptDraws {
     bits: u64,
 }
 
-/// The dice of a network, whose vehicles dawdle and change lane so many times in 1,000.
+/// The dice of a network: whether a vehicle dawdles, and whether it may change lane, each with its chance, of 1,000.
 ///
 /// A contract sees the seed and the odds. What is kept is not seen: an answer is the same whatever is kept.
 pub struct Dice {
@@ -35,6 +35,7 @@ pub struct Dice {
     // Whether these odds leave a choice to the draws, which is asked for each vehicle and step.
     dawdle_drawn: bool,
     change_drawn: bool,
+    // Draws at the places that callers name, mostly by the key of the vehicle.
     kept: Vec<KeptDraws>,
     // Draws of vehicles that lost their place, by the number modulo the length.
     aside: Vec<KeptDraws>,
@@ -68,14 +69,15 @@ impl Model for Dice {
     ghost invariant = { λ d. IsSound d.rng.key d.seed d.dawdle d.change d.dawdle_drawn d.change_drawn d.kept.items d.aside.items };
 }
 
-/// Whether some draws are below the odds and some are not.
+/// Whether some draws (0 to 999) are below the odds (of 1,000) and some are not.
 fn leaves_choice(odds: u16) -> bool
     ensures { IsTrue result ↔ (0 < odds) × (odds < 1000) }
 {
     0 < odds && odds < 1000
 }
 
-/// The greatest word whose draw is below the odds, where these leave a choice; else some word, as the bits are not asked then.
+/// The greatest word of the cipher whose draw is below the odds, where these leave a choice; else some word, as the bits are not
+/// asked then. To compare words with it spares the scaling of each to a draw.
 fn last_of(odds: u16) -> u32
     ensures { 0 < odds → odds < 1000 → result ≡ (odds * 2 ^ 32 - 1) / 1000 }
 {
@@ -83,7 +85,7 @@ fn last_of(odds: u16) -> u32
     ((odds * 4_294_967_296 - 1) / 1000) as u32
 }
 
-/// A bit, the lowest for 0.
+/// Whether the bit `at` is 1; the lowest is bit 0.
 fn bit(bits: u64, at: u32) -> bool
     requires { at < 64 }
     ensures { result ≡ (bits / 2 ^ at % 2 == 1) }
@@ -91,15 +93,15 @@ fn bit(bits: u64, at: u32) -> bool
     (bits >> at) % 2 == 1
 }
 
-/// Whether these are the draws of a vehicle in a block.
+/// Whether the draws that are kept are those of this vehicle in this block of 32 steps.
 fn is_for(kept: KeptDraws, number: CarNo, block: u32) -> bool
     ensures { IsTrue result ↔ (kept.number ≡ number) × (kept.block ≡ block) }
 {
     kept.number == number && kept.block == block
 }
 
-/// Whether each of the next four words is at most `lane` (the first and the third) or `slow`: a bit each, the first word's
-/// the lowest.
+/// Asks for four words, and answers a bit for each, the first word's the lowest: whether the word is at most `lane` (the first and
+/// the third) or `slow` (the others). `lane` and `slow` are the last words of the two odds. The four are compared at once.
 #[inline(always)]
 fn four(rng: &mut ChaCha20Rng, lane: u32, slow: u32) -> u64
     ensures bound { result < 16 }
@@ -115,7 +117,7 @@ fn four(rng: &mut ChaCha20Rng, lane: u32, slow: u32) -> u64
         .to_bitmask()
 }
 
-/// The same of the next sixteen words.
+/// As [`four`], of sixteen words.
 #[inline(always)]
 fn sixteen(rng: &mut ChaCha20Rng, lane: u32, slow: u32) -> u64
     ensures bound { result < 2 ^ 16 }
@@ -128,8 +130,9 @@ fn sixteen(rng: &mut ChaCha20Rng, lane: u32, slow: u32) -> u64
     first + second * 16 + third * 256 + fourth * 4_096
 }
 
-/// Draws for a vehicle in a block of 32 steps: 64 words, asked from a multiple of 64 on, are one call of the cipher. With no
-/// loop the compiler may know the place of each word, and then none asks whether the cipher is due.
+/// Draws for a vehicle in a block of 32 steps, by the odds of dawdling and of a lane change: 64 words, asked from a multiple of 64
+/// on, are one call of the cipher. With no loop the compiler may know the place of each word, and then none asks whether that call
+/// is due.
 fn drawn(rng: &mut ChaCha20Rng, number: CarNo, block: u32, dawdle: u16, change: u16) -> KeptDraws
     ensures kept { IsKept rng.old.key dawdle change result }
     ensures number { result.number ≡ number }
@@ -153,7 +156,11 @@ fn drawn(rng: &mut ChaCha20Rng, number: CarNo, block: u32, dawdle: u16, change: 
     }
 }
 
-/// Adds more of the same up to so many places.
+/// Adds copies of `first` up to so many places. Where there are as many already, it adds none.
+///
+/// # Errors
+///
+/// `Starved` where memory was refused; what was added till then stays.
 fn grow(kept: &mut Vec<KeptDraws>, first: KeptDraws, places: usize) -> Result<(), Starved>
     ensures { (n : ℕ) × (kept.new.items ≡ kept.old.items ++ replicate n first) }
 {
@@ -164,7 +171,7 @@ fn grow(kept: &mut Vec<KeptDraws>, first: KeptDraws, places: usize) -> Result<()
 }
 
 impl Dice {
-    /// The dice of a network of this seed, dawdle and change (both per mille), with room to keep the draws of so many
+    /// The dice of a network of this seed, dawdle and change (chances, of 1,000), with places to keep the draws of so many
     /// vehicles.
     ///
     /// # Errors
@@ -222,8 +229,8 @@ impl Dice {
         grow(&mut self.kept, first, places)
     }
 
-    /// The draws kept at a place are put aside: where their vehicle is asked for at another place, they are found again,
-    /// unless others were put over them. Takes no memory.
+    /// The draws kept at the place `at` are put aside, as their vehicle gives up that place: where it is asked for at another
+    /// place, they are found again, unless others were put over them. Takes no memory.
     pub fn put_aside(&mut self, at: usize)
         ensures { self.new ≡ self.old }
     {
@@ -244,8 +251,8 @@ impl Dice {
         }
     }
 
-    /// The draws of a vehicle in the 32 steps from `32 * block` on: those that were put aside, or else drawn now. It stands apart from
-    /// the walk of a lane, which asks for it once in these steps and has better use for the registers.
+    /// The draws of a vehicle in the 32 steps from `32 * block` on: those that were put aside, or else drawn now. It stands apart
+    /// from the walk of a lane, which calls it mostly once a vehicle in 32 steps, and needs the registers for itself.
     #[cold]
     #[inline(never)]
     fn aside_or_drawn(&mut self, number: CarNo, block: u32) -> KeptDraws
@@ -264,7 +271,8 @@ impl Dice {
         drawn(&mut self.rng, number, block, self.dawdle, self.change)
     }
 
-    /// The draws of a vehicle in the step's block, kept from now on at a place that the caller names.
+    /// The draws of a vehicle in the step's block of 32 steps: those kept at the place `at` if they are of this vehicle and block,
+    /// else those put aside or drawn now. They are kept at `at` from now on, where there is such a place.
     fn look(&mut self, at: usize, step: Step, number: CarNo) -> KeptDraws
         ensures kept { IsKept (key_of_seed self.old.seed) self.old.dawdle self.old.change result }
         ensures number { result.number ≡ number }

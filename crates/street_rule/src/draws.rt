@@ -1,6 +1,6 @@
-//! Draws, as words of the cipher say them.
+//! Draws: words of the cipher's stream for a vehicle, scaled to 0 to 999.
 //!
-//! Source: this profile. The cipher is that of RFC 8439, as `rand_chacha` keys it.
+//! Source: this profile. The cipher is that of RFC 8439, with counter and stream as `rand_chacha` sets them.
 
 ghost use Rattle.std.specs.Prelude.{◌≡◌, ◌*◌, ◌/◌, ◌^◌};
 ghost use Rattle.street_base.specs.Prelude.{draw, key_of_seed};
@@ -10,14 +10,14 @@ use rand_core::SeedableRng;
 use rand_core::utils::NextWord;
 use street_base::CarNo;
 
-/// The draw of a word, from 0 to 999.
+/// The draw of a word of the cipher, from 0 to 999: the word, scaled.
 pub(crate) fn scaled(word: u32) -> u16
     ensures { result ≡ word * 1000 / 2 ^ 32 }
 {
     (u64::from(word) * 1000 / 4_294_967_296) as u16
 }
 
-/// The generator of a seed.
+/// The cipher's generator for a seed. Its key is the seed in eight bytes, the low one first, and 24 bytes of 0.
 pub(crate) fn generator(seed: u64) -> ChaCha20Rng
     ensures { result.key ≡ key_of_seed seed }
 {

@@ -13,18 +13,18 @@ use crate::sight::{Outlook, decide, zone_begin};
 use street_base::{LaneNo, Step};
 use street_yard::{Key, Yard};
 
-/// Gives a key its mark, or takes it. Few go, so that mostly nothing is to be written.
+/// Gives a key its mark, or takes it, as `mark` says. Few change lane, so that mostly nothing is to be written.
 fn set_mark(yard: &mut Yard, key: Key, mark: bool)
     requires { IsSome (entry_at yard.old key) }
     ensures { yard.new ≡ record yard.old { kept = mark_set yard.old.kept key mark } }
 {
     if yard.is_marked(key) != mark {
-        yard.mark(key, mark);
+        yard.set_mark(key, mark);
     }
 }
 
-/// Marks the vehicles of one lane as `mark_pass` does, where there are some: `front` is the first. It stands apart, so that a
-/// lane without vehicles costs no call.
+/// Marks the vehicles of one lane as [`mark_pass`] does, and answers the same, where there are some: `front` is the first. It
+/// stands apart, so that a lane without vehicles costs no call.
 #[inline(never)]
 fn mark_from(
     yard: &mut Yard,

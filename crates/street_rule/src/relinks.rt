@@ -1,4 +1,4 @@
-//! Moves of marked vehicles from one list to another.
+//! Moves of marked vehicles from one list to another: how the lane changes of a link are done once they are decided.
 ghost use Rattle.std.specs.Prelude.{◌≡◌, ◌≢◌, ◌<◌, length, Some};
 ghost use Rattle.street_yard.specs.Prelude.{list_on, IsOnList};
 ghost use Rattle.street_rule.specs.Prelude.{IsFallen, Carries, Relinks};
@@ -6,7 +6,8 @@ ghost use Rattle.street_rule.specs.Prelude.{IsFallen, Carries, Relinks};
 use street_gap::last_above;
 use street_yard::{Key, ListId, Yard};
 
-/// The key goes to its position on the other list, without a mark.
+/// A key goes from its list to another, right behind the key `position` there, or to the front where that is `None`. Its mark is
+/// cleared.
 fn carry(yard: &mut Yard, from: ListId, to: ListId, position: Option<Key>, key: Key)
     requires from { from.0 < length yard.old.lists }
     requires to { to.0 < length yard.old.lists }
@@ -15,12 +16,13 @@ fn carry(yard: &mut Yard, from: ListId, to: ListId, position: Option<Key>, key: 
     requires position { IsOnList yard.old to.0 position }
     ensures { Carries yard.old yard.new from.0 to.0 key position }
 {
-    yard.mark(key, false);
+    yard.set_mark(key, false);
     yard.unlink(key);
     yard.insert_behind(to, position, key);
 }
 
-/// Each marked key of one list goes to its position on the other, and its mark is cleared.
+/// Each marked key of one list goes to its position on the other, behind all whose vehicles are above its own, and its mark is
+/// cleared. As cells fall along both lists, each position is sought from the one before on.
 pub(crate) fn relink(yard: &mut Yard, from: ListId, to: ListId)
     requires from { from.0 < length yard.old.lists }
     requires to { to.0 < length yard.old.lists }

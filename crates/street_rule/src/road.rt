@@ -1,4 +1,4 @@
-//! A link, as a network has it and as a yard keeps it.
+//! A link of a network, with the lists and the closed cells of its lanes: what the passes of a step read of it.
 ghost use Rattle.std.specs.Prelude.{◌≡◌, ◌∷◌, ◌<◌, ◌≤◌, length, Option, option_map, option_to_list};
 ghost use Rattle.street_base.specs.Prelude.{link_at};
 ghost use Rattle.street_rule.specs.Prelude.{lane_of, lane_seen, length_of};
@@ -18,7 +18,7 @@ pub struct RoadLane<'a> {
     pub closures: &'a Closures,
 }
 
-/// A link of a network, with its one or two lanes. Contracts see the network, the link's position, and for each lane the
+/// A link of a network, with the one or two of its lanes that a pass needs. Contracts see the network, the link's position, and for each lane the
 /// list and the closed stretches.
 #[derive(Drop)]
 pub struct Road<'a> {
@@ -43,7 +43,7 @@ impl<'a> Model for Road<'a> {
 }
 
 impl<'a> Road<'a> {
-    /// A link of the network, by its position, with its lanes.
+    /// A link of the network, by its position, with both lanes of two, 0 first, or one alone, whichever it is.
     pub fn new(
         network: &'a Network,
         link: LinkIx,
@@ -85,7 +85,7 @@ impl<'a> Road<'a> {
         self.length
     }
 
-    /// The greatest speed on the link.
+    /// The greatest speed on the link, in cells a step.
     pub fn limit(&self) -> Speed
         ensures { result ≡ (link_at self.now.network self.now.link).limit }
     {
@@ -101,7 +101,7 @@ impl<'a> Road<'a> {
         if self.second.is_some() { 2 } else { 1 }
     }
 
-    /// The lane of a number.
+    /// The lane of a number, 0 or 1.
     pub fn lane(&self, lane: LaneNo) -> RoadLane<'a>
         requires { lane < length self.now.lanes }
         ensures { lane_seen result ≡ lane_of self.now lane }

@@ -7,22 +7,24 @@ ghost use Rattle.street_base.specs.declared.names.Place.{Place};
 ghost use Rattle.street_base.specs.Prelude.{serves};
 ghost use Rattle.street_yard.specs.Prelude.{list_on, cell_at};
 ghost use Rattle.street_gap.specs.Prelude.{IsUpTo, IsPosition};
-ghost use Rattle.street_rule.specs.Prelude.{length_of, lane_of, lane_seen, IsRoad, odds_of, changing_of, gap_between, wishes_with, TellsRoom, Decides, DecidesAt, IsOutlook};
+ghost use Rattle.street_rule.specs.Prelude.{length_of, lane_of, lane_seen, IsRoad, odds_of, changing_of};
+ghost use Rattle.street_rule.specs.Prelude.{gap_between, wishes_with, TellsRoom, Decides, DecidesAt, IsOutlook};
 
 use crate::Dice;
 use crate::road::{Road, RoadLane};
 use street_base::{CellNo, LaneNo, LinkIx, Speed, Step};
-use street_gap::{cells_up_to, gap_back, gap_beside, last_above, obstacle_ahead};
+use street_gap::{cells_up_to, gap_behind, gap_beside, last_above, obstacle_ahead};
 use street_yard::{Key, Yard};
 
-/// The gap where nothing is in sight.
+/// The gap where nothing is in sight, in cells.
 const FAR: CellNo = 16;
 
-/// The gap behind must be longer than this.
+/// The gap behind must be longer than this, in cells.
 const CLOSE_BEHIND: CellNo = 5;
 
-/// Whether a vehicle with this gap ahead wants the other lane: as it is slow or, in the turn zone, as its lane does not serve its next
-/// link. There a slow one wants it only where it serves that link too.
+/// Whether a vehicle with this gap ahead wants the other lane: as it is slow (the gap is less than one more than its speed) or, in
+/// the turn zone, as its lane does not serve its next link. In the zone a slow one wants it only where the other lane serves that
+/// link too. `next` is `None` where its plan ends on this link.
 fn wishes(
     road: &Road<'_>,
     lane: LaneNo,
@@ -50,7 +52,7 @@ fn wishes(
     }
 }
 
-/// The first cell of the turn zone of a link.
+/// The first cell of the turn zone of a link; the link's length where the zone has no cells.
 pub(crate) fn zone_begin(road: &Road<'_>) -> CellNo
     ensures { result ≡ length_of road.now - road.now.network.zone }
 {
@@ -59,7 +61,7 @@ pub(crate) fn zone_begin(road: &Road<'_>) -> CellNo
 }
 
 /// Whether the gap from a cell up to an obstacle is less than one more than the speed. The sum where nothing is in sight
-/// takes the place of a jump that cannot be foretold where there are few vehicles on each lane.
+/// takes the place of a branch that the processor cannot predict where there are few vehicles on each lane.
 fn is_slow(obstacle: Option<CellNo>, cell: CellNo, speed: Speed) -> bool
     ensures { result ≡ nat_lt (gap_between obstacle cell) (speed + 1) }
 {
@@ -71,7 +73,7 @@ fn is_slow(obstacle: Option<CellNo>, cell: CellNo, speed: Speed) -> bool
     obstacle <= cell + u64::from(speed) + 1
 }
 
-/// Whether the lane does not serve the next link of a vehicle.
+/// Whether the lane does not serve the next link of a vehicle; false where its plan ends on this link.
 fn is_unserved(road: &Road<'_>, lane: LaneNo, next: Option<LinkIx>) -> bool
     ensures { let place : Place = record { link = road.now.link; lane = lane } in
         result ≡ option_map_or (λ n. not (serves road.now.network place n)) next false }
@@ -83,8 +85,8 @@ fn is_unserved(road: &Road<'_>, lane: LaneNo, next: Option<LinkIx>) -> bool
 }
 
 /// Whether a vehicle with this obstacle ahead may want the other lane at all: it is slow, or its lane does not serve its next link
-/// in the turn zone, which begins with the cell `zone`. Whether the other lane does is not asked yet. All is reckoned, for one jump
-/// on the outcome.
+/// in the turn zone, which begins with the cell `zone`. Whether the other lane does is not asked yet. All is reckoned, for one
+/// branch on the answer.
 fn may_wish(
     road: &Road<'_>,
     lane: LaneNo,
@@ -101,8 +103,9 @@ fn may_wish(
     is_slow(obstacle, cell, speed) | ((zone <= cell) & is_unserved(road, lane, next))
 }
 
-/// Whether there is room on another lane beside the cells from a front to a rear. `above` is the last key there whose vehicle is
-/// above the front's cell. Whoever covers a cell beside leaves no gap, and is not asked for.
+/// Whether another lane has room for a vehicle of this speed, beside its cells from its front `cell` to its rear: no cell beside is
+/// closed, the gap ahead is above one more than the speed, and the gap behind above 5. `above` is the last key there whose vehicle
+/// is above `cell`. Whoever covers a cell beside leaves no gap, and is not asked for.
 fn fits(
     yard: &Yard,
     other: RoadLane<'_>,
@@ -120,13 +123,13 @@ fn fits(
     let RoadLane { list, closures } = other;
     closures.is_open(rear, cell)
         && CellNo::from(speed) + 1 < gap_beside(yard, closures, list, *above, cell).unwrap_or(FAR)
-        && CLOSE_BEHIND < gap_back(yard, list, *above, rear).unwrap_or(FAR)
+        && CLOSE_BEHIND < gap_behind(yard, list, *above, rear).unwrap_or(FAR)
 }
 
 /// What a driver decides, and where they have looked.
 #[derive(Clone, Copy)]
 pub(crate) struct Decision {
-    /// The last key of the other lane that was looked at; its vehicle is above the cell beside.
+    /// The key of the other lane from which on the next driver looks; its vehicle is above the cell beside. `None` is the front.
     pub(crate) above: Option<Key>,
     /// Whether the vehicle goes to the other lane.
     pub(crate) goes: bool,
@@ -137,6 +140,7 @@ pub(crate) struct Decision {
 pub(crate) struct Outlook<'a> {
     /// The number of their lane.
     pub(crate) lane: LaneNo,
+    /// Their lane.
     pub(crate) own: RoadLane<'a>,
     /// Whether some cell of their lane is closed.
     pub(crate) has_closed: bool,
@@ -146,9 +150,9 @@ pub(crate) struct Outlook<'a> {
     pub(crate) step: Step,
 }
 
-/// Whether the vehicle of a key, with this gap ahead, goes to the other lane. `above` is a key of the other lane whose vehicle
-/// is above the cell beside, from which on to look there. Room is looked for before the turns of the lanes, which lie farther
-/// away; the draw is asked last. It stands apart from the walk, since most vehicles do not come here.
+/// Whether the vehicle of a key, with this gap ahead, goes to the other lane. `above` is as [`decide`] has it. Room is looked for
+/// before the turns of the lanes, which lie farther away in memory; the draw is asked last. It stands apart from the walk, since
+/// most vehicles do not come here.
 #[inline(never)]
 fn decide_beside(
     yard: &Yard,
@@ -185,8 +189,8 @@ fn decide_beside(
 }
 
 /// Whether the vehicle of a key goes to the other lane. `ahead` is the rear of the vehicle ahead; `above` is a key of the
-/// other lane whose vehicle is above the cell beside, from which on to look there. Nothing of the other lane is read where
-/// the vehicle is not slow and its lane serves its next link.
+/// other lane whose vehicle is above the cell beside, from which on to look there, or `None` to look from the front. Nothing of
+/// the other lane is read where [`may_wish`] is false.
 pub(crate) fn decide(
     yard: &Yard,
     road: &Road<'_>,

@@ -18,6 +18,9 @@ use memchr::memchr;
 use std::alloc::Global;
 use std::io::{Read, Write};
 
+/// The most calls of `read` that a run makes, where nobody asks for fewer.
+pub const MOST_READS: u32 = 1_000_000_000;
+
 /// What a run may come to.
 #[derive(Debug, Clone, Copy, PartialEq, Eq)]
 pub struct Limits {

@@ -15,7 +15,7 @@ mod writes;
 
 pub use answer::{Answer, Cause, Halt};
 pub use counted::Counted;
-pub use driver::{Limits, drive_lines};
+pub use driver::{Limits, MOST_READS, drive_lines};
 pub use handler::LineHandler;
 pub use part::PartialLine;
 pub use tally::{FaultKind, RunFault, Tally};

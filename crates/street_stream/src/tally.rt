@@ -27,9 +27,9 @@ pub enum FaultKind {
     Read,
     /// A write failed, or took no bytes.
     Write,
-    /// Out of memory in reading a line or in printing its reply.
+    /// Out of memory: to read a line, for the text of one to write, or, in a replay, to apply a call.
     Starved,
-    /// 1,000,000,000 reads did not come to the end.
+    /// So many reads as the run may make did not come to the end.
     Endless,
 }
 

@@ -15,7 +15,11 @@ use street_base::{Command, Outcome, Reply};
 use street_desk::Entry;
 use street_engine::{Engine, Gate};
 
-/// A call that was done whole.
+/// Applies a call that was done whole at the desk, and answers its reply.
+///
+/// # Errors
+///
+/// `Starved` where it was not done whole now: memory ran out. Of an advance the first steps are perhaps made.
 fn call_whole<R: Threads + Sync, G: Gate + Sync + Drop>(
     rt: &R,
     engine: &mut Engine<G>,
@@ -32,7 +36,7 @@ fn call_whole<R: Threads + Sync, G: Gate + Sync + Drop>(
     }
 }
 
-/// The clock that a reply to an advance tells.
+/// The clock that a reply to an advance tells; `None` where the reply tells none, as it is a refusal.
 fn clock_of(reply: &Reply) -> Option<u64>
     ensures { result ≡ clock_in reply.now }
 {
@@ -42,7 +46,11 @@ fn clock_of(reply: &Reply) -> Option<u64>
     }
 }
 
-/// An advance that was done whole; its reply tells the clock where it was not refused.
+/// Makes an advance of so many steps, whole. Answers the clock after it, or `None` where it is refused.
+///
+/// # Errors
+///
+/// As [`call_whole`] has them.
 fn advance_whole<R: Threads + Sync, G: Gate + Sync + Drop>(
     rt: &R,
     engine: &mut Engine<G>,
@@ -56,7 +64,13 @@ fn advance_whole<R: Threads + Sync, G: Gate + Sync + Drop>(
     Ok(clock_of(&reply))
 }
 
-/// A call of which so many steps were made: an advance of these steps alone.
+/// Applies a call of which so many steps were made at the desk: an advance of these steps alone. Answers its reply, which tells
+/// that it stopped short.
+///
+/// # Errors
+///
+/// `BadEntry` where so many steps are no part of this call: it is no advance, or one that the machine refuses, or `made` is 0 or
+/// not below its steps. Nothing is applied then. `Starved` where memory ran out; the first steps are perhaps made.
 fn call_short<R: Threads + Sync, G: Gate + Sync + Drop>(
     rt: &R,
     engine: &mut Engine<G>,
@@ -82,7 +96,12 @@ fn call_short<R: Threads + Sync, G: Gate + Sync + Drop>(
     }
 }
 
-/// A call of a tape, as it went at the desk.
+/// Applies a call of a tape as it went at the desk, and answers its reply: whole, not at all where it was starved, or as far as the
+/// steps that were made.
+///
+/// # Errors
+///
+/// As [`call_whole`] and [`call_short`] have them.
 pub(crate) fn call_again<R: Threads + Sync, G: Gate + Sync + Drop>(
     rt: &R,
     engine: &mut Engine<G>,

@@ -17,7 +17,7 @@ use street_text::{LineFault, command_of};
 /// The most bytes that a line of a tape may have, its LF not counted.
 pub const LONGEST_TAPE_LINE: usize = 2_097_152;
 
-/// The fault of a text that was not read: only lack of memory says nothing of the text.
+/// The fault of a line that was not read as JSON: `Starved` where memory ran out, which says nothing of the line, else `NotJson`.
 fn fault_of(error: &Error) -> LineFault
     ensures { ((result ≡ LineFault.Starved) × IsMemory error.now)
         ⊎ ((result ≡ LineFault.NotJson) × ¬ IsMemory error.now) }
@@ -28,7 +28,11 @@ fn fault_of(error: &Error) -> LineFault
     }
 }
 
-/// The JSON value of a line.
+/// The JSON value of a line, which stands without its LF.
+///
+/// # Errors
+///
+/// `LineTooLong` above 2,097,152 bytes, then `NotJson`; `Starved` where the reading found no memory.
 fn parse(alloc: Global, line: &[u8]) -> Result<Value, LineFault>
     ensures { GivesTapeValue result (tape_value line.now) }
 {
@@ -41,7 +45,11 @@ fn parse(alloc: Global, line: &[u8]) -> Result<Value, LineFault>
     }
 }
 
-/// How a call went: a word, or the number of the steps that were made.
+/// How a call went: the word `whole` or `starved`, or the number of the steps that were made.
+///
+/// # Errors
+///
+/// `BadCommand` where the value is neither.
 #[tactic(auto, unfolding(crate::specs::Entries::outcome_in))]
 fn outcome_of(value: &Value) -> Result<Outcome, LineFault>
     ensures { Gives result (or_fault LineFault.BadCommand (outcome_in (view value.now))) }
@@ -57,7 +65,11 @@ fn outcome_of(value: &Value) -> Result<Outcome, LineFault>
     }
 }
 
-/// The number of a name.
+/// The number that a JSON value has under a name.
+///
+/// # Errors
+///
+/// `BadCommand` where it is no object, or has no whole number below 2^64 there.
 fn number_of(value: &Value, name: &str) -> Result<u64, LineFault>
     ensures { Gives result (or_fault LineFault.BadCommand (number_field name.now (view value.now))) }
 {
@@ -65,7 +77,7 @@ fn number_of(value: &Value, name: &str) -> Result<u64, LineFault>
     found.as_u64().ok_or(LineFault::BadCommand)
 }
 
-/// Whether a command can have this outcome: a number of steps is that of a part of an advance.
+/// Whether a command can have this outcome: one that is a number of steps only where these are a part of its advance.
 fn is_part(command: &Command, outcome: Outcome) -> bool
     ensures { result ≡ is_part command.now outcome }
 {
@@ -76,8 +88,12 @@ fn is_part(command: &Command, outcome: Outcome) -> bool
     }
 }
 
-/// The call that a JSON value says, whether or not it can have its outcome. The size of a vehicle is read only where `sized` is true,
-/// and is 1 otherwise.
+/// The call that a JSON value says, whether or not it can have its outcome. The size of a vehicle is read only where `sized` is
+/// true, and is 1 otherwise.
+///
+/// # Errors
+///
+/// `BadCommand` where it says none; `Starved` where there was no memory for the lists of its command.
 #[tactic(auto, unfolding(crate::specs::Entries::call_in))]
 fn call_of(alloc: Global, value: &Value, sized: bool) -> Result<Entry, LineFault>
     ensures { Gives result (or_fault LineFault.BadCommand (call_in sized (view value.now))) }
@@ -94,7 +110,11 @@ fn call_of(alloc: Global, value: &Value, sized: bool) -> Result<Entry, LineFault
     })
 }
 
-/// The call that a JSON value says, where it can have its outcome; sizes as in `call_of`.
+/// The call that a JSON value says, where it can have its outcome; sizes as in [`call_of`].
+///
+/// # Errors
+///
+/// As [`call_of`] has them, and `BadCommand` where it cannot have its outcome.
 #[tactic(auto, unfolding(crate::specs::Entries::entry_in))]
 fn entry_of(alloc: Global, value: &Value, sized: bool) -> Result<Entry, LineFault>
     ensures { Gives result (or_fault LineFault.BadCommand (entry_in sized (view value.now))) }
@@ -107,6 +127,10 @@ fn entry_of(alloc: Global, value: &Value, sized: bool) -> Result<Entry, LineFaul
 }
 
 /// What a JSON value tells as the first line of a tape.
+///
+/// # Errors
+///
+/// `BadCommand` where its version is not known, or one of version 2 does not tell how many calls follow.
 #[tactic(auto, unfolding(crate::specs::Entries::head_in))]
 fn head_of(value: &Value) -> Result<Head, LineFault>
     ensures { Gives result (or_fault LineFault.BadCommand (head_in (view value.now))) }

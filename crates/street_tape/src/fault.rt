@@ -29,7 +29,8 @@ pub enum TapeFault {
     Run(RunFault),
 }
 
-/// The fault of a tape that was not read to its end.
+/// The fault of a tape that was not read to its end, by the cause and the tally at which its lines ended. A bad line is the last
+/// that the tally counts.
 pub(crate) fn fault_of(cause: Cause<Stop>, tally: Tally) -> TapeFault
     ensures { result ≡ fault_of cause tally }
 {
@@ -44,7 +45,7 @@ pub(crate) fn fault_of(cause: Cause<Stop>, tally: Tally) -> TapeFault
     }
 }
 
-/// Whether a tape that was read to its end has all its calls.
+/// Tests whether a tape that was read to its end has all its calls. `tally` counts the lines that were read.
 ///
 /// # Errors
 ///

@@ -17,7 +17,7 @@ pub enum Head {
 }
 
 impl Head {
-    /// Whether the calls that follow may tell the size of a vehicle.
+    /// Whether the size of a vehicle is read from the calls that follow; in version 1 it is not, and is 1.
     pub fn is_sized(self) -> bool
         ensures { result ≡ is_sized self }
     {
@@ -27,7 +27,7 @@ impl Head {
         }
     }
 
-    /// What it tells of the lines after the next call. Nothing where no call may follow.
+    /// What it tells of the lines after the next call; `None` where no call may follow.
     pub fn after_call(self) -> Option<Head>
         ensures { result ≡ after_call self }
     {
@@ -38,7 +38,7 @@ impl Head {
         }
     }
 
-    /// Whether the tape may end here.
+    /// Whether the tape may end here, with no further call.
     pub fn may_end(self) -> bool
         ensures { result ≡ is_whole self 0 }
     {

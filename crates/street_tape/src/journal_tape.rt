@@ -15,7 +15,11 @@ use std::io::Write;
 use street_desk::Journal;
 use street_stream::{Counted, FaultKind, RunFault, Tally, flush_out, write_text};
 
-/// Writes the bytes of one line or of several, and counts what went out of them.
+/// Writes the bytes of one line or of several, and adds to `bytes` how many went out.
+///
+/// # Errors
+///
+/// `Write` where a write failed, or took no bytes; what went out before is counted.
 pub(crate) fn write_line<W: Write>(
     writer: &mut Counted<W>,
     line: &[u8],
@@ -39,7 +43,11 @@ pub(crate) fn write_line<W: Write>(
     }
 }
 
-/// Writes the first line and the line of each call, and passes them on.
+/// Writes the first line and the line of each call, and flushes. Counts in `bytes`, which is 0 at first, how many went out.
+///
+/// # Errors
+///
+/// The kinds of fault that [`write_tape`] has.
 fn write_calls<W: Write>(
     alloc: Global,
     journal: &Journal,
@@ -66,7 +74,7 @@ fn write_calls<W: Write>(
     Ok(())
 }
 
-/// A fault after so many bytes were written.
+/// A fault after so many bytes were written; the other numbers of its tally are 0, as nothing is read.
 fn fault_after(kind: FaultKind, bytes: u128) -> RunFault
     ensures { result ≡ record { kind = kind; tally = record { lines = 0; calls = 0; replies = 0; bytes = bytes } } }
 {

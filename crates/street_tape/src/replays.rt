@@ -18,11 +18,10 @@ use std::io::{Read, Write};
 use std::thread::Threads;
 use street_desk::Entry;
 use street_engine::{Engine, Unwatched};
-use street_stream::{Answer, Counted, Limits, LineHandler, PartialLine, Tally, drive_lines};
+use street_stream::{
+    Answer, Counted, Limits, LineHandler, MOST_READS, PartialLine, Tally, drive_lines,
+};
 use street_text::reply_text;
-
-/// The most calls of `read` in one replay.
-const MOST_READS: u32 = 1_000_000_000;
 
 /// An engine that a tape is replayed on, and the tape as far as it was read.
 #[derive(Drop)]
@@ -50,7 +49,7 @@ impl<'a, R: Threads + Sync> LineHandler for Replayer<'a, R> {
 
     ghost ready = { IsSync R.row };
 
-    /// The first line tells the version; the call of a further line is applied as it went at the desk, and replied to.
+    /// The first line tells what follows; the call of a further line is applied as it went at the desk, and replied to.
     fn take(&mut self, alloc: Global, line: &PartialLine) -> Result<Answer, Stop> {
         let taken = self.tape.take(alloc, line.as_slice())?;
         match taken {
@@ -63,7 +62,11 @@ impl<'a, R: Threads + Sync> LineHandler for Replayer<'a, R> {
     }
 }
 
-/// Applies a call as it went at the desk, and replies to it.
+/// Applies a call as it went at the desk, and answers the text of its reply, or that memory ran out for this text.
+///
+/// # Errors
+///
+/// As [`call_again`] has them: why the call was not applied, or not whole.
 fn answer<R: Threads + Sync>(
     rt: &R,
     alloc: Global,
@@ -86,7 +89,11 @@ fn answer<R: Threads + Sync>(
     })
 }
 
-/// Replays a tape on the engine that is held.
+/// Replays a tape on the engine that is held, with at most so many calls of `read`.
+///
+/// # Errors
+///
+/// As [`replay_within`] has them.
 fn replay_lines<R: Threads + Sync, D: Read, W: Write>(
     alloc: Global,
     replayer: &mut Replayer<'_, R>,
@@ -121,11 +128,11 @@ fn replay_lines<R: Threads + Sync, D: Read, W: Write>(
     }
 }
 
-/// Replays a tape as [`replay`] does, with so many reads at most.
+/// Replays a tape as [`replay`] does, with so many calls of `read` at most.
 ///
 /// # Errors
 ///
-/// Those of [`replay`]; `Endless` after so many reads.
+/// Those of [`replay`], but `Run` of kind `FaultKind::Endless` after `reads` calls of `read`.
 pub fn replay_within<R: Threads + Sync, D: Read, W: Write>(
     rt: &R,
     alloc: Global,
@@ -158,7 +165,8 @@ pub fn replay_within<R: Threads + Sync, D: Read, W: Write>(
 /// a tape of version 1 each vehicle that enters has size 1.
 ///
 /// A line ends with LF or where the tape ends, and may have 2,097,152 bytes. The ends are fresh: nothing was called of them
-/// yet. Replies are written in order, and passed on before each further read and at the end.
+/// yet. Replies are written in order, and passed on before each further read and at the end. Answers the tally: all lines, the
+/// calls, as many replies, and the bytes of these.
 ///
 /// # Errors
 ///

@@ -18,7 +18,8 @@ use street_text::LineFault;
 pub enum Stop {
     /// The first line is not that of a tape whose version is known.
     NotTape,
-    /// A further line is no call, or all calls that the first line tells stand before it.
+    /// A further line is no call, all calls that the first line tells stand before it, or, in a replay, it says a number of steps
+    /// that the machine would not make there as a part of its advance.
     BadEntry,
     /// Out of memory.
     Starved,
@@ -35,7 +36,7 @@ impl From<Starved> for Stop {
 /// A tape as far as it was read.
 #[derive(Debug, Clone, Copy, PartialEq, Eq)]
 pub struct Tape {
-    /// What the first line tells of the lines that follow here; nothing before it was read.
+    /// What the first line tells of the lines that follow here; `None` before it was read.
     rest: Option<Head>,
 }
 
@@ -47,11 +48,12 @@ impl Tape {
         Tape { rest: None }
     }
 
-    /// The next line, which stands without its LF: its call, or nothing where it is the first.
+    /// Takes the next line, which stands without its LF: answers its call, or `None` where it is the first.
     ///
     /// # Errors
     ///
-    /// Why it is not taken.
+    /// `NotTape` where it is the first and not that of a tape; `BadEntry` where a further one is no call, or none may follow;
+    /// `Starved` where the reading found no memory.
     pub fn take(&mut self, alloc: Global, line: &[u8]) -> Result<Option<Entry>, Stop>
         ensures taken { IfOk result (λ call. Takes self.old.rest line.now call self.new.rest) }
         ensures refused { IfErr result (λ stop. Refuses self.old.rest line.now stop) }
@@ -70,14 +72,14 @@ impl Tape {
         }
     }
 
-    /// Whether any line was read.
+    /// Whether the first line was read.
     pub fn is_begun(&self) -> bool
         ensures { result ≡ is_some self.now.rest }
     {
         self.rest.is_some()
     }
 
-    /// Whether all calls that the first line tells were read.
+    /// Whether the tape may end here: its first line was read, and all calls that this tells.
     pub fn may_end(&self) -> bool
         ensures { result ≡ may_end self.now.rest }
     {
@@ -88,7 +90,11 @@ impl Tape {
     }
 }
 
-/// What the first line tells.
+/// What the first line tells, which stands without its LF.
+///
+/// # Errors
+///
+/// `NotTape` where it is not that of a tape whose version is known; `Starved` where the reading found no memory.
 fn first_line(alloc: Global, line: &[u8]) -> Result<Head, Stop>
     ensures taken { IfOk result (λ head. Takes None line.now None (Some head)) }
     ensures refused { IfErr result (λ stop. Refuses None line.now stop) }
@@ -100,7 +106,11 @@ fn first_line(alloc: Global, line: &[u8]) -> Result<Head, Stop>
     }
 }
 
-/// The call of a further line.
+/// The call of a further line, which stands without its LF. The size of a vehicle is read only where `sized` is true.
+///
+/// # Errors
+///
+/// `BadEntry` where it is no call; `Starved` where the reading found no memory.
 fn further_line(alloc: Global, line: &[u8], sized: bool) -> Result<Entry, Stop>
     ensures read { IfOk result (λ call. entry_reading sized line.now ≡ Ok call) }
     ensures refused { IfErr result (λ stop. IsNoCall sized line.now stop) }

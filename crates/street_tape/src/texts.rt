@@ -1,4 +1,4 @@
-//! From a call to the line of a tape.
+//! From a call, or the number of the calls, to the line of a tape.
 //!
 //! Source: this profile.
 ghost use Rattle.std.specs.Prelude.{◌≡◌, IfOk, false};
@@ -13,7 +13,11 @@ use street_base::{Outcome, Starved};
 use street_desk::Entry;
 use street_text::command_value;
 
-/// An outcome, as a tape has it: a word, or how many steps were made.
+/// The JSON value of an outcome, as a tape has it: a word, or how many steps were made.
+///
+/// # Errors
+///
+/// `AllocError` where there was no memory for it.
 fn outcome_value(alloc: Global, outcome: Outcome) -> Result<Value, AllocError>
     ensures { IfOk result (λ v. view v ≡ outcome_data outcome) }
 {
@@ -24,7 +28,11 @@ fn outcome_value(alloc: Global, outcome: Outcome) -> Result<Value, AllocError>
     }
 }
 
-/// A call, as a tape has it.
+/// The JSON value of a call, as a tape has it.
+///
+/// # Errors
+///
+/// `AllocError` where there was no memory for it.
 fn entry_value(alloc: Global, entry: &Entry) -> Result<Value, AllocError>
     ensures { IfOk result (λ v. view v ≡ entry_data entry.now) }
 {
@@ -33,7 +41,11 @@ fn entry_value(alloc: Global, entry: &Entry) -> Result<Value, AllocError>
     json!(in alloc; {"command": command, "outcome": outcome, "session": entry.session})
 }
 
-/// The head of a tape of so many calls.
+/// The JSON value of the first line of a tape of so many calls, in version 2.
+///
+/// # Errors
+///
+/// `AllocError` where there was no memory for it.
 fn head_value(alloc: Global, calls: u64) -> Result<Value, AllocError>
     ensures { IfOk result (λ v. view v ≡ head_data calls) }
 {
@@ -41,6 +53,10 @@ fn head_value(alloc: Global, calls: u64) -> Result<Value, AllocError>
 }
 
 /// The text of a value without floats, and LF.
+///
+/// # Errors
+///
+/// `Starved` where there was no memory for it.
 fn line_text(alloc: Global, value: &Value) -> Result<Vec<u8>, Starved>
     requires { has_float (view value.now) ≡ false }
     ensures { IfOk result (λ text. text.items ≡ line_of (view value.now)) }
@@ -50,7 +66,11 @@ fn line_text(alloc: Global, value: &Value) -> Result<Vec<u8>, Starved>
     Ok(text)
 }
 
-/// The first line of a tape of so many calls, with its LF.
+/// The first line of a tape of so many calls, in version 2, with its LF.
+///
+/// # Errors
+///
+/// `Starved` where there was no memory for it.
 #[tactic(auto, unfolding(crate::specs::Tapes::head_line))]
 pub fn head_text(alloc: Global, calls: u64) -> Result<Vec<u8>, Starved>
     ensures { IfOk result (λ text. text.items ≡ head_line calls) }
@@ -60,6 +80,10 @@ pub fn head_text(alloc: Global, calls: u64) -> Result<Vec<u8>, Starved>
 }
 
 /// The line of a call, with its LF.
+///
+/// # Errors
+///
+/// `Starved` where there was no memory for it.
 #[tactic(auto, unfolding(crate::specs::Tapes::entry_line))]
 pub fn entry_text(alloc: Global, entry: &Entry) -> Result<Vec<u8>, Starved>
     ensures { IfOk result (λ text. text.items ≡ entry_line entry.now) }

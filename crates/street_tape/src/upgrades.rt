@@ -18,12 +18,9 @@ use std::io::{Read, Write};
 use street_base::Starved;
 use street_desk::Entry;
 use street_stream::{
-    Answer, Counted, FaultKind, Limits, LineHandler, PartialLine, RunFault, Tally, drive_lines,
-    flush_out,
+    Answer, Counted, FaultKind, Limits, LineHandler, MOST_READS, PartialLine, RunFault, Tally,
+    drive_lines, flush_out,
 };
-
-/// The most calls of `read` in one upgrade.
-const MOST_READS: u32 = 1_000_000_000;
 
 /// A tape as far as it was read, and the lines of its calls in version 2.
 #[derive(Drop)]
@@ -32,7 +29,11 @@ struct Upgrader {
     lines: Vec<u8>,
 }
 
-/// Keeps the line of a call.
+/// Adds the line of a call, as version 2 has it, to those that are kept.
+///
+/// # Errors
+///
+/// `Starved` where there was no memory for it.
 fn keep_line(alloc: Global, lines: &mut Vec<u8>, call: &Entry) -> Result<(), Starved>
     ensures { OnOk result (lines.new.items ≡ lines.old.items ++ entry_line call.now) }
 {
@@ -52,7 +53,7 @@ impl LineHandler for Upgrader {
 
     ghost ready = { ⊤ };
 
-    /// The first line tells the version; the line of each call is kept.
+    /// The first line tells what follows; the line of each call is kept.
     fn take(&mut self, alloc: Global, line: &PartialLine) -> Result<Answer, Stop> {
         let taken = self.tape.take(alloc, line.as_slice())?;
         match taken {
@@ -71,8 +72,8 @@ impl LineHandler for Upgrader {
     }
 }
 
-/// Writes the tape of version 2 of so many calls from their lines: its first line, and then these. Flushes, and counts what went
-/// out of it.
+/// Writes the tape of version 2 of so many calls from their lines: its first line, and then these. Flushes, and counts in `bytes`,
+/// which is 0 at first, what went out of it.
 ///
 /// # Errors
 ///
@@ -95,7 +96,7 @@ fn write_lines<W: Write>(
     Ok(())
 }
 
-/// Writes the tape of so many calls as the tally has, from their lines, and counts its bytes.
+/// Writes the tape of so many calls as the tally has, from their lines, and answers the tally with the bytes of this tape.
 ///
 /// # Errors
 ///
@@ -124,7 +125,7 @@ fn write_kept<W: Write>(
     }
 }
 
-/// The tally with so many bytes.
+/// The tally, with so many bytes in place of its own.
 fn with_bytes(tally: Tally, bytes: u128) -> Tally
     ensures { result ≡ with_bytes tally bytes }
 {
@@ -136,11 +137,11 @@ fn with_bytes(tally: Tally, bytes: u128) -> Tally
     }
 }
 
-/// Upgrades a tape as [`upgrade`] does, with so many reads at most.
+/// Upgrades a tape as [`upgrade`] does, with so many calls of `read` at most.
 ///
 /// # Errors
 ///
-/// Those of [`upgrade`]; `Endless` after so many reads.
+/// Those of [`upgrade`], but `Run` of kind `FaultKind::Endless` after `reads` calls of `read`.
 pub fn upgrade_within<D: Read, W: Write>(
     alloc: Global,
     reader: &mut Counted<D>,
@@ -177,7 +178,7 @@ pub fn upgrade_within<D: Read, W: Write>(
 
 /// Reads a whole tape of version 1 or 2, and then writes the tape of version 2 of the same calls. Of a tape of version 1 no
 /// size is kept: each vehicle that enters has size 1 there. No engine is asked, so an advance that the machine would refuse is
-/// no fault. In the tally `lines` and `calls` are those that were read, and no reply is counted.
+/// no fault. In the tally `lines` and `calls` are those that were read, `bytes` those that were written, and no reply is counted.
 ///
 /// A line ends with LF or where the tape ends, and may have 2,097,152 bytes. The ends are fresh: nothing was called of them
 /// yet. It takes memory for the lines of the tape, all at once.

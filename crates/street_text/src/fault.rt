@@ -9,7 +9,7 @@ use thiserror::Error;
 /// Why a line gave no command. They are tested in the order of the variants.
 #[derive(Debug, Clone, Copy, PartialEq, Eq, Error)]
 pub enum LineFault {
-    /// It has more than 1,048,576 bytes.
+    /// It has more bytes than a line of its kind may have.
     #[error("the line is too long")]
     LineTooLong,
     /// It is not UTF-8, is no JSON value, or is nested too deeply.

@@ -1,7 +1,8 @@
 //! Commands whose fields are numbers and lists of numbers: one small function for each.
 //!
 //! Source: this profile.
-ghost use Rattle.street_text.specs.LineCommands.{size_in, enter_in, advance_in, close_in, reopen_in, take_out_in, place_meter_in, read_meter_in, vehicle_in, lane_in, observing_names, number_names, named_in, or_fault, Gives};
+ghost use Rattle.street_text.specs.LineCommands.{size_in, enter_in, advance_in, close_in, reopen_in, take_out_in, place_meter_in, read_meter_in};
+ghost use Rattle.street_text.specs.LineCommands.{vehicle_in, lane_in, observing_names, number_names, named_in, or_fault, Gives};
 
 use crate::fault::LineFault;
 use crate::lookup::Lookup;

@@ -1,4 +1,4 @@
-//! Commands that name one lane or one node.
+//! Commands to one tile that name one of its lanes or nodes.
 //!
 //! Source: this profile.
 ghost use Rattle.std.specs.Prelude.{◌≡◌, ◌<◌, ◌≤◌, length, Some, true, false, slice_get, IfOk, OnOk, OnErr};
@@ -15,7 +15,7 @@ use street_net::{Network, slot};
 use street_node::SignalPlan;
 
 impl Tile {
-    /// The number of an own lane among the own lanes.
+    /// The number of the own lane at the place `at` among the own lanes, from 0.
     pub(crate) fn number(&self, net: &Network, at: Place) -> usize
         requires tile { IsTileOf net.now self.now }
         requires lane { IsLane net.now at }
@@ -25,7 +25,7 @@ impl Tile {
         self.numbers[slot(at.link, at.lane)]
     }
 
-    /// One more vehicle waits on an own lane.
+    /// One more vehicle waits on an own lane. Its number is nowhere on that lane.
     ///
     /// # Errors
     /// Memory was refused; the tile is as it was, reserved room apart.
@@ -105,7 +105,7 @@ impl Tile {
         self.set_closed(net, at, first, last, false)
     }
 
-    /// Closes cells of an own lane, or opens them, and tells how many of its cells are closed then.
+    /// Closes the cells of an own lane from `first` to `last`, or opens them, and tells how many of its cells are closed then.
     ///
     /// # Errors
     /// Memory was refused; the tile is as it was.
@@ -132,7 +132,7 @@ impl Tile {
         Ok(self.own.closed_cells(lane))
     }
 
-    /// All of an own lane.
+    /// All of an own lane, as a reply: its buffer, its cells, its closed stretches and who waits.
     ///
     /// # Errors
     /// Memory for the lists was refused.

@@ -1,4 +1,4 @@
-//! Tiles of a network, with nobody on them.
+//! How a network is cut into tiles, with nobody on them, and which tile owns a node.
 //!
 //! Source: this profile.
 ghost use Rattle.std.specs.Prelude.{◌≡◌, ◌+◌, ◌*◌, ◌/◌, ◌<◌, ◌≤◌, ◌++◌, [], length, map, replicate, min, vec_capacity, None, IfOk, OnOk, All};
@@ -17,7 +17,10 @@ use street_lanes::{Detectors, Lanes};
 use street_net::{Network, slot};
 use street_node::SignalPlan;
 
-/// Adds the lanes of a link to a list.
+/// Adds the lanes of a link, which has so many, to a list.
+///
+/// # Errors
+/// Memory was refused; some of them may be added.
 fn add_lanes(list: &mut Vec<Place>, link: LinkIx, lanes: LaneNo) -> Result<(), AllocError>
     ensures { OnOk result (list.new.items
         ≡ list.old.items ++ map (λ k. record { link = link; lane = k }) (range_with_len 0 lanes)) }
@@ -28,7 +31,7 @@ fn add_lanes(list: &mut Vec<Place>, link: LinkIx, lanes: LaneNo) -> Result<(), A
     Ok(())
 }
 
-/// The lanes of the links that run to the nodes from `low` up to `high`, link by link.
+/// The lanes of the links that run to nodes at positions from `low` on, below `high`, link by link.
 ///
 /// # Errors
 /// Memory was refused.
@@ -52,7 +55,7 @@ fn own_lanes(
     Ok(own)
 }
 
-/// For each of these lanes its number among them, by its slot; for any other lane 0.
+/// For each lane of so many links, by its slot (`street_net::slot`): its number among these lanes, 0 where it is none of them.
 ///
 /// # Errors
 /// Memory was refused.
@@ -70,7 +73,7 @@ fn numbers_of(alloc: Global, links: usize, own: &[Place]) -> Result<Vec<usize>, 
     Ok(numbers)
 }
 
-/// So many times nothing.
+/// A list of so many entries, each `None`.
 ///
 /// # Errors
 /// Memory was refused.
@@ -96,7 +99,7 @@ fn detectors_of(alloc: Global, net: &Network, own: &[Place]) -> Result<Vec<Detec
     let mut detectors = Vec::with_capacity(alloc, own.len())?;
     for at in own {
         let length = links[at.link.position()].length as CellNo;
-        detectors.push(Detectors::new(alloc, length))?;
+        detectors.push(Detectors::new(length))?;
     }
     Ok(detectors)
 }
@@ -105,7 +108,11 @@ fn detectors_of(alloc: Global, net: &Network, own: &[Place]) -> Result<Vec<Detec
 ///
 /// # Errors
 /// Memory was refused.
-fn lanes_of(alloc: Global, net: &Network, own: &[Place]) -> Result<(Lanes, Vec<Detectors>), Starved>
+fn fresh_lanes(
+    alloc: Global,
+    net: &Network,
+    own: &[Place],
+) -> Result<(Lanes, Vec<Detectors>), Starved>
     requires { AllLanes net.now own.now }
     ensures fresh { IfOk result (λ found. found.0 ≡ fresh net.now own.now found.0.room) }
     ensures of { IfOk result (λ found. IsOf net.now found.0) }
@@ -116,7 +123,8 @@ fn lanes_of(alloc: Global, net: &Network, own: &[Place]) -> Result<(Lanes, Vec<D
     Ok((lanes, detectors))
 }
 
-/// For each slot the number of its lane among these, and a mouth.
+/// Two lists by slot, two slots for each of so many links (`street_net::slot`): the number of each of these lanes among them, 0
+/// for any other lane; and the mouth of each lane, shut so far.
 ///
 /// # Errors
 /// Memory was refused.
@@ -139,11 +147,12 @@ fn slots_of(
 // Who is handed over, who comes to each lane, and who arrived.
 type Moving = (Vec<HandOver>, Comers, Vec<CarNo>);
 
-/// Room for all who move in a step between so many lanes, of each of which one vehicle may leave.
+/// The lists of who moves on a tile of so many lanes, with nobody in them: of those handed over, of those who come to each lane and
+/// of those who arrived. Each has room for one vehicle a lane, the most that a step needs.
 ///
 /// # Errors
 /// Memory was refused.
-fn nobody_moves(alloc: Global, lanes: usize) -> Result<Moving, AllocError>
+fn moving_of(alloc: Global, lanes: usize) -> Result<Moving, AllocError>
     ensures handed { IfOk result (λ moving. (moving.0.items ≡ []) × (lanes ≤ vec_capacity moving.0)) }
     ensures coming { IfOk result (λ moving. moving.1 ≡ replicate lanes None) }
     ensures arrived { IfOk result (λ moving. (moving.2.items ≡ []) × (lanes ≤ vec_capacity moving.2)) }
@@ -154,10 +163,11 @@ fn nobody_moves(alloc: Global, lanes: usize) -> Result<Moving, AllocError>
     Ok((handed, coming, arrived))
 }
 
-// By slot; who moves; and for each node its plan.
+// By slot, numbers and mouths; who moves; and for each node its signal plan, if it has one.
 type Tables = ((Vec<usize>, Vec<bool>), Moving, Vec<Option<SignalPlan>>);
 
-/// What a tile keeps beside its lanes: by slot, of who moves, and for each of its nodes no plan.
+/// What a tile of so many nodes keeps beside its own lanes, in a network of so many links: by slot, of who moves, and for each
+/// node no signal plan.
 ///
 /// # Errors
 /// Memory was refused.
@@ -173,12 +183,12 @@ fn tables_of(alloc: Global, links: usize, nodes: usize, own: &[Place]) -> Result
     ensures plans { IfOk result (λ tables. tables.2.items ≡ replicate nodes None) }
 {
     let slots = slots_of(alloc, links, own)?;
-    let moving = nobody_moves(alloc, own.len())?;
+    let moving = moving_of(alloc, own.len())?;
     let plans = nones(alloc, nodes)?;
     Ok((slots, moving, plans))
 }
 
-/// Which of so many tiles owns a node: the inverse of [`Tile::cut`].
+/// The position of the tile, among `count`, that owns a node: the inverse of [`Tile::cut`].
 pub(crate) fn owner(net: &Network, count: usize, node: NodeIx) -> usize
     requires some { 0 < count }
     requires few { count ≤ length net.now.nodes }
@@ -192,7 +202,7 @@ pub(crate) fn owner(net: &Network, count: usize, node: NodeIx) -> usize
 }
 
 impl Tile {
-    /// The tile of the nodes from `low` up to `high`, with nobody on it.
+    /// The tile of the nodes at positions from `low` on, below `high`, with nobody on it.
     ///
     /// # Errors
     /// Memory was refused.
@@ -207,7 +217,7 @@ impl Tile {
     {
         let links = net.spec().links.as_slice().len();
         let places = own_lanes(alloc, net, low, high)?;
-        let (own, detectors) = lanes_of(alloc, net, &places)?;
+        let (own, detectors) = fresh_lanes(alloc, net, &places)?;
         let tables = tables_of(alloc, links, high - low, &places)?;
         let ((numbers, mouths), (handed, coming, arrived), signals) = tables;
         Ok(Tile {
@@ -228,7 +238,7 @@ impl Tile {
     }
 
     /// The tiles of a network for so many workers, at most one a node, with nobody on them. With `n` nodes, tile `i` of `k`
-    /// has the nodes from `i * n / k` up to `(i + 1) * n / k`.
+    /// has the nodes at positions from `i * n / k` on, below `(i + 1) * n / k`, both rounded down.
     ///
     /// # Errors
     /// Memory was refused.

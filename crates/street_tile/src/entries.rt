@@ -11,7 +11,7 @@ use street_base::Step;
 use street_lanes::Lanes;
 use street_net::Network;
 
-/// Who comes to lane `n` stands in its cell 0, and then who waits first may depart.
+/// Who comes to own lane `n` stands in its cell 0, and then who waits first departs, if its depart has come and cell 0 is free.
 fn enter_lane(own: &mut Lanes, n: usize, coming: Option<HandOver>, clock: Step)
     requires lane { n < length own.old.lanes }
     requires room { 1 ≤ own.old.room }

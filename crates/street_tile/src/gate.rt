@@ -19,11 +19,11 @@ pub(crate) const DETECTORS: u32 = 4;
 
 /// What the caller of steps observes of them, and what it says of their threads.
 pub trait Gate {
-    /// Called by each worker before its part of each phase, with its number, the phase's (0 lane changes, 1 motion, 2 releases,
-    /// 3 entries and departures, 4 detectors), and its tile.
+    /// Called for each tile before its part of each phase, by the thread that runs it: `worker` is the tile's position among all,
+    /// 0 to 63, and `phase` is 0 for lane changes, 1 motion, 2 releases, 3 entries and departures, 4 detectors.
     fn arrive(&self, worker: u32, phase: u32, tile: &Tile) {}
 
-    /// Called by each worker after its part of each phase, with the same.
+    /// Called for each tile after its part of each phase, by the same thread, with the same numbers and the tile as it then is.
     fn leave(&self, worker: u32, phase: u32, tile: &Tile) {}
 
     /// Asked, where there are several tiles, before the first of each 16 steps of an advance: whether the workers share a step, on
@@ -33,8 +33,8 @@ pub trait Gate {
         true
     }
 
-    /// How many threads at most stay for the steps of an advance, with the calling one: the tiles are shared out among them. The
-    /// steps are the same.
+    /// How many threads at most, with the calling one, stay for up to 16 steps of an advance: the tiles are shared out among them.
+    /// The steps are the same.
     fn processors(&self) -> usize {
         64
     }

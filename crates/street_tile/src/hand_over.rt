@@ -1,11 +1,14 @@
 //! Hand-overs: vehicles between two lanes, and how each is moved to the tile that owns the lane that it enters.
 //!
 //! Releases leave hand-overs with the tile of the lane that the vehicle left. The thread that calls for the step moves each to the
-//! tile of the lane that it enters ([`move_all`]), where it is among those who come ([`Comers`]) until the entries.
-ghost use Rattle.std.specs.Prelude.{◌≡◌, ◌<◌, ◌≤◌, length, List, [], ◌∷◌, ◌++◌, Some, None, IfOk, option_to_list, map, replicate, true, slice_index_or, slice_set, All};
+//! tile of the lane that it enters ([`move_all`]), where it is among those who come ([`Comers`]) until the entries. In a step at most
+//! one goes to a lane, as the lane's mouth closes behind the first: so nobody is put over another.
+ghost use Rattle.std.specs.Prelude.{◌≡◌, ◌<◌, ◌≤◌, length, List, [], ◌∷◌, ◌++◌, Some, None, IfOk};
+ghost use Rattle.std.specs.Prelude.{option_to_list, map, replicate, true, slice_index_or, slice_set, All};
 ghost use Rattle.street_base.specs.Prelude.{vehicle_of, most_plan};
 ghost use Rattle.street_lanes.specs.Prelude.{IsLane};
-ghost use Rattle.street_tile.specs.Prelude.{Transfer, entry_in, Awaits, IsMoved, MovesLast, all_handed, received, KeepsHints, Part, IsTileOf, Each, AreTiles, is_own, nobody};
+ghost use Rattle.street_tile.specs.Prelude.{Transfer, entry_in, Awaits, IsMoved, MovesLast, all_handed, received};
+ghost use Rattle.street_tile.specs.Prelude.{KeepsHints, Part, IsTileOf, Each, AreTiles, is_own, nobody};
 
 use crate::cut::{nones, owner};
 use crate::{Hints, Tile};
@@ -34,7 +37,7 @@ impl Model for HandOver {
 }
 
 impl HandOver {
-    /// A vehicle that enters a lane.
+    /// A vehicle, which is on no lane, with the lane that it enters.
     pub(crate) fn new(to: Place, car: Car) -> HandOver
         requires { length car.plan.value ≤ most_plan }
         ensures { result ≡ record { to = to; vehicle = vehicle_of car } }
@@ -65,11 +68,11 @@ impl HandOver {
     }
 }
 
-/// For each lane of a tile who comes to it, or nobody. Mostly nobody does, and a slot is wide: so `full` tells of each slot
-/// whether it holds somebody, and an empty slot is not looked at. Contracts see the list of slots.
+/// For each own lane of a tile, by its number, who comes to it, or nobody. Mostly nobody does, and an entry of `by_lane` is wide: so
+/// `full` tells of each whether it holds somebody, and an empty one is not looked at. Contracts see the list `by_lane`.
 #[derive(Drop)]
 pub(crate) struct Comers {
-    slots: Vec<Option<HandOver>>,
+    by_lane: Vec<Option<HandOver>>,
     full: Vec<bool>,
 }
 
@@ -79,9 +82,9 @@ impl Model for Comers {
 
     ghost Value = { List (Option Transfer) };
 
-    ghost view = { λ c. c.slots.items };
+    ghost view = { λ c. c.by_lane.items };
 
-    ghost invariant = { λ c. c.full.items ≡ map is_some c.slots.items };
+    ghost invariant = { λ c. c.full.items ≡ map is_some c.by_lane.items };
 }
 
 impl Comers {
@@ -93,21 +96,21 @@ impl Comers {
         ensures { IfOk result (λ coming. coming ≡ replicate lanes None) }
     {
         Ok(Comers {
-            slots: nones(alloc, lanes)?,
+            by_lane: nones(alloc, lanes)?,
             full: vec![in alloc; false; lanes]?,
         })
     }
 
-    /// Somebody comes to lane `n`.
+    /// Somebody comes to own lane `n`.
     pub(crate) fn put(&mut self, n: usize, hand_over: HandOver)
         requires { n < length self.old }
         ensures { self.new ≡ slice_set self.old n (Some hand_over) }
     {
-        self.slots[n] = Some(hand_over);
+        self.by_lane[n] = Some(hand_over);
         self.full[n] = true;
     }
 
-    /// Takes who comes to lane `n`. Where nobody does, nothing is written.
+    /// Takes who comes to own lane `n`, to which nobody comes then. Where nobody does, nothing is written.
     pub(crate) fn take(&mut self, n: usize) -> Option<HandOver>
         requires { n < length self.old }
         ensures taken { result ≡ slice_index_or self.old n None }
@@ -117,7 +120,7 @@ impl Comers {
             return None;
         }
         self.full[n] = false;
-        self.slots[n].take()
+        self.by_lane[n].take()
     }
 }
 
@@ -129,7 +132,7 @@ impl Tile {
         self.handed.len()
     }
 
-    /// Takes the last hand-over.
+    /// Takes the last hand-over that waits to be moved; none when all were taken.
     pub fn next_hand_over(&mut self) -> Option<HandOver>
         ensures tile { self.new ≡ record self.old { handed = self.new.handed } }
         ensures rest { self.old.handed ≡ self.new.handed ++ option_to_list result }
@@ -138,7 +141,7 @@ impl Tile {
         self.handed.pop()
     }
 
-    /// Takes in a hand-over to one of the tile's lanes.
+    /// Takes in a hand-over to one of the own lanes: it is among those who come until the entries.
     pub fn bring(&mut self, net: &Network, hand_over: HandOver)
         requires tile { IsTileOf net.now self.old }
         requires lane { IsLane net.now hand_over.to }
@@ -153,7 +156,7 @@ impl Tile {
     }
 }
 
-/// Which of the tiles owns a lane: that of the node to which its link runs. Of one tile, without a look at the network.
+/// The position of the tile that owns a lane: that of the node to which its link runs. Of one tile, without a look at the network.
 fn tile_of(net: &Network, tiles: &[Tile], to: Place) -> usize
     requires tiles { AreTiles net.now tiles.now }
     requires lane { IsLane net.now to }
@@ -167,7 +170,7 @@ fn tile_of(net: &Network, tiles: &[Tile], to: Place) -> usize
     owner(net, tiles.len(), net.end_of(to.link))
 }
 
-/// The last hand-over of a tile is moved to the tile that owns its lane.
+/// The last hand-over of tile `i`, if it has one, is moved to the tile that owns the lane it goes to, and the hints follow.
 fn move_one(net: &Network, tiles: &mut [Tile], hints: &mut Hints, i: usize)
     requires inside { i < length tiles.old }
     requires tiles { AreTiles net.now tiles.old }
@@ -184,7 +187,7 @@ fn move_one(net: &Network, tiles: &mut [Tile], hints: &mut Hints, i: usize)
     }
 }
 
-/// The hand-overs of a tile are moved to the tiles that own their lanes.
+/// The hand-overs of tile `i` are moved to the tiles that own the lanes they go to, and the hints follow.
 fn move_from(net: &Network, tiles: &mut [Tile], hints: &mut Hints, i: usize)
     requires inside { i < length tiles.old }
     requires tiles { AreTiles net.now tiles.old }
@@ -200,7 +203,7 @@ fn move_from(net: &Network, tiles: &mut [Tile], hints: &mut Hints, i: usize)
     }
 }
 
-/// Each hand-over is moved to the tile that owns its lane.
+/// Each hand-over is moved to the tile that owns the lane it goes to, and the hints follow.
 pub(crate) fn move_all(net: &Network, tiles: &mut [Tile], hints: &mut Hints)
     requires tiles { AreTiles net.now tiles.old }
     requires nobody { All (λ x. x.coming ≡ nobody x) tiles.old }

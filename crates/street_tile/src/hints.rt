@@ -1,4 +1,4 @@
-//! Where vehicles were last put.
+//! Where vehicles were last put: there a search begins, and nothing relies on it.
 ghost use Rattle.std.specs.Prelude.{◌≡◌, ◌≤◌, ◌++◌, [], ◌∷◌, slice_get, slice_set, OnOk};
 
 use crate::hand_over::HandOver;
@@ -49,7 +49,7 @@ impl Hints {
         Ok(())
     }
 
-    /// The link of the next number. Takes no memory.
+    /// The next number is given, to a vehicle that is put on this link. Takes no memory.
     pub fn give(&mut self, link: LinkIx)
         requires { 1 ≤ self.old.room }
         ensures { self.new.links ≡ self.old.links ++ link ∷ [] }

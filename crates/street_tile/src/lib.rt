@@ -7,7 +7,8 @@
 //! a step with so many threads at most: it lends them the tiles three times, since phases between which no tile needs another's
 //! are one part. Between the parts the thread that calls for the step publishes which lanes are open ([`View`]), and moves
 //! vehicles from the tile that let them go to the tile that owns their next lane ([`HandOver`]). [`step_all`] is the same step
-//! phase by phase, for a caller that watches each; both promise `Steps`.
+//! phase by phase, for a caller that watches each, and [`Tiles::step_by_team`] by threads that stay ([`TileWork`]); all promise
+//! `Steps`.
 #![tactic(auto)]
 
 mod change;

@@ -28,8 +28,8 @@ fn note_lanes(has_meters: bool, detectors: &mut [Detectors], own: &Lanes)
 }
 
 impl Tile {
-    /// Each detector notes the step, and the clock goes on. In a tile where none was ever placed, the lanes are not looked at.
-    /// Takes no memory.
+    /// Each detector notes the step (no lane is looked at for that where none was ever placed), vehicles get keys in their order
+    /// where that is due (`Lanes::pack`), and the clock goes on. Takes no memory.
     pub fn phase_meter(&mut self, net: &Network)
         requires tile { IsTileOf net.now self.old }
         requires in_time { self.old.clock < last_clock }
@@ -64,6 +64,7 @@ impl Tile {
         ensures number { IfOk result (λ number. (m : Traffic) → MetersStand self.old m → number ≡ length (detectors_on at m.detectors)) }
         ensures starved { OnErr result (self.new ≡ self.old) }
     {
+        // In parts, as the borrow checker does not cover a struct that is passed by value twice.
         let Place { link, lane } = at;
         let n = self.number(net, at);
         let start = self.clock;

@@ -1,6 +1,6 @@
 //! Motion on a tile's own lanes.
 //!
-//! Source: the order of the phases is this profile.
+//! Source: that motion follows the lane changes is Rickert and others (1996); the rest is this profile.
 ghost use Rattle.std.specs.Prelude.{◌≡◌, [], ◌+◌, ◌*◌, ◌<◌, ◌≤◌, length, false, vec_len, vec_capacity, Some};
 ghost use Rattle.street_base.specs.Prelude.{last_clock};
 ghost use Rattle.street_lanes.specs.Lanes.{IsOf};
@@ -26,7 +26,8 @@ pub(crate) struct MotionStep<'a> {
     pub(crate) signals: &'a [Option<SignalPlan>],
 }
 
-/// Motion on lane `n`, by the signal plan of the node that its link runs to. The lane's detectors watch. Answers who arrived.
+/// Motion on own lane `n`, by the signal plan of the node that its link runs to. The lane's detectors watch. Answers the number of
+/// the vehicle that arrived, if one did.
 fn drive_lane(
     own: &mut Lanes,
     detectors: &mut Detectors,
@@ -52,7 +53,7 @@ fn drive_lane(
 }
 
 /// Motion on each of these lanes, which their detectors watch. The numbers of those who arrived are added to `arrived`, and
-/// of each lane, while it is at hand, the list of mouths gets whether its cell 0 is free.
+/// of each lane, while it is at hand, `mouths` gets at its `slot` whether its cell 0 is free.
 fn drive_lanes(
     own: &mut Lanes,
     detectors: &mut [Detectors],

@@ -13,7 +13,7 @@ use street_base::{Place, Step};
 use street_lanes::Lanes;
 use street_net::{Network, slot};
 
-/// The lane that the front of buffer `n` would enter now, if it is ready to leave and there is a turn to its next link.
+/// The lane that the front of buffer `n`, that of own lane `n`, would enter now, if it is ready and has a turn to its next link.
 fn lane_for_front(own: &Lanes, net: &Network, n: usize, clock: Step) -> Option<Place>
     requires lane { n < length own.now.lanes }
     requires roads { IsRoads net.now }
@@ -29,8 +29,9 @@ fn lane_for_front(own: &Lanes, net: &Network, n: usize, clock: Step) -> Option<P
     })
 }
 
-/// Takes the front of buffer `n` for a lane of its next link.
-fn hand_over(own: &mut Lanes, net: &Network, n: usize, to: Place) -> Option<HandOver>
+/// Takes the front out of buffer `n` to hand it over to `to`, a lane of its next link: its speed is cut to that link's limit, and
+/// its position in the plan moves on. None where the buffer is empty.
+fn take_front(own: &mut Lanes, net: &Network, n: usize, to: Place) -> Option<HandOver>
     requires lane { n < length own.old.lanes }
     requires there { IsLane net.now to }
     ensures goes { GoesAt n without_front own.old own.new }
@@ -46,7 +47,7 @@ fn hand_over(own: &mut Lanes, net: &Network, n: usize, to: Place) -> Option<Hand
     Some(HandOver::new(to, car))
 }
 
-/// The front of buffer `n` goes to a lane if its mouth is open, which then closes.
+/// If the mouth of the lane `to` is open, the front of buffer `n` goes there, added to `handed`, and the mouth closes.
 fn release_front(
     own: &mut Lanes,
     net: &Network,
@@ -68,13 +69,13 @@ fn release_front(
     if !mouths[at] {
         return;
     }
-    if let Some(hand_over) = hand_over(own, net, n, to) {
+    if let Some(hand_over) = take_front(own, net, n, to) {
         mouths[at] = false;
         handed.push_reserved(hand_over);
     }
 }
 
-/// The fronts of the buffers, in their order, go to the lanes whose mouths are open; a mouth closes behind each.
+/// The fronts of the buffers, in their order, go to the lanes whose mouths are open, added to `handed`; a mouth closes behind each.
 fn release_lanes(
     own: &mut Lanes,
     net: &Network,
@@ -112,7 +113,7 @@ impl Tile {
         self.release_by(net, view.mouths());
     }
 
-    /// As [`phase_release`](Self::phase_release), by these mouths. Takes no memory.
+    /// As [`phase_release`](Self::phase_release), by the mouths of a view, as a team shows them to its workers. Takes no memory.
     pub(crate) fn release_by(&mut self, net: &Network, mouths: &[bool])
         requires tile { IsTileOf net.now self.old }
         requires empty { self.old.handed ≡ [] }

@@ -1,12 +1,13 @@
-//! One step of all tiles in three parts that workers share: between them alone a tile needs another's.
+//! One step of all tiles in three parts that workers share: a tile needs what another has only between two parts.
 //!
-//! A tile's lane changes and its motion speak of its own lanes, and so do entries, departures and detectors. Before the releases
-//! the tiles show each other their mouths, and after them they hand over who goes.
+//! Lane changes and motion read and write a tile's own lanes alone, and so do entries, departures and detectors. Before the
+//! releases the tiles show each other their mouths, and after them they hand over who goes.
 //!
 //! Source: this profile, whose five phases a step has in this order.
 ghost use Rattle.std.specs.Prelude.{◌≡◌, ◌*◌, ◌<◌, ◌≤◌, length, [], All};
 ghost use Rattle.street_base.specs.Prelude.{last_clock};
-ghost use Rattle.street_tile.specs.Prelude.{IsTileOf, IsPrepared, Each, LanePhase, MotionPhase, ReleasePhase, EnterPhase, MeterPhase, Then, KeepsHints, MayStep, Steps};
+ghost use Rattle.street_tile.specs.Prelude.{IsTileOf, IsPrepared, Each, LanePhase, MotionPhase, ReleasePhase};
+ghost use Rattle.street_tile.specs.Prelude.{EnterPhase, MeterPhase, Then, KeepsHints, MayStep, Steps};
 
 use crate::gate::{DETECTORS, ENTRIES, LANE_CHANGES, MOTION, RELEASES};
 use crate::hand_over::move_all;
@@ -16,7 +17,7 @@ use std::thread;
 use std::thread::Threads;
 use street_net::Network;
 
-/// Lane changes and motion of a tile.
+/// Lane changes and motion of a tile by the worker of this number; the gate sees it come to each phase and leave it.
 pub(crate) fn drive<G: Gate>(net: &Network, worker: u32, tile: &mut Tile, gate: &G)
     requires tile { IsTileOf net.now tile.old }
     requires none { tile.old.arrived ≡ [] }
@@ -31,7 +32,7 @@ pub(crate) fn drive<G: Gate>(net: &Network, worker: u32, tile: &mut Tile, gate: 
     gate.leave(worker, MOTION, tile);
 }
 
-/// Releases of a tile, by these mouths.
+/// Releases of a tile by the worker of this number, into lanes whose mouths are open; the gate sees it come and leave.
 pub(crate) fn release<G: Gate>(
     net: &Network,
     worker: u32,
@@ -49,7 +50,8 @@ pub(crate) fn release<G: Gate>(
     gate.leave(worker, RELEASES, tile);
 }
 
-/// Entries, departures and detectors of a tile.
+/// Entries, departures and detectors of a tile, whose clock then goes on, by the worker of this number; the gate sees it come to
+/// each phase and leave it.
 pub(crate) fn settle<G: Gate>(net: &Network, worker: u32, tile: &mut Tile, gate: &G)
     requires tile { IsTileOf net.now tile.old }
     requires prepared { IsPrepared tile.old }
@@ -92,7 +94,7 @@ fn all_drive<R: Threads + Sync, G: Gate + Sync>(
     );
 }
 
-/// Releases of all tiles, by so many threads at most.
+/// Releases of all tiles, into lanes that this view shows open, by so many threads at most.
 pub(crate) fn all_release<R: Threads + Sync, G: Gate + Sync>(
     rt: &R,
     net: &Network,
@@ -123,7 +125,7 @@ pub(crate) fn all_release<R: Threads + Sync, G: Gate + Sync>(
     );
 }
 
-/// Entries, departures and detectors of all tiles, by so many threads at most.
+/// Entries, departures and detectors of all tiles, whose clocks then go on, by so many threads at most.
 fn all_settle<R: Threads + Sync, G: Gate + Sync>(
     rt: &R,
     net: &Network,
@@ -151,8 +153,8 @@ fn all_settle<R: Threads + Sync, G: Gate + Sync>(
     );
 }
 
-/// One step by so many threads at most, of the same meaning as [`step_all`](crate::step_all)'s. With one thread the caller's runs
-/// all tiles in turn and starts none. The hints follow who enters another link. Takes no memory.
+/// One step by so many threads at most, which the gate observes, of the same meaning as [`step_all`](crate::step_all)'s. With one
+/// thread the caller's runs all tiles in turn and starts none. The hints follow who enters another link. Takes no memory.
 pub fn step_by<R: Threads + Sync, G: Gate + Sync>(
     rt: &R,
     net: &Network,

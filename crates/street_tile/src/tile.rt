@@ -11,19 +11,31 @@ use street_node::SignalPlan;
 
 /// A block of nodes with all lanes of the links that run to them, and the vehicles there.
 pub struct Tile {
+    /// The position of its first node.
     pub(crate) low: usize,
+    /// The position after that of its last node.
     pub(crate) high: usize,
+    /// How many links the network has.
     pub(crate) links: usize,
+    /// Its own lanes, all those of the links that run to its nodes, with the vehicles on them.
     pub(crate) own: Lanes,
+    /// By `street_net::slot`: the number of each own lane in `own`, 0 for any other lane.
     pub(crate) numbers: Vec<usize>,
+    /// The step that it makes next.
     pub(crate) clock: Step,
+    /// The signal plan of each of its nodes, from `low` on, where there is one.
     pub(crate) signals: Vec<Option<SignalPlan>>,
+    /// By `street_net::slot`: which mouths are open. Motion finds its own lanes'; releases begin with all, as the view has them.
     pub(crate) mouths: Vec<bool>,
+    /// Who left its buffers, and was not yet moved to the tile of the lane that they enter.
     pub(crate) handed: Vec<HandOver>,
+    /// Who comes to each own lane.
     pub(crate) coming: Comers,
+    /// The numbers of those who arrived in the last step, until `next_arrival` takes them.
     pub(crate) arrived: Vec<CarNo>,
     /// Whether a detector was ever placed in the tile. While none was, nothing is noted.
     pub(crate) has_meters: bool,
+    /// The detectors of each own lane, by its number in `own`.
     pub(crate) detectors: Vec<Detectors>,
 }
 

@@ -1,11 +1,13 @@
-//! Steps by a team: workers that stay, to which the tiles are lent by value.
+//! Steps by a team: workers that stay, to which the tiles are lent by value for each part of a step. Between two parts the caller
+//! has all tiles, and alone shows mouths and moves hand-overs.
 //!
 //! Source: this profile, whose five phases a step has in this order.
 ghost use Rattle.std.specs.Prelude.{◌≡◌, ℕ, ◌*◌, ◌<◌, ◌≤◌, length, [], All};
 ghost use Rattle.street_base.specs.declared.net.NetSpec.{NetSpec};
 ghost use Rattle.street_base.specs.Prelude.{last_clock, Traffic};
 ghost use Rattle.street_lanes.specs.Prelude.{IsLane};
-ghost use Rattle.street_tile.specs.Prelude.{all_handed, received, KeepsHints, MayWork, DoesWork, LanePhase, MotionPhase, ReleasePhase, EnterPhase, MeterPhase, Then, MayStep, Steps, IsTileOf, IsPrepared, Each, AreTiles, AllStand, Shows, ShowsOwn, nobody};
+ghost use Rattle.street_tile.specs.Prelude.{all_handed, received, KeepsHints, MayWork, DoesWork, LanePhase, MotionPhase, ReleasePhase, EnterPhase, MeterPhase, Then};
+ghost use Rattle.street_tile.specs.Prelude.{MayStep, Steps, IsTileOf, IsPrepared, Each, AreTiles, AllStand, Shows, ShowsOwn, nobody};
 
 use crate::hand_over::move_all;
 use crate::step::{drive, release, settle};
@@ -22,10 +24,10 @@ const DRIVE: u32 = 0;
 /// The part with releases.
 const RELEASE: u32 = 1;
 
-/// The part with entries, departures and detectors.
+/// The part with entries, departures and detectors, after which the tile's clock goes on.
 const SETTLE: u32 = 2;
 
-/// The network of a team's tiles, and the locks that tell what they were.
+/// For contracts alone: the network of a team's tiles, and which its locks are, each of which tells what lent tiles were.
 pub trait TeamNetwork {
     ghost net: { NetSpec };
 
@@ -71,6 +73,7 @@ impl<'b, G: Gate + Sync, K: TeamNetwork> Work<Tile> for TileWork<'b, G, K> {
 
     ghost does = { λ part number shown x y. DoesWork K.net part shown x y };
 
+    /// Makes a part of a step on one tile, by the worker of this number; `shown` are the mouths, in `RELEASE`.
     fn work(&self, part: u32, number: usize, shown: &[bool], item: &mut Tile) {
         match part {
             DRIVE => drive(self.net, number as u32, item, self.gate),
@@ -97,7 +100,8 @@ fn drive_with<G: Gate + Sync, K: TeamNetwork, R: Wait>(
     team.lend(DRIVE, &[], tiles);
 }
 
-/// Releases of all tiles, lent to a team, whose network this is: `net` is there for the contract alone.
+/// Releases of all tiles, into lanes that this view shows open, lent to a team, whose network this is: `net` is there for the
+/// contract alone.
 fn release_with<G: Gate + Sync, K: TeamNetwork, R: Wait>(
     team: &mut Team<'_, '_, '_, '_, Tile, TileWork<'_, G, K>, R>,
     net: &Network,
@@ -115,7 +119,8 @@ fn release_with<G: Gate + Sync, K: TeamNetwork, R: Wait>(
     team.lend(RELEASE, view.mouths(), tiles);
 }
 
-/// Entries, departures and detectors of all tiles, lent to a team, whose network this is: `net` is there for the contract alone.
+/// Entries, departures and detectors of all tiles, whose clocks then go on, lent to a team, whose network this is: `net` is there
+/// for the contract alone.
 fn settle_with<G: Gate + Sync, K: TeamNetwork, R: Wait>(
     team: &mut Team<'_, '_, '_, '_, Tile, TileWork<'_, G, K>, R>,
     net: &Network,
@@ -132,8 +137,8 @@ fn settle_with<G: Gate + Sync, K: TeamNetwork, R: Wait>(
     team.lend(SETTLE, &[], tiles);
 }
 
-/// Each tile shows its mouths to all, while none is lent.
-fn publish_with(net: &Network, tiles: &Vec<Tile>, view: &mut View)
+/// As [`publish`], of a vector, of which the contract of a team's step speaks: no tile is lent.
+fn publish_vec(net: &Network, tiles: &Vec<Tile>, view: &mut View)
     requires tiles { AreTiles net.now tiles.now.items }
     requires shown { All ShowsOwn tiles.now.items }
     requires view { length view.old ≡ 2 * length net.now.links }
@@ -143,8 +148,8 @@ fn publish_with(net: &Network, tiles: &Vec<Tile>, view: &mut View)
     publish(net, tiles, view);
 }
 
-/// Each hand-over is moved to the tile that owns its lane, while none is lent.
-fn move_with(net: &Network, tiles: &mut Vec<Tile>, hints: &mut Hints)
+/// As [`move_all`], of a vector, of which the contract of a team's step speaks: no tile is lent.
+fn move_vec(net: &Network, tiles: &mut Vec<Tile>, hints: &mut Hints)
     requires tiles { AreTiles net.now tiles.old.items }
     requires nobody { All (λ x. x.coming ≡ nobody x) tiles.old.items }
     requires lanes { All (λ x. All (λ e. IsLane net.now e.to) x.handed) tiles.old.items }
@@ -173,8 +178,8 @@ pub fn step_with<G: Gate + Sync, K: TeamNetwork, R: Wait>(
     ensures hints { KeepsHints hints.old hints.new }
 {
     drive_with(team, net, tiles);
-    publish_with(net, tiles, view);
+    publish_vec(net, tiles, view);
     release_with(team, net, view, tiles);
-    move_with(net, tiles, hints);
+    move_vec(net, tiles, hints);
     settle_with(team, net, tiles);
 }

@@ -1,11 +1,13 @@
 //! All tiles of a network between two steps.
 //!
-//! A command that names a node or a lane is done by the tile that owns it, and the others stay as they are. A vehicle is sought on
-//! the lanes of the link on which it was last put, and then in all tiles.
+//! Here are their making, the network that they share, the commands that name a node or a lane, counts of vehicles, and the blocks
+//! in which a team lends them. Such a command is done by the tile that owns the node or lane, and the others stay as they are. Steps
+//! are in `tiles_steps`, commands that name a vehicle in `tiles_vehicles`.
 //!
 //! Source: this profile.
 ghost use Rattle.std.specs.Prelude.{◌≡◌, ◌+◌, ◌<◌, ◌≤◌, length, min, option_map, slice_get, IfOk, OnOk, OnErr};
-ghost use Rattle.street_base.specs.Prelude.{in_lane, IsSound, with_marks, metered, last_clock, most_period, most_vehicles, loaded, with_waiting, closed_after, link_at, shown_lane, shown_rows, in_cells, in_buffers, in_wait, SignalPlan as PlanSeen, Traffic, lane_at};
+ghost use Rattle.street_base.specs.Prelude.{in_lane, IsSound, with_marks, metered, last_clock, most_period, most_vehicles, loaded, with_waiting, closed_after};
+ghost use Rattle.street_base.specs.Prelude.{link_at, shown_lane, shown_rows, in_cells, in_buffers, in_wait, SignalPlan as PlanSeen, Traffic, lane_at};
 ghost use Rattle.street_node.specs.Prelude.{ShowsAs};
 ghost use Rattle.street_lanes.specs.Prelude.{IsLane, HasShortPlan, waiting_of};
 ghost use Rattle.street_tile.specs.Prelude.{at_place, planned, detectors_on, TilesStandFor, TilesGo, TilesKeep, NobodyArrived, OwnsLink};
@@ -21,7 +23,8 @@ use street_net::Network;
 use street_node::SignalPlan;
 use street_team::{Block, blocks};
 
-/// A network, its tiles, which of its lanes are open, and where each vehicle was last put.
+/// A network, its tiles, the view of its mouths as the last step's releases saw it (none open before the first), and on which link
+/// each vehicle was last put.
 pub struct Tiles {
     pub(crate) network: Arc<Network, Global>,
     pub(crate) tiles: Vec<Tile>,
@@ -52,7 +55,7 @@ impl Model for Tiles {
 }
 
 impl Tiles {
-    /// The tiles of a network with no vehicle, for so many workers, 1 to 64.
+    /// The tiles of a network with no vehicle, for so many workers, 1 to 64: one each, but no more than there are nodes.
     ///
     /// # Errors
     /// Memory was refused.
@@ -64,7 +67,7 @@ impl Tiles {
         ensures nobody { IfOk result NobodyArrived }
         ensures stand { IfOk result (λ tiles. TilesStandFor tiles (loaded network)) }
     {
-        // Its clause `faultless` is what the traffic of a network with nobody on it rests on.
+        // The clause `faultless` of `Network::spec` is what the traffic of a network with nobody on it rests on.
         let _spec = network.spec();
         let tiles = Tile::cut(alloc, &network, workers)?;
         let view = View::new(alloc, &network)?;
@@ -84,7 +87,7 @@ impl Tiles {
         &self.network
     }
 
-    /// The network, to be shared with who works for the tiles.
+    /// The network, to be shared with those who work on the tiles.
     ///
     /// # Errors
     /// It is shared too often.
@@ -103,7 +106,7 @@ impl Tiles {
         self.tiles.len()
     }
 
-    /// The tile that owns the lanes of a link: that of the node to which the link runs.
+    /// The position of the tile that owns the lanes of a link: the tile of the node to which the link runs.
     pub(crate) fn owner_of(&self, link: LinkIx) -> usize
         requires { link < length self.now.network.links }
         ensures inside { result < length self.now.tiles }
@@ -112,7 +115,7 @@ impl Tiles {
         owner(&self.network, self.tiles.len(), self.network.end_of(link))
     }
 
-    /// One more vehicle, whose number is the next and nowhere on the lane, waits there.
+    /// One more vehicle waits on the lane `at`: `car`, whose number is the next and nowhere on that lane.
     ///
     /// # Errors
     /// Memory was refused; the tiles stand for what they stood for.
@@ -141,7 +144,7 @@ impl Tiles {
         self.tiles[i].set_signal(node, plan);
     }
 
-    /// Closes cells of a lane, or opens them, and tells how many of its cells are closed then.
+    /// Closes the cells of a lane from `first` to `last`, or opens them, and tells how many of its cells are closed then.
     ///
     /// # Errors
     /// Memory was refused; the tiles stand for what they stood for.
@@ -164,7 +167,7 @@ impl Tiles {
         self.tiles[i].set_closed(&self.network, at, first, last, closed)
     }
 
-    /// All of a lane.
+    /// All of a lane, as a reply: its buffer, its cells, its closed stretches and who waits.
     ///
     /// # Errors
     /// Memory for the lists was refused.
@@ -242,7 +245,7 @@ impl Tiles {
     }
 
     /// How many vehicles are in cells of the tile that has most of them; looks at no lane.
-    pub fn fullest(&self) -> u64 {
+    pub fn most_in_cells(&self) -> u64 {
         let mut most = 0;
         for tile in &self.tiles {
             most = most.max(tile.totals().cells);
@@ -250,7 +253,8 @@ impl Tiles {
         most
     }
 
-    /// Blocks in which a team of so many threads lends the tiles: for each as many as are its own, and for what they are shown.
+    /// Blocks in which a team lends the tiles to so many threads besides the caller's: one for each, with room for its share of
+    /// the tiles and for all mouths.
     ///
     /// # Errors
     /// Memory was refused.

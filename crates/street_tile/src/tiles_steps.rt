@@ -1,7 +1,8 @@
 //! Steps of all tiles, the memory for them, and those who arrived.
 ghost use Rattle.std.specs.Prelude.{◌≡◌, ◌<◌, length, [], None, slice_index_or, IfSome, OnOk, All};
 ghost use Rattle.street_base.specs.Prelude.{last_clock, Traffic};
-ghost use Rattle.street_tile.specs.Prelude.{Steps, Part, IsPrepared, AreTiles, TilesStandFor, TilesKeep, NobodyArrived, PreparesOne, TakesArrival, TakesArrivalOf};
+ghost use Rattle.street_tile.specs.Prelude.{Steps, Part, IsPrepared, AreTiles, TilesStandFor, TilesKeep};
+ghost use Rattle.street_tile.specs.Prelude.{NobodyArrived, PreparesOne, TakesArrival, TakesArrivalOf};
 
 use crate::step::step_by;
 use crate::tile_work::{TeamNetwork, TileWork, step_with};
@@ -13,7 +14,7 @@ use street_base::{CarNo, Starved};
 use street_team::Team;
 
 impl Tiles {
-    /// Takes the memory for a step of one tile.
+    /// Takes the memory for a step of tile `i`.
     ///
     /// # Errors
     /// Memory was refused; the tiles stand for what they stood for.
@@ -39,8 +40,8 @@ impl Tiles {
         Ok(())
     }
 
-    /// One step, by so many threads at most: whatever state the tiles stood for, they then stand for the next one, and hold the
-    /// numbers of those who arrived. Takes no memory.
+    /// One step, by so many threads at most, which the gate observes: whatever state the tiles stood for, they then stand for the
+    /// next one, and hold the numbers of those who arrived. Takes no memory.
     pub fn step<R: Threads + Sync, G: Gate + Sync>(&mut self, rt: &R, gate: &G, threads: usize)
         requires some { 0 < threads }
         requires prepared { All IsPrepared self.old.tiles }
@@ -62,7 +63,7 @@ impl Tiles {
         );
     }
 
-    /// As [`step`](Self::step), by a team.
+    /// As [`step`](Self::step), by a team of this network, whose work has the gate.
     pub fn step_by_team<G: Gate + Sync, K: TeamNetwork, R: Wait>(
         &mut self,
         team: &mut Team<'_, '_, '_, '_, Tile, TileWork<'_, G, K>, R>,
@@ -85,7 +86,7 @@ impl Tiles {
         );
     }
 
-    /// Takes a number that arrived in the last step on the lanes of a tile; none when all of these were taken.
+    /// Takes the number of a vehicle that arrived in the last step on the lanes of tile `i`; none when all of these were taken.
     fn arrival_of(&mut self, i: usize) -> Option<CarNo>
         requires { i < length self.old.tiles }
         ensures some { IfSome result (λ number. TakesArrivalOf i number self.old self.new) }

@@ -1,4 +1,4 @@
-//! Commands that name a vehicle: the lanes of the link are asked on which it was last put, and then all tiles.
+//! Commands that name a vehicle: it is sought on the lanes of the link on which it was last put, and then in all tiles.
 //!
 //! Source: this profile.
 ghost use Rattle.std.specs.Prelude.{◌≡◌, ℕ, ◌<◌, length, true, false, IsSome, IfOk};
@@ -11,7 +11,7 @@ use std::alloc::Global;
 use street_base::{CarNo, LaneNo, LinkIx, Place, Starved, Whereabouts};
 
 impl Tiles {
-    /// How many lanes a link has; none of a position past the last link.
+    /// How many lanes a link has; 0 where no link has the position, as nothing relies on a hint.
     fn lanes_of(&self, link: LinkIx) -> LaneNo
         ensures { (lane : ℕ) → lane < result → IsLane self.now.network (record { link = link; lane = lane }) }
     {
@@ -21,7 +21,7 @@ impl Tiles {
         }
     }
 
-    /// Takes a vehicle out of a lane, and tells whether it was there.
+    /// Takes a vehicle out of the lane `at`, and tells whether it was there.
     fn take_on(&mut self, at: Place, number: CarNo) -> bool
         requires { IsLane self.old.network at }
         ensures taken { result ≡ true → TilesGo IsWhole (without number) self.old self.new }
@@ -33,8 +33,8 @@ impl Tiles {
             .is_some()
     }
 
-    /// Takes a vehicle out of the lanes of a link, and tells whether it was there.
-    fn take_near(&mut self, link: LinkIx, number: CarNo) -> bool
+    /// Takes a vehicle out, sought on the lanes of this link alone, and tells whether it was there; if not, it may be elsewhere.
+    fn take_on_link(&mut self, link: LinkIx, number: CarNo) -> bool
         ensures taken { result ≡ true → TilesGo IsWhole (without number) self.old self.new }
         ensures kept { result ≡ false → self.new ≡ self.old }
     {
@@ -46,8 +46,8 @@ impl Tiles {
         false
     }
 
-    /// Takes a vehicle out of a tile, and tells whether it was there.
-    fn take_at(&mut self, i: usize, number: CarNo) -> bool
+    /// Takes a vehicle out of tile `i`, and tells whether it was there.
+    fn take_in_tile(&mut self, i: usize, number: CarNo) -> bool
         requires { i < length self.old.tiles }
         ensures taken { result ≡ true → TilesGo IsWhole (without number) self.old self.new }
         ensures kept { result ≡ false → self.new ≡ self.old }
@@ -61,22 +61,23 @@ impl Tiles {
         ensures { TilesGo IsWhole (without number) self.old self.new }
     {
         if let Some(link) = self.hints.get(number)
-            && self.take_near(link, number)
+            && self.take_on_link(link, number)
         {
             return;
         }
         for i in 0..self.len() {
-            if self.take_at(i, number) {
+            if self.take_in_tile(i, number) {
                 return;
             }
         }
     }
 
-    /// Where a vehicle is on the lanes of a link, if it is there.
+    /// Where a vehicle is, sought on the lanes of this link alone; `None` promises nothing, it may be elsewhere. Takes memory for
+    /// the plan that it answers.
     ///
     /// # Errors
     /// Memory for the plan was refused.
-    fn find_near(
+    fn find_on_link(
         &self,
         alloc: Global,
         link: LinkIx,
@@ -94,7 +95,7 @@ impl Tiles {
         Ok(None)
     }
 
-    /// Where a vehicle is that has not ended. Takes memory for the plan that it answers.
+    /// Where a vehicle is, if it is on a lane: one that has ended is on none. Takes memory for the plan that it answers.
     ///
     /// # Errors
     /// Memory for the plan was refused.
@@ -102,7 +103,7 @@ impl Tiles {
         ensures { IfOk result (λ found. (m : Traffic) → IsSound m → TilesStandFor self.now m → found ≡ seen m number) }
     {
         if let Some(link) = self.hints.get(number)
-            && let Some(found) = self.find_near(alloc, link, number)?
+            && let Some(found) = self.find_on_link(alloc, link, number)?
         {
             return Ok(Some(found));
         }

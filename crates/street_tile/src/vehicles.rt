@@ -1,4 +1,4 @@
-//! Commands that name a vehicle, and how many vehicles there are.
+//! Commands to one tile that name a vehicle, and how many vehicles are on its lanes.
 //!
 //! Source: this profile.
 ghost use Rattle.std.specs.Prelude.{◌≡◌, ◌<◌, length, count_by, is_some, option_map, None, true, IfOk, IfSome};
@@ -13,8 +13,8 @@ use street_lanes::LaneTotals;
 use street_net::Network;
 
 impl Tile {
-    /// Takes a vehicle out of own lane `n`, if it is there.
-    fn take_at(&mut self, net: &Network, n: usize, number: CarNo) -> Option<Car>
+    /// Takes a vehicle out of own lane `n` (its number among the own lanes), if it is there.
+    fn take_on_own(&mut self, net: &Network, n: usize, number: CarNo) -> Option<Car>
         requires tile { IsTileOf net.now self.old }
         requires lane { n < length self.old.own.places }
         ensures number { IfSome result (λ car. car.number ≡ number) }
@@ -27,7 +27,7 @@ impl Tile {
         self.own.take_out(n, number)
     }
 
-    /// Takes a vehicle out of an own lane, if it is there. Takes no memory.
+    /// Takes a vehicle out of the own lane at the place `at`, if it is there. Takes no memory.
     pub fn take_out_on(&mut self, net: &Network, at: Place, number: CarNo) -> Option<Car>
         requires tile { IsTileOf net.now self.old }
         requires lane { IsLane net.now at }
@@ -40,10 +40,10 @@ impl Tile {
         ensures had_not { result ≡ None → WhereOnce net.now self.old number (λ m. in_lane number (lane_at m at) ≡ 0) }
     {
         let n = self.number(net, at);
-        self.take_at(net, n, number)
+        self.take_on_own(net, n, number)
     }
 
-    /// Takes a vehicle out, wherever it is on the own lanes. Takes no memory.
+    /// Takes a vehicle out, wherever it is on the own lanes; nobody where it is on none of them. Takes no memory.
     pub fn take_out(&mut self, net: &Network, number: CarNo) -> Option<Car>
         requires { IsTileOf net.now self.old }
         ensures number { IfSome result (λ car. car.number ≡ number) }
@@ -54,18 +54,19 @@ impl Tile {
         ensures had_not { result ≡ None → WhereOnce net.now self.old number (λ m. HaveNot self.old.own.places m number) }
     {
         for n in 0..self.own.len() {
-            if let Some(car) = self.take_at(net, n, number) {
+            if let Some(car) = self.take_on_own(net, n, number) {
                 return Some(car);
             }
         }
         None
     }
 
-    /// Where a vehicle is on own lane `n`, if it is there. Takes memory for the plan that it answers.
+    /// Where a vehicle is on own lane `n` (its number among the own lanes), if it is there. Takes memory for the plan that it
+    /// answers.
     ///
     /// # Errors
     /// Memory for the plan was refused.
-    fn find_at(
+    fn find_on_own(
         &self,
         alloc: Global,
         net: &Network,
@@ -81,7 +82,7 @@ impl Tile {
         self.own.find_on(alloc, net, n, number)
     }
 
-    /// Where a vehicle is on an own lane. Takes memory for the plan that it answers.
+    /// Where a vehicle is on the own lane at the place `at`, if it is there. Takes memory for the plan that it answers.
     ///
     /// # Errors
     /// Memory for the plan was refused.
@@ -98,10 +99,10 @@ impl Tile {
         ensures { IfOk result (λ found. WhereOnce net.now self.now number (λ m. found ≡ seen_in net.now at number (lane_at m at))) }
     {
         let n = self.number(net, at);
-        self.find_at(alloc, net, n, number)
+        self.find_on_own(alloc, net, n, number)
     }
 
-    /// Where a vehicle is on the own lanes. Takes memory for the plan that it answers.
+    /// Where a vehicle is on the own lanes, if it is on one. Takes memory for the plan that it answers.
     ///
     /// # Errors
     /// Memory for the plan was refused.
@@ -115,7 +116,7 @@ impl Tile {
         ensures { IfOk result (λ found. WhereOnce net.now self.now number (λ m. Finds net.now self.now.own.places m number found)) }
     {
         for n in 0..self.own.len() {
-            if let Some(found) = self.find_at(alloc, net, n, number)? {
+            if let Some(found) = self.find_on_own(alloc, net, n, number)? {
                 return Ok(Some(found));
             }
         }

@@ -16,7 +16,8 @@ use street_base::{Place, Starved};
 use street_lanes::Lanes;
 use street_net::{Network, slot};
 
-/// For each lane of a network whether its cell 0 is empty and not closed, two entries a link. Contracts see the list.
+/// For each lane of a network whether its cell 0 is empty and not closed, by `street_net::slot`: two entries a link, of which a
+/// link of one lane uses the first. Contracts see the list.
 pub struct View {
     mouths: Vec<bool>,
 }
@@ -48,21 +49,21 @@ impl View {
         Ok(View { mouths })
     }
 
-    /// How many lanes there are, two a link.
+    /// How many mouths it has room for: two a link.
     pub fn len(&self) -> usize
         ensures { result ≡ length self.now }
     {
         self.mouths.len()
     }
 
-    /// All mouths.
+    /// All mouths, by slot.
     pub(crate) fn mouths(&self) -> &[bool]
         ensures { result.now ≡ self.now }
     {
         &self.mouths
     }
 
-    /// Writes all mouths.
+    /// Writes all mouths, by slot.
     pub(crate) fn copy(&mut self, mouths: &[bool])
         requires { length mouths.now ≡ length self.old }
         ensures { self.new ≡ mouths.now }

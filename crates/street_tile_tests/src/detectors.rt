@@ -29,7 +29,7 @@ fn occupied_lane(rt: &(impl Abort + AllocGlobal)) -> Result<Lanes, Fail> {
 fn two_detectors(alloc: Global) -> Result<Detectors, Starved>
     ensures { IfOk result (λ detectors. All (λ x. next_step x < last_clock) detectors.meters) }
 {
-    let mut detectors = Detectors::new(alloc, 5);
+    let mut detectors = Detectors::new(5);
     detectors.place(alloc, at(), 0, 1, 7)?;
     detectors.place(alloc, at(), 3, 2, 7)?;
     Ok(detectors)
@@ -101,7 +101,7 @@ fn occupied_cells_are_noted(rt: HostRuntime) -> Result<(), Fail> {
 
 /// The numbers of two detectors, placed one after the other.
 fn numbers_of_two(alloc: Global) -> Result<(usize, usize), Starved> {
-    let mut detectors = Detectors::new(alloc, 5);
+    let mut detectors = Detectors::new(5);
     let first = detectors.place(alloc, at(), 4, 1, 0)?;
     let second = detectors.place(alloc, at(), 4, 1, 0)?;
     Ok((first, second))

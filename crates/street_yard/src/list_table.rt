@@ -1,11 +1,14 @@
-//! The fronts and the backs of lists.
+//! The first and the last key of each list, how many keys it has, and how many are on all lists of a kind together.
+//!
+//! A lane has three lists with three numbers in a row: its cells, its buffer, and those who wait. So the remainder of a list's
+//! number by 3 tells of which kind it is.
 ghost use Rattle.std.specs.Prelude.{◌≡◌, ◌^◌, ◌<◌, length, map, replicate, IfOk, slice_index_or, slice_set};
 
 use crate::hot::Neighbour;
 use std::alloc::{AllocError, Global};
 use std::marker::Model;
 
-/// The first and the last key of a list, and how many it has.
+/// The first and the last key of a list, nobody where it is empty, and how many keys it has.
 #[derive(Clone, Copy)]
 pub(crate) struct ListRow {
     pub(crate) front: Neighbour,
@@ -20,7 +23,8 @@ struct BackAndCount {
     count: u32,
 }
 
-/// The fronts and the backs of all lists by number, in two tables: the first keys, for which a step asks each list, lie close together.
+/// The rows of all lists by number, in two tables: the first keys, for which a step asks each list, lie close together. The
+/// totals stand beside them.
 #[derive(Drop)]
 pub(crate) struct ListTable {
     fronts: Vec<Neighbour>,
@@ -45,7 +49,7 @@ impl Model for ListTable {
 impl ListTable {
     ghost use Rattle.street_yard.specs.Prelude.{no_row, thirds};
 
-    /// So many lists without keys.
+    /// The table of so many lists, none of which has a key.
     ///
     /// # Errors
     /// Memory was refused.
@@ -66,7 +70,7 @@ impl ListTable {
         })
     }
 
-    /// The first key of a list.
+    /// The first key of a list, by its number; nobody where it is empty.
     #[inline]
     pub(crate) fn front(&self, list: usize) -> Neighbour
         requires { list < length self.now }
@@ -75,7 +79,7 @@ impl ListTable {
         self.fronts[list]
     }
 
-    /// The last key of a list.
+    /// The last key of a list, by its number; nobody where it is empty.
     #[inline]
     pub(crate) fn back(&self, list: usize) -> Neighbour
         requires { list < length self.now }
@@ -84,7 +88,7 @@ impl ListTable {
         self.rests[list].back
     }
 
-    /// How many keys a list has.
+    /// How many keys a list has, by its number.
     #[inline]
     pub(crate) fn count(&self, list: usize) -> u32
         requires { list < length self.now }
@@ -93,14 +97,14 @@ impl ListTable {
         self.rests[list].count
     }
 
-    /// How many keys are on lists 0, 3, 6 and so on, on lists 1, 4, 7 .., and on lists 2, 5, 8 ..
+    /// How many keys are on lists 0, 3, 6 .. together, on lists 1, 4, 7 .., and on lists 2, 5, 8 ..
     pub(crate) fn totals(&self) -> [u64; 3]
         ensures { result ≡ thirds (map (λ e. e.count) self.now) }
     {
         self.totals
     }
 
-    /// The front, the back and the count of a list.
+    /// The row of a list, by its number: its first key, its last key and its count.
     #[inline]
     pub(crate) fn get(&self, list: usize) -> ListRow
         requires { list < length self.now }
@@ -114,7 +118,7 @@ impl ListTable {
         }
     }
 
-    /// Writes the front, the back and the count of a list; the totals follow.
+    /// Writes the row of a list, by its number; the totals follow its count.
     #[inline]
     pub(crate) fn set(&mut self, list: usize, row: ListRow)
         requires { list < length self.old }

@@ -27,14 +27,14 @@ longer n speed gap o p e f g = sym (ap (λ k. nat_lt (k + 1) gap) e ∙ ap (nat_
 pub gap_beside-requires : goal.gap_beside-requires
 gap_beside-requires c = last_on c.args.yard.now c.args.other.list.0 c.requires.above.up c.requires.above.down c.args.above.now c.whole.ensures c.requires.above.split c.requires.above.at_position
 
-pub gap_back-requires-clause-ahead : goal.gap_back-requires-clause-ahead
-gap_back-requires-clause-ahead c = last_on c.args.yard.now c.args.other.list.0 c.requires.above.up c.requires.above.down c.args.above.now c.whole.ensures c.requires.above.split c.requires.above.at_position
+pub gap_behind-requires-clause-ahead : goal.gap_behind-requires-clause-ahead
+gap_behind-requires-clause-ahead c = last_on c.args.yard.now c.args.other.list.0 c.requires.above.up c.requires.above.down c.args.above.now c.whole.ensures c.requires.above.split c.requires.above.at_position
 
 pub returns-then-from-unwrap_or : goal.returns-then-from-unwrap_or
 returns-then-from-unwrap_or c = λ count lane.
     elim c.if-is_open.branch [
       | then-is_open w ↦ (
-          let behind = ap (λ q. nat_lt 5 q) (c.unwrap_or-then-from-unwrap_or.ensures ∙ ap (λ q. unwrap_or q 16) (c.gap_back.ensures.near c.requires.above.up c.requires.above.down c.requires.above.split c.requires.above.at_position)) in
+          let behind = ap (λ q. nat_lt 5 q) (c.unwrap_or-then-from-unwrap_or.ensures ∙ ap (λ q. unwrap_or q 16) (c.gap_behind.ensures.near c.requires.above.up c.requires.above.down c.requires.above.split c.requires.above.at_position)) in
           let ahead = longer w.from.result c.args.speed w.unwrap_or.result w.gap_beside.result _ w.from.ensures w.unwrap_or.ensures (w.gap_beside.ensures.near count lane.within) ∙ sym w.value-is ∙ c.if-from-unwrap_or.true in
           behind ∙ all_but _ _ _ (sym (c.is_open.ensures count lane.within) ∙ w.if-is_open.true) ahead ∙ room-beside c.args.yard.now count (lane_seen c.args.other) c.args.cell c.args.rear c.args.speed c.args.above.now c.whole.ensures lane c.requires.above c.requires.rear)
       | else-is_open w ↦ absurd (both_ways c.is_open.result w.if-is_open.false (sym w.value-is ∙ c.if-from-unwrap_or.true))

@@ -6,10 +6,10 @@ use Rattle.street_lanes.specs.Prelude.{place_at, no_place, IsOn}
 use Rattle.street_tile.specs.Prelude.{StandsFor, HaveAtMostOne}
 use Rattle.street_tile.proofs.tile.Tile.find_on.Goals as goal
 
-pub find_at-requires-clause-lane : goal.find_at-requires-clause-lane
-find_at-requires-clause-lane c = slice_get_within c.args.self.now.own.places c.number-n.result c.args.at c.number-n.ensures
+pub find_on_own-requires-clause-lane : goal.find_on_own-requires-clause-lane
+find_on_own-requires-clause-lane c = slice_get_within c.args.self.now.own.places c.number-n.result c.args.at c.number-n.ensures
 
 pub returns : goal.returns
 returns c =
     let here : place_at c.args.self.now.own c.number-n.result ≡ c.args.at = get_or_from_slice_get c.args.self.now.own.places c.number-n.result c.args.at no_place c.number-n.ensures in
-    subst (λ (p : Place). IfOk c.find_at.result (λ found. (m : Traffic) → IsOn c.args.net.now m → StandsFor c.args.self.now m → HaveAtMostOne c.args.self.now.own.places m c.args.number → found ≡ seen_in c.args.net.now p c.args.number (lane_at m p))) here c.find_at.ensures.found
+    subst (λ (p : Place). IfOk c.find_on_own.result (λ found. (m : Traffic) → IsOn c.args.net.now m → StandsFor c.args.self.now m → HaveAtMostOne c.args.self.now.own.places m c.args.number → found ≡ seen_in c.args.net.now p c.args.number (lane_at m p))) here c.find_on_own.ensures.found

@@ -12,8 +12,8 @@ use Rattle.street_tile.proofs.EmptyTile.{faultless-roads, loaded-lanes, loaded-c
 use Rattle.street_tile.proofs.MetersStand.{bare-sizes, bare-all, bare-due, bare-stand}
 use Rattle.street_tile.proofs.tile.Tile.of_nodes.Goals as goal
 
-pub lanes_of-requires : goal.lanes_of-requires
-lanes_of-requires c =
+pub fresh_lanes-requires : goal.fresh_lanes-requires
+fresh_lanes-requires c =
     let is : c.deref.result.now ≡ own_places c.args.net.now c.args.low c.args.high = c.deref.ensures.value ∙ c.in_ok-places.ensures in
     subst (AllLanes c.args.net.now) (sym is) (own-lanes c.args.net.now c.args.low c.args.high)
 

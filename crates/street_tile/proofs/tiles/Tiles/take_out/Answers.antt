@@ -3,13 +3,13 @@ use Rattle.street_base.specs.Prelude.{IsWhole}
 use Rattle.street_tile.specs.Prelude.{without, TilesView, TilesGo, TileHasNot}
 use Rattle.street_tile.proofs.TileCommands.{nowhere-does}
 use Rattle.street_tile.proofs.tiles.Tiles.take_out.Goals as goal
-use Rattle.street_tile.proofs.tiles.Tiles.take_out.Goals.{in_default-via-in-None-1, in_default-via-in-Some+else-take_near}
+use Rattle.street_tile.proofs.tiles.Tiles.take_out.Goals.{in_default-via-in-None-1, in_default-via-in-Some+else-take_on_link}
 
 -- where it was not on the lanes of its link nothing has changed
 unchanged : (c : goal.After-loop-i) → c.in_default.self ≡ c.args.self.now
 unchanged c = elim c.in_default.branch [
   | in_default-via-in-None-1 w ↦ w.self-is
-  | in_default-via-in-Some+else-take_near w ↦ w.self-is ∙ w.take_near.ensures.kept w.if-take_near.false
+  | in_default-via-in-Some+else-take_on_link w ↦ w.self-is ∙ w.take_on_link.ensures.kept w.if-take_on_link.false
 ]
 
 pub returns-2 : goal.returns-2

@@ -2,7 +2,7 @@ use Rattle.std.proofs.Common.{IsSome, refl, sym, ap, subst, arith, unwrap_or}
 use Rattle.street_yard.proofs.YardLemmas.{on_has_entry, cell_reads}
 use Rattle.street_lanes.proofs.ListWalk.{walk-on, walk-smaller}
 use Rattle.street_lanes.proofs.Down.{down-start, down-step, down-found, down-none, down-end}
-use Rattle.street_lanes.proofs.lane_meters.holds.Goals as goal
+use Rattle.street_lanes.proofs.lane_meters.covers.Goals as goal
 
 pub loop-cursor-init : goal.loop-cursor-init
 loop-cursor-init c = down-start c.args.yard.now c.args.cells.0 c.args.cell _ c.list_front-cursor.ensures.front

@@ -2,7 +2,7 @@ use Rattle.std.proofs.Common.{◌≡◌, true, sym, ◌∙◌, subst, is_some}
 use Rattle.street_tile.specs.Prelude.{HaveNot, WhereOnce, TilesView, TileHasNot}
 use Rattle.street_tile.proofs.TileCommands.{some-holds, some-or, none-is, take-does, not-at}
 use Rattle.street_tile.proofs.Together.{tile-at, at-list, kept-does, kept-same}
-use Rattle.street_tile.proofs.tiles.Tiles.take_at.Goals as goal
+use Rattle.street_tile.proofs.tiles.Tiles.take_in_tile.Goals as goal
 
 pub invariant_of-self : goal.invariant_of-self
 invariant_of-self c =

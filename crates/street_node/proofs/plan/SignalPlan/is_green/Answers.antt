@@ -3,7 +3,7 @@ use Rattle.street_base.specs.declared.names.Place.{Place}
 use Rattle.street_base.specs.Prelude.{cycle}
 use Rattle.street_node.specs.Prelude.{shown, plan_seen}
 use Rattle.street_node.proofs.Shown.{shown-at}
-use Rattle.street_node.proofs.plan.SignalPlan.green.Goals as goal
+use Rattle.street_node.proofs.plan.SignalPlan.is_green.Goals as goal
 
 pub returns : goal.returns
 returns c =

@@ -4,7 +4,7 @@ use Rattle.street_base.specs.declared.names.Place.{Place}
 use Rattle.street_base.specs.Prelude.{lane_at, seen_in}
 use Rattle.street_tile.proofs.Seen.{one-at, found-on-seen}
 use Rattle.street_tile.proofs.Together.{tile-at, owns-here, stands-here}
-use Rattle.street_tile.proofs.tiles.Tiles.find_near.Goals as goal
+use Rattle.street_tile.proofs.tiles.Tiles.find_on_link.Goals as goal
 
 pub find_on-requires-clause-own : goal.find_on-requires-clause-own
 find_on-requires-clause-own c =

@@ -6,7 +6,7 @@ use Rattle.street_tile.specs.Inside.{seen}
 use Rattle.street_tile.specs.Prelude.{Part, StandsFor, HaveAtMostOne}
 use Rattle.street_tile.proofs.SameLanes.{even-of}
 use Rattle.street_tile.proofs.NumberOnce.{lane-seen, stands-here, few-here}
-use Rattle.street_tile.proofs.tile.Tile.find_at.Goals as goal
+use Rattle.street_tile.proofs.tile.Tile.find_on_own.Goals as goal
 
 pub find_on-requires-clause-lane : goal.find_on-requires-clause-lane
 find_on-requires-clause-lane c =
