@@ -113,10 +113,10 @@ def set_lane(movement: Movement, movements: Collection[Movement]) -> None:
     movement.lanes = len({other.lane for other in movements if other.way[0] == movement.way[0]})
     movement.sharing = [other for other in movements if other.lane == movement.lane]
     movement.parts = 2 if movement.lanes > 1 and any(one.flow and not one.runs for one in movement.sharing) else 1
-    whole, free = (sum(one.flow for one in movement.sharing if not (wait and one.waits)) for wait in (False, True))
+    going = [one for one in movement.sharing if not one.waits]
+    whole, free = (sum(one.flow for one in group) for group in (movement.sharing, going))
     movement.share = max(LEAST_SHARE, 1 - free / whole) if whole else 1.0
-    seconds = sum(one.flow * one.headway for one in movement.sharing if not one.waits)
-    movement.beside = seconds / free if free else movement.headway
+    movement.beside = sum(one.flow * one.headway for one in going) / free if free else movement.headway
 
 
 def movement_of(connection: Connection, states: Sequence[str], flow: float, limit: int) -> Movement:
